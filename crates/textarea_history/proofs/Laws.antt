@@ -1,0 +1,116 @@
+-- The law of undo: what taking back the last changes leads to, and that making them again leads back.
+use Rattle.std.proofs.Common.{◌≡◌, ◌<◌, arith, Bool, true, false, not, List, [], ◌∷◌, ◌++◌, length, drop, reverse, sym, ap, refl, ◌∙◌, subst}
+use Rattle.std.proofs.lemmas.List.{append_assoc, length-append, reverse-append, take-append-drop}
+use Rattle.textarea_text.specs.Text.{Symbol}
+use Rattle.textarea_text.specs.Place.{Place, IsPlace, StandsAt, end, inserted, removed}
+use Rattle.textarea_text.specs.Splice.{Splice, Fits, applied, inverse, place_before, place_after, CanApply, CanTakeBack, applied_all, taken_back_all, StoodBefore}
+use Rattle.textarea_history.specs.Log.{merged}
+use Rattle.textarea_text.proofs.Splices.{end-append, inserted_at, removed_at, stands_at}
+use Rattle.textarea_text.proofs.Places.{takes_back, parted, standing, place_parted, index_parted}
+
+pub inverse-inverse : (splice : Splice) → inverse (inverse splice) ≡ splice
+inverse-inverse splice = ap (λ (b : Bool). record splice { inserts = b }) (not-not splice.inserts)
+  where
+    not-not : (b : Bool) → not (not b) ≡ b
+    not-not true = refl
+    not-not false = refl
+
+applied_all-last : (text : List Symbol) (changes : List Splice) (splice : Splice) → applied_all text (changes ++ splice ∷ []) ≡ applied (applied_all text changes) splice
+applied_all-last text [] splice = refl
+applied_all-last text (change ∷ changes) splice = applied_all-last (applied text change) changes splice
+
+CanApply-last : (text : List Symbol) (changes : List Splice) (splice : Splice) → CanApply text changes → Fits (applied_all text changes) splice → CanApply text (changes ++ splice ∷ [])
+CanApply-last text [] splice can fits = (fits, tt)
+CanApply-last text (change ∷ changes) splice can fits = (can.0, CanApply-last (applied text change) changes splice can.1 fits)
+
+-- taking back changes, the newest first, gives the text before them
+pub undo_law : (text : List Symbol) (newest_first : List Splice) → CanTakeBack text newest_first → StoodBefore (taken_back_all text newest_first) text (reverse newest_first)
+undo_law text [] can = record { can = tt; leads = refl }
+undo_law text (splice ∷ rest) can =
+    let one = applied text (inverse splice) in
+    let before = taken_back_all one rest in
+    let earlier = undo_law one rest can.1 in
+    let taken = takes_back text (inverse splice) can.0 in
+    let same = inverse-inverse splice in
+    let fits : Fits one splice = subst (Fits one) same taken.fits in
+    let back : applied one splice ≡ text = ap (applied one) (sym same) ∙ taken.back in
+    let order : reverse rest ++ splice ∷ [] ≡ reverse (splice ∷ rest) = sym (reverse-append (splice ∷ []) rest) in
+    subst (StoodBefore before text) order
+    (record {
+      can = CanApply-last before (reverse rest) splice earlier.can (subst (λ t. Fits t splice) (sym earlier.leads) fits);
+      leads = applied_all-last before (reverse rest) splice ∙ ap (λ t. applied t splice) earlier.leads ∙ back;
+    })
+
+-- ---- a run and the edit that joins it
+
+-- taking back the two as one change fits where taking back each did, and leads to the same text
+pub record Merges (text : List Symbol) (run edit : Splice) : Type 0 where
+  pub fits : Fits (applied text edit) (inverse (merged run edit))
+  pub back : applied (applied text edit) (inverse (merged run edit)) ≡ applied text (inverse run)
+
+record Held (text : List Symbol) (place : Place) (symbols : List Symbol) : Type 0 where
+  front : List Symbol
+  rest : List Symbol
+  is : text ≡ front ++ (symbols ++ rest)
+  ends : end (0, 0) front ≡ place
+
+held : (text : List Symbol) (place : Place) (symbols : List Symbol) → IsPlace text place → StandsAt text place symbols → Held text place symbols
+held text place symbols h stands =
+    let parts = parted text place h in
+    record {
+      front = parts.front;
+      rest = drop (length symbols) parts.back;
+      is = parts.is ∙ ap (λ t. parts.front ++ t) (sym (take-append-drop (length symbols) parts.back) ∙ ap (λ t. t ++ drop (length symbols) parts.back) (standing text place symbols parts stands));
+      ends = parts.ends;
+    }
+
+-- the text with its parts grouped the other way, and where the first two end
+behind : (front symbols : List Symbol) (place stop : Place) → end (0, 0) front ≡ place → end place symbols ≡ stop → end (0, 0) (front ++ symbols) ≡ stop
+behind front symbols place stop e e' = end-append (0, 0) front symbols ∙ ap (λ (p : Place). end p symbols) e ∙ e'
+
+merges_inserted : (text : List Symbol) (p q : Place) (s c : List Symbol) → 0 < length s → IsPlace text p → StandsAt text p s → end p s ≡ q → Merges text (record { place = p; symbols = s; inserts = true }) (record { place = q; symbols = c; inserts = true })
+merges_inserted text p q s c some h stands e =
+    let parts = held text p s h stands in
+    let f = parts.front in
+    let r = parts.rest in
+    let now : inserted text q c ≡ f ++ ((s ++ c) ++ r) =
+    ap (λ t. inserted t q c) (parts.is ∙ sym (append_assoc f s r))
+    ∙ inserted_at (f ++ s) r c q (index_parted q (f ++ s) r (behind f s p q parts.ends e))
+    ∙ append_assoc f s (c ++ r) ∙ ap (λ t. f ++ t) (sym (append_assoc s c r)) in
+    record {
+      fits = record {
+        some = omega (arith, length-append s c);
+        is_place = subst (λ t. IsPlace t p) (sym now) (place_parted p f ((s ++ c) ++ r) parts.ends);
+        allowed = subst (λ t. StandsAt t p (s ++ c)) (sym now) (stands_at f r (s ++ c) p (index_parted p f ((s ++ c) ++ r) parts.ends));
+      };
+      back = ap (λ t. removed t p (s ++ c)) now ∙ removed_at f r (s ++ c) p (index_parted p f ((s ++ c) ++ r) parts.ends)
+          ∙ sym (ap (λ t. removed t p s) parts.is ∙ removed_at f r s p (index_parted p f (s ++ r) parts.ends));
+    }
+
+merges_removed : (text : List Symbol) (p q : Place) (s c : List Symbol) → 0 < length s → IsPlace text q → StandsAt text q c → end q c ≡ p → Merges text (record { place = p; symbols = s; inserts = false }) (record { place = q; symbols = c; inserts = false })
+merges_removed text p q s c some h stands e =
+    let parts = held text q c h stands in
+    let g = parts.front in
+    let r = parts.rest in
+    let now : removed text q c ≡ g ++ r = ap (λ t. removed t q c) parts.is ∙ removed_at g r c q (index_parted q g (c ++ r) parts.ends) in
+    record {
+      fits = record { some = omega (arith, length-append c s); is_place = subst (λ t. IsPlace t q) (sym now) (place_parted q g r parts.ends); allowed = tt };
+      back = ap (λ t. inserted t q (c ++ s)) now ∙ inserted_at g r (c ++ s) q (index_parted q g r parts.ends)
+          ∙ ap (λ t. g ++ t) (append_assoc c s r) ∙ sym (append_assoc g c (s ++ r))
+          ∙ sym (ap (λ t. inserted t p s) (parts.is ∙ sym (append_assoc g c r)) ∙ inserted_at (g ++ c) r s p (index_parted p (g ++ c) r (behind g c q p parts.ends e)));
+    }
+
+pub merges : (text : List Symbol) (run edit : Splice) → Fits text (inverse run) → Fits text edit → edit.inserts ≡ run.inserts → place_after run ≡ place_before edit → Merges text run edit
+merges text run edit back fits same meets = by run.inserts edit.inserts same run.place edit.place run.symbols edit.symbols back fits meets
+  where
+    by : (b b' : Bool) → b' ≡ b → (p q : Place) (s c : List Symbol) → Fits text (inverse (record { place = p; symbols = s; inserts = b })) → Fits text (record { place = q; symbols = c; inserts = b' }) → place_after (record { place = p; symbols = s; inserts = b }) ≡ place_before (record { place = q; symbols = c; inserts = b' }) → Merges text (record { place = p; symbols = s; inserts = b }) (record { place = q; symbols = c; inserts = b' })
+    by true true same p q s c back fits meets = merges_inserted text p q s c back.some back.is_place back.allowed meets
+    by false false same p q s c back fits meets = merges_removed text p q s c back.some fits.is_place fits.allowed (sym meets)
+    by true false same p q s c back fits meets = absurd cc
+    by false true same p q s c back fits meets = absurd cc
+
+-- so a log whose changes can be taken back is one after an edit has joined its newest change
+pub CanTakeBack-merged : (text : List Symbol) (run edit : Splice) (rest : List Splice) → CanTakeBack text (run ∷ rest) → Fits text edit → edit.inserts ≡ run.inserts → place_after run ≡ place_before edit → CanTakeBack (applied text edit) (merged run edit ∷ rest)
+CanTakeBack-merged text run edit rest can fits same meets =
+    let m = merges text run edit can.0 fits same meets in
+    (m.fits, subst (λ t. CanTakeBack t rest) (sym m.back) can.1)

@@ -1,0 +1,3 @@
+pub mod Runs
+pub mod Stores
+pub mod Laws

@@ -1,0 +1,391 @@
+-- A log kept as one list of edits and an index.
+use Rattle.std.proofs.Common.{◌≡◌, ℕ, zero, suc, ◌+◌, ◌-◌, ◌≤◌, ◌<◌, Bool, true, false, cond, ◌&&◌, ◌==◌, nat_lt, List, [], ◌∷◌, ◌++◌, length, take, drop, map, Option, Some, None, is_some, sym, ap, refl, ◌∙◌, arith, get_or, set, subst, slice_get, eqb, eqb-true, eq-eqb}
+use Rattle.std.specs.Option.{IfSome, IsSome}
+use Rattle.std.proofs.lemmas.List.{length-take-le, length-map, length-set, length-append, get_or-take, get_or-map, get_or-set_same, get_or_at, map-set, set-get_or, take-take, drop_more, take_all, drop_all, take_more, take-append-drop, take-map, drop-map, drop-take, length-take, length-drop}
+use Rattle.std.specs.List.{All}
+use Rattle.std.proofs.lemmas.List.Elements.{All-set, All-push, All-same}
+use Rattle.std.proofs.lemmas.Grind.{take-set_at}
+use Rattle.std.proofs.lemmas.Option.{slice_get_read, get_or_from_slice_get}
+use Rattle.std.proofs.lemmas.Bool.Decides.{nat_tests}
+use Rattle.textarea_text.specs.Text.{Symbol, Character, Break}
+use Rattle.textarea_text.specs.Place.{Place}
+use Rattle.textarea_text.specs.Splice.{Splice, applied, inverse, place_before, place_after}
+use Rattle.textarea_history.specs.Edit.{Stored, IsWellFormed}
+use Rattle.textarea_history.specs.Log.{Log, with_done, kept, character_of, typed_character, newest, next, taken_back, made_again, Undoes, UndoesBy, Redoes, RedoesBy, joins, continues, continues_newest, is_same_direction, is_same_place, is_empty, is_typed, done_joined, grown, merged, edge_of, pause}
+use Rattle.textarea_history.specs.Store.{log_at, splice_in, spare_in, room_at, IsRun, RunIs, IsStore}
+
+left_of : (a b : Bool) → (a && b) ≡ true → a ≡ true
+left_of true b e = refl
+left_of false b e = cc
+
+right_of : (a b : Bool) → (a && b) ≡ true → b ≡ true
+right_of true b e = e
+right_of false b e = cc
+
+-- ---- the newest edit
+
+pub newest_at : (items : List Stored) (index maximum : ℕ) (run_open : Bool) (last : ℕ) (edit : Stored) → 0 < index → index ≤ length items → edit ≡ get_or items (index - 1) edit → newest (log_at (map splice_in items) index maximum run_open last) ≡ Some edit.splice
+newest_at items index maximum run_open last edit some within e =
+    let splices = map splice_in items in
+    let size : length (take index splices) ≡ index = length-take-le index splices (omega (arith, length-map items splice_in)) in
+    let before : index - 1 < index = omega arith in
+    let found : edit.splice ≡ get_or splices (index - 1) edit.splice =
+    sym (get_or-map splice_in items (index - 1) edit edit.splice (omega arith) ∙ ap splice_in (sym e)) in
+    ap (λ n. slice_get (take index splices) (n - 1)) size
+    ∙ slice_get_read (take index splices) index (index - 1) edit.splice (sym size) before (found ∙ sym (get_or-take index splices (index - 1) edit.splice before))
+
+-- an edit is written again with the same change
+pub splices_same : (items : List Stored) (index : ℕ) (edit new : Stored) → index < length items → edit ≡ get_or items index edit → new.splice ≡ edit.splice → map splice_in (set items index new) ≡ map splice_in items
+splices_same items index edit new within e same =
+    map-set splice_in items index new
+    ∙ ap (λ (s : Splice). set (map splice_in items) index s) (same ∙ sym (get_or-map splice_in items index edit edit.splice within ∙ ap splice_in (sym e)))
+    ∙ set-get_or (map splice_in items) index edit.splice
+
+-- ---- an edit that joins
+
+pub record Joining (items : List Stored) (index : ℕ) (run : Option ℕ) (newest_edit : Stored) (edit : Splice) : Type 0 where
+  pub edge : ℕ
+  pub run_is : run ≡ Some edge
+  pub whole : index ≡ length items
+  pub some : 0 < index
+  pub grows : newest_edit.grows ≡ true
+  pub direction : edit.inserts ≡ newest_edit.splice.inserts
+  pub place : place_after newest_edit.splice ≡ place_before edit
+
+same_direction : (a b : Bool) → is_same_direction a b ≡ true → b ≡ a
+same_direction true true e = refl
+same_direction true false e = cc
+same_direction false true e = cc
+same_direction false false e = refl
+
+same_place : (first second : Place) → is_same_place first second ≡ true → first ≡ second
+same_place first second e =
+    ap (λ (n : ℕ). (n, first.1)) (eqb-true first.0 second.0 (left_of (eqb first.0 second.0) (eqb first.1 second.1) e))
+    ∙ ap (λ (n : ℕ). (second.0, n)) (eqb-true first.1 second.1 (right_of (eqb first.0 second.0) (eqb first.1 second.1) e))
+
+last_read : (items : List Stored) (index : ℕ) (edit : Stored) → index ≡ length items → 0 < index → edit ≡ get_or items (index - 1) edit → slice_get items (length items - 1) ≡ Some edit
+last_read items index edit whole some e =
+    ap (λ n. slice_get items (n - 1)) (sym whole) ∙ slice_get_read items index (index - 1) edit whole (omega arith) e
+
+pub joining : (items : List Stored) (index maximum : ℕ) (run : Option ℕ) (last now : ℕ) (newest_edit : Stored) (edit : Splice) (log : Log) → IsStore items index maximum run → log_at (map splice_in items) index maximum (is_some run) last ≡ log → newest_edit ≡ get_or items (index - 1) newest_edit → joins log edit true now ≡ true → Joining items index run newest_edit edit
+joining items index maximum run last now newest_edit edit log store view read e = by run store.run_is (subst (λ l. joins l edit true now ≡ true) (sym view) e)
+  where
+    by : (r : Option ℕ) → RunIs items index r → joins (log_at (map splice_in items) index maximum (is_some r) last) edit true now ≡ true → Joining items index r newest_edit edit
+    by None run_is e = absurd (let open_is : false ≡ true = right_of (is_typed edit true) false (left_of (is_typed edit true && false) _ e) in cc)
+    by (Some edge) run_is e =
+        let log = log_at (map splice_in items) index maximum true last in
+        let some : 0 < index = omega (arith, run_is.0, run_is.1) in
+        let goes : continues_newest (newest log) edit ≡ true =
+        right_of (nat_lt (now - last) pause) _ (right_of (is_empty log.undone) _ (right_of (is_typed edit true && true) _ e)) in
+        let continues_it : continues newest_edit.splice edit ≡ true =
+        subst (λ (o : Option Splice). continues_newest o edit ≡ true) (newest_at items index maximum true last newest_edit some store.within read) goes in
+        let is_run : IsRun newest_edit edge = subst (λ (o : Option Stored). IfSome o (λ s. IsRun s edge)) (last_read items index newest_edit run_is.0 some read) run_is.2 in
+        record {
+          edge = edge;
+          run_is = refl;
+          whole = run_is.0;
+          some = some;
+          grows = is_run.grows;
+          direction = same_direction newest_edit.splice.inserts edit.inserts (left_of _ _ continues_it);
+          place = same_place (place_after newest_edit.splice) (place_before edit) (left_of _ _ (right_of (is_same_direction newest_edit.splice.inserts edit.inserts) _ continues_it));
+        }
+
+-- where there is room, the newest edit of an open run can grow
+pub room_to_grow : (items : List Stored) (index : ℕ) (run : Option ℕ) (free : ℕ) (newest_edit : Stored) (edge : ℕ) → run ≡ Some edge → index ≡ length items → 0 < index → newest_edit ≡ get_or items (index - 1) newest_edit → 0 < room_at items run free → 4 ≤ newest_edit.spare
+room_to_grow items index run free newest_edit edge is whole some read room =
+    by (nat_lt newest_edit.spare 4) refl (subst (λ (o : Option Stored). 0 < cond (nat_lt (spare_in o) 4) 0 free) (last_read items index newest_edit whole some read) (subst (λ (r : Option ℕ). 0 < room_at items r free) is room))
+  where
+    by : (b : Bool) → nat_lt newest_edit.spare 4 ≡ b → 0 < cond b 0 free → 4 ≤ newest_edit.spare
+    by true e h = absurd (omega arith)
+    by false e h = grind (arith, nat_tests)
+
+pub from_character : (symbols : List Symbol) (c : ℕ) → character_of symbols ≡ Some c → symbols ≡ Character c ∷ []
+from_character [] c e = cc
+from_character (Break ∷ symbols) c e = cc
+from_character (Character d ∷ []) c e = let same : d ≡ c = cc in ap (λ (n : ℕ). Character n ∷ []) same
+from_character (Character d ∷ second ∷ symbols) c e = cc
+
+edge_merged : (inserts : Bool) (place : Place) (symbols : List Symbol) (edit : Splice) (c : ℕ) → edit.symbols ≡ Character c ∷ [] → edge_of (merged (record { place = place; symbols = symbols; inserts = inserts }) edit) ≡ Some (Character c)
+edge_merged true place symbols edit c e =
+    let size : length (symbols ++ edit.symbols) - 1 ≡ length symbols = omega (arith, length-append symbols edit.symbols, ap length e) in
+    ap (λ n. slice_get (symbols ++ edit.symbols) n) size
+    ∙ ap (λ (s : List Symbol). slice_get (symbols ++ s) (length symbols)) e
+    ∙ slice_get_read (symbols ++ Character c ∷ []) (length (symbols ++ Character c ∷ [])) (length symbols) (Character c) refl (omega (arith, length-append symbols (Character c ∷ []))) (sym (get_or_at symbols (Character c) [] (Character c) (length symbols) refl))
+edge_merged false place symbols edit c e = ap (λ (s : List Symbol). slice_get (s ++ symbols) 0) e
+
+pub edge_of_one : (edit : Splice) (c : ℕ) → edit.symbols ≡ Character c ∷ [] → edge_of edit ≡ Some (Character c)
+edge_of_one edit c e = ap (λ (s : List Symbol). slice_get s (cond edit.inserts (length s - 1) 0)) e ∙ by edit.inserts
+  where
+    by : (b : Bool) → slice_get (Character c ∷ []) (cond b (length {A = Symbol} (Character c ∷ []) - 1) 0) ≡ Some (Character c)
+    by true = refl
+    by false = refl
+
+pub store_joined : (items : List Stored) (index maximum : ℕ) (run : Option ℕ) (newest_edit new : Stored) (edit : Splice) (c : ℕ) → IsStore items index maximum run → Joining items index run newest_edit edit → new.splice ≡ merged newest_edit.splice edit → new.grows ≡ true → IsWellFormed new → edit.symbols ≡ Character c ∷ [] → IsStore (set items (index - 1) new) index maximum (Some c)
+store_joined items index maximum run newest_edit new edit c store j is grows formed one =
+    let size : length (set items (index - 1) new) ≡ length items = length-set items (index - 1) new in
+    let here : index - 1 < length items = omega (arith, j.whole, j.some) in
+    let at : length (set items (index - 1) new) - 1 ≡ index - 1 = omega (arith, j.whole) in
+    let read : slice_get (set items (index - 1) new) (length (set items (index - 1) new) - 1) ≡ Some new =
+    ap (λ n. slice_get (set items (index - 1) new) n) at
+    ∙ slice_get_read (set items (index - 1) new) (length (set items (index - 1) new)) (index - 1) new refl (omega arith) (sym (get_or-set_same items (index - 1) new new here)) in
+    record {
+      sound = All-set IsWellFormed items (index - 1) new formed store.sound;
+      within = omega (arith, store.within);
+      bounded = omega (arith, store.bounded);
+      run_is = (
+        omega (arith, j.whole),
+        omega (arith, j.whole, j.some),
+        subst (λ (o : Option Stored). IfSome o (λ s. IsRun s c)) (sym read)
+            (record { grows = grows; edge_is = ap edge_of is ∙ edge_merged newest_edit.splice.inserts newest_edit.splice.place newest_edit.splice.symbols edit c one }),
+      );
+    }
+
+-- the log of a store, with a typed edit joined to the newest one
+pub log_joined : (items : List Stored) (index maximum : ℕ) (run : Option ℕ) (last now : ℕ) (newest_edit new : Stored) (edit : Splice) (log : Log) → IsStore items index maximum run → Joining items index run newest_edit edit → newest_edit ≡ get_or items (index - 1) newest_edit → log_at (map splice_in items) index maximum (is_some run) last ≡ log → new.splice ≡ merged newest_edit.splice edit → log_at (map splice_in (set items (index - 1) new)) index maximum true now ≡ with_done log (done_joined log edit) true now
+log_joined items index maximum run last now newest_edit new edit log store j read view is =
+    let splices = map splice_in items in
+    let old = log_at splices index maximum (is_some run) last in
+    let many : length splices ≡ length items = length-map items splice_in in
+    let size : length (take index splices) ≡ index = length-take-le index splices (omega (arith, store.within)) in
+    let changed : map splice_in (set items (index - 1) new) ≡ set splices (index - 1) (merged newest_edit.splice edit) =
+    map-set splice_in items (index - 1) new ∙ ap (λ (s : Splice). set splices (index - 1) s) is in
+    let front : take (index - 1) splices ≡ take (length (take index splices) - 1) (take index splices) =
+    sym (ap (λ n. take (n - 1) (take index splices)) size ∙ take-take (index - 1) index splices (omega arith)) in
+    let found : grown (newest old) edit ≡ merged newest_edit.splice edit =
+    ap (λ (o : Option Splice). grown o edit) (newest_at items index maximum (is_some run) last newest_edit j.some store.within read) in
+    let done : take index (map splice_in (set items (index - 1) new)) ≡ done_joined old edit =
+    ap (take index) changed
+    ∙ take-set_at splices (index - 1) index (merged newest_edit.splice edit) (omega (arith, j.some)) (omega (arith, j.some, store.within))
+    ∙ ap (λ (t : List Splice). t ++ merged newest_edit.splice edit ∷ []) front
+    ∙ ap (λ (s : Splice). take (length (take index splices) - 1) (take index splices) ++ s ∷ []) (sym found) in
+    let undone : drop index (map splice_in (set items (index - 1) new)) ≡ [] =
+    drop_all index (map splice_in (set items (index - 1) new)) (omega (arith, length-map (set items (index - 1) new) splice_in, length-set items (index - 1) new, j.whole)) in
+    ap (λ (d : List Splice). record { done = d; undone = drop index (map splice_in (set items (index - 1) new)); maximum = maximum; run_open = true; last = now }) done
+    ∙ ap (λ (u : List Splice). record { done = done_joined old edit; undone = u; maximum = maximum; run_open = true; last = now }) undone
+    ∙ ap (λ (l : Log). with_done l (done_joined l edit) true now) view
+
+-- whether a typed edit joins, where a run is open and the pause was short
+pub joins_is : (items : List Stored) (index maximum : ℕ) (run : Option ℕ) (last now edge c : ℕ) (newest_edit : Stored) (edit : Splice) (coalesce : Bool) (log : Log) → IsStore items index maximum run → run ≡ Some edge → typed_character edit coalesce ≡ Some c → nat_lt (now - last) pause ≡ true → newest_edit ≡ get_or items (index - 1) newest_edit → log_at (map splice_in items) index maximum (is_some run) last ≡ log → continues newest_edit.splice edit ≡ joins log edit coalesce now
+joins_is items index maximum run last now edge c newest_edit edit coalesce log store is typed soon read view =
+    let whole = subst (RunIs items index) is store.run_is in
+    let splices = map splice_in items in
+    let old = log_at splices index maximum (is_some run) last in
+    let none : is_empty (drop index splices) ≡ true = ap is_empty (drop_all index splices (omega (arith, length-map items splice_in, whole.0))) in
+    let found = newest_at items index maximum (is_some run) last newest_edit (omega (arith, whole.0, whole.1)) store.within read in
+    sym (ap (λ b. (b && is_some run) && (is_empty (drop index splices) && (nat_lt (now - last) pause && continues_newest (newest old) edit))) (ap is_some typed)
+    ∙ ap (λ b. (true && b) && (is_empty (drop index splices) && (nat_lt (now - last) pause && continues_newest (newest old) edit))) (ap is_some is)
+    ∙ ap (λ b. b && (nat_lt (now - last) pause && continues_newest (newest old) edit)) none
+    ∙ ap (λ b. b && continues_newest (newest old) edit) soon
+    ∙ ap (λ (o : Option Splice). continues_newest o edit) found)
+    ∙ ap (λ (l : Log). joins l edit coalesce now) view
+
+pub run_some : (items : List Stored) (index : ℕ) (run : Option ℕ) → RunIs items index run → is_some run ≡ true → (index ≡ length items) × (0 < length items)
+run_some items index None h e = absurd (let no : false ≡ true = e in cc)
+run_some items index (Some edge) h e = (h.0, h.1)
+
+-- room, once the newest edit can grow
+pub room_ready : (items : List Stored) (index : ℕ) (run : Option ℕ) (free : ℕ) (new : Stored) → index ≡ length items → 0 < length items → 0 < free → 4 ≤ new.spare → 0 < room_at (set items (index - 1) new) run free
+room_ready items index None free new whole some room ready = room
+room_ready items index (Some edge) free new whole some room ready =
+    let size : length (set items (index - 1) new) ≡ length items = length-set items (index - 1) new in
+    let at : length (set items (index - 1) new) - 1 ≡ index - 1 = omega arith in
+    let read : slice_get (set items (index - 1) new) (length (set items (index - 1) new) - 1) ≡ Some new =
+    ap (λ n. slice_get (set items (index - 1) new) n) at
+    ∙ slice_get_read (set items (index - 1) new) (length (set items (index - 1) new)) (index - 1) new refl (omega arith) (sym (get_or-set_same items (index - 1) new new (omega arith))) in
+    subst (λ (o : Option Stored). 0 < cond (nat_lt (spare_in o) 4) 0 free) (sym read) (by (nat_lt new.spare 4) refl)
+  where
+    by : (b : Bool) → nat_lt new.spare 4 ≡ b → 0 < cond b 0 free
+    by true e = grind (arith, nat_tests)
+    by false e = room
+
+-- ---- a place for one edit more
+
+-- the oldest edit goes where the history is full and has a done one
+pub place_made : (items kept_items : List Stored) (index kept_index maximum : ℕ) (run_open : Bool) (last : ℕ) (log : Log) → index ≤ length items → log_at (map splice_in items) index maximum run_open last ≡ log → kept_items ≡ take kept_index (cond (length items == maximum) (drop (index - kept_index) items) items) → kept_index ≡ cond (length items == maximum) (index - 1) index → log_at (map splice_in kept_items) kept_index maximum false last ≡ record log { done = kept log; undone = []; run_open = false }
+place_made items kept_items index kept_index maximum run_open last log within view is at =
+    let splices = map splice_in items in
+    let old = log_at splices index maximum run_open last in
+    let many : length splices ≡ length items = length-map items splice_in in
+    let parts : length (take index splices) + length (drop index splices) ≡ length items =
+    omega (arith, many, length-append (take index splices) (drop index splices), ap length (take-append-drop index splices)) in
+    let short : length kept_items ≤ kept_index = subst (λ (t : List Stored). length t ≤ kept_index) (sym is) (length-take_below kept_index _) in
+    let mapped : length (map splice_in kept_items) ≡ length kept_items = length-map kept_items splice_in in
+    let done : take kept_index (map splice_in kept_items) ≡ kept old =
+    take_all kept_index (map splice_in kept_items) (omega arith)
+    ∙ ap (map splice_in) is
+    ∙ by (length items == maximum) at
+    ∙ ap (λ n. cond (n == maximum) (drop 1 (take index splices)) (take index splices)) (sym parts) in
+    let undone : drop kept_index (map splice_in kept_items) ≡ [] = drop_all kept_index (map splice_in kept_items) (omega arith) in
+    ap (λ (d : List Splice). record { done = d; undone = drop kept_index (map splice_in kept_items); maximum = maximum; run_open = false; last = last }) done
+    ∙ ap (λ (u : List Splice). record { done = kept old; undone = u; maximum = maximum; run_open = false; last = last }) undone
+    ∙ ap (λ (l : Log). record l { done = kept l; undone = []; run_open = false }) view
+  where
+    length-take_below : (n : ℕ) (xs : List Stored) → length (take n xs) ≤ n
+    length-take_below n xs = omega (arith, length-take n xs)
+
+    by : (b : Bool) → kept_index ≡ cond b (index - 1) index → map splice_in (take kept_index (cond b (drop (index - kept_index) items) items)) ≡ cond b (drop 1 (take index (map splice_in items))) (take index (map splice_in items))
+    by false e = ap (λ n. map splice_in (take n items)) e ∙ sym (take-map splice_in index items)
+    by true e = first index e
+      where
+        first : (n : ℕ) → kept_index ≡ n - 1 → map splice_in (take kept_index (drop (n - kept_index) items)) ≡ drop 1 (take n (map splice_in items))
+        first zero e = ap (λ k. map splice_in (take k (drop (0 - k) items))) e
+        first (suc m) e =
+            let same : kept_index ≡ m = omega (arith, e) in
+            let one : suc m - m ≡ 1 = omega arith in
+            let more : 1 + m ≡ suc m = omega arith in
+            ap (λ k. map splice_in (take k (drop (suc m - k) items))) same
+            ∙ ap (λ d. map splice_in (take m (drop d items))) one
+            ∙ ap (map splice_in) (sym (drop-take 1 m items))
+            ∙ ap (λ t. map splice_in (drop 1 (take t items))) more
+            ∙ sym (drop-map splice_in 1 (take (suc m) items))
+            ∙ ap (drop 1) (sym (take-map splice_in (suc m) items))
+
+pub place_made_full : (items kept_items : List Stored) (index maximum : ℕ) (run_open : Bool) (last : ℕ) (log : Log) → index ≤ length items → log_at (map splice_in items) index maximum run_open last ≡ log → length items ≡ maximum → 0 < index → kept_items ≡ take (index - 1) (drop 1 items) → log_at (map splice_in kept_items) (index - 1) maximum false last ≡ record log { done = kept log; undone = []; run_open = false }
+place_made_full items kept_items index maximum run_open last log within view full some is =
+    let test : (length items == maximum) ≡ true = eq-eqb (length items) maximum full in
+    let one : 1 ≡ index - (index - 1) = omega arith in
+    place_made items kept_items index (index - 1) maximum run_open last log within view
+    (is ∙ ap (λ n. take (index - 1) (drop n items)) one ∙ ap (λ b. take (index - 1) (cond b (drop (index - (index - 1)) items) items)) (sym test))
+    (ap (λ b. cond b (index - 1) index) (sym test))
+
+pub place_made_rest : (items kept_items : List Stored) (index maximum : ℕ) (run_open : Bool) (last : ℕ) (log : Log) → index ≤ length items → log_at (map splice_in items) index maximum run_open last ≡ log → (length items ≡ maximum → index ≡ 0) → kept_items ≡ take index items → log_at (map splice_in kept_items) index maximum false last ≡ record log { done = kept log; undone = []; run_open = false }
+place_made_rest items kept_items index maximum run_open last log within view free is = by (length items == maximum) refl
+  where
+    by : (b : Bool) → (length items == maximum) ≡ b → log_at (map splice_in kept_items) index maximum false last ≡ record log { done = kept log; undone = []; run_open = false }
+    by false test =
+        place_made items kept_items index index maximum run_open last log within view
+        (is ∙ ap (λ b. take index (cond b (drop (index - index) items) items)) (sym test)) (ap (λ b. cond b (index - 1) index) (sym test))
+    by true test =
+        let none : index ≡ 0 = free (eqb-true (length items) maximum test) in
+        let down : index ≡ index - 1 = omega arith in
+        let start : 0 ≡ index - index = omega arith in
+        place_made items kept_items index index maximum run_open last log within view
+        (is ∙ ap (λ n. take index (drop n items)) start ∙ ap (λ b. take index (cond b (drop (index - index) items) items)) (sym test))
+        (down ∙ ap (λ b. cond b (index - 1) index) (sym test))
+
+-- ---- one edit more
+
+pub typed_is : (edit : Splice) (coalesce : Bool) (typed : Option ℕ) → typed ≡ typed_character edit coalesce → IfSome typed (λ c. edit.symbols ≡ Character c ∷ [])
+typed_is edit coalesce None e = tt
+typed_is edit true (Some c) e = from_character edit.symbols c (sym e)
+typed_is edit false (Some c) e = cc
+
+pub free_from_room : (items : List Stored) (run : Option ℕ) (free : ℕ) → 0 < room_at items run free → 0 < free
+free_from_room items None free h = h
+free_from_room items (Some edge) free h = by (nat_lt (spare_in (slice_get items (length items - 1))) 4) h
+  where
+    by : (b : Bool) → 0 < cond b 0 free → 0 < free
+    by true h = absurd (omega arith)
+    by false h = h
+
+pub store_appended : (items new_items : List Stored) (index maximum : ℕ) (run typed : Option ℕ) (was : Splice) (edit : Stored) → IsStore items index maximum run → drop index (map splice_in items) ≡ [] → length (take index (map splice_in items)) < maximum → new_items ≡ items ++ edit ∷ [] → edit.splice ≡ was → IsWellFormed edit → IfSome typed (λ c. edit.grows ≡ true) → IfSome typed (λ c. was.symbols ≡ Character c ∷ []) → IsStore new_items (index + 1) maximum typed
+store_appended items new_items index maximum run typed was edit store none below is same formed grows one =
+    let many : length items ≡ index = omega (arith, store.within, ap length none, length-drop index (map splice_in items), length-map items splice_in) in
+    let few : index < maximum = omega (arith, length-take-le index (map splice_in items) (omega (arith, length-map items splice_in))) in
+    let size : length new_items ≡ index + 1 = omega (arith, ap length is, length-append items (edit ∷ [])) in
+    let at : length new_items - 1 ≡ length items = omega arith in
+    let read : slice_get new_items (length new_items - 1) ≡ Some edit =
+    ap (λ n. slice_get new_items n) at
+    ∙ slice_get_read new_items (length new_items) (length items) edit refl (omega arith)
+    (sym (ap (λ t. get_or t (length items) edit) is ∙ get_or_at items edit [] edit (length items) refl)) in
+    record { sound = All-same IsWellFormed new_items (items ++ edit ∷ []) is (All-push IsWellFormed items edit store.sound formed); within = omega arith; bounded = omega arith; run_is = by typed grows one size read }
+  where
+    by : (t : Option ℕ) → IfSome t (λ c. edit.grows ≡ true) → IfSome t (λ c. was.symbols ≡ Character c ∷ []) → length new_items ≡ index + 1 → slice_get new_items (length new_items - 1) ≡ Some edit → RunIs new_items (index + 1) t
+    by None grows one size read = tt
+    by (Some c) grows one size read = (
+      sym size,
+      omega arith,
+      subst (λ (o : Option Stored). IfSome o (λ s. IsRun s c)) (sym read) (record { grows = grows; edge_is = edge_of_one edit.splice c (ap (λ (s : Splice). s.symbols) same ∙ one) }),
+    )
+
+-- the same log, of fields that were written
+pub log_at_same : {P : Log} (splices : List Splice) (index new_index maximum new_maximum last new_last : ℕ) → new_index ≡ index → new_maximum ≡ maximum → new_last ≡ last → log_at splices index maximum false last ≡ P → log_at splices new_index new_maximum false new_last ≡ P
+log_at_same splices index new_index maximum new_maximum last new_last e e' e'' h =
+    ap (λ n. log_at splices n new_maximum false new_last) e ∙ ap (λ n. log_at splices index n false new_last) e' ∙ ap (λ n. log_at splices index maximum false n) e'' ∙ h
+
+-- ---- undo and redo
+
+-- an edit of the store is well formed
+pub formed_at : (items : List Stored) (i : ℕ) (edit : Stored) → All IsWellFormed items → i < length items → edit ≡ get_or items i edit → IsWellFormed edit
+formed_at items i edit sound within e = subst IsWellFormed (sym e) (sound i edit within)
+
+pub next_at : (items : List Stored) (index maximum : ℕ) (run_open : Bool) (last : ℕ) (edit : Stored) (log : Log) → index < length items → edit ≡ get_or items index edit → log_at (map splice_in items) index maximum run_open last ≡ log → next log ≡ Some edit.splice
+next_at items index maximum run_open last edit log within e view =
+    let splices = map splice_in items in
+    let read : edit.splice ≡ get_or splices index edit.splice = sym (get_or-map splice_in items index edit edit.splice within ∙ ap splice_in (sym e)) in
+    ap next (sym view)
+    ∙ ap (λ (t : List Splice). slice_get t 0) (drop_more splices index edit.splice (omega (arith, length-map items splice_in)))
+    ∙ ap (λ (s : Splice). Some s) (sym read)
+
+-- no edit is done
+pub newest_none : (splices : List Splice) (index maximum : ℕ) (run_open : Bool) (last : ℕ) → index ≡ 0 → newest (log_at splices index maximum run_open last) ≡ None
+newest_none splices index maximum run_open last e = ap (λ n. newest (log_at splices n maximum run_open last)) e
+
+-- no edit is undone
+pub next_none : (items : List Stored) (index maximum : ℕ) (run_open : Bool) (last : ℕ) → index ≡ length items → next (log_at (map splice_in items) index maximum run_open last) ≡ None
+next_none items index maximum run_open last e =
+    ap (λ (t : List Splice). slice_get t 0) (drop_all index (map splice_in items) (omega (arith, length-map items splice_in)))
+
+-- a log with a newest change has an edit before the index
+pub newest_within : (items : List Stored) (index maximum : ℕ) (run_open : Bool) (last : ℕ) (log : Log) → log_at (map splice_in items) index maximum run_open last ≡ log → IsSome (newest log) → 0 < index
+newest_within items zero maximum run_open last log view some = let no : false ≡ true = subst (λ (l : Log). IsSome (newest l)) (sym view) some in cc
+newest_within items (suc index) maximum run_open last log view some = omega arith
+
+-- a log with a next change has an edit at the index
+pub next_within : (items : List Stored) (index maximum : ℕ) (run_open : Bool) (last : ℕ) (log : Log) → index ≤ length items → log_at (map splice_in items) index maximum run_open last ≡ log → IsSome (next log) → index < length items
+next_within items index maximum run_open last log within view some = by (nat_lt index (length items)) refl
+  where
+    by : (b : Bool) → nat_lt index (length items) ≡ b → index < length items
+    by true e = grind (arith, nat_tests)
+    by false e =
+        let beyond : length items ≤ index = grind (arith, nat_tests) in
+        let whole : index ≡ length items = omega arith in
+        let no : false ≡ true = subst (λ (o : Option Splice). IsSome o) (next_none items index maximum run_open last whole) (subst (λ (l : Log). IsSome (next l)) (sym view) some) in cc
+
+-- the newest change is taken back
+pub stepped_back : (items : List Stored) (index maximum : ℕ) (run_open : Bool) (last : ℕ) (log : Log) → index ≤ length items → log_at (map splice_in items) index maximum run_open last ≡ log → 0 < index → (splice : Splice) → newest log ≡ Some splice → log_at (map splice_in items) (index - 1) maximum false last ≡ taken_back log splice
+stepped_back items index maximum run_open last log within view some splice e =
+    let splices = map splice_in items in
+    let old = log_at splices index maximum run_open last in
+    let size : length (take index splices) ≡ index = length-take-le index splices (omega (arith, length-map items splice_in)) in
+    let back : index - 1 + 1 ≡ index = omega arith in
+    let found : slice_get (take index splices) (index - 1) ≡ Some splice = sym (ap (λ n. slice_get (take index splices) (n - 1)) size) ∙ ap newest view ∙ e in
+    let read : splice ≡ get_or splices (index - 1) splice =
+    sym (sym (get_or-take index splices (index - 1) splice (omega arith)) ∙ get_or_from_slice_get (take index splices) (index - 1) splice splice found) in
+    let done : take (index - 1) splices ≡ take (length (take index splices) - 1) (take index splices) =
+    sym (ap (λ n. take (n - 1) (take index splices)) size ∙ take-take (index - 1) index splices (omega arith)) in
+    let undone : drop (index - 1) splices ≡ splice ∷ drop index splices =
+    drop_more splices (index - 1) splice (omega (arith, length-map items splice_in)) ∙ ap (λ (s : Splice). s ∷ drop (index - 1 + 1) splices) (sym read) ∙ ap (λ n. splice ∷ drop n splices) back in
+    ap (λ (d : List Splice). record { done = d; undone = drop (index - 1) splices; maximum = maximum; run_open = false; last = last }) done
+    ∙ ap (λ (u : List Splice). record { done = take (length (take index splices) - 1) (take index splices); undone = u; maximum = maximum; run_open = false; last = last }) undone
+    ∙ ap (λ (l : Log). taken_back l splice) view
+
+-- the change that was taken back last is made again
+pub stepped_forward : (items : List Stored) (index maximum : ℕ) (run_open : Bool) (last : ℕ) (log : Log) → index < length items → log_at (map splice_in items) index maximum run_open last ≡ log → (splice : Splice) → next log ≡ Some splice → log_at (map splice_in items) (index + 1) maximum false last ≡ made_again log splice
+stepped_forward items index maximum run_open last log within view splice e =
+    let splices = map splice_in items in
+    let here : index < length splices = omega (arith, length-map items splice_in) in
+    let found : slice_get (drop index splices) 0 ≡ Some splice = ap next view ∙ e in
+    let first : drop index splices ≡ get_or splices index splice ∷ drop (index + 1) splices = drop_more splices index splice here in
+    let read : splice ≡ get_or splices index splice = let same : Some splice ≡ Some (get_or splices index splice) = sym found ∙ ap (λ (t : List Splice). slice_get t 0) first in cc in
+    let done : take (index + 1) splices ≡ take index splices ++ splice ∷ [] =
+    take_more splices index splice here ∙ ap (λ (s : Splice). take index splices ++ s ∷ []) (sym read) in
+    let undone : drop (index + 1) splices ≡ drop 1 (drop index splices) = ap (drop 1) (sym first) in
+    ap (λ (d : List Splice). record { done = d; undone = drop (index + 1) splices; maximum = maximum; run_open = false; last = last }) done
+    ∙ ap (λ (u : List Splice). record { done = take index splices ++ splice ∷ []; undone = u; maximum = maximum; run_open = false; last = last }) undone
+    ∙ ap (λ (l : Log). made_again l splice) view
+
+-- one undo and one redo, of the change that the log names
+pub undoes_one : (old new : Log) (was now : List Symbol) (splice : Splice) (place : Place) → newest old ≡ Some splice → new ≡ taken_back old splice → now ≡ applied was (inverse splice) → place ≡ place_before splice → Undoes old new was now (Some place)
+undoes_one old new was now splice place found log_is now_is place_is =
+    subst (λ (o : Option Splice). UndoesBy o old new was now (Some place)) (sym found) (ap (λ (p : Place). Some p) place_is, log_is, now_is)
+
+pub redoes_one : (old new : Log) (was now : List Symbol) (splice : Splice) (place : Place) → next old ≡ Some splice → new ≡ made_again old splice → now ≡ applied was splice → place ≡ place_after splice → Redoes old new was now (Some place)
+redoes_one old new was now splice place found log_is now_is place_is =
+    subst (λ (o : Option Splice). RedoesBy o old new was now (Some place)) (sym found) (ap (λ (p : Place). Some p) place_is, log_is, now_is)
+
+pub undoes_none : (old new : Log) (was now : List Symbol) → newest old ≡ None → new ≡ old → now ≡ was → Undoes old new was now None
+undoes_none old new was now none log_is now_is = subst (λ (o : Option Splice). UndoesBy o old new was now None) (sym none) (refl, log_is, now_is)
+
+pub redoes_none : (old new : Log) (was now : List Symbol) → next old ≡ None → new ≡ old → now ≡ was → Redoes old new was now None
+redoes_none old new was now none log_is now_is = subst (λ (o : Option Splice). RedoesBy o old new was now None) (sym none) (refl, log_is, now_is)

@@ -1,0 +1,148 @@
+-- What a history holds, whichever way it is kept.
+use Rattle.std.specs.Prelude.{◌≡◌, Some, None, ℕ, ◌+◌, ◌-◌, ◌*◌, ◌==◌, ◌&&◌, ◌||◌, nat_lt, Bool, true, false, if◌then◌else◌, List, [], ◌∷◌, ◌++◌, length, take, drop, Option, is_some, slice_get}
+use Rattle.std.specs.Char.{is_whitespace}
+use Rattle.textarea_text.specs.Text.{Symbol, Character, Break}
+use Rattle.textarea_text.specs.Place.{Place}
+use Rattle.textarea_text.specs.Splice.{Splice, applied, inverse, place_before, place_after}
+use Rattle.textarea_history.specs.Word.{class_of, is_same_class}
+
+-- the changes made, the newest last; those taken back, the next to be made again first; how many it holds at most;
+-- whether the newest change is a run of typing that may go on; and the moment of the last change, in nanoseconds
+pub record Log : Type 0 where
+  pub done : List Splice
+  pub undone : List Splice
+  pub maximum : ℕ
+  pub run_open : Bool
+  pub last : ℕ
+
+abbrev pub empty_log : ℕ → Log
+empty_log maximum = record { done = []; undone = []; maximum = maximum; run_open = false; last = 0 }
+
+-- ---- a run of typing
+
+-- the character, where the symbols are just one and a character
+abbrev pub character_of : List Symbol → Option ℕ
+character_of (Character c ∷ []) = Some c
+character_of symbols = None
+
+-- an edit is typed if the caller says so and it has one character
+abbrev pub typed_character : Splice → Bool → Option ℕ
+typed_character edit coalesce = if coalesce then character_of edit.symbols else None
+
+abbrev pub is_typed : Splice → Bool → Bool
+is_typed edit coalesce = is_some (typed_character edit coalesce)
+
+-- the symbol by which a run last grew: its last one if it inserts, and its first one if it removes
+abbrev pub edge_of : Splice → Option Symbol
+edge_of run = slice_get run.symbols (if run.inserts then length run.symbols - 1 else 0)
+
+-- a character goes on with a run if it is whitespace, or of the class of the run's edge
+abbrev pub goes_on : Option Symbol → Option ℕ → Bool
+goes_on edge None = false
+goes_on None (Some c) = is_whitespace c
+goes_on (Some Break) (Some c) = is_whitespace c
+goes_on (Some (Character d)) (Some c) = is_whitespace c || is_same_class (class_of d) (class_of c)
+
+abbrev pub is_same_direction : Bool → Bool → Bool
+is_same_direction true other = other
+is_same_direction false other = if other then false else true
+
+abbrev pub is_same_place : Place → Place → Bool
+is_same_place first second = (first.0 == second.0) && (first.1 == second.1)
+
+-- the edit goes on where the run ended
+abbrev pub continues : Splice → Splice → Bool
+continues run edit =
+    is_same_direction run.inserts edit.inserts && (is_same_place (place_after run) (place_before edit) && goes_on (edge_of run) (character_of edit.symbols))
+
+abbrev pub continues_newest : Option Splice → Splice → Bool
+continues_newest None edit = false
+continues_newest (Some run) edit = continues run edit
+
+-- the run and the edit as one change
+abbrev pub merged : Splice → Splice → Splice
+merged run edit = record {
+  place = if run.inserts then run.place else edit.place;
+  symbols = if run.inserts then run.symbols ++ edit.symbols else edit.symbols ++ run.symbols;
+  inserts = run.inserts;
+}
+
+-- ---- recording
+
+abbrev pub is_empty : List Splice → Bool
+is_empty [] = true
+is_empty (splice ∷ rest) = false
+
+-- the change to take back next
+abbrev pub newest : Log → Option Splice
+newest log = slice_get log.done (length log.done - 1)
+
+-- the pause after which a run is not continued: 500 ms
+abbrev pub pause : ℕ
+pause = 500 * 1_000_000
+
+-- the edit joins the newest change: it is typed, the run is open, nothing is undone, less than the pause went by, and it goes on
+abbrev pub joins : Log → Splice → Bool → ℕ → Bool
+joins log edit coalesce now =
+    (is_typed edit coalesce && log.run_open) && (is_empty log.undone && (nat_lt (now - log.last) pause && continues_newest (newest log) edit))
+
+-- the newest change, grown by the edit
+abbrev pub grown : Option Splice → Splice → Splice
+grown None edit = edit
+grown (Some run) edit = merged run edit
+
+-- the done changes that stay when one more is recorded
+abbrev pub kept : Log → List Splice
+kept log = if length log.done + length log.undone == log.maximum then drop 1 log.done else log.done
+
+abbrev pub done_joined : Log → Splice → List Splice
+done_joined log edit = take (length log.done - 1) log.done ++ grown (newest log) edit ∷ []
+
+abbrev pub done_appended : Log → Splice → List Splice
+done_appended log edit = kept log ++ edit ∷ []
+
+abbrev pub done_after : Log → Splice → Bool → List Splice
+done_after log edit joined = if joined then done_joined log edit else done_appended log edit
+
+-- the log with these done changes, after one recorded at the moment
+abbrev pub with_done : Log → List Splice → Bool → ℕ → Log
+with_done log done run_open now = record { done = done; undone = []; maximum = log.maximum; run_open = run_open; last = now }
+
+abbrev pub recorded : Log → Splice → Bool → ℕ → Log
+recorded log edit coalesce now =
+    if log.maximum == 0 then log else with_done log (done_after log edit (joins log edit coalesce now)) (is_typed edit coalesce) now
+
+-- ---- undo and redo
+
+-- the newest change was taken back
+abbrev pub taken_back : Log → Splice → Log
+taken_back log splice = record log { done = take (length log.done - 1) log.done; undone = splice ∷ log.undone; run_open = false }
+
+-- the change to make again next, and the log after it
+abbrev pub next : Log → Option Splice
+next log = slice_get log.undone 0
+
+abbrev pub made_again : Log → Splice → Log
+made_again log splice = record log { done = log.done ++ splice ∷ []; undone = drop 1 log.undone; run_open = false }
+
+-- what a history holds, with how many more edits it can take without memory
+pub record Kept : Type 0 where
+  pub log : Log
+  pub room : ℕ
+
+-- one undo of a text and its log: nothing to take back, or the newest change taken back
+abbrev pub UndoesBy : Option Splice → Log → Log → List Symbol → List Symbol → Option Place → Type 0
+UndoesBy None old new was now place = (place ≡ None) × (new ≡ old) × (now ≡ was)
+UndoesBy (Some splice) old new was now place =
+    (place ≡ Some (place_before splice)) × (new ≡ taken_back old splice) × (now ≡ applied was (inverse splice))
+
+abbrev pub Undoes : Log → Log → List Symbol → List Symbol → Option Place → Type 0
+Undoes old new was now place = UndoesBy (newest old) old new was now place
+
+abbrev pub RedoesBy : Option Splice → Log → Log → List Symbol → List Symbol → Option Place → Type 0
+RedoesBy None old new was now place = (place ≡ None) × (new ≡ old) × (now ≡ was)
+RedoesBy (Some splice) old new was now place =
+    (place ≡ Some (place_after splice)) × (new ≡ made_again old splice) × (now ≡ applied was splice)
+
+abbrev pub Redoes : Log → Log → List Symbol → List Symbol → Option Place → Type 0
+Redoes old new was now place = RedoesBy (next old) old new was now place

@@ -1,0 +1,36 @@
+-- How a history keeps its log: one list of edits with an index, and the character by which an open run last grew.
+use Rattle.std.specs.Prelude.{◌≡◌, ◌<◌, ◌≤◌, ◌-◌, ℕ, Bool, true, cond, nat_lt, List, length, take, drop, Option, Some, None, slice_get, IfSome, All}
+use Rattle.textarea_text.specs.Text.{Character}
+use Rattle.textarea_text.specs.Splice.{Splice}
+use Rattle.textarea_history.specs.Edit.{Stored, IsWellFormed}
+use Rattle.textarea_history.specs.Log.{Log, edge_of}
+
+abbrev pub splice_in : Stored → Splice
+splice_in edit = edit.splice
+
+abbrev pub log_at : List Splice → ℕ → ℕ → Bool → ℕ → Log
+log_at splices index maximum run_open last = record { done = take index splices; undone = drop index splices; maximum = maximum; run_open = run_open; last = last }
+
+abbrev pub spare_in : Option Stored → ℕ
+spare_in None = 0
+spare_in (Some edit) = edit.spare
+
+-- an open run of which the newest edit cannot grow without memory leaves no room
+abbrev pub room_at : List Stored → Option ℕ → ℕ → ℕ
+room_at items None free = free
+room_at items (Some edge) free = cond (nat_lt (spare_in (slice_get items (length items - 1))) 4) 0 free
+
+pub record IsRun (edit : Stored) (edge : ℕ) : Type 0 where
+  pub grows : edit.grows ≡ true
+  pub edge_is : edge_of edit.splice ≡ Some (Character edge)
+
+abbrev pub RunIs : List Stored → ℕ → Option ℕ → Type 0
+RunIs items index None = Unit {0}
+RunIs items index (Some edge) = (index ≡ length items) × (0 < length items) × IfSome (slice_get items (length items - 1)) (λ edit. IsRun edit edge)
+
+-- each edit is well formed, done and undone edits together are at most the maximum, and an open run is the newest edit
+pub record IsStore (items : List Stored) (index maximum : ℕ) (run : Option ℕ) : Type 0 where
+  pub sound : All IsWellFormed items
+  pub within : index ≤ length items
+  pub bounded : length items ≤ maximum
+  pub run_is : RunIs items index run

@@ -1,0 +1,261 @@
+//! The edits that were made and taken back, with a greatest number, and runs of typing that grow in place.
+ghost use Rattle.std.specs.VecDeque.{deque_capacity};
+ghost use Rattle.std.specs.Prelude.{drop, ◌≡◌, ◌<◌, ◌≤◌, ◌+◌, length, OnOk, OnErr, IfOk, IfSome, IsSome, IsOk, MatchOption, [], vec_len, true, false};
+ghost use Rattle.std.specs.Duration.{as_nanos};
+ghost use Rattle.textarea_text.specs.Text.{text_of};
+ghost use Rattle.textarea_text.specs.Splice.{Splice, Fits, inverse};
+ghost use Rattle.textarea_history.specs.Edit.{IsWellFormed};
+ghost use Rattle.textarea_history.specs.Log.{empty_log, recorded, joins, with_done, done_joined, done_appended, is_typed, kept, Undoes, Redoes, newest, next, taken_back, made_again};
+
+pub use crate::edit::{Edit, EditKind};
+use std::alloc::{AllocError, Global};
+use std::collections::VecDeque;
+use std::marker::Model;
+use std::time::Duration;
+
+/// The pause after which typing begins a new run, in nanoseconds.
+const PAUSE: u128 = 500_000_000;
+
+/// The edits are kept in one queue: those before the index were made, those from it on were taken
+/// back. While a run is open, `run` is the character by which the newest edit last grew.
+#[derive(Drop)]
+pub struct History {
+    items: VecDeque<Edit>,
+    index: usize,
+    max_items: usize,
+    run: Option<char>,
+    last: Duration,
+}
+
+impl Model for History {
+    ghost use Rattle.std.specs.Prelude.{◌-◌, map, is_some};
+    ghost use Rattle.std.specs.VecDeque.{deque_len, deque_capacity};
+    ghost use Rattle.std.specs.Duration.{as_nanos};
+    ghost use Rattle.textarea_history.specs.Log.{Kept};
+
+    ghost Value = { Kept };
+
+    ghost use Rattle.textarea_history.specs.Store.{IsStore, log_at, room_at, splice_in};
+
+    ghost view = { λ h. record {
+      log = log_at (map splice_in h.items.items) h.index h.max_items (is_some h.run) (as_nanos h.last);
+      room = room_at h.items.items h.run (deque_capacity h.items - deque_len h.items);
+    } };
+
+    ghost invariant = { λ h. IsStore h.items.items h.index h.max_items h.run };
+}
+
+impl History {
+    pub fn new(alloc: Global, max_items: usize) -> Self
+        ensures { result.log ≡ empty_log max_items }
+    {
+        History {
+            items: VecDeque::new(alloc),
+            index: 0,
+            max_items,
+            run: None,
+            last: Duration::ZERO,
+        }
+    }
+
+    pub fn max_items(&self) -> usize
+        ensures { result ≡ self.now.log.maximum }
+    {
+        self.max_items
+    }
+
+    /// Ends the run, if one is open.
+    pub fn break_run(&mut self)
+        ensures { self.new.log ≡ record self.old.log { run_open = false } }
+    {
+        self.run = None;
+    }
+
+    /// Records the edit, as one typed with coalescing on or not.
+    pub fn push(&mut self, edit: Edit, coalesce: bool, now: Duration) -> Result<(), AllocError>
+        requires { IsWellFormed edit }
+        ensures ok { OnOk result (self.new.log ≡ recorded self.old.log edit.splice coalesce (as_nanos now)) }
+        ensures err { OnErr result (self.new.log ≡ self.old.log) }
+    {
+        self.reserve()?;
+        self.put(edit, coalesce, now);
+        Ok(())
+    }
+
+    /// Makes room for one more edit, so that `put` takes no memory.
+    pub fn reserve(&mut self) -> Result<(), AllocError>
+        ensures same { self.new.log ≡ self.old.log }
+        ensures ok { OnOk result (0 < self.new.room) }
+    {
+        self.items.reserve(1)?;
+        if self.run.is_some() {
+            let alloc = *self.items.allocator();
+            let newest = &mut self.items[self.index - 1];
+            newest.reserve(alloc)?;
+        }
+        Ok(())
+    }
+
+    /// Records the edit, for which there is room.
+    pub fn put(&mut self, edit: Edit, coalesce: bool, now: Duration)
+        requires well_formed { IsWellFormed edit }
+        requires room { 0 < self.old.room }
+        ensures { self.new.log ≡ recorded self.old.log edit.splice coalesce (as_nanos now) }
+    {
+        if self.max_items == 0 {
+            return;
+        }
+        if self.joins(&edit, coalesce, now) {
+            self.join(&edit, now);
+        } else {
+            self.append(edit, coalesce, now);
+        }
+    }
+
+    /// Whether the edit joins the newest one.
+    fn joins(&self, edit: &Edit, coalesce: bool, now: Duration) -> bool
+        requires { IsWellFormed edit.now }
+        ensures { result ≡ joins self.now.log edit.now.splice coalesce (as_nanos now) }
+    {
+        let Some(c) = edit.typed_character(coalesce) else {
+            return false;
+        };
+        let Some(edge) = self.run else {
+            return false;
+        };
+        let newest = &self.items[self.index - 1];
+        now.saturating_sub(self.last).as_nanos() < PAUSE && newest.is_continued_by(edge, edit, c)
+    }
+
+    /// Grows the newest edit by the typed one, which joins it.
+    fn join(&mut self, edit: &Edit, now: Duration)
+        requires well_formed { IsWellFormed edit.now }
+        requires room { 0 < self.old.room }
+        requires joins { joins self.old.log edit.now.splice true (as_nanos now) ≡ true }
+        ensures { self.new.log ≡ with_done self.old.log (done_joined self.old.log edit.now.splice) true (as_nanos now) }
+    {
+        if let Some(c) = edit.typed_character(true) {
+            let newest = &mut self.items[self.index - 1];
+            newest.grow(edit, c);
+            self.run = Some(c);
+            self.last = now;
+        }
+    }
+
+    /// Puts the edit behind the done ones.
+    fn append(&mut self, mut edit: Edit, coalesce: bool, now: Duration)
+        requires well_formed { IsWellFormed edit }
+        requires room { 0 < self.old.room }
+        requires some { 0 < self.old.log.maximum }
+        ensures { self.new.log ≡ with_done self.old.log (done_appended self.old.log edit.splice) (is_typed edit.splice coalesce) (as_nanos now) }
+    {
+        self.make_place();
+        let typed = edit.typed_character(coalesce);
+        edit.start_run(typed);
+        let _ = self.items.push_back(edit);
+        self.index += 1;
+        self.run = typed;
+        self.last = now;
+    }
+
+    /// Lets the undone edits go, and the oldest one where the history is full.
+    fn make_place(&mut self)
+        requires room { 0 < self.old.room }
+        requires some { 0 < self.old.log.maximum }
+        ensures log { self.new.log ≡ record self.old.log { done = kept self.old.log; undone = []; run_open = false } }
+        ensures place { length self.new.log.done < self.new.log.maximum }
+        ensures room { 0 < self.new.room }
+    {
+        if self.items.len() == self.max_items && 0 < self.index {
+            drop_oldest(&mut self.items);
+            self.index -= 1;
+        }
+        self.items.truncate(self.index);
+        self.run = None;
+    }
+
+    /// The newest done edit, which `undo` takes back next.
+    pub fn newest(&self) -> Option<&Edit>
+        ensures edit { MatchOption result (newest self.now.log ≡ None) (λ edit. newest self.now.log ≡ Some edit.now.splice) }
+        ensures well_formed { IfSome result (λ edit. IsWellFormed edit.now) }
+    {
+        if self.index == 0 {
+            return None;
+        }
+        Some(&self.items[self.index - 1])
+    }
+
+    /// The edit that was undone last, which `redo` makes again next.
+    pub fn next(&self) -> Option<&Edit>
+        ensures edit { MatchOption result (next self.now.log ≡ None) (λ edit. next self.now.log ≡ Some edit.now.splice) }
+        ensures well_formed { IfSome result (λ edit. IsWellFormed edit.now) }
+    {
+        if self.index == self.items.len() {
+            return None;
+        }
+        Some(&self.items[self.index])
+    }
+
+    /// Moves the newest done edit, which was taken back, to the undone ones, and ends the run.
+    pub fn step_back(&mut self)
+        requires { IsSome (newest self.old.log) }
+        ensures { (splice : Splice) → newest self.old.log ≡ Some splice → self.new.log ≡ taken_back self.old.log splice }
+    {
+        self.index -= 1;
+        self.run = None;
+    }
+
+    /// Moves the edit that was undone last, which was made again, to the done ones, and ends the run.
+    pub fn step_forward(&mut self)
+        requires { IsSome (next self.old.log) }
+        ensures { (splice : Splice) → next self.old.log ≡ Some splice → self.new.log ≡ made_again self.old.log splice }
+    {
+        self.index += 1;
+        self.run = None;
+    }
+
+    /// Takes back the newest edit, and says where the cursor goes; with nothing to take back nothing changes.
+    pub fn undo(&mut self, lines: &mut Vec<String>) -> Result<Option<(usize, usize)>, AllocError>
+        requires nonempty { 0 < vec_len lines.old }
+        requires fits { IfSome (newest self.old.log) (λ splice. Fits (text_of lines.old.items) (inverse splice)) }
+        ensures ok { IfOk result (λ place. Undoes self.old.log self.new.log (text_of lines.old.items) (text_of lines.new.items) place) }
+        ensures err { OnErr result ((self.new.log ≡ self.old.log) × (lines.new.items ≡ lines.old.items)) }
+        ensures nonempty { 0 < vec_len lines.new }
+        ensures nothing { newest self.old.log ≡ None → IsOk result }
+    {
+        let Some(edit) = self.newest() else {
+            return Ok(None);
+        };
+        edit.undo(lines)?;
+        let place = edit.cursor_before();
+        self.step_back();
+        Ok(Some(place))
+    }
+
+    /// Makes again the edit that was undone last, and says where the cursor goes; with nothing to make again nothing
+    /// changes.
+    pub fn redo(&mut self, lines: &mut Vec<String>) -> Result<Option<(usize, usize)>, AllocError>
+        requires nonempty { 0 < vec_len lines.old }
+        requires fits { IfSome (next self.old.log) (λ splice. Fits (text_of lines.old.items) splice) }
+        ensures ok { IfOk result (λ place. Redoes self.old.log self.new.log (text_of lines.old.items) (text_of lines.new.items) place) }
+        ensures err { OnErr result ((self.new.log ≡ self.old.log) × (lines.new.items ≡ lines.old.items)) }
+        ensures nonempty { 0 < vec_len lines.new }
+        ensures nothing { next self.old.log ≡ None → IsOk result }
+    {
+        let Some(edit) = self.next() else {
+            return Ok(None);
+        };
+        edit.redo(lines)?;
+        let place = edit.cursor_after();
+        self.step_forward();
+        Ok(Some(place))
+    }
+}
+
+/// Lets the oldest edit go, if there is one.
+fn drop_oldest(items: &mut VecDeque<Edit>)
+    ensures items { items.new.items ≡ drop 1 items.old.items }
+    ensures capacity { deque_capacity items.new ≡ deque_capacity items.old }
+{
+    items.pop_front();
+}

@@ -1,0 +1,74 @@
+-- The symbol before a place of some lines.
+use Rattle.std.proofs.Common.{◌≡◌, ℕ, ◌+◌, ◌-◌, ◌<◌, ◌≤◌, List, [], ◌∷◌, ◌++◌, length, take, drop, sym, ap, refl, ◌∙◌, arith, get_or, subst, String, encode_utf8_all, encode_utf8, Option, Some, None, MatchOption}
+use Rattle.std.specs.Option.{IsSome}
+use Rattle.std.proofs.lemmas.List.{append-nil, length-take-le, length-map, length-drop, drop_more, take-append-drop, drop-drop}
+use Rattle.std.proofs.lemmas.Str.{cons_from_encodes, length-le-encodes}
+use Rattle.textarea_text.specs.Text.{Character, Break, characters, characters_of, joined, lines_of, text_of}
+use Rattle.textarea_text.specs.Place.{Place, IsPlace, IsPlaceOf, IsSymbolBefore, StandsAt}
+use Rattle.textarea_text.proofs.Splices.{lines-joined}
+use Rattle.textarea_text.proofs.RowEdits.{rows_around, cut_line, rows_stand}
+use Rattle.textarea_text.proofs.StringRows.{line_at}
+use Rattle.textarea_text.proofs.Places.{is_before}
+
+-- a place of the lines is one of the text that they hold
+pub text_place : {Z : Type 0} (items : List (String Z)) (place : Place) → IsPlaceOf (lines_of items) place → IsPlace (text_of items) place
+text_place items place h =
+    subst (λ (rows : List (List ℕ)). IsPlaceOf rows place) (sym (lines-joined (lines_of items) (omega (arith, h.0)))) h
+
+pub character_stands : (rows : List (List ℕ)) (row column c : ℕ) → row < length rows → column ≤ length (get_or rows row []) → drop column (get_or rows row []) ≡ c ∷ drop (column + 1) (get_or rows row []) → StandsAt (joined rows) (row, column) (Character c ∷ [])
+character_stands rows row column c within inside found =
+    let here = get_or rows row [] in
+    let was : joined (here ∷ []) ≡ characters (take column here) ++ (Character c ∷ characters (drop (column + 1) here)) =
+    cut_line here column ∙ ap (λ t. characters (take column here) ++ characters t) found in
+    rows_stand rows (here ∷ []) (drop (row + 1) rows) (take column here) row column (Character c ∷ []) (characters (drop (column + 1) here)) within (rows_around rows row within) (length-take-le column here inside) (omega arith) was
+
+rows_around_two : (rows : List (List ℕ)) (row : ℕ) → row + 1 < length rows → rows ≡ take row rows ++ ((get_or rows row [] ∷ get_or rows (row + 1) [] ∷ []) ++ drop (row + 2) rows)
+rows_around_two rows row within =
+    let two : row + 1 + 1 ≡ row + 2 = omega arith in
+    sym (take-append-drop row rows)
+    ∙ ap (λ t. take row rows ++ t)
+    (drop_more rows row [] (omega arith)
+    ∙ ap (λ (t : List (List ℕ)). get_or rows row [] ∷ t) (drop_more rows (row + 1) [] within ∙ ap (λ n. get_or rows (row + 1) [] ∷ drop n rows) two))
+
+pub break_stands : (rows : List (List ℕ)) (row : ℕ) → row + 1 < length rows → StandsAt (joined rows) (row, length (get_or rows row [])) (Break ∷ [])
+break_stands rows row within =
+    let here = get_or rows row [] in
+    let next = get_or rows (row + 1) [] in
+    let was : joined (here ∷ next ∷ []) ≡ characters here ++ (Break ∷ characters next) = ap (λ t. characters here ++ (Break ∷ t)) (append-nil (characters next)) in
+    rows_stand rows (here ∷ next ∷ []) (drop (row + 2) rows) here row (length here) (Break ∷ []) (characters next) (omega arith) (rows_around_two rows row within) refl (omega arith) was
+
+pub pair_is : (place : Place) (row column : ℕ) → place.0 ≡ row → place.1 ≡ column → place ≡ (row, column)
+pair_is place row column e e' = ap (λ (n : ℕ). (n, place.1)) e ∙ ap (λ (n : ℕ). (row, n)) e'
+
+-- a character stands before a place inside a line
+pub character_before : {Z : Type 0} (items : List (String Z)) (place : Place) (line : String Z) (c : ℕ) → IsPlaceOf (lines_of items) place → 0 < place.1 → line ≡ get_or items place.0 line → drop (place.1 - 1) (characters_of line) ≡ c ∷ drop (place.1 - 1 + 1) (characters_of line) → IsSymbolBefore (text_of items) place (place.0, place.1 - 1) (Character c)
+character_before items place line c h some read found =
+    let rows = lines_of items in
+    let here : get_or rows place.0 [] ≡ characters_of line = line_at items place.0 line (omega (arith, h.0, length-map items characters_of)) read in
+    let start : IsPlaceOf rows (place.0, place.1 - 1) = (h.0, omega (arith, h.1)) in
+    is_before (text_of items) (place.0, place.1 - 1) (Character c) place (text_place items (place.0, place.1 - 1) start)
+    (character_stands rows place.0 (place.1 - 1) c h.0 start.1 (subst (λ (l : List ℕ). drop (place.1 - 1) l ≡ c ∷ drop (place.1 - 1 + 1) l) (sym here) found))
+    (pair_is place place.0 (place.1 - 1 + 1) refl (omega arith))
+
+-- a break stands before a place at the start of a further line
+pub break_before : {Z : Type 0} (items : List (String Z)) (place : Place) (line : String Z) (column : ℕ) → IsPlaceOf (lines_of items) place → place.1 ≡ 0 → 0 < place.0 → line ≡ get_or items (place.0 - 1) line → column ≡ length (characters_of line) → IsSymbolBefore (text_of items) place (place.0 - 1, column) Break
+break_before items place line column h none some read e =
+    let rows = lines_of items in
+    let here : get_or rows (place.0 - 1) [] ≡ characters_of line = line_at items (place.0 - 1) line (omega (arith, h.0, length-map items characters_of)) read in
+    let at : length (get_or rows (place.0 - 1) []) ≡ column = ap length here ∙ sym e in
+    let stands : StandsAt (text_of items) (place.0 - 1, column) (Break ∷ []) =
+    subst (λ (n : ℕ). StandsAt (text_of items) (place.0 - 1, n) (Break ∷ [])) at (break_stands rows (place.0 - 1) (omega (arith, h.0))) in
+    is_before (text_of items) (place.0 - 1, column) Break place (text_place items (place.0 - 1, column) (omega (arith, h.0), omega (arith, at))) stands
+    (pair_is place (place.0 - 1 + 1) 0 (omega arith) none)
+
+-- a call of `next`, where a character is left
+pub next_some : (Same : Type 0) (cs was rest : List ℕ) (column : ℕ) (found : Option ℕ) → column < length cs → was ≡ encode_utf8_all (drop column cs) → MatchOption found ((length was ≡ 0) × Same) (λ c. was ≡ encode_utf8 c ++ rest) → IsSome found
+next_some Same cs was rest column None within e h =
+    absurd (omega (arith, h.0, ap length e, length-le-encodes (drop column cs), length-drop column cs))
+next_some Same cs was rest column (Some c) within e h = refl
+
+pub next_is : (Same : Type 0) (cs was rest : List ℕ) (column c : ℕ) (found : Option ℕ) → was ≡ encode_utf8_all (drop column cs) → MatchOption found ((length was ≡ 0) × Same) (λ d. was ≡ encode_utf8 d ++ rest) → found ≡ Some c → drop column cs ≡ c ∷ drop (column + 1) cs
+next_is Same cs was rest column c found e h is =
+    let read : was ≡ encode_utf8 c ++ rest = subst (λ (o : Option ℕ). MatchOption o ((length was ≡ 0) × Same) (λ d. was ≡ encode_utf8 d ++ rest)) is h in
+    let first = cons_from_encodes (drop column cs) rest c (sym e ∙ read) in
+    first.1 ∙ ap (λ (t : List ℕ). c ∷ t) (ap (drop 1) (sym first.1) ∙ drop-drop 1 column cs)

@@ -1,0 +1,8 @@
+pub mod Columns
+pub mod Splices
+pub mod RowEdits
+pub mod Places
+pub mod StringRows
+pub mod Replacing
+pub mod Sizes
+pub mod Befores

@@ -1,0 +1,248 @@
+-- Places of a text, and what a change and its inverse do there.
+use Rattle.std.proofs.Common.{◌≤◌, ◌≡◌, ℕ, ◌+◌, ◌-◌, ◌<◌, Bool, true, false, List, [], ◌∷◌, ◌++◌, length, take, drop, sym, ap, refl, ◌∙◌, arith, get_or, subst}
+use Rattle.std.proofs.lemmas.List.{append_assoc, length-append, length-drop, take-append-drop, length-take-le, take_at, drop_at, get_or_at}
+use Rattle.textarea_text.specs.Text.{Symbol, Character, Break, characters, following, leading, joined, lines, on_first}
+use Rattle.textarea_text.specs.Place.{Place, end, index_of, inserted, removed, StandsAt, IsPlaceOf, IsPlace, IsSymbolBefore}
+use Rattle.textarea_text.specs.Splice.{Splice, Fits, Allows, applied, inverse, place_after}
+use Rattle.textarea_text.proofs.Splices.{whole, index_of_part, end_of_front, end-append, inserted_at, removed_at, stands_at}
+use Rattle.textarea_text.proofs.RowEdits.{rows_around, cut_line, row_inserted, rows_removed}
+
+-- ---- each text is whole lines and the start of one more
+
+pub record Cut (text : List Symbol) : Type 0 where
+  pub above : List (List ℕ)
+  pub start : List ℕ
+  pub is : text ≡ leading above ++ characters start
+
+cut_more : (c : ℕ) (text : List Symbol) (above : List (List ℕ)) (start : List ℕ) → text ≡ leading above ++ characters start → Cut (Character c ∷ text)
+cut_more c text [] start e = record { above = []; start = c ∷ start; is = ap (λ t. Character c ∷ t) e }
+cut_more c text (line ∷ above) start e = record { above = (c ∷ line) ∷ above; start = start; is = ap (λ t. Character c ∷ t) e }
+
+pub cut : (text : List Symbol) → Cut text
+cut [] = record { above = []; start = []; is = refl }
+cut (Character c ∷ text) = let rest = cut text in cut_more c text rest.above rest.start rest.is
+cut (Break ∷ text) = let rest = cut text in record { above = [] ∷ rest.above; start = rest.start; is = ap (λ t. Break ∷ t) rest.is }
+
+-- the lines of a text whose first part is known
+first_line : (line : List ℕ) (text : List Symbol) → (more : List ℕ) × (rest : List (List ℕ)) × (lines (characters line ++ text) ≡ (line ++ more) ∷ rest)
+first_line [] [] = ([], [], refl)
+first_line [] (Character c ∷ text) = let found = first_line [] text in (c ∷ found.0, found.1, ap (on_first c) found.2)
+first_line [] (Break ∷ text) = ([], lines text, refl)
+first_line (c ∷ line) text = let found = first_line line text in (found.0, found.1, ap (on_first c) found.2)
+
+lines-line : (line : List ℕ) (text : List Symbol) → lines (characters line ++ (Break ∷ text)) ≡ line ∷ lines text
+lines-line [] text = refl
+lines-line (c ∷ line) text = ap (on_first c) (lines-line line text)
+
+lines-leading : (above : List (List ℕ)) (text : List Symbol) → lines (leading above ++ text) ≡ above ++ lines text
+lines-leading [] text = refl
+lines-leading (line ∷ above) text =
+    ap lines (append_assoc (characters line) (Break ∷ leading above) text)
+    ∙ lines-line line (leading above ++ text)
+    ∙ ap (λ t. line ∷ t) (lines-leading above text)
+
+-- where a front of a text ends is a place of the text, and the front's length is its index
+pub IsPlace-end : (front back : List Symbol) → IsPlace (front ++ back) (end (0, 0) front)
+IsPlace-end front back =
+    let parts = cut front in
+    let found = first_line parts.start back in
+    let rows : lines (front ++ back) ≡ parts.above ++ ((parts.start ++ found.0) ∷ found.1) =
+    ap (λ t. lines (t ++ back)) parts.is ∙ ap lines (append_assoc (leading parts.above) (characters parts.start) back)
+    ∙ lines-leading parts.above (characters parts.start ++ back) ∙ ap (λ t. parts.above ++ t) found.2 in
+    let place : end (0, 0) front ≡ (length parts.above, length parts.start) = ap (end (0, 0)) parts.is ∙ end_of_front parts.above parts.start in
+    let here : get_or (parts.above ++ ((parts.start ++ found.0) ∷ found.1)) (length parts.above) [] ≡ parts.start ++ found.0 = get_or_at parts.above (parts.start ++ found.0) found.1 [] (length parts.above) refl in
+    let held : IsPlaceOf (parts.above ++ ((parts.start ++ found.0) ∷ found.1)) (length parts.above, length parts.start) = (
+      omega (arith, length-append parts.above ((parts.start ++ found.0) ∷ found.1)),
+      omega (arith, ap length here, length-append parts.start found.0),
+    ) in
+    subst (λ (r : List (List ℕ)). IsPlaceOf r (end (0, 0) front)) (sym rows) (subst (IsPlaceOf (parts.above ++ ((parts.start ++ found.0) ∷ found.1))) (sym place) held)
+
+pub index_of-end : (front back : List Symbol) → index_of (front ++ back) (end (0, 0) front) ≡ length front
+index_of-end front back =
+    let parts = cut front in
+    ap (λ t. index_of (t ++ back) (end (0, 0) t)) parts.is
+    ∙ ap (λ (p : Place). index_of ((leading parts.above ++ characters parts.start) ++ back) p) (end_of_front parts.above parts.start)
+    ∙ index_of_part parts.above parts.start back
+    ∙ ap length (sym parts.is)
+
+-- ---- a place parts the text
+
+pub record Parted (text : List Symbol) (place : Place) : Type 0 where
+  pub front : List Symbol
+  pub back : List Symbol
+  pub is : text ≡ front ++ back
+  pub ends : end (0, 0) front ≡ place
+
+unfoldable pub part_rows : (rows : List (List ℕ)) (row column : ℕ) → IsPlaceOf rows (row, column) → Parted (joined rows) (row, column)
+part_rows rows row column place =
+    let line = get_or rows row [] in
+    record {
+      front = leading (take row rows) ++ characters (take column line);
+      back = characters (drop column line) ++ following (drop (row + 1) rows);
+      is = ap joined (rows_around rows row place.0)
+          ∙ whole (take row rows) (line ∷ []) (drop (row + 1) rows) (take column line) (characters (drop column line)) (omega arith) (cut_line line column);
+      ends = end_of_front (take row rows) (take column line)
+          ∙ ap (λ (n : ℕ). (n, length (take column line))) (length-take-le row rows (omega (arith, place.0)))
+          ∙ ap (λ (n : ℕ). (row, n)) (length-take-le column line place.1);
+    }
+
+on_first-joined : (c : ℕ) (rows : List (List ℕ)) → joined (on_first c rows) ≡ Character c ∷ joined rows
+on_first-joined c [] = refl
+on_first-joined c (line ∷ rest) = refl
+
+following-lines : (text : List Symbol) → following (lines text) ≡ Break ∷ text
+following-lines [] = refl
+following-lines (Break ∷ text) = ap (λ t. Break ∷ t) (following-lines text)
+following-lines (Character c ∷ text) = following-on_first c (lines text) text (following-lines text)
+  where
+    following-on_first : (c : ℕ) (rows : List (List ℕ)) (text : List Symbol) → following rows ≡ Break ∷ text → following (on_first c rows) ≡ Break ∷ (Character c ∷ text)
+    following-on_first c [] text e = cc
+    following-on_first c (line ∷ rest) text e = ap (λ t. Break ∷ (Character c ∷ drop 1 t)) e
+
+-- lines are joined to the text that they were cut from
+pub joined-lines : (text : List Symbol) → joined (lines text) ≡ text
+joined-lines [] = refl
+joined-lines (Character c ∷ text) = on_first-joined c (lines text) ∙ ap (λ t. Character c ∷ t) (joined-lines text)
+joined-lines (Break ∷ text) = following-lines text
+
+pub parted : (text : List Symbol) (place : Place) → IsPlace text place → Parted text place
+parted text place h =
+    let parts = part_rows (lines text) place.0 place.1 h in
+    record { front = parts.front; back = parts.back; is = sym (joined-lines text) ∙ parts.is; ends = parts.ends }
+
+pub index_parted : (place : Place) (front back : List Symbol) → end (0, 0) front ≡ place → index_of (front ++ back) place ≡ length front
+index_parted place front back e = ap (λ (p : Place). index_of (front ++ back) p) (sym e) ∙ index_of-end front back
+
+pub place_parted : (place : Place) (front back : List Symbol) → end (0, 0) front ≡ place → IsPlace (front ++ back) place
+place_parted place front back e = subst (IsPlace (front ++ back)) e (IsPlace-end front back)
+
+-- ---- what stands at a place
+
+pub standing : (text : List Symbol) (place : Place) (symbols : List Symbol) (parts : Parted text place) → StandsAt text place symbols → take (length symbols) parts.back ≡ symbols
+standing text place symbols parts h =
+    sym (ap (λ t. take (length symbols) (drop (index_of t place) t)) parts.is
+    ∙ ap (λ n. take (length symbols) (drop n (parts.front ++ parts.back))) (index_parted place parts.front parts.back parts.ends)
+    ∙ ap (take (length symbols)) (drop_at parts.front parts.back (length parts.front) refl))
+    ∙ h
+
+head_character : (c : ℕ) (line : List ℕ) (below : List (List ℕ)) → take 1 (characters line ++ following below) ≡ Character c ∷ [] → 0 < length line
+head_character c [] [] e = absurd cc
+head_character c [] (next ∷ below) e = absurd cc
+head_character c (d ∷ line) below e = omega arith
+
+head_break : (line : List ℕ) (below : List (List ℕ)) → take 1 (characters line ++ following below) ≡ Break ∷ [] → (length line ≡ 0) × (0 < length below)
+head_break [] [] e = absurd cc
+head_break [] (next ∷ below) e = (refl, omega arith)
+head_break (c ∷ line) below e = absurd cc
+
+-- a character stands inside its line
+pub inside_line : (rows : List (List ℕ)) (row column c : ℕ) → IsPlaceOf rows (row, column) → StandsAt (joined rows) (row, column) (Character c ∷ []) → column < length (get_or rows row [])
+unfolding part_rows
+inside_line rows row column c place h =
+    omega (arith, head_character c (drop column (get_or rows row [])) (drop (row + 1) rows) (standing (joined rows) (row, column) (Character c ∷ []) (part_rows rows row column place) h), length-drop column (get_or rows row []))
+
+-- a break stands at its line's end, and a line follows
+pub at_line_end : (rows : List (List ℕ)) (row column : ℕ) → IsPlaceOf rows (row, column) → StandsAt (joined rows) (row, column) (Break ∷ []) → (column ≡ length (get_or rows row [])) × (row + 1 < length rows)
+unfolding part_rows
+at_line_end rows row column place h =
+    let found = head_break (drop column (get_or rows row [])) (drop (row + 1) rows) (standing (joined rows) (row, column) (Break ∷ []) (part_rows rows row column place) h) in
+    (omega (arith, found.0, place.1, length-drop column (get_or rows row [])), omega (arith, found.1, length-drop (row + 1) rows))
+
+-- ---- a change and its inverse
+
+-- the inverse of a change fits where the change was made, and brings the text back
+pub record TakesBack (text : List Symbol) (splice : Splice) : Type 0 where
+  pub fits : Fits (applied text splice) (inverse splice)
+  pub back : applied (applied text splice) (inverse splice) ≡ text
+  pub is_place : IsPlace (applied text splice) (place_after splice)
+
+inserted_parted : (text : List Symbol) (place : Place) (symbols : List Symbol) (parts : Parted text place) → inserted text place symbols ≡ parts.front ++ (symbols ++ parts.back)
+inserted_parted text place symbols parts =
+    ap (λ t. inserted t place symbols) parts.is ∙ inserted_at parts.front parts.back symbols place (index_parted place parts.front parts.back parts.ends)
+
+removed_parted : (front back symbols : List Symbol) (place : Place) → end (0, 0) front ≡ place → removed (front ++ (symbols ++ back)) place symbols ≡ front ++ back
+removed_parted front back symbols place e = removed_at front back symbols place (index_parted place front (symbols ++ back) e)
+
+takes_back_inserted : (text : List Symbol) (place : Place) (symbols : List Symbol) (parts : Parted text place) → 0 < length symbols → TakesBack text (record { place = place; symbols = symbols; inserts = true })
+takes_back_inserted text place symbols parts some =
+    let now : inserted text place symbols ≡ parts.front ++ (symbols ++ parts.back) = inserted_parted text place symbols parts in
+    let whole_place : IsPlace (parts.front ++ (symbols ++ parts.back)) place = place_parted place parts.front (symbols ++ parts.back) parts.ends in
+    let stands : StandsAt (parts.front ++ (symbols ++ parts.back)) place symbols = stands_at parts.front parts.back symbols place (index_parted place parts.front (symbols ++ parts.back) parts.ends) in
+    let ended : IsPlace ((parts.front ++ symbols) ++ parts.back) (end place symbols) =
+    place_parted (end place symbols) (parts.front ++ symbols) parts.back (end-append (0, 0) parts.front symbols ∙ ap (λ (p : Place). end p symbols) parts.ends) in
+    record {
+      fits = record {
+        some = some;
+        is_place = subst (λ t. IsPlace t place) (sym now) whole_place;
+        allowed = subst (λ t. StandsAt t place symbols) (sym now) stands;
+      };
+      back = ap (λ t. removed t place symbols) now ∙ removed_parted parts.front parts.back symbols place parts.ends ∙ sym parts.is;
+      is_place = subst (λ t. IsPlace t (end place symbols)) (append_assoc parts.front symbols parts.back ∙ sym now) ended;
+    }
+
+takes_back_removed : (text : List Symbol) (place : Place) (symbols : List Symbol) (parts : Parted text place) → 0 < length symbols → StandsAt text place symbols → TakesBack text (record { place = place; symbols = symbols; inserts = false })
+takes_back_removed text place symbols parts some stands =
+    let rest = drop (length symbols) parts.back in
+    let was : text ≡ parts.front ++ (symbols ++ rest) =
+    parts.is ∙ ap (λ t. parts.front ++ t) (sym (take-append-drop (length symbols) parts.back) ∙ ap (λ t. t ++ rest) (standing text place symbols parts stands)) in
+    let now : removed text place symbols ≡ parts.front ++ rest = ap (λ t. removed t place symbols) was ∙ removed_parted parts.front rest symbols place parts.ends in
+    let whole_place : IsPlace (parts.front ++ rest) place = place_parted place parts.front rest parts.ends in
+    record {
+      fits = record { some = some; is_place = subst (λ t. IsPlace t place) (sym now) whole_place; allowed = tt };
+      back = ap (λ t. inserted t place symbols) now ∙ inserted_at parts.front rest symbols place (index_parted place parts.front rest parts.ends) ∙ sym was;
+      is_place = subst (λ t. IsPlace t place) (sym now) whole_place;
+    }
+
+takes_back_by : (inserts : Bool) (text : List Symbol) (place : Place) (symbols : List Symbol) → 0 < length symbols → IsPlace text place → Allows inserts text place symbols → TakesBack text (record { place = place; symbols = symbols; inserts = inserts })
+takes_back_by true text place symbols some h allowed = takes_back_inserted text place symbols (parted text place h) some
+takes_back_by false text place symbols some h allowed = takes_back_removed text place symbols (parted text place h) some allowed
+
+pub takes_back : (text : List Symbol) (splice : Splice) → Fits text splice → TakesBack text splice
+takes_back text splice h = takes_back_by splice.inserts text splice.place splice.symbols h.some h.is_place h.allowed
+
+-- ---- the symbol before a place
+
+pub is_before : (text : List Symbol) (start : Place) (symbol : Symbol) (place : Place) → IsPlace text start → StandsAt text start (symbol ∷ []) → place ≡ end start (symbol ∷ []) → IsSymbolBefore text place start symbol
+is_before text start symbol place h stands e =
+    let parts = parted text start h in
+    let found : take 1 parts.back ≡ symbol ∷ [] = standing text start (symbol ∷ []) parts stands in
+    let split : text ≡ (parts.front ++ symbol ∷ []) ++ drop 1 parts.back =
+    parts.is ∙ ap (λ t. parts.front ++ t) (sym (take-append-drop 1 parts.back) ∙ ap (λ t. t ++ drop 1 parts.back) found)
+    ∙ sym (append_assoc parts.front (symbol ∷ []) (drop 1 parts.back)) in
+    let ended : end (0, 0) (parts.front ++ symbol ∷ []) ≡ place =
+    end-append (0, 0) parts.front (symbol ∷ []) ∙ ap (λ (p : Place). end p (symbol ∷ [])) parts.ends ∙ sym e in
+    let behind : index_of text place ≡ length (parts.front ++ symbol ∷ []) =
+    ap (λ t. index_of t place) split ∙ index_parted place (parts.front ++ symbol ∷ []) (drop 1 parts.back) ended in
+    let at : index_of text place - 1 ≡ length parts.front = omega (arith, length-append parts.front (symbol ∷ [])) in
+    record {
+      index = omega (arith, length-append parts.front (symbol ∷ []));
+      start_is = ap (λ n. end (0, 0) (take n text)) at ∙ ap (λ t. end (0, 0) (take (length parts.front) t)) parts.is
+          ∙ ap (end (0, 0)) (take_at parts.front parts.back (length parts.front) refl) ∙ parts.ends;
+      symbol_is = ap (λ n. take 1 (drop n text)) at ∙ ap (λ t. take 1 (drop (length parts.front) t)) parts.is
+          ∙ ap (take 1) (drop_at parts.front parts.back (length parts.front) refl) ∙ found;
+      is_place = h;
+      stands = stands;
+      ends = e;
+    }
+
+-- ---- any symbols at once
+
+lines-some : (text : List Symbol) → 0 < length (lines text)
+lines-some [] = omega arith
+lines-some (Break ∷ text) = omega arith
+lines-some (Character c ∷ text) = some (lines text)
+  where
+    some : (rows : List (List ℕ)) → 0 < length (on_first c rows)
+    some [] = omega arith
+    some (line ∷ rest) = omega arith
+
+-- one line is replaced by the lines of the text that it becomes
+pub symbols_inserted : (rows : List (List ℕ)) (row column : ℕ) (symbols : List Symbol) → row < length rows → column ≤ length (get_or rows row []) → joined (take row rows ++ (lines (characters (take column (get_or rows row [])) ++ (symbols ++ characters (drop column (get_or rows row [])))) ++ drop (row + 1) rows)) ≡ inserted (joined rows) (row, column) symbols
+symbols_inserted rows row column symbols within inside =
+    let text = characters (take column (get_or rows row [])) ++ (symbols ++ characters (drop column (get_or rows row []))) in
+    row_inserted rows (lines text) row column symbols within inside (lines-some text) (joined-lines text)
+
+-- the lines that hold the symbols are replaced by the lines of what stays of them
+pub symbols_removed : (rows middle below : List (List ℕ)) (start : List ℕ) (row column : ℕ) (symbols rest : List Symbol) → row < length rows → rows ≡ take row rows ++ (middle ++ below) → length start ≡ column → 0 < length middle → joined middle ≡ characters start ++ (symbols ++ rest) → joined (take row rows ++ (lines (characters start ++ rest) ++ below)) ≡ removed (joined rows) (row, column) symbols
+symbols_removed rows middle below start row column symbols rest within parts at some was =
+    rows_removed rows middle (lines (characters start ++ rest)) below start row column symbols rest within parts at some (lines-some (characters start ++ rest)) was (joined-lines (characters start ++ rest))

@@ -1,0 +1,134 @@
+-- Lines of `String`s that are read, cut and put together again.
+use Rattle.std.proofs.Common.{subst, encode_utf8_all, ◌≡◌, ℕ, ◌+◌, ◌<◌, ◌≤◌, List, [], ◌∷◌, ◌++◌, length, take, drop, sym, ap, refl, ◌∙◌, arith, get_or, String, string_bytes}
+use Rattle.std.specs.Str.{chars, IsCharBoundary}
+use Rattle.textarea_text.specs.Replaced.{replaced}
+use Rattle.std.proofs.lemmas.List.{append-nil, append_assoc, length-append, take-append-drop, map-append, get_or-map, take_more, take_at, drop_at, take-map, drop-map, length-map}
+use Rattle.std.proofs.lemmas.Str.{IsUtf8-string_bytes}
+use Rattle.textarea_text.specs.Text.{Symbol, Character, Break, characters, following, leading, joined, characters_of, lines_of, text_of}
+use Rattle.textarea_text.specs.Place.{Place, IsPlaceOf, IsPlace, StandsAt, end, index_of, changed, removed, ReplacesRows}
+use Rattle.textarea_text.proofs.Columns.{IsCharBoundary-column, offset_in}
+use Rattle.textarea_text.proofs.Splices.{joined-append, joined-append_below, characters-append, following-append, whole, lines-joined, end-append}
+use Rattle.textarea_text.proofs.Places.{part_rows, index_parted, parted, standing, place_parted}
+
+pub line_at : {Z : Type 0} (items : List (String Z)) (row : ℕ) (line : String Z) → row < length items → line ≡ get_or items row line → get_or (lines_of items) row [] ≡ characters_of line
+line_at items row line within e = get_or-map characters_of items row line [] within ∙ ap characters_of (sym e)
+
+-- the offset as `byte_offset` gives it, of the line that `as_str` lends
+pub offset_of_line : {Z : Type 0} (line : String Z) (text : List ℕ) (column offset : ℕ) → text ≡ string_bytes line → offset ≡ length (encode_utf8_all (take column (chars text))) → offset ≡ offset_in (characters_of line) column
+offset_of_line line text column offset same e = e ∙ ap (λ t. length (encode_utf8_all (take column (chars t)))) same
+
+pub boundary_at : {Z : Type 0} (line : String Z) (text : List ℕ) (column offset : ℕ) → text ≡ string_bytes line → offset ≡ length (encode_utf8_all (take column (chars text))) → IsCharBoundary text offset
+boundary_at line text column offset same e =
+    subst (λ (t : List ℕ). IsCharBoundary t offset) (sym same) (subst (IsCharBoundary (string_bytes line)) (sym (offset_of_line line text column offset same e)) (IsCharBoundary-column (string_bytes line) column (IsUtf8-string_bytes line)))
+
+-- ---- rows that are put together piece by piece
+
+joined_last : (rows : List (List ℕ)) (line more : List ℕ) → joined (rows ++ (line ++ more) ∷ []) ≡ joined (rows ++ line ∷ []) ++ characters more
+joined_last rows line more =
+    joined-append rows ((line ++ more) ∷ []) (omega arith)
+    ∙ ap (λ t. leading rows ++ t) (append-nil (characters (line ++ more)) ∙ characters-append line more)
+    ∙ sym (append_assoc (leading rows) (characters line) (characters more))
+    ∙ ap (λ t. (leading rows ++ t) ++ characters more) (sym (append-nil (characters line)))
+    ∙ ap (λ t. t ++ characters more) (sym (joined-append rows (line ∷ []) (omega arith)))
+
+joined_next : (rows : List (List ℕ)) (line next_line : List ℕ) → joined ((rows ++ line ∷ []) ++ next_line ∷ []) ≡ joined (rows ++ line ∷ []) ++ (Break ∷ characters next_line)
+joined_next rows line next_line =
+    joined-append_below (rows ++ line ∷ []) (next_line ∷ []) (omega (arith, length-append rows (line ∷ [])))
+    ∙ ap (λ t. joined (rows ++ line ∷ []) ++ (Break ∷ t)) (append-nil (characters next_line))
+
+-- the rows so far, with the line that is being written: what the first line began with, and the pieces up to the number
+abbrev pub RowsSoFar : {Z : Type 0} → List (String Z) → String Z → List ℕ → List (List ℕ) → ℕ → Type 0
+RowsSoFar rows line first rest number = joined (lines_of rows ++ characters_of line ∷ []) ≡ characters first ++ following (take number rest)
+
+pub rows_more : {Z : Type 0} (rows more : List (String Z)) (line next_line : String Z) (first : List ℕ) (rest : List (List ℕ)) (number : ℕ) → RowsSoFar rows line first rest number → more ≡ rows ++ line ∷ [] → number < length rest → characters_of next_line ≡ get_or rest number [] → RowsSoFar more next_line first rest (number + 1)
+rows_more rows more line next_line first rest number h is within e =
+    ap (λ t. joined (lines_of t ++ characters_of next_line ∷ [])) is
+    ∙ ap (λ t. joined (t ++ characters_of next_line ∷ [])) (map-append characters_of rows (line ∷ []))
+    ∙ joined_next (lines_of rows) (characters_of line) (characters_of next_line)
+    ∙ ap (λ t. t ++ (Break ∷ characters (characters_of next_line))) h
+    ∙ append_assoc (characters first) (following (take number rest)) (Break ∷ characters (characters_of next_line))
+    ∙ ap (λ t. characters first ++ (following (take number rest) ++ (Break ∷ characters t))) e
+    ∙ ap (λ t. characters first ++ (following (take number rest) ++ (Break ∷ t))) (sym (append-nil (characters (get_or rest number []))))
+    ∙ ap (λ t. characters first ++ t) (sym (following-append (take number rest) (get_or rest number [] ∷ [])))
+    ∙ ap (λ t. characters first ++ following t) (sym (take_more rest number [] within))
+
+-- the last line gets the tail, and is put to the others
+pub rows_done : {Z : Type 0} (rows new : List (String Z)) (line last : String Z) (head first tail : List ℕ) (whole_first : List ℕ) (rest : List (List ℕ)) (number : ℕ) → RowsSoFar rows line whole_first rest number → whole_first ≡ head ++ first → take number rest ≡ rest → characters_of last ≡ characters_of line ++ tail → new ≡ rows ++ last ∷ [] → joined (lines_of new) ≡ characters head ++ ((characters first ++ following rest) ++ characters tail)
+rows_done rows new line last head first tail whole_first rest number h begins all e is =
+    ap (λ t. joined (lines_of t)) is
+    ∙ ap joined (map-append characters_of rows (last ∷ []))
+    ∙ ap (λ t. joined (lines_of rows ++ t ∷ [])) e
+    ∙ joined_last (lines_of rows) (characters_of line) tail
+    ∙ ap (λ t. t ++ characters tail) h
+    ∙ ap (λ t. (characters whole_first ++ following t) ++ characters tail) all
+    ∙ ap (λ t. (t ++ following rest) ++ characters tail) (ap characters begins ∙ characters-append head first)
+    ∙ ap (λ t. t ++ characters tail) (append_assoc (characters head) (characters first) (following rest))
+    ∙ append_assoc (characters head) (characters first ++ following rest) (characters tail)
+
+front_of : (rows : List (List ℕ)) (place : Place) (h : IsPlaceOf rows place) → take (index_of (joined rows) place) (joined rows) ≡ (part_rows rows place.0 place.1 h).front
+front_of rows place h =
+    let p = part_rows rows place.0 place.1 h in
+    ap (λ t. take (index_of t place) t) p.is ∙ ap (λ n. take n (p.front ++ p.back)) (index_parted place p.front p.back p.ends)
+    ∙ take_at p.front p.back (length p.front) refl
+
+back_of : (rows : List (List ℕ)) (place : Place) (h : IsPlaceOf rows place) → drop (index_of (joined rows) place) (joined rows) ≡ (part_rows rows place.0 place.1 h).back
+back_of rows place h =
+    let p = part_rows rows place.0 place.1 h in
+    ap (λ t. drop (index_of t place) t) p.is ∙ ap (λ n. drop n (p.front ++ p.back)) (index_parted place p.front p.back p.ends)
+    ∙ drop_at p.front p.back (length p.front) refl
+
+-- the whole text after the rows were put in the place of those from the start's to the end's
+pub rows_replaced : (rows new : List (List ℕ)) (start stop : Place) (symbols : List Symbol) → IsPlaceOf rows start → IsPlaceOf rows stop → ReplacesRows rows start stop symbols new → joined (take start.0 rows ++ (new ++ drop (stop.0 + 1) rows)) ≡ changed (joined rows) start stop symbols
+unfolding part_rows
+rows_replaced rows new start stop symbols h h' is =
+    let head = take start.1 (get_or rows start.0 []) in
+    let tail = drop stop.1 (get_or rows stop.0 []) in
+    let below = drop (stop.0 + 1) rows in
+    whole (take start.0 rows) new below head (symbols ++ characters tail) is.0 is.1
+    ∙ ap (λ t. (leading (take start.0 rows) ++ characters head) ++ t) (append_assoc symbols (characters tail) (following below))
+    ∙ ap (λ t. t ++ (symbols ++ (characters tail ++ following below))) (sym (front_of rows start h))
+    ∙ ap (λ t. take (index_of (joined rows) start) (joined rows) ++ (symbols ++ t)) (sym (back_of rows stop h'))
+
+-- the same of the `String`s that take the place of others
+pub rows_put_in : {Z : Type 0} (items new : List (String Z)) (start stop : Place) (row count : ℕ) (symbols : List Symbol) → IsPlaceOf (lines_of items) start → IsPlaceOf (lines_of items) stop → row ≡ start.0 → row + count ≡ stop.0 + 1 → ReplacesRows (lines_of items) start stop symbols (lines_of new) → text_of (replaced items row count new) ≡ changed (text_of items) start stop symbols
+rows_put_in items new start stop row count symbols h h' at e is =
+    ap (λ n. text_of (take row items ++ (new ++ drop n items))) e
+    ∙ ap (λ n. text_of (take n items ++ (new ++ drop (stop.0 + 1) items))) at
+    ∙ ap joined (map-append characters_of (take start.0 items) (new ++ drop (stop.0 + 1) items)
+    ∙ ap (λ t. lines_of (take start.0 items) ++ t) (map-append characters_of new (drop (stop.0 + 1) items))
+    ∙ ap (λ t. t ++ (lines_of new ++ lines_of (drop (stop.0 + 1) items))) (sym (take-map characters_of start.0 items))
+    ∙ ap (λ t. take start.0 (lines_of items) ++ (lines_of new ++ t)) (sym (drop-map characters_of (stop.0 + 1) items)))
+    ∙ rows_replaced (lines_of items) (lines_of new) start stop symbols h h' is
+
+-- ---- places of an edit
+
+pub rows_place : {Z : Type 0} (items : List (String Z)) (place : Place) → 0 < length items → IsPlace (text_of items) place → IsPlaceOf (lines_of items) place
+rows_place items place some h =
+    subst (λ (rows : List (List ℕ)). IsPlaceOf rows place) (lines-joined (lines_of items) (omega (arith, length-map items characters_of))) h
+
+pub rows_ordered : (place : Place) (symbols : List Symbol) → place.0 ≤ (end place symbols).0
+rows_ordered place [] = omega arith
+rows_ordered place (Character c ∷ symbols) = omega (arith, rows_ordered (place.0, place.1 + 1) symbols)
+rows_ordered place (Break ∷ symbols) = omega (arith, rows_ordered (place.0 + 1, 0) symbols)
+
+-- symbols that stand at a place end at a place, as far behind as they are long
+pub stands_until : (text : List Symbol) (place : Place) (symbols : List Symbol) → IsPlace text place → StandsAt text place symbols → IsPlace text (end place symbols) × (index_of text (end place symbols) ≡ index_of text place + length symbols)
+stands_until text place symbols h stands =
+    let parts = parted text place h in
+    let rest = drop (length symbols) parts.back in
+    let was : text ≡ (parts.front ++ symbols) ++ rest =
+    parts.is ∙ ap (λ t. parts.front ++ t) (sym (take-append-drop (length symbols) parts.back) ∙ ap (λ t. t ++ rest) (standing text place symbols parts stands))
+    ∙ sym (append_assoc parts.front symbols rest) in
+    let ends : end (0, 0) (parts.front ++ symbols) ≡ end place symbols = end-append (0, 0) parts.front symbols ∙ ap (λ (p : Place). end p symbols) parts.ends in
+    let at : index_of text (end place symbols) ≡ length (parts.front ++ symbols) =
+    ap (λ t. index_of t (end place symbols)) was ∙ index_parted (end place symbols) (parts.front ++ symbols) rest ends in
+    let here : index_of text place ≡ length parts.front = ap (λ t. index_of t place) parts.is ∙ index_parted place parts.front parts.back parts.ends in
+    (subst (λ t. IsPlace t (end place symbols)) (sym was) (place_parted (end place symbols) (parts.front ++ symbols) rest ends), omega (arith, length-append parts.front symbols))
+
+pub changed_by_none : (text : List Symbol) (place stop : Place) (symbols first : List Symbol) → IsPlace text place → StandsAt text place symbols → stop ≡ end place symbols → first ≡ [] → changed text place stop first ≡ removed text place symbols
+changed_by_none text place stop symbols first h stands e none =
+    ap (λ t. take (index_of text place) text ++ (t ++ drop (index_of text stop) text)) none
+    ∙ ap (λ n. take (index_of text place) text ++ drop n text) (ap (index_of text) e ∙ (stands_until text place symbols h stands).1)
+
+pub row_within : {Z : Type 0} (items : List (String Z)) (place : Place) → IsPlaceOf (lines_of items) place → place.0 < length items
+row_within items place h = omega (arith, h.0, length-map items characters_of)

@@ -1,0 +1,5 @@
+pub mod Text
+pub mod Place
+pub mod Splice
+pub mod Replaced
+pub mod Size

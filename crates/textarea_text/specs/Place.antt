@@ -1,0 +1,67 @@
+-- Places of a text: as an index, and as a row and a column.
+use Rattle.std.specs.Prelude.{◌≡◌, ◌≢◌, ◌-◌, ℕ, zero, suc, ◌+◌, ◌<◌, ◌≤◌, List, [], ◌∷◌, ◌++◌, take, drop, length, slice_index_or}
+use Rattle.textarea_text.specs.Text.{Symbol, Character, Break, characters, lines, joined}
+
+-- a row and a column, as a cursor is given
+abbrev pub Place : Type 0
+Place = ℕ × ℕ
+
+-- where the symbols end, if they stand at the place
+abbrev pub end : Place → List Symbol → Place
+end place [] = place
+end place (Character c ∷ symbols) = end (place.0, place.1 + 1) symbols
+end place (Break ∷ symbols) = end (place.0 + 1, 0) symbols
+
+-- the index at which the row begins
+abbrev pub row_start : List Symbol → ℕ → ℕ
+row_start text zero = 0
+row_start [] (suc row) = 0
+row_start (Character c ∷ text) (suc row) = row_start text (suc row) + 1
+row_start (Break ∷ text) (suc row) = row_start text row + 1
+
+-- a place as an index
+abbrev pub index_of : List Symbol → Place → ℕ
+index_of text place = row_start text place.0 + place.1
+
+-- an index as a place
+abbrev pub place_of : List Symbol → ℕ → Place
+place_of text index = end (0, 0) (take index text)
+
+-- the place is one of the lines: its row exists, and its column lies within the line
+abbrev pub IsPlaceOf : List (List ℕ) → Place → Type 0
+IsPlaceOf rows place = (place.0 < length rows) × (place.1 ≤ length (slice_index_or rows place.0 []))
+
+abbrev pub IsPlace : List Symbol → Place → Type 0
+IsPlace text place = IsPlaceOf (lines text) place
+
+-- the text after the symbols were put in at the place
+abbrev pub inserted : List Symbol → Place → List Symbol → List Symbol
+inserted text place symbols = take (index_of text place) text ++ (symbols ++ drop (index_of text place) text)
+
+-- the text after as many symbols as these were taken out at the place
+abbrev pub removed : List Symbol → Place → List Symbol → List Symbol
+removed text place symbols = take (index_of text place) text ++ drop (index_of text place + length symbols) text
+
+-- the symbols stand in the text at the place
+abbrev pub StandsAt : List Symbol → Place → List Symbol → Type 0
+StandsAt text place symbols = take (length symbols) (drop (index_of text place) text) ≡ symbols
+
+-- the text after the symbols were put in the place of what stood from the start to the end
+abbrev pub changed : List Symbol → Place → Place → List Symbol → List Symbol
+changed text start stop symbols = take (index_of text start) text ++ (symbols ++ drop (index_of text stop) text)
+
+-- the new rows hold what stood before the start in its row, the symbols, and what stood from the end on in its row
+abbrev pub ReplacesRows : List (List ℕ) → Place → Place → List Symbol → List (List ℕ) → Type 0
+ReplacesRows rows start stop symbols new =
+    (0 < length new)
+    × (joined new ≡ characters (take start.1 (slice_index_or rows start.0 [])) ++ (symbols ++ characters (drop stop.1 (slice_index_or rows stop.0 []))))
+
+-- the symbol stands directly before the place, and begins where the start says: the place is not the text's start, and
+-- the index before it is the start's
+pub record IsSymbolBefore (text : List Symbol) (place start : Place) (symbol : Symbol) : Type 0 where
+  pub index : index_of text place ≢ 0
+  pub start_is : place_of text (index_of text place - 1) ≡ start
+  pub symbol_is : take 1 (drop (index_of text place - 1) text) ≡ symbol ∷ []
+  pub is_place : IsPlace text start
+  pub stands : StandsAt text start (symbol ∷ [])
+  pub ends : place ≡ end start (symbol ∷ [])

@@ -1,0 +1,6 @@
+//! The text of an editor as lines: positions, and lines that take the place of other lines.
+#![tactic(auto)]
+
+pub mod replace;
+pub mod rows;
+pub mod util;

@@ -1,0 +1,176 @@
+//! Changes of the lines, made ready while the old lines stand, and put in without memory.
+ghost use Rattle.std.specs.Prelude.{◌≡◌, ◌+◌, ◌<◌, ◌≤◌, ◌++◌, ◌∷◌, length, take, drop, MatchOption, encode_utf8_all, vec_len, vec_capacity, min, IfOk, OnOk, OnErr};
+ghost use Rattle.std.specs.Str.{chars};
+ghost use Rattle.textarea_text.specs.Text.{characters, following, lines_of, symbol_in, text_of};
+ghost use Rattle.textarea_text.specs.Place.{IsPlaceOf, IsSymbolBefore, ReplacesRows, changed, index_of};
+ghost use Rattle.textarea_text.specs.Replaced.{replaced};
+ghost use Rattle.textarea_text.specs.Size.{size_of};
+
+use crate::replace::put_in;
+use std::alloc::{AllocError, Global};
+
+/// The byte at which the column of a line begins; a column counts characters, and the line's length is one.
+pub fn byte_offset(line: &str, column: usize) -> usize
+    requires { column ≤ length (chars line.now) }
+    ensures { result ≡ length (encode_utf8_all (take column (chars line.now))) }
+{
+    let mut rest = line.chars();
+    for _index in 0..column {
+        rest.next();
+    }
+    line.len() - rest.as_str().len()
+}
+
+/// How many characters the line has.
+#[tactic(auto, using(std::proofs::lemmas::Str::chars_from_encodes))]
+pub fn column_count(line: &str) -> usize
+    ensures { result ≡ length (chars line.now) }
+{
+    line.chars().count()
+}
+
+/// The character at the column of a line.
+pub fn character_at(line: &str, column: usize) -> char
+    requires { column < length (chars line.now) }
+    ensures { drop column (chars line.now) ≡ result ∷ drop (column + 1) (chars line.now) }
+{
+    let mut rest = line.chars();
+    for _index in 0..column {
+        rest.next();
+    }
+    rest.next().unwrap()
+}
+
+/// What stands directly before a place, and where it begins: a character, or none for the break between two lines.
+#[derive(Clone, Copy, Debug, PartialEq, Eq)]
+pub struct SymbolBefore {
+    pub start: (usize, usize),
+    pub character: Option<char>,
+}
+
+/// The symbol before the place; none at the start of the text.
+pub fn symbol_before(lines: &[String], place: (usize, usize)) -> Option<SymbolBefore>
+    requires { IsPlaceOf (lines_of lines.now) place }
+    ensures { MatchOption result (index_of (text_of lines.now) place ≡ 0)
+        (λ before. IsSymbolBefore (text_of lines.now) place before.start (symbol_in before.character)) }
+{
+    let (row, column) = place;
+    if 0 < column {
+        return Some(SymbolBefore {
+            start: (row, column - 1),
+            character: Some(character_at(lines[row].as_str(), column - 1)),
+        });
+    }
+    if row == 0 {
+        return None;
+    }
+    Some(SymbolBefore {
+        start: (row - 1, column_count(lines[row - 1].as_str())),
+        character: None,
+    })
+}
+
+/// Lines that are to take the place of the `count` lines from `row` on.
+#[derive(Drop)]
+pub struct Replacement {
+    pub row: usize,
+    pub count: usize,
+    pub lines: Vec<String>,
+}
+
+impl Replacement {
+    /// Puts the new lines in, or leaves the lines as they were where there is no memory for more of them.
+    pub fn apply(self, lines: &mut Vec<String>) -> Result<(), AllocError>
+        requires { self.row + self.count ≤ vec_len lines.old }
+        ensures ok { OnOk result (lines.new.items ≡ replaced lines.old.items self.row self.count self.lines.items) }
+        ensures err { OnErr result (lines.new.items ≡ lines.old.items) }
+    {
+        lines.reserve(self.lines.len())?;
+        self.put_in(lines);
+        Ok(())
+    }
+
+    /// Puts the new lines in, for which there is room.
+    pub fn put_in(self, lines: &mut Vec<String>)
+        requires within { self.row + self.count ≤ vec_len lines.old }
+        requires room { vec_len lines.old + vec_len self.lines ≤ vec_capacity lines.old + self.count }
+        ensures { lines.new.items ≡ replaced lines.old.items self.row self.count self.lines.items }
+    {
+        let Replacement {
+            row,
+            count,
+            lines: new,
+        } = self;
+        put_in(lines, row, count, new);
+    }
+}
+
+/// The lines that hold the text with the first piece, and each further one behind a break, in the place of what
+/// stands between the two places. They are as many as the pieces; the old lines stay until these are put in.
+pub fn prepare_change(
+    alloc: Global,
+    lines: &[String],
+    from: (usize, usize),
+    to: (usize, usize),
+    first: &str,
+    rest: &[String],
+) -> Result<Replacement, AllocError>
+    requires from { IsPlaceOf (lines_of lines.now) from }
+    requires to { IsPlaceOf (lines_of lines.now) to }
+    requires ordered { from.0 ≤ to.0 }
+    ensures row { IfOk result (λ r. r.row ≡ from.0) }
+    ensures count { IfOk result (λ r. r.row + r.count ≡ to.0 + 1) }
+    ensures within { IfOk result (λ r. r.row + r.count ≤ length lines.now) }
+    ensures lines { IfOk result (λ r. vec_len r.lines ≡ length rest.now + 1) }
+    ensures text { IfOk result (λ r. text_of (replaced lines.now r.row r.count r.lines.items)
+        ≡ changed (text_of lines.now) from to (characters (chars first.now) ++ following (lines_of rest.now))) }
+{
+    let new = new_rows(alloc, lines, from, to, first, rest)?;
+    Ok(Replacement {
+        row: from.0,
+        count: to.0 + 1 - from.0,
+        lines: new,
+    })
+}
+
+// The lines that stand, after the change, where those from the one row to the other stood.
+fn new_rows(
+    alloc: Global,
+    lines: &[String],
+    start: (usize, usize),
+    end: (usize, usize),
+    first: &str,
+    rest: &[String],
+) -> Result<Vec<String>, AllocError>
+    requires start { IsPlaceOf (lines_of lines.now) start }
+    requires end { IsPlaceOf (lines_of lines.now) end }
+    ensures rows { IfOk result (λ rows. ReplacesRows (lines_of lines.now) start end (characters (chars first.now) ++ following (lines_of rest.now)) (lines_of rows.items)) }
+    ensures len { IfOk result (λ rows. vec_len rows ≡ length rest.now + 1) }
+{
+    let before = lines[start.0].as_str();
+    let head = &before[..byte_offset(before, start.1)];
+    let behind = lines[end.0].as_str();
+    let tail = &behind[byte_offset(behind, end.1)..];
+    let mut rows = Vec::with_capacity(alloc, rest.len() + 1)?;
+    let mut line = String::from_str(alloc, head)?;
+    line.push_str(first)?;
+    for piece in rest {
+        let next = String::from_str(alloc, piece.as_str())?;
+        rows.push(line)?;
+        line = next;
+    }
+    line.push_str(tail)?;
+    rows.push(line)?;
+    Ok(rows)
+}
+
+/// The bytes of the lines and their number, summed, or the greatest `usize` where that is less.
+pub fn size_of(lines: &[String]) -> usize
+    ensures { result ≡ min (size_of lines.now) usize.MAX }
+{
+    let mut size = 0usize;
+    for line in lines {
+        size = size.saturating_add(line.len()).saturating_add(1);
+    }
+    size
+}

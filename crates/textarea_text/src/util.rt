@@ -1,0 +1,19 @@
+//! Positions of a text, runs of spaces, and the digits of a number.
+ghost use Rattle.std.specs.Prelude.{◌≡◌};
+
+/// A position in a text: row and column from 0, the column in characters, and the byte of the line at which
+/// that column begins.
+#[derive(Clone, Debug, PartialEq, Eq, Drop)]
+pub struct Pos {
+    pub row: usize,
+    pub col: usize,
+    pub offset: usize,
+}
+
+impl Pos {
+    pub fn new(row: usize, col: usize, offset: usize) -> Self
+        ensures { result ≡ record { row = row; col = col; offset = offset } }
+    {
+        Pos { row, col, offset }
+    }
+}

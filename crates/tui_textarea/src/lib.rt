@@ -1,0 +1,6 @@
+//! A multi-line text editor widget, proved against one flat text.
+#![tactic(auto)]
+
+pub mod textarea;
+
+pub use textarea::TextArea;
