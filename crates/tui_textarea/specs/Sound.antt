@@ -1,11 +1,10 @@
 -- What holds of every text area.
 use Rattle.std.specs.Prelude.{◌≡◌, ℕ, ◌+◌, ◌^◌, ◌<◌, ◌≤◌, List, length, reverse, String}
-use Rattle.textarea_text.specs.Text.{text_of}
 use Rattle.textarea_text.specs.Place.{IsPlace}
 use Rattle.textarea_text.specs.Size.{size_of}
 use Rattle.textarea_text.specs.Splice.{CanApply, CanTakeBack}
 use Rattle.textarea_history.specs.Log.{Log}
-use Rattle.tui_textarea.specs.State.{Document, State}
+use Rattle.tui_textarea.specs.State.{Document}
 
 -- the cursor is a place of the text; the done changes can be taken back, the newest first; the undone ones can be made
 -- again, the next one first; together they are at most the maximum

@@ -1,5 +1,5 @@
 -- The state of a text area, by parts.
-use Rattle.std.specs.Prelude.{ℕ, List}
+use Rattle.std.specs.Prelude.{List}
 use Rattle.textarea_text.specs.Text.{Symbol}
 use Rattle.textarea_text.specs.Place.{Place}
 use Rattle.textarea_history.specs.Log.{Log, empty_log}
