@@ -1,3 +1,3 @@
 pub mod Runs
 pub mod Stores
-pub mod Laws
+pub mod UndoLaws

@@ -1,4 +1,4 @@
-pub mod Word
 pub mod Log
 pub mod Edit
 pub mod Store
+pub mod Law

@@ -4,7 +4,7 @@ use Rattle.std.specs.Char.{is_whitespace}
 use Rattle.textarea_text.specs.Text.{Symbol, Character, Break}
 use Rattle.textarea_text.specs.Place.{Place}
 use Rattle.textarea_text.specs.Splice.{Splice, applied, inverse, place_before, place_after}
-use Rattle.textarea_history.specs.Word.{class_of, is_same_class}
+use Rattle.textarea_word.specs.Words.{class_of, is_same}
 
 -- the changes made, the newest last; those taken back, the next to be made again first; how many it holds at most;
 -- whether the newest change is a run of typing that may go on; and the moment of the last change, in nanoseconds
@@ -41,7 +41,7 @@ abbrev pub goes_on : Option Symbol → Option ℕ → Bool
 goes_on edge None = false
 goes_on None (Some c) = is_whitespace c
 goes_on (Some Break) (Some c) = is_whitespace c
-goes_on (Some (Character d)) (Some c) = is_whitespace c || is_same_class (class_of d) (class_of c)
+goes_on (Some (Character d)) (Some c) = is_whitespace c || is_same (class_of d) (class_of c)
 
 abbrev pub is_same_direction : Bool → Bool → Bool
 is_same_direction true other = other

@@ -8,11 +8,11 @@ ghost use Rattle.textarea_text.specs.Replaced.{replaced};
 ghost use Rattle.textarea_history.specs.Log.{character_of, continues, edge_of, merged, typed_character};
 
 use crate::texts::{only_character, reversed};
-use crate::word::CharKind;
 use std::alloc::{AllocError, Global};
 use std::marker::Model;
 use textarea_text::rows::{Replacement, prepare_change};
 use textarea_text::util::Pos;
+use textarea_word::word::CharKind;
 
 /// What an edit puts in or takes out: a character, a line break, a text within a line, or a chunk of at least two
 /// pieces with a line break between each two.
@@ -262,7 +262,7 @@ impl Edit {
         self.inserts == edit.inserts
             && ended.0 == begins.0
             && ended.1 == begins.1
-            && (c.is_whitespace() || CharKind::new(edge).is_same(CharKind::new(c)))
+            && (c.is_whitespace() || CharKind::new(edge) == CharKind::new(c))
     }
 
     /// Makes a run of an edit that counts as typed.

@@ -3,5 +3,5 @@
 
 pub mod edit;
 pub mod history;
+pub mod laws;
 mod texts;
-pub mod word;

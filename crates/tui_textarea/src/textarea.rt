@@ -150,12 +150,12 @@ impl TextArea {
             return Ok(false);
         };
         let change = edit.prepare_undo(alloc, self.lines.as_slice())?;
-        let cursor = edit.cursor_before();
+        let back = edit.cursor_before();
         let size = make_room(&mut self.lines, self.size, &change)?;
         change.put_in(&mut self.lines);
         self.history.step_back();
         self.size = size;
-        self.cursor = cursor;
+        self.cursor = back;
         Ok(true)
     }
 
@@ -172,12 +172,12 @@ impl TextArea {
             return Ok(false);
         };
         let change = edit.prepare_redo(alloc, self.lines.as_slice())?;
-        let cursor = edit.cursor_after();
+        let ahead = edit.cursor_after();
         let size = make_room(&mut self.lines, self.size, &change)?;
         change.put_in(&mut self.lines);
         self.history.step_forward();
         self.size = size;
-        self.cursor = cursor;
+        self.cursor = ahead;
         Ok(true)
     }
 
@@ -191,11 +191,11 @@ impl TextArea {
         self.history.reserve()?;
         let change = edit.prepare_redo(*self.lines.allocator(), self.lines.as_slice())?;
         let size = make_room(&mut self.lines, self.size, &change)?;
-        let cursor = edit.cursor_after();
+        let after = edit.cursor_after();
         change.put_in(&mut self.lines);
         self.history.put(edit, false, Duration::ZERO);
         self.size = size;
-        self.cursor = cursor;
+        self.cursor = after;
         Ok(())
     }
 }

@@ -14,8 +14,8 @@ invariant_of-self-2 c =
     let old = c.self.inside.lines.items in
     let change = c.in_ok-change.change in (
       stored_after old c.make_room.new.lines.items c.put_in.new.lines.items change.lines.items c.in_ok-size.size change.row change.count c.put_in.ensures c.in_ok-size.ensures.same (omega (arith, c.in_ok-change.ensures.some, change.lines.ok.0)) c.in_ok-size.ensures.size c.in_ok-size.ensures.limit,
-      sound_after_redo (text_of old) (text_of c.put_in.new.lines.items) c.self.inside.cursor c.cursor_after-cursor.result c.self.inside.history.log c.step_forward.new.self.log c.in-Some.edit.now.splice c.self.invariant.1 c.in-Some.ensures.edit
+      sound_after_redo (text_of old) (text_of c.put_in.new.lines.items) c.self.inside.cursor c.cursor_after-ahead.result c.self.inside.history.log c.step_forward.new.self.log c.in-Some.edit.now.splice c.self.invariant.1 c.in-Some.ensures.edit
           (text_after old c.make_room.new.lines.items c.as_slice.result.now c.put_in.new.lines.items change.lines.items change.row change.count c.in-Some.edit.now.splice c.put_in.ensures c.in_ok-size.ensures.same c.as_slice.ensures.value c.in_ok-change.ensures.text)
-          (c.cursor_after-cursor.ensures.end c.in-Some.ensures.well_formed)
+          (c.cursor_after-ahead.ensures.end c.in-Some.ensures.well_formed)
           (c.step_forward.ensures c.in-Some.edit.now.splice c.in-Some.ensures.edit),
     )

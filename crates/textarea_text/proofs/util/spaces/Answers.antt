@@ -1,0 +1,17 @@
+use Rattle.std.proofs.Common.{◌∙◌, ◌-◌, ◌<◌, ◌≤◌, ◌≡◌, ap, arith, replicate, take, ℕ}
+use Rattle.std.proofs.lemmas.List.{take-replicate, length-replicate}
+use Rattle.std.proofs.lemmas.List.Elements.{All-replicate}
+use Rattle.std.proofs.lemmas.Str.{IsCharBoundary-from_ascii}
+use Rattle.std.proofs.lemmas.Str.Ascii.{IsAscii-from_all}
+use Rattle.textarea_text.proofs.util.spaces.Goals as goal
+
+pub range-requires-clause-end_boundary : goal.range-requires-clause-end_boundary
+range-requires-clause-end_boundary c =
+    IsCharBoundary-from_ascii (replicate 255 32) c.args.size (IsAscii-from_all (replicate 255 32) (All-replicate (λ (b : ℕ). b < 128) 255 32 (omega arith)))
+    (omega (arith, length-replicate {A = ℕ} 255 32))
+
+pub returns : goal.returns
+returns c =
+    let some : c.args.size ≤ 255 = omega arith in
+    let whole : c.args.size - 0 ≡ c.args.size = omega arith in
+    c.range.ensures.value ∙ ap (λ n. take n (replicate {A = ℕ} 255 32)) whole ∙ take-replicate c.args.size 255 32 some

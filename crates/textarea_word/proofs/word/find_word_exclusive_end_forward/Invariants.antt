@@ -1,0 +1,11 @@
+use Rattle.std.proofs.Common.{◌≡◌, ℕ, ◌<◌, false, length}
+use Rattle.std.specs.Str.{chars}
+use Rattle.textarea_word.specs.Words.{is_later_behind_word}
+use Rattle.textarea_word.proofs.WordLemmas.{class_before}
+use Rattle.textarea_word.proofs.word.find_word_exclusive_end_forward.Given as goal
+
+abbrev pub invariant-loop-column : goal.invariant-loop-column
+invariant-loop-column l = record {
+  before : l.before ≡ class_before (chars l.line) (length l.yielded);
+  failed : (e : ℕ) → e < length l.yielded → is_later_behind_word (chars l.line) l.start_column e ≡ false;
+}

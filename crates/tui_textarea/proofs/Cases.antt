@@ -1,0 +1,65 @@
+-- Worked cases of the definitions, each by computing.
+use Rattle.std.proofs.Common.{◌≡◌, List, [], ◌∷◌, refl, Some, None, true, false}
+use Rattle.textarea_text.specs.Text.{Symbol, Character, Break, joined, lines}
+use Rattle.textarea_text.specs.Place.{Place, end, index_of, place_of, inserted, removed}
+use Rattle.textarea_text.specs.Splice.{Splice, applied, inverse}
+use Rattle.textarea_history.specs.Log.{Log, empty_log, recorded, newest}
+use Rattle.tui_textarea.specs.State.{State, Document, new_state}
+use Rattle.tui_textarea.specs.Outcomes.{changed, redone, removal_before, symbol_of, undone, with_symbol, without_symbol_before}
+
+-- lines as one flat text, and back
+pub joined_case : joined ((97 ∷ 98 ∷ []) ∷ (99 ∷ []) ∷ []) ≡ Character 97 ∷ Character 98 ∷ Break ∷ Character 99 ∷ []
+joined_case = refl
+
+pub lines_case : lines (Character 97 ∷ Break ∷ Break ∷ Character 99 ∷ []) ≡ (97 ∷ []) ∷ [] ∷ (99 ∷ []) ∷ []
+lines_case = refl
+
+-- a line feed inside a line is no break
+pub line_feed_case : lines (Character 97 ∷ Character 10 ∷ []) ≡ (97 ∷ 10 ∷ []) ∷ []
+line_feed_case = refl
+
+-- the line `ab` and the line `c`: the place (1, 0) is the index 3, and back
+pub index_case : index_of (Character 97 ∷ Character 98 ∷ Break ∷ Character 99 ∷ []) (1, 0) ≡ 3
+index_case = refl
+
+pub place_case : place_of (Character 97 ∷ Character 98 ∷ Break ∷ Character 99 ∷ []) 3 ≡ (1, 0)
+place_case = refl
+
+pub end_case : end (0, 1) (Character 97 ∷ Break ∷ Character 98 ∷ []) ≡ (1, 1)
+end_case = refl
+
+-- a break put in inside a line, and taken out again
+pub inserted_case : inserted (Character 97 ∷ Character 98 ∷ []) (0, 1) (Break ∷ []) ≡ Character 97 ∷ Break ∷ Character 98 ∷ []
+inserted_case = refl
+
+pub removed_case : removed (Character 97 ∷ Break ∷ Character 98 ∷ []) (0, 1) (Break ∷ []) ≡ Character 97 ∷ Character 98 ∷ []
+removed_case = refl
+
+abbrev pub typed : List Symbol → Place → Splice
+typed symbols place = record { place = place; symbols = symbols; inserts = true }
+
+-- the third change of a log of two: the oldest goes
+pub bound_case : (recorded (recorded (recorded (empty_log 2) (typed (Character 97 ∷ []) (0, 0)) false 0) (typed (Character 98 ∷ []) (0, 1)) false 0) (typed (Character 99 ∷ []) (0, 2)) false 0).done ≡ typed (Character 98 ∷ []) (0, 1) ∷ typed (Character 99 ∷ []) (0, 2) ∷ []
+bound_case = refl
+
+-- two characters typed with coalescing on, 499 ms apart, are one change; 500 ms apart they are two
+pub joined_run_case : (recorded (recorded (empty_log 2) (typed (Character 97 ∷ []) (0, 0)) true 0) (typed (Character 98 ∷ []) (0, 1)) true 499_000_000).done ≡ typed (Character 97 ∷ Character 98 ∷ []) (0, 0) ∷ []
+joined_run_case = refl
+
+pub parted_run_case : (recorded (recorded (empty_log 2) (typed (Character 97 ∷ []) (0, 0)) true 0) (typed (Character 98 ∷ []) (0, 1)) true 500_000_000).done ≡ typed (Character 97 ∷ []) (0, 0) ∷ typed (Character 98 ∷ []) (0, 1) ∷ []
+parted_run_case = refl
+
+-- `a`, a line feed, `b`, the removal of `b`, and its undo: two lines, the cursor behind the `b`
+abbrev pub first_run : State
+first_run = undone (without_symbol_before (with_symbol (with_symbol (with_symbol (new_state []) (symbol_of 97)) Break) (symbol_of 98)))
+
+pub first_run_case : first_run.document ≡ record { text = Character 97 ∷ Break ∷ Character 98 ∷ []; cursor = (1, 1) }
+first_run_case = refl
+
+-- a change after an undo: there is nothing left to make again
+pub redo_case : (redone (with_symbol (undone (with_symbol (new_state []) (symbol_of 97))) (symbol_of 98))).document.text ≡ Character 98 ∷ []
+redo_case = refl
+
+-- a carriage return breaks the line
+pub carriage_return_case : (with_symbol (new_state []) (symbol_of 13)).document ≡ record { text = Break ∷ []; cursor = (1, 0) }
+carriage_return_case = refl
