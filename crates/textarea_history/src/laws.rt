@@ -8,11 +8,9 @@ ghost use Rattle.textarea_history.specs.Law.{IsTakenBack};
 /// brings the text back.
 pub fn undo_takes_back()
     ensures { (text : List Symbol) (splice : Splice) → Fits text splice → IsTakenBack text splice }
-{
-}
+{}
 
 /// A text has one list of lines, so lines that hold the same text are the same lines.
 pub fn lines_are_the_text()
     ensures { (rows : List (List ℕ)) → 0 < length rows → lines (joined rows) ≡ rows }
-{
-}
+{}

@@ -20,7 +20,8 @@ impl Pos {
 }
 
 // As many spaces as `spaces` can be asked for.
-const SPACES: &str = "                                                                                                                                                                                                                                                               ";
+const SPACES: &str =
+    "                                                                                                                                                                                                                                                               ";
 
 /// That many spaces.
 pub fn spaces(size: u8) -> &'static str

@@ -1,11 +1,11 @@
 -- Worked cases of the definitions, each by computing.
-use Rattle.std.proofs.Common.{◌≡◌, List, [], ◌∷◌, refl, Some, None, true, false}
+use Rattle.std.proofs.Common.{◌≡◌, List, [], ◌∷◌, refl, true, false}
 use Rattle.textarea_text.specs.Text.{Symbol, Character, Break, joined, lines}
 use Rattle.textarea_text.specs.Place.{Place, end, index_of, place_of, inserted, removed}
-use Rattle.textarea_text.specs.Splice.{Splice, applied, inverse}
-use Rattle.textarea_history.specs.Log.{Log, empty_log, recorded, newest}
-use Rattle.tui_textarea.specs.State.{State, Document, new_state}
-use Rattle.tui_textarea.specs.Outcomes.{changed, redone, removal_before, symbol_of, undone, with_symbol, without_symbol_before}
+use Rattle.textarea_text.specs.Splice.{Splice}
+use Rattle.textarea_history.specs.Log.{empty_log, recorded}
+use Rattle.tui_textarea.specs.State.{State, new_state}
+use Rattle.tui_textarea.specs.Outcomes.{redone, symbol_of, undone, with_symbol, without_symbol_before}
 
 -- lines as one flat text, and back
 pub joined_case : joined ((97 ∷ 98 ∷ []) ∷ (99 ∷ []) ∷ []) ≡ Character 97 ∷ Character 98 ∷ Break ∷ Character 99 ∷ []
@@ -42,11 +42,11 @@ typed symbols place = record { place = place; symbols = symbols; inserts = true 
 pub bound_case : (recorded (recorded (recorded (empty_log 2) (typed (Character 97 ∷ []) (0, 0)) false 0) (typed (Character 98 ∷ []) (0, 1)) false 0) (typed (Character 99 ∷ []) (0, 2)) false 0).done ≡ typed (Character 98 ∷ []) (0, 1) ∷ typed (Character 99 ∷ []) (0, 2) ∷ []
 bound_case = refl
 
--- two characters typed with coalescing on, 499 ms apart, are one change; 500 ms apart they are two
-pub joined_run_case : (recorded (recorded (empty_log 2) (typed (Character 97 ∷ []) (0, 0)) true 0) (typed (Character 98 ∷ []) (0, 1)) true 499_000_000).done ≡ typed (Character 97 ∷ Character 98 ∷ []) (0, 0) ∷ []
+-- a character and a blank typed with coalescing on, 499 ms apart, are one change; 500 ms apart they are two
+pub joined_run_case : (recorded (recorded (empty_log 2) (typed (Character 97 ∷ []) (0, 0)) true 0) (typed (Character 32 ∷ []) (0, 1)) true 499_000_000).done ≡ typed (Character 97 ∷ Character 32 ∷ []) (0, 0) ∷ []
 joined_run_case = refl
 
-pub parted_run_case : (recorded (recorded (empty_log 2) (typed (Character 97 ∷ []) (0, 0)) true 0) (typed (Character 98 ∷ []) (0, 1)) true 500_000_000).done ≡ typed (Character 97 ∷ []) (0, 0) ∷ typed (Character 98 ∷ []) (0, 1) ∷ []
+pub parted_run_case : (recorded (recorded (empty_log 2) (typed (Character 97 ∷ []) (0, 0)) true 0) (typed (Character 32 ∷ []) (0, 1)) true 500_000_000).done ≡ typed (Character 97 ∷ []) (0, 0) ∷ typed (Character 32 ∷ []) (0, 1) ∷ []
 parted_run_case = refl
 
 -- `a`, a line feed, `b`, the removal of `b`, and its undo: two lines, the cursor behind the `b`

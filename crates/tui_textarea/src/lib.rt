@@ -4,3 +4,4 @@
 pub mod textarea;
 
 pub use textarea::TextArea;
+pub use textarea_atomic::atomic;

@@ -17,10 +17,12 @@ range_from-tail-requires c =
 
 pub loop-piece-preserved : goal.loop-piece-preserved
 loop-piece-preserved c =
-    let within : c.loop-piece.piece-index < length c.args.rest.now = omega arith in
-    (omega (arith, c.in_ok-push.ensures.len, c.loop-piece.invariant.0), rows_more c.loop-piece.rows.items c.push.new.self.items c.loop-piece.line c.in_ok-next.next (characters_of c.push_str.new.self) (lines_of c.args.rest.now) c.loop-piece.piece-index c.loop-piece.invariant.1 c.in_ok-push.ensures.items
-    (omega (arith, length-map c.args.rest.now characters_of))
-    (ap chars (c.in_ok-next.ensures.ok ∙ c.as_str.ensures.value) ∙ sym (line_at c.args.rest.now c.loop-piece.piece-index c.piece-item.result within c.piece-item.is)))
+    let within : c.loop-piece.piece-index < length c.args.rest.now = omega arith in (
+      omega (arith, c.in_ok-push.ensures.len, c.loop-piece.invariant.0),
+      rows_more c.loop-piece.rows.items c.push.new.self.items c.loop-piece.line c.in_ok-next.next (characters_of c.push_str.new.self) (lines_of c.args.rest.now) c.loop-piece.piece-index c.loop-piece.invariant.1 c.in_ok-push.ensures.items
+          (omega (arith, length-map c.args.rest.now characters_of))
+          (ap chars (c.in_ok-next.ensures.ok ∙ c.as_str.ensures.value) ∙ sym (line_at c.args.rest.now c.loop-piece.piece-index c.piece-item.result within c.piece-item.is)),
+    )
 
 sub-zero : (n : ℕ) → n - 0 ≡ n
 sub-zero n = omega arith

@@ -1,0 +1,12 @@
+//! What a text editor stands on: the text as lines and its history, words, keys, wrapping, screen types and search,
+//! each proved in a crate of its own and passed on here.
+#![tactic(auto)]
+
+pub use textarea_history::{history, laws};
+pub use textarea_input::input;
+pub use textarea_screen::screen;
+pub use textarea_scroll::scroll;
+pub use textarea_search::search;
+pub use textarea_text::{rows, util};
+pub use textarea_word::word;
+pub use textarea_wrap::{layout, wrap};

@@ -1,0 +1,4 @@
+//! Cursor moves and places.
+#![tactic(auto)]
+
+pub mod cursor;

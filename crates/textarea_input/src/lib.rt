@@ -1,0 +1,4 @@
+//! Key inputs, whatever terminal library they come from.
+#![tactic(auto)]
+
+pub mod input;

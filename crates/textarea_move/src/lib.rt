@@ -1,0 +1,4 @@
+//! The ways to move a cursor.
+#![tactic(auto)]
+
+pub mod cursor_move;

@@ -1,0 +1,69 @@
+-- What a block takes of an area, and what clauses see of a block.
+use Rattle.std.specs.Prelude.{ℕ, Bool, ◌||◌, ◌==◌, Option, None, is_some}
+use Rattle.std.specs.Int.RustNames.{bit_and}
+use Rattle.std.specs.Option.{option_map}
+use Rattle.textarea_screen.specs.Inset.{inset_of}
+use Rattle.textarea_screen.specs.Style.{empty_style}
+use Rattle.textarea_screen.specs.Text.{ShownLine, shown_line}
+use Rattle.textarea_screen.specs.declared.screen.block.Block.{Block}
+use Rattle.textarea_screen.specs.declared.screen.block.Borders.{Borders}
+use Rattle.textarea_screen.specs.declared.screen.rect.Padding.{Padding}
+use Rattle.textarea_screen.specs.declared.screen.style.Style.{Style}
+
+-- the block with no side, no padding and no title, in empty styles
+abbrev pub plain_block : Block
+plain_block = record {
+  borders = record { 0 = 0 };
+  padding = record { left = 0; right = 0; top = 0; bottom = 0 };
+  title = None;
+  style = empty_style;
+  border_style = empty_style;
+}
+
+-- the bits of the four sides
+abbrev pub top_side : ℕ
+top_side = 1
+
+abbrev pub right_side : ℕ
+right_side = 2
+
+abbrev pub bottom_side : ℕ
+bottom_side = 4
+
+abbrev pub left_side : ℕ
+left_side = 8
+
+-- whether the side of this bit is drawn
+abbrev pub has_side : Block → ℕ → Bool
+has_side block side = bit_and block.borders.0 side == side
+
+-- the columns at the left and the right, and the rows at the top and the bottom, that a block takes; a title stands in the
+-- top row, with a top side or without
+abbrev pub left_inset : Block → ℕ
+left_inset block = inset_of (has_side block left_side) block.padding.left
+
+abbrev pub right_inset : Block → ℕ
+right_inset block = inset_of (has_side block right_side) block.padding.right
+
+abbrev pub top_inset : Block → ℕ
+top_inset block = inset_of (has_side block top_side || is_some block.title) block.padding.top
+
+abbrev pub bottom_inset : Block → ℕ
+bottom_inset block = inset_of (has_side block bottom_side) block.padding.bottom
+
+-- a block, its title as it is shown
+pub record ShownBlock : Type 0 where
+  pub borders : Borders
+  pub padding : Padding
+  pub title : Option ShownLine
+  pub style : Style
+  pub border_style : Style
+
+abbrev pub shown_block : Block → ShownBlock
+shown_block block = record {
+  borders = block.borders;
+  padding = block.padding;
+  title = option_map shown_line block.title;
+  style = block.style;
+  border_style = block.border_style;
+}

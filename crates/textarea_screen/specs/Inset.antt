@@ -1,0 +1,6 @@
+-- What a block takes of an area at one side.
+use Rattle.std.specs.Prelude.{ℕ, ◌+◌, Bool, if◌then◌else◌}
+
+-- one row or column where something is drawn there, and the padding
+abbrev pub inset_of : Bool → ℕ → ℕ
+inset_of is_taken padding = (if is_taken then 1 else 0) + padding

@@ -1,0 +1,188 @@
+ghost use Rattle.std.specs.Prelude.{⊤, ◌≡◌, ◌+◌, ◌-◌, ℕ, [], ◌∷◌, codes, min, Some, IfOk, IsTrue};
+ghost use Rattle.textarea_screen.specs.Inset.{inset_of};
+
+use super::rect::{Padding, Rect};
+use super::style::Style;
+use super::text::Line;
+use bitflags::{Flag, Flags, bitflag_items};
+use std::alloc::AllocError;
+
+/// The sides of a block that are drawn: a set, one bit each.
+#[derive(Clone, Copy, Debug, PartialEq, Eq)]
+pub struct Borders(pub u8);
+
+bitflag_items! {
+    impl Borders: u8 {
+        const TOP = 1;
+        const RIGHT = 2;
+        const BOTTOM = 4;
+        const LEFT = 8;
+    }
+}
+
+impl Borders {
+    /// No side.
+    pub const NONE: Borders = Borders(0);
+
+    /// All four sides.
+    pub const ALL: Borders = Borders(15);
+}
+
+impl Flags for Borders {
+    type Bits = u8;
+
+    ghost exact = { ⊤ };
+
+    ghost table = { (codes "TOP", 1) ∷ (codes "RIGHT", 2) ∷ (codes "BOTTOM", 4)
+        ∷ (codes "LEFT", 8) ∷ [] };
+
+    ghost set_of = { λ borders. borders.0 };
+
+    fn flags<'a>() -> &'a [Flag<Borders>] {
+        Borders::FLAGS
+    }
+
+    fn bits(&self) -> u8 {
+        self.0
+    }
+
+    fn from_bits_retain(bits: u8) -> Borders {
+        Borders(bits)
+    }
+}
+
+/// A frame: sides, a title in the top row, and free rows and columns inside.
+#[derive(Drop)]
+pub struct Block<'a> {
+    pub borders: Borders,
+    pub padding: Padding,
+    pub title: Option<Line<'a>>,
+    pub style: Style,
+    pub border_style: Style,
+}
+
+impl<'a> Block<'a> {
+    ghost use Rattle.textarea_screen.specs.Block.{
+      plain_block,
+      shown_block,
+      left_inset,
+      right_inset,
+      top_inset,
+      bottom_inset,
+    };
+    ghost use Rattle.textarea_screen.specs.Rect.{contains};
+
+    /// A block with no side, no padding and no title, in empty styles.
+    pub fn new() -> Block<'a>
+        ensures { result ≡ plain_block }
+    {
+        Block {
+            borders: Borders::NONE,
+            padding: Padding::ZERO,
+            title: None,
+            style: Style::new(),
+            border_style: Style::new(),
+        }
+    }
+
+    /// The block with these sides.
+    pub fn borders(self, borders: Borders) -> Block<'a>
+        ensures { result ≡ record self.entry { borders = borders } }
+    {
+        Block { borders, ..self }
+    }
+
+    /// The block with this padding, between its sides and what is inside.
+    pub fn padding(self, padding: Padding) -> Block<'a>
+        ensures { result ≡ record self.entry { padding = padding } }
+    {
+        Block { padding, ..self }
+    }
+
+    /// The block with this title.
+    pub fn title(self, title: Line<'a>) -> Block<'a>
+        ensures { result ≡ record self.entry { title = Some title.entry } }
+    {
+        Block {
+            title: Some(title),
+            ..self
+        }
+    }
+
+    /// The block with this style, for all of its cells.
+    pub fn style(self, style: Style) -> Block<'a>
+        ensures { result ≡ record self.entry { style = style } }
+    {
+        Block { style, ..self }
+    }
+
+    /// The block with this style for its sides.
+    pub fn border_style(self, style: Style) -> Block<'a>
+        ensures { result ≡ record self.entry { border_style = style } }
+    {
+        Block {
+            border_style: style,
+            ..self
+        }
+    }
+
+    /// What of the area is left inside the block: a side takes one row or column, and so does a
+    /// title the top row, where there is no top side; the padding comes off beyond that. What is
+    /// left is never below 0 columns and rows.
+    pub fn inner(&self, area: Rect) -> Rect
+        ensures x { result.x ≡ area.x + min (left_inset self.now) area.width }
+        ensures y { result.y ≡ area.y + min (top_inset self.now) area.height }
+        ensures width { result.width
+            ≡ area.width - left_inset self.now - right_inset self.now }
+        ensures height { result.height
+            ≡ area.height - top_inset self.now - bottom_inset self.now }
+        ensures within { (x y : ℕ) → IsTrue (contains result x y) → IsTrue (contains area x y) }
+    {
+        let has_top = self.borders.contains(Borders::TOP) || self.title.is_some();
+        let left = inset(self.borders.contains(Borders::LEFT), self.padding.left);
+        let right = inset(self.borders.contains(Borders::RIGHT), self.padding.right);
+        let top = inset(has_top, self.padding.top);
+        let bottom = inset(self.borders.contains(Borders::BOTTOM), self.padding.bottom);
+        Rect {
+            x: area.x + left.min(area.width),
+            y: area.y + top.min(area.height),
+            width: area.width.saturating_sub(left).saturating_sub(right),
+            height: area.height.saturating_sub(top).saturating_sub(bottom),
+        }
+    }
+
+    /// The same block, the texts copied that its title owns.
+    pub fn clone(&self) -> Result<Block<'a>, AllocError>
+        ensures { IfOk result (λ block. shown_block block ≡ shown_block self.now) }
+    {
+        let title = match &self.title {
+            Some(title) => Some(title.clone()?),
+            None => None,
+        };
+        Ok(Block {
+            borders: self.borders,
+            padding: self.padding,
+            title,
+            style: self.style,
+            border_style: self.border_style,
+        })
+    }
+}
+
+impl<'a> Default for Block<'a> {
+    ghost use Rattle.textarea_screen.specs.Block.{plain_block};
+
+    ghost is_default = { λ block. block ≡ plain_block };
+
+    /// A block with no side, no padding and no title, in empty styles.
+    fn default() -> Block<'a> {
+        Block::new()
+    }
+}
+
+/// How many rows or columns come off at a side, at most 65535, which is more than an area has.
+fn inset(is_taken: bool, padding: u16) -> u16
+    ensures { result ≡ min (inset_of is_taken padding) 65535 }
+{
+    u16::from(is_taken).saturating_add(padding)
+}

@@ -1,0 +1,45 @@
+ghost use Rattle.std.specs.Prelude.{⊤, [], ◌∷◌, codes};
+
+use bitflags::{Flag, Flags, bitflag_items};
+
+/// How a terminal shows a text besides its colours: a set, one bit each.
+#[derive(Clone, Copy, Debug, PartialEq, Eq)]
+pub struct Modifier(pub u16);
+
+bitflag_items! {
+    impl Modifier: u16 {
+        const BOLD = 1;
+        const DIM = 2;
+        const ITALIC = 4;
+        const UNDERLINED = 8;
+        const SLOW_BLINK = 16;
+        const RAPID_BLINK = 32;
+        const REVERSED = 64;
+        const HIDDEN = 128;
+        const CROSSED_OUT = 256;
+    }
+}
+
+impl Flags for Modifier {
+    type Bits = u16;
+
+    ghost exact = { ⊤ };
+
+    ghost table = { (codes "BOLD", 1) ∷ (codes "DIM", 2) ∷ (codes "ITALIC", 4)
+        ∷ (codes "UNDERLINED", 8) ∷ (codes "SLOW_BLINK", 16) ∷ (codes "RAPID_BLINK", 32)
+        ∷ (codes "REVERSED", 64) ∷ (codes "HIDDEN", 128) ∷ (codes "CROSSED_OUT", 256) ∷ [] };
+
+    ghost set_of = { λ modifier. modifier.0 };
+
+    fn flags<'a>() -> &'a [Flag<Modifier>] {
+        Modifier::FLAGS
+    }
+
+    fn bits(&self) -> u16 {
+        self.0
+    }
+
+    fn from_bits_retain(bits: u16) -> Modifier {
+        Modifier(bits)
+    }
+}

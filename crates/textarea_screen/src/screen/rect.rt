@@ -1,0 +1,115 @@
+ghost use Rattle.std.specs.Prelude.{◌≡◌, ◌+◌, ◌-◌, ◌≤◌, ◌⊎◌, ◌↔◌, ℕ, false, IsTrue, min};
+
+/// The place of a cell, counted from 0: `x` columns from the left and `y` rows from the top.
+#[derive(Clone, Copy, Debug, PartialEq, Eq)]
+pub struct Position {
+    pub x: u16,
+    pub y: u16,
+}
+
+/// Columns and rows that stay free at the four sides of a rectangle.
+#[derive(Clone, Copy, Debug, PartialEq, Eq)]
+pub struct Padding {
+    pub left: u16,
+    pub right: u16,
+    pub top: u16,
+    pub bottom: u16,
+}
+
+impl Padding {
+    /// No free column or row.
+    pub const ZERO: Padding = Padding {
+        left: 0,
+        right: 0,
+        top: 0,
+        bottom: 0,
+    };
+
+    /// Free columns and rows at the four sides.
+    pub const fn new(left: u16, right: u16, top: u16, bottom: u16) -> Padding
+        ensures { result ≡ record { left = left; right = right; top = top; bottom = bottom } }
+    {
+        Padding {
+            left,
+            right,
+            top,
+            bottom,
+        }
+    }
+}
+
+/// A rectangle of cells, whose right and bottom edges are at most 65535.
+#[derive(Clone, Copy, Debug, PartialEq, Eq)]
+pub struct Rect {
+    pub x: u16,
+    pub y: u16,
+    pub width: u16,
+    pub height: u16,
+    pub ghost right: { x + width ≤ 65535 },
+    pub ghost bottom: { y + height ≤ 65535 },
+}
+
+impl Rect {
+    ghost use Rattle.textarea_screen.specs.Rect.{contains};
+
+    /// The rectangle at column `x` and row `y`, cut where it would reach past 65535.
+    pub fn new(x: u16, y: u16, width: u16, height: u16) -> Rect
+        ensures x { result.x ≡ x }
+        ensures y { result.y ≡ y }
+        ensures width { result.width ≡ min width (65535 - x) }
+        ensures height { result.height ≡ min height (65535 - y) }
+    {
+        Rect {
+            x,
+            y,
+            width: width.min(u16::MAX - x),
+            height: height.min(u16::MAX - y),
+        }
+    }
+
+    /// The first column.
+    pub fn x(&self) -> u16
+        ensures { result ≡ self.now.x }
+    {
+        self.x
+    }
+
+    /// The first row.
+    pub fn y(&self) -> u16
+        ensures { result ≡ self.now.y }
+    {
+        self.y
+    }
+
+    /// The number of columns.
+    pub fn width(&self) -> u16
+        ensures { result ≡ self.now.width }
+    {
+        self.width
+    }
+
+    /// The number of rows.
+    pub fn height(&self) -> u16
+        ensures { result ≡ self.now.height }
+    {
+        self.height
+    }
+
+    /// Whether it has no cell.
+    pub fn is_empty(&self) -> bool
+        ensures sides { IsTrue result ↔ ((self.now.width ≡ 0) ⊎ (self.now.height ≡ 0)) }
+        ensures cells { IsTrue result → (x y : ℕ) → contains self.now x y ≡ false }
+    {
+        self.width == 0 || self.height == 0
+    }
+
+    /// Whether the cell at this place is one of its cells.
+    pub fn contains(&self, position: Position) -> bool
+        ensures { result ≡ contains self.now position.x position.y }
+    {
+        self.x <= position.x
+            && position.x < self.x + self.width
+            && self.y <= position.y
+            && position.y < self.y + self.height
+    }
+}

@@ -1,0 +1,128 @@
+ghost use Rattle.std.specs.Prelude.{◌≡◌, [], ◌∷◌, IfOk, IsOk};
+
+use super::style::Style;
+use std::alloc::AllocError;
+
+/// A text that is lent or owned.
+#[derive(Drop)]
+pub enum SpanText<'a> {
+    Borrowed(&'a str),
+    Owned(String),
+}
+
+impl<'a> SpanText<'a> {
+    ghost use Rattle.textarea_screen.specs.Text.{text_bytes, IsBorrowed, shown_content};
+
+    /// The text, whoever owns it.
+    pub fn as_str(&self) -> &str
+        ensures { result.now ≡ text_bytes self.now }
+    {
+        match self {
+            SpanText::Borrowed(text) => text,
+            SpanText::Owned(text) => text.as_str(),
+        }
+    }
+
+    /// The same text, lent where this one is lent, which takes no memory, and copied where it is
+    /// owned.
+    pub fn clone(&self) -> Result<SpanText<'a>, AllocError>
+        ensures value { IfOk result (λ text. shown_content text ≡ shown_content self.now) }
+        ensures lent { IsBorrowed self.now → IsOk result }
+    {
+        match self {
+            SpanText::Borrowed(text) => Ok(SpanText::Borrowed(text)),
+            SpanText::Owned(text) => Ok(SpanText::Owned(text.clone()?)),
+        }
+    }
+}
+
+/// A text in one style.
+#[derive(Drop)]
+pub struct Span<'a> {
+    pub content: SpanText<'a>,
+    pub style: Style,
+}
+
+impl<'a> Span<'a> {
+    ghost use Rattle.textarea_screen.specs.Text.{IsBorrowed, shown_span};
+
+    /// The same span, its text copied where it is owned; a lent text takes no memory.
+    pub fn clone(&self) -> Result<Span<'a>, AllocError>
+        ensures value { IfOk result (λ span. shown_span span ≡ shown_span self.now) }
+        ensures lent { IsBorrowed self.now.content → IsOk result }
+    {
+        Ok(Span {
+            content: self.content.clone()?,
+            style: self.style,
+        })
+    }
+}
+
+/// Spans one after another, and a style under theirs.
+#[derive(Drop)]
+pub struct Line<'a> {
+    pub spans: Vec<Span<'a>>,
+    pub style: Style,
+}
+
+impl<'a> Line<'a> {
+    ghost use Rattle.textarea_screen.specs.declared.screen.text.SpanText.TheVariants.{Owned};
+    ghost use Rattle.textarea_screen.specs.Style.{empty_style};
+    ghost use Rattle.textarea_screen.specs.Text.{shown_line};
+
+    /// The whole text in one span, in no style of its own. A `\n` in it stays.
+    pub fn raw(text: String) -> Result<Line<'a>, AllocError>
+        ensures spans { IfOk result (λ line. line.spans.items
+            ≡ record { content = Owned text; style = empty_style } ∷ []) }
+        ensures style { IfOk result (λ line. line.style ≡ empty_style) }
+    {
+        let mut spans = Vec::new(*text.allocator());
+        spans.push(Span {
+            content: SpanText::Owned(text),
+            style: Style::new(),
+        })?;
+        Ok(Line {
+            spans,
+            style: Style::new(),
+        })
+    }
+
+    /// The same line, the texts copied that its spans own.
+    pub fn clone(&self) -> Result<Line<'a>, AllocError>
+        ensures { IfOk result (λ line. shown_line line ≡ shown_line self.now) }
+    {
+        let mut spans = Vec::with_capacity(*self.spans.allocator(), self.spans.len())?;
+        for span in &self.spans {
+            spans.push(span.clone()?)?;
+        }
+        Ok(Line {
+            spans,
+            style: self.style,
+        })
+    }
+}
+
+/// Lines one below another, and a style under theirs.
+#[derive(Drop)]
+pub struct Text<'a> {
+    pub lines: Vec<Line<'a>>,
+    pub style: Style,
+}
+
+impl<'a> Text<'a> {
+    ghost use Rattle.textarea_screen.specs.Text.{shown_text};
+
+    /// The same lines, the texts copied that their spans own.
+    pub fn clone(&self) -> Result<Text<'a>, AllocError>
+        ensures { IfOk result (λ text. shown_text text ≡ shown_text self.now) }
+    {
+        let mut lines = Vec::with_capacity(*self.lines.allocator(), self.lines.len())?;
+        for line in &self.lines {
+            lines.push(line.clone()?)?;
+        }
+        Ok(Text {
+            lines,
+            style: self.style,
+        })
+    }
+}

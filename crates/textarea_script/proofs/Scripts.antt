@@ -1,0 +1,30 @@
+-- The lines of a script, taken one after another with their index.
+use Rattle.std.proofs.Common.{◌≡◌, ℕ, ◌+◌, ◌<◌, List, length, take, get_or, nat_lt, true, ap, sym, ◌∙◌, arith, zero-add}
+use Rattle.std.specs.List.{enumerate_from}
+use Rattle.std.proofs.lemmas.List.FromFn.{length-enumerate_from, get_or-enumerate_from}
+use Rattle.std.proofs.lemmas.List.Sums.{count_by_more_no, count_by_more_yes}
+use Rattle.std.proofs.lemmas.Bool.Decides.{nat_tests}
+use Rattle.textarea_script.specs.Script.{filled_lines}
+
+-- an item that stands at this count of lines with their indices
+pub record IsTurn (lines : List (List ℕ)) (count index : ℕ) (line : List ℕ) : Type 0 where
+  pub index_is : index ≡ count
+  pub within : count < length lines
+  pub line_is : get_or lines count line ≡ line
+
+pub turn_at : (lines : List (List ℕ)) (count index : ℕ) (line : List ℕ) → count < length (enumerate_from 0 lines) → (index, line) ≡ get_or (enumerate_from 0 lines) count (index, line) → IsTurn lines count index line
+turn_at lines count index line some e =
+    let within : count < length lines = omega (arith, length-enumerate_from 0 lines) in
+    let pair : (index, line) ≡ (0 + count, get_or lines count line) = e ∙ get_or-enumerate_from 0 lines count (index, line) within in
+    record { index_is = ap (λ (p : ℕ × List ℕ). p.0) pair ∙ zero-add count; within = within; line_is = sym (ap (λ (p : ℕ × List ℕ). p.1) pair) }
+
+-- an empty line counts no more
+pub filled_lines-empty : (lines : List (List ℕ)) (count index : ℕ) (line : List ℕ) → IsTurn lines count index line → length line ≡ 0 → filled_lines (take (count + 1) lines) ≡ filled_lines (take count lines)
+filled_lines-empty lines count index line turn none =
+    count_by_more_no (λ l. nat_lt 0 (length l)) lines count line turn.within (ap (λ (l : List ℕ). nat_lt 0 (length l)) turn.line_is ∙ ap (nat_lt 0) none)
+
+-- a line that holds something counts one more
+pub filled_lines-filled : (lines : List (List ℕ)) (count index : ℕ) (line : List ℕ) → IsTurn lines count index line → 0 < length line → filled_lines (take (count + 1) lines) ≡ filled_lines (take count lines) + 1
+filled_lines-filled lines count index line turn some =
+    let test : nat_lt 0 (length line) ≡ true = grind (arith, nat_tests) in
+    count_by_more_yes (λ l. nat_lt 0 (length l)) lines count line turn.within (ap (λ (l : List ℕ). nat_lt 0 (length l)) turn.line_is ∙ test)

@@ -1,0 +1,57 @@
+use Rattle.std.proofs.Common.{rules, tests, arith, ◌≡◌, ℕ, ◌+◌, ◌-◌, ◌<◌, ◌==◌, [], List, ◌∙◌, ap, sym, subst, length, take, get_or}
+use Rattle.std.proofs.lemmas.List.{take_all, length_push, get_or_default}
+use Rattle.std.proofs.lemmas.List.FromFn.{length-enumerate_from}
+use Rattle.std.proofs.lemmas.Bool.Decides.{nat_tests}
+use Rattle.std.proofs.lemmas.Iterator.Splits.{YieldsList-from_slice_split}
+use Rattle.std.proofs.lemmas.Iterator.Consumers.{YieldsList-from_enumerate, YieldsList-turn, YieldsList-end, YieldsList-at}
+use Rattle.textarea_script.specs.Script.{lines_of, filled_lines}
+use Rattle.textarea_script.proofs.Scripts.{turn_at, filled_lines-empty, filled_lines-filled}
+use Rattle.textarea_script.proofs.commands.read.Goals as goal
+
+pub loop-index-preserved-then-is_empty : goal.loop-index-preserved-then-is_empty
+loop-index-preserved-then-is_empty c =
+    let lines = lines_of c.args.script.now in
+    let count = length c.loop-index.yielded in
+    let line = c.in-Some.line.now in
+    let t = YieldsList-turn (YieldsList-from_enumerate {s = c.into_iter-index-iterator.result} (YieldsList-at (cc) (YieldsList-from_slice_split {s = c.split.result} _ (λ byte. byte == 10) c.args.script.now c.split.ensures.rest c.split.ensures.done c.split.ensures.closure (λ x r q k. search (rules, tests)))) (cc)) c.loop-index.yielded _ c.loop-index.yielded_by _ _ (c.in-Some.index, c.in-Some.line) c.in-Some.is c.next.ensures.steps in
+    let turn = turn_at lines count c.in-Some.index line t.0 t.1 in
+    let none : length line ≡ 0 = grind (arith, nat_tests) in
+    c.loop-index.invariant
+    ∙ sym (filled_lines-empty lines count c.in-Some.index line turn none)
+    ∙ ap (λ k. filled_lines (take k lines)) (sym (length_push c.loop-index.yielded (c.in-Some.index, c.in-Some.line)))
+
+pub loop-index-preserved : goal.loop-index-preserved
+loop-index-preserved c =
+    let lines = lines_of c.args.script.now in
+    let count = length c.loop-index.yielded in
+    let line = c.in-Some.line.now in
+    let t = YieldsList-turn (YieldsList-from_enumerate {s = c.into_iter-index-iterator.result} (YieldsList-at (cc) (YieldsList-from_slice_split {s = c.split.result} _ (λ byte. byte == 10) c.args.script.now c.split.ensures.rest c.split.ensures.done c.split.ensures.closure (λ x r q k. search (rules, tests)))) (cc)) c.loop-index.yielded _ c.loop-index.yielded_by _ _ (c.in-Some.index, c.in-Some.line) c.in-Some.is c.next.ensures.steps in
+    let turn = turn_at lines count c.in-Some.index line t.0 t.1 in
+    let some : 0 < length line = grind (arith, nat_tests) in
+    c.in_ok-push-in-Some-and_then.ensures.len
+    ∙ ap (λ k. k + 1) c.loop-index.invariant
+    ∙ sym (filled_lines-filled lines count c.in-Some.index line turn some)
+    ∙ ap (λ k. filled_lines (take k lines)) (sym (length_push c.loop-index.yielded (c.in-Some.index, c.in-Some.line)))
+
+pub returns-in-None-and_then-clause-err : goal.returns-in-None-and_then-clause-err
+returns-in-None-and_then-clause-err c =
+    let lines = lines_of c.args.script.now in
+    let count = length c.loop-index.yielded in
+    let line = c.in-Some.line.now in
+    let t = YieldsList-turn (YieldsList-from_enumerate {s = c.into_iter-index-iterator.result} (YieldsList-at (cc) (YieldsList-from_slice_split {s = c.split.result} _ (λ byte. byte == 10) c.args.script.now c.split.ensures.rest c.split.ensures.done c.split.ensures.closure (λ x r q k. search (rules, tests)))) (cc)) c.loop-index.yielded _ c.loop-index.yielded_by _ _ (c.in-Some.index, c.in-Some.line) c.in-Some.is c.next.ensures.steps in
+    let turn = turn_at lines count c.in-Some.index line t.0 t.1 in
+    let some : 0 < length line = grind (arith, nat_tests) in
+    let here : c.in-Some.index + 1 - 1 ≡ count = omega (arith, turn.index_is) in
+    let found : get_or lines (c.in-Some.index + 1 - 1) [] ≡ line =
+    ap (λ k. get_or lines k []) here ∙ get_or_default lines count [] line turn.within ∙ turn.line_is in
+    record {
+      from_one = omega arith;
+      within = omega (arith, turn.index_is, turn.within);
+      filled = subst (λ (l : List ℕ). 0 < length l) (sym found) some;
+    }
+
+pub returns-clause-ok : goal.returns-clause-ok
+returns-clause-ok c =
+    let lines = lines_of c.args.script.now in
+    let e = YieldsList-end (YieldsList-from_enumerate {s = c.into_iter-index-iterator.result} (YieldsList-at (cc) (YieldsList-from_slice_split {s = c.split.result} _ (λ byte. byte == 10) c.args.script.now c.split.ensures.rest c.split.ensures.done c.split.ensures.closure (λ x r q k. search (rules, tests)))) (cc)) c.loop-index.yielded _ c.loop-index.yielded_by _ _ c.in-None.is c.next.ensures.steps in
+    c.loop-index.invariant ∙ ap filled_lines (take_all (length c.loop-index.yielded) lines (omega (arith, e.1, length-enumerate_from 0 lines)))

@@ -1,0 +1,13 @@
+// Scripts of calls on a text area: what a call is and answers, a run of calls, and the whole work of
+// the program `tascript`, from the bytes that it reads to the bytes that it prints.
+#![tactic(auto)]
+
+pub mod call;
+pub mod commands;
+pub mod perform;
+pub mod printing;
+pub mod run;
+pub mod serve;
+
+pub use call::{Answer, Call};
+pub use run::RunEnd;

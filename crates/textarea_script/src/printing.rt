@@ -1,0 +1,56 @@
+// The text that `tascript` prints of a run that came to its end.
+use crate::call::Answer;
+use std::fmt;
+use tui_textarea::TextArea;
+
+/// The end of a run, printed as a line for each answer, counted from 1, and then the text area: its
+/// lines, its cursor and its selection.
+#[derive(Clone, Copy)]
+pub struct Report<'a> {
+    pub answers: &'a [Answer],
+    pub area: &'a TextArea,
+}
+
+impl fmt::Display for Report<'_> {
+    fn fmt<W: fmt::Write>(&self, f: &mut fmt::Formatter<W>) -> fmt::Result {
+        for (index, answer) in self.answers.iter().enumerate() {
+            writeln!(f, "{} {answer}", index + 1)?;
+        }
+        let lines = self.area.lines();
+        writeln!(f, "lines {}", lines.len())?;
+        for line in lines {
+            writeln!(f, "|{}", Escaped(line.as_str()))?;
+        }
+        let (row, column) = self.area.cursor();
+        writeln!(f, "cursor {row} {column}")?;
+        writeln!(f, "selection none")
+    }
+}
+
+impl fmt::Display for Answer {
+    fn fmt<W: fmt::Write>(&self, f: &mut fmt::Formatter<W>) -> fmt::Result {
+        match self {
+            Answer::Done => write!(f, "ok"),
+            Answer::Flag(flag) => write!(f, "{flag}"),
+        }
+    }
+}
+
+/// A text, printed with the escapes `\\`, `\n`, `\r` and `\t` for the four characters.
+#[derive(Clone, Copy)]
+pub struct Escaped<'a>(pub &'a str);
+
+impl fmt::Display for Escaped<'_> {
+    fn fmt<W: fmt::Write>(&self, f: &mut fmt::Formatter<W>) -> fmt::Result {
+        for c in self.0.chars() {
+            match c {
+                '\\' => write!(f, "\\\\")?,
+                '\n' => write!(f, "\\n")?,
+                '\r' => write!(f, "\\r")?,
+                '\t' => write!(f, "\\t")?,
+                _ => write!(f, "{c}")?,
+            }
+        }
+        Ok(())
+    }
+}

@@ -1,0 +1,56 @@
+// A run: a list of calls, made one after another.
+ghost use Rattle.textarea_script.specs.Run.{Run};
+
+use crate::call::{Answer, Call};
+use crate::perform::perform;
+use tui_textarea::TextArea;
+
+/// How a run of calls ended.
+#[derive(Drop)]
+pub struct RunEnd {
+    /// The answers of the calls that were made, in their order.
+    pub answers: Vec<Answer>,
+    /// The index of the call that was refused memory and ended the run, if there is one.
+    pub refused: Option<usize>,
+}
+
+/// Makes the calls one after another, up to the first that is refused memory.
+///
+/// After any list of calls and inputs, the text, cursor, selection, yank, ranges and both history
+/// lists are those of one flat list of characters and breaks changed by nonempty splices, and the
+/// visual rows, measured height, drawn cells, caret and hit tests are those of a layout computed
+/// anew from text, cursor, highlights, settings, viewport and last area.
+///
+/// For the calls so far the first half holds, of text, cursor and both history lists, edit by edit.
+///
+/// Room for the answers is reserved first. Where that is refused, no call is made and the refused
+/// index is 0.
+pub fn run(area: &mut TextArea, calls: &[Call]) -> RunEnd
+    ensures { Run area.old calls.now result.answers.items result.refused area.new }
+{
+    let alloc = *area.lines()[0].allocator();
+    let mut answers = Vec::new(alloc);
+    if answers.try_reserve(calls.len()).is_err() {
+        return RunEnd {
+            answers,
+            refused: Some(0),
+        };
+    }
+    for (index, call) in calls.iter().enumerate() {
+        match perform(area, *call) {
+            Ok(answer) => {
+                let _ = answers.push(answer);
+            }
+            Err(_) => {
+                return RunEnd {
+                    answers,
+                    refused: Some(index),
+                };
+            }
+        }
+    }
+    RunEnd {
+        answers,
+        refused: None,
+    }
+}

@@ -1,0 +1,106 @@
+// The whole work of `tascript`, over any reader and two writers.
+ghost use Rattle.std.specs.Prelude.{◌≡◌, ◌≤◌, ◌<◌, ◌≢◌, IfErr};
+
+use crate::commands;
+use crate::commands::ReadError;
+use crate::printing::Report;
+use crate::run::run;
+use std::alloc::{AllocError, Global};
+use std::io::{Read, Write};
+use std::string::ToString;
+use tui_textarea::TextArea;
+
+/// The script was read and run, and its end was printed.
+pub const DONE: u8 = 0;
+
+/// The script can't be read, or its end can't be printed.
+pub const STREAM_FAILED: u8 = 1;
+
+/// A line of the script is no command or isn't UTF-8.
+pub const LINE_NOT_READ: u8 = 2;
+
+/// Out of memory.
+pub const OUT_OF_MEMORY: u8 = 3;
+
+#[derive(Drop)]
+enum Failure {
+    Stream,
+    Line(usize),
+    Memory,
+}
+
+impl From<AllocError> for Failure {
+    fn from(_refused: AllocError) -> Failure {
+        Failure::Memory
+    }
+}
+
+impl From<ReadError> for Failure {
+    fn from(error: ReadError) -> Failure {
+        match error {
+            ReadError::Line(number) => Failure::Line(number),
+            ReadError::Memory => Failure::Memory,
+        }
+    }
+}
+
+/// Reads a script, runs its calls on an empty text area, and prints the answers and the text area at
+/// the end to `output`. The result is the exit status: `DONE`, `STREAM_FAILED`, `LINE_NOT_READ` or
+/// `OUT_OF_MEMORY`.
+///
+/// Where a line isn't read or memory is refused, `output` gets nothing, and one line says so on
+/// `errors`; else `errors` gets nothing. That `errors` fails changes no status. Where `output` fails,
+/// what it took is a beginning of the text. Memory that is refused inside a read or a write counts
+/// as a failure of that.
+pub fn serve<R: Read, W: Write, E: Write>(
+    alloc: Global,
+    reader: &mut R,
+    output: &mut W,
+    errors: &mut E,
+) -> u8
+    ensures status { result ≤ OUT_OF_MEMORY }
+    ensures silent { STREAM_FAILED < result → output.new ≡ output.old }
+    ensures quiet { result ≤ STREAM_FAILED → errors.new ≡ errors.old }
+{
+    match run_script(alloc, reader, output) {
+        Ok(()) => DONE,
+        Err(Failure::Stream) => STREAM_FAILED,
+        Err(Failure::Line(number)) => {
+            let _ = writeln!(errors, "line {number}: not read");
+            LINE_NOT_READ
+        }
+        Err(Failure::Memory) => {
+            let _ = writeln!(errors, "no memory");
+            OUT_OF_MEMORY
+        }
+    }
+}
+
+// Nothing is written before all memory was taken.
+fn run_script<R: Read, W: Write>(
+    alloc: Global,
+    reader: &mut R,
+    output: &mut W,
+) -> Result<(), Failure>
+    ensures { IfErr result (λ failure. failure ≢ Failure.Stream → output.new ≡ output.old) }
+{
+    let mut script = Vec::new(alloc);
+    if reader.read_to_end(&mut script).is_err() {
+        return Err(Failure::Stream);
+    }
+    let calls = commands::read(alloc, script.as_slice())?;
+    let mut area = TextArea::try_default(alloc)?;
+    let end = run(&mut area, calls.as_slice());
+    if end.refused.is_some() {
+        return Err(Failure::Memory);
+    }
+    let report = Report {
+        answers: end.answers.as_slice(),
+        area: &area,
+    };
+    let text = report.to_string(alloc)?;
+    if output.write_all(text.as_bytes()).is_err() || output.flush().is_err() {
+        return Err(Failure::Stream);
+    }
+    Ok(())
+}

@@ -1,0 +1,4 @@
+//! How far to scroll.
+#![tactic(auto)]
+
+pub mod scroll;

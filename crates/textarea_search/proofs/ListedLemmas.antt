@@ -1,0 +1,148 @@
+-- The list of a line's matches, as a search goes over it.
+use Rattle.std.proofs.Common.{◌≡◌, ℕ, zero, suc, ◌+◌, ◌-◌, ◌<◌, ◌≤◌, Bool, true, false, cond, List, [], ◌∷◌, map, length, reverse, Option, None, Some, option_map, MatchOption, IfSome, refl, sym, ap, ◌∙◌, subst, inl, inr, ⊎_elim, arith, IsCharBoundary}
+use Rattle.std.specs.Prelude.{All}
+use Rattle.std.specs.List.{find}
+use Rattle.std.specs.Option.{option_or}
+use Rattle.std.proofs.lemmas.Bool.{cases_lt}
+use Rattle.std.proofs.lemmas.Bool.Decides.{nat_tests}
+use Rattle.std.proofs.lemmas.List.{reverse-append}
+use Rattle.std.proofs.lemmas.List.Elements.{All-nil, All-cons, All-weaker}
+use Rattle.std.proofs.lemmas.List.Folds.{find-append}
+use Rattle.std.proofs.lemmas.Option.{none-some, same_Some}
+use Rattle.regex_hir.specs.Re.{Re}
+use Rattle.regex_hir.specs.Text.{is_boundary}
+use Rattle.regex_hir.specs.Find.{Match, find_str}
+use Rattle.regex_hir.proofs.AttemptLemmas.{cond_some}
+use Rattle.regex_hir.proofs.FindLemmas.{IsFirst-of_first_between}
+use Rattle.regex_hir.proofs.OptionLemmas.{option_cases}
+use Rattle.regex.specs.Patterns.{span}
+use Rattle.regex.specs.Search.{next_match}
+use Rattle.regex.specs.Strings.{match_span}
+use Rattle.regex.specs.declared.string.matcher.Match as found_match
+use Rattle.regex.proofs.SearchLemmas.{next_same, next_later, next_within, leftmost_within, matches_after_none, matches_after_some}
+use Rattle.regex.proofs.Utf8Lemmas.{IsCharBoundary-of_test}
+use Rattle.textarea_search.specs.Spans.{spans_after}
+use Rattle.textarea_search.specs.Starts.{is_ahead_in_line}
+use Rattle.textarea_search.proofs.StartLemmas.{find-none, All-reverse}
+
+none_of_map : {A B : Type 0} (f : A → B) (o : Option A) → option_map f o ≡ None → o ≡ None
+none_of_map f None e = refl
+none_of_map f (Some x) e = absurd (none-some (f x) (sym e))
+
+some_of_map : {A B : Type 0} (f : A → B) (o : Option A) (y : B) → option_map f o ≡ Some y → (x : A) × (o ≡ Some x) × (f x ≡ y)
+some_of_map f None y e = absurd (none-some y e)
+some_of_map f (Some x) y e = (x, refl, same_Some _ _ e)
+
+module _ (tree : Re) (line : List ℕ) (after : ℕ) where
+  -- the next match is found from where the last one ended, unless that is it once more
+  pub next_same_span : (o : Option (ℕ × ℕ)) → o ≡ option_map span (find_str tree line (after - 1)) → IfSome o (λ s. after ≤ s.1) →
+      o ≡ option_map span (next_match true tree line after)
+  next_same_span o e forth =
+      e ∙ ap (option_map span) (sym (next_same tree line true after (λ m is.
+      subst (λ (p : Option (ℕ × ℕ)). IfSome p (λ s. after ≤ s.1)) (e ∙ ap (option_map span) is) forth)))
+
+  -- and else from one byte on
+  pub next_later_span : (o : Option (ℕ × ℕ)) (was : ℕ × ℕ) → option_map span (find_str tree line (after - 1)) ≡ Some was → was.1 < after →
+      o ≡ option_map span (find_str tree line after) → o ≡ option_map span (next_match true tree line after)
+  next_later_span o was first lt e =
+      let v = some_of_map span (find_str tree line (after - 1)) was first in
+      let ends : v.0.trace.end < after = subst (λ (s : ℕ × ℕ). s.1 < after) (sym v.2) lt in
+      e ∙ ap (option_map span) (sym (next_later tree line true after v.0 v.1 ends))
+
+  -- the next match is the first of those that are left
+  pub first_of_rest : (r : Option found_match.Match) → option_map match_span r ≡ option_map span (next_match true tree line after) →
+      MatchOption r (spans_after tree line after ≡ []) (λ m. spans_after tree line after ≡ match_span m ∷ spans_after tree line ((match_span m).1 + 1))
+  first_of_rest None e = ap (map span) (matches_after_none tree line true after (none_of_map span _ (sym e)))
+  first_of_rest (Some x) e =
+      let v = some_of_map span (next_match true tree line after) (match_span x) (sym e) in
+      ap (map span) (matches_after_some tree line true after v.0 v.1) ∙ ap (λ (s : ℕ × ℕ). s ∷ spans_after tree line (s.1 + 1)) v.2
+
+-- a match starts where the search for it does, or behind
+pub starts_behind : (tree : Re) (line : List ℕ) (from : ℕ) (r : Option found_match.Match) → option_map match_span r ≡ option_map span (find_str tree line from) →
+    IfSome r (λ m. from ≤ (match_span m).0)
+starts_behind tree line from None e = tt
+starts_behind tree line from (Some x) e =
+    let v = some_of_map span (find_str tree line from) (match_span x) (sym e) in
+    subst (λ (s : ℕ × ℕ). from ≤ s.0) v.2 (leftmost_within tree line true from v.0 v.1).0
+
+-- such a match ends behind that too
+pub forth_of_start : (after : ℕ) (r : Option found_match.Match) → IfSome r (λ m. after ≤ (match_span m).0) →
+    IfSome r (λ m. (after ≤ (match_span m).0 + 1) × (after ≤ (match_span m).1))
+forth_of_start after None h = tt
+forth_of_start after (Some m) h = (omega arith, omega (arith, m.ordered))
+
+-- ---- where the matches that are left lie
+
+-- the span starts between characters, and at or behind the end of the match before
+abbrev pub LiesFrom : List ℕ → ℕ → ℕ × ℕ → Type 0
+LiesFrom line after s = (after ≤ s.0 + 1) × IsCharBoundary line s.0
+
+module _ (tree : Re) (line : List ℕ) where
+  leftmost_cut : (from : ℕ) (m : Match) → find_str tree line from ≡ Some m → (from ≤ m.start) × IsCharBoundary line m.start
+  unfolding find_str
+  leftmost_cut from m e =
+      let first = IsFirst-of_first_between _ from (length line) m e in
+      (first.from, IsCharBoundary-of_test line m.start first.to (cond_some (is_boundary line m.start) _ m.trace first.here).0)
+
+  next_lies : (after : ℕ) (m : Match) → next_match true tree line after ≡ Some m → LiesFrom line after (span m)
+  next_lies after m e =
+      ⊎_elim
+      (λ none. absurd (none-some m (sym none ∙ sym (next_same tree line true after (λ x f. absurd (none-some x (sym none ∙ f)))) ∙ e)))
+      (λ (some : (x : Match) × (_ ≡ Some x)). elim (cases_lt some.0.trace.end after) [
+        | inl lt ↦ let cut = leftmost_cut after m (sym (next_later tree line true after some.0 some.1 lt) ∙ e) in (omega arith, cut.1)
+        | inr ge ↦
+            let same = next_same tree line true after (λ x f. subst (λ (y : Match). after ≤ y.trace.end) (same_Some _ _ (sym some.1 ∙ f)) ge) in
+            let cut = leftmost_cut (after - 1) m (sym same ∙ e) in (omega arith, cut.1)
+      ])
+      (option_cases (find_str tree line (after - 1)))
+
+  all_lie : (n after : ℕ) → length line + 1 ≤ after + n → All (LiesFrom line after) (spans_after tree line after)
+  all_lie zero after h =
+      ⊎_elim
+      (λ none. subst (All (LiesFrom line after)) (sym (ap (map span) (matches_after_none tree line true after none))) (All-nil (LiesFrom line after)))
+      (λ (some : (x : Match) × (_ ≡ Some x)). absurd (omega (arith, next_within tree line true after some.0 some.1)))
+      (option_cases (next_match true tree line after))
+  all_lie (suc n) after h =
+      ⊎_elim
+      (λ none. subst (All (LiesFrom line after)) (sym (ap (map span) (matches_after_none tree line true after none))) (All-nil (LiesFrom line after)))
+      (λ (some : (x : Match) × (_ ≡ Some x)).
+      let m = some.0 in
+      let within = next_within tree line true after m some.1 in
+      let rest : All (LiesFrom line (m.trace.end + 1)) (spans_after tree line (m.trace.end + 1)) = all_lie n (m.trace.end + 1) (omega arith) in
+      subst (All (LiesFrom line after)) (sym (ap (map span) (matches_after_some tree line true after m some.1)))
+      (All-cons (LiesFrom line after) (span m) (spans_after tree line (m.trace.end + 1)) (next_lies after m some.1)
+      (All-weaker (LiesFrom line (m.trace.end + 1)) (LiesFrom line after) (λ s lies. (omega (arith, lies.0), lies.1)) (spans_after tree line (m.trace.end + 1)) rest)))
+      (option_cases (next_match true tree line after))
+
+  pub spans_lie : (after : ℕ) → All (LiesFrom line after) (spans_after tree line after)
+  spans_lie after = all_lie (length line + 1) after (omega arith)
+
+-- ---- the last that passes
+
+abbrev pub starts_before : ℕ → Bool → ℕ × ℕ → Bool
+starts_before byte at s = is_ahead_in_line s.0 at byte
+
+-- one more that passes
+pub last_more : (byte : ℕ) (at : Bool) (s : ℕ × ℕ) (rest : List (ℕ × ℕ)) (last : Option (ℕ × ℕ)) → starts_before byte at s ≡ true →
+    option_or (find (starts_before byte at) (reverse (s ∷ rest))) last ≡ option_or (find (starts_before byte at) (reverse rest)) (Some s)
+last_more byte at s rest last passes =
+    let test = starts_before byte at in
+    let here : find test (s ∷ []) ≡ Some s = ap (λ b. cond b (Some s) None) passes in
+    ap (λ o. option_or o last) (ap (find test) (reverse-append (s ∷ []) rest) ∙ find-append test (reverse rest) (s ∷ []) ∙ ap (option_or (find test (reverse rest))) here)
+    ∙ joined (find test (reverse rest)) s last
+  where
+    joined : (o : Option (ℕ × ℕ)) (s : ℕ × ℕ) (last : Option (ℕ × ℕ)) → option_or (option_or o (Some s)) last ≡ option_or o (Some s)
+    joined None s last = refl
+    joined (Some x) s last = refl
+
+-- one that doesn't, and so none behind it
+pub last_found : (byte : ℕ) (at : Bool) (line : List ℕ) (s : ℕ × ℕ) (rest : List (ℕ × ℕ)) → starts_before byte at s ≡ false → s.0 ≤ s.1 →
+    All (LiesFrom line (s.1 + 1)) rest → find (starts_before byte at) (reverse (s ∷ rest)) ≡ None
+last_found byte at line s rest fails ordered lie =
+    let test = starts_before byte at in
+    find-none test (reverse (s ∷ rest)) (All-reverse (λ p. test p ≡ false) (s ∷ rest)
+    (All-cons (λ p. test p ≡ false) s rest fails
+    (All-weaker (LiesFrom line (s.1 + 1)) (λ p. test p ≡ false) (λ p lies. later byte at s.0 p.0 fails (omega (arith, lies.0))) rest lie)))
+  where
+    later : (byte : ℕ) (at : Bool) (x y : ℕ) → is_ahead_in_line x at byte ≡ false → x ≤ y → is_ahead_in_line y at byte ≡ false
+    later byte at x y e h = grind (arith, nat_tests)

@@ -1,0 +1,289 @@
+-- The starts of the matches of several lines, and where a search that wraps around stops among them.
+use Rattle.std.proofs.Common.{reverse, ◌≡◌, ℕ, ◌+◌, ◌-◌, ◌<◌, ◌≤◌, Bool, true, false, ◌==◌, ◌&&◌, ◌||◌, nat_lt, List, [], ◌∷◌, ◌++◌, map, length, get_or, take, drop, Option, None, Some, option_map, refl, sym, ap, ◌∙◌, arith, zero-add, cond}
+use Rattle.std.specs.Prelude.{String, string_bytes}
+use Rattle.std.proofs.Common.{Global}
+use Rattle.std.specs.List.{find, slice_get, All}
+use Rattle.std.specs.Option.{option_or}
+use Rattle.std.proofs.lemmas.Bool.Decides.{nat_tests}
+use Rattle.std.proofs.lemmas.List.{drop_more, take_more, append-nil, append_assoc, map-append, reverse-append, length-reverse, get_or-reverse, get_or-map, length-take-le, take-append-drop, take_rest, take-map, drop-map, length-map}
+use Rattle.std.proofs.lemmas.List.Elements.{All-nil, All-head, All-tail, All-append, All-map, All-weaker}
+use Rattle.std.proofs.lemmas.List.Folds.{find-append}
+use Rattle.std.proofs.lemmas.Option.{slice_get-map}
+use Rattle.textarea_search.specs.Starts.{starts_from, is_ahead_in_line, is_ahead, is_behind, find_or_first, next_start, previous_start}
+
+-- ---- a search in a list of three parts
+
+pub find-none : {X : Type 0} (test : X → Bool) (xs : List X) → All (λ x. test x ≡ false) xs → find test xs ≡ None
+find-none test [] h = refl
+find-none test (x ∷ xs) h =
+    rw (All-head (λ y. test y ≡ false) x xs h) (find-none test xs (All-tail (λ y. test y ≡ false) x xs h))
+
+pub find-first : {X : Type 0} (test : X → Bool) (xs : List X) → All (λ x. test x ≡ true) xs → find test xs ≡ slice_get xs 0
+find-first test [] h = refl
+find-first test (x ∷ xs) h = rw (All-head (λ y. test y ≡ true) x xs h) refl
+
+pub All-reverse : {X : Type 0} (P : X → Type 0) (xs : List X) → All P xs → All P (reverse xs)
+All-reverse P xs h k d lt =
+    let within : k < length xs = rw length-reverse at lt in
+    rw (get_or-reverse xs k d within) (h (length xs - 1 - k) d (omega arith))
+
+pub find-map : {X Y : Type 0} (test : Y → Bool) (f : X → Y) (xs : List X) → find test (map f xs) ≡ option_map f (find (λ x. test (f x)) xs)
+find-map test f [] = refl
+find-map test f (x ∷ xs) =
+    elim (test (f x)) as (λ b. cond b (Some (f x)) (find test (map f xs)) ≡ option_map f (cond b (Some x) (find (λ y. test (f y)) xs)))
+    [ true ↦ refl | false ↦ find-map test f xs ]
+
+nil_of_first : {X : Type 0} (xs : List X) → slice_get xs 0 ≡ None → xs ≡ []
+nil_of_first [] e = refl
+nil_of_first (x ∷ xs) e = cc
+
+joined : {X : Type 0} (here beyond first all : Option X) → (here ≡ None → beyond ≡ None → all ≡ first) →
+    option_or (option_or here beyond) all ≡ option_or here (option_or beyond first)
+joined None None first all h = h refl refl
+joined None (Some y) first all h = refl
+joined (Some x) beyond first all h = refl
+
+-- no place of the front passes, and each beyond does
+pub find_in_parts : {X : Type 0} (test : X → Bool) (front here beyond : List X) →
+    All (λ x. test x ≡ false) front → All (λ x. test x ≡ true) beyond →
+    find_or_first test (front ++ (here ++ beyond))
+    ≡ option_or (find test here) (option_or (slice_get beyond 0) (slice_get (front ++ here) 0))
+find_in_parts test front here beyond none each =
+    let found : find test (front ++ (here ++ beyond)) ≡ option_or (find test here) (slice_get beyond 0) =
+    find-append test front (here ++ beyond) ∙ ap (λ o. option_or o (find test (here ++ beyond))) (find-none test front none)
+    ∙ find-append test here beyond ∙ ap (option_or (find test here)) (find-first test beyond each) in
+    ap (λ o. option_or o (slice_get (front ++ (here ++ beyond)) 0)) found
+    ∙ joined (find test here) (slice_get beyond 0) (slice_get (front ++ here) 0) (slice_get (front ++ (here ++ beyond)) 0)
+    (λ _ empty. ap (λ ys. slice_get (front ++ (here ++ ys)) 0) (nil_of_first beyond empty) ∙ ap (λ ys. slice_get (front ++ ys) 0) (append-nil here))
+
+-- ---- the starts of lines
+
+pub starts-append : (columns : List ℕ → List ℕ) (row : ℕ) (xs ys : List (List ℕ)) →
+    starts_from columns row (xs ++ ys) ≡ starts_from columns row xs ++ starts_from columns (row + length xs) ys
+starts-append columns row [] ys = ap (λ n. starts_from columns n ys) (omega arith)
+starts-append columns row (x ∷ xs) ys =
+    let same : row + 1 + length xs ≡ row + length (x ∷ xs) = omega arith in
+    ap (λ zs. map (λ column. (row, column)) (columns x) ++ zs) (starts-append columns (row + 1) xs ys ∙ ap (λ n. starts_from columns (row + 1) xs ++ starts_from columns n ys) same)
+    ∙ sym (append_assoc (map (λ column. (row, column)) (columns x)) (starts_from columns (row + 1) xs) (starts_from columns (row + length (x ∷ xs)) ys))
+
+pub starts_from-above : (columns : List ℕ → List ℕ) (low row : ℕ) (xs : List (List ℕ)) → low ≤ row → All (λ p. low ≤ p.0) (starts_from columns row xs)
+starts_from-above columns low row [] h = All-nil (λ (p : ℕ × ℕ). low ≤ p.0)
+starts_from-above columns low row (x ∷ xs) h =
+    All-append (λ (p : ℕ × ℕ). low ≤ p.0) _ _ (All-map (λ (p : ℕ × ℕ). low ≤ p.0) (λ column. (row, column)) (columns x) (λ k d lt. h))
+    (starts_from-above columns low (row + 1) xs (omega arith))
+
+pub starts_from-below : (columns : List ℕ → List ℕ) (row high : ℕ) (xs : List (List ℕ)) → row + length xs ≤ high → All (λ p. p.0 < high) (starts_from columns row xs)
+starts_from-below columns row high [] h = All-nil (λ (p : ℕ × ℕ). p.0 < high)
+starts_from-below columns row high (x ∷ xs) h =
+    let here : row < high = omega arith in
+    All-append (λ (p : ℕ × ℕ). p.0 < high) _ _ (All-map (λ (p : ℕ × ℕ). p.0 < high) (λ column. (row, column)) (columns x) (λ k d lt. here))
+    (starts_from-below columns (row + 1) high xs (omega arith))
+
+-- the starts before a line, in it and behind it
+pub starts_in_parts : (columns : List ℕ → List ℕ) (lines : List (List ℕ)) (row : ℕ) (d : List ℕ) → row < length lines →
+    starts_from columns 0 lines
+    ≡ starts_from columns 0 (take row lines) ++ (map (λ column. (row, column)) (columns (get_or lines row d)) ++ starts_from columns (row + 1) (drop (row + 1) lines))
+starts_in_parts columns lines row d within =
+    let cut : lines ≡ take row lines ++ (get_or lines row d ∷ drop (row + 1) lines) = sym (take-append-drop row lines) ∙ ap (λ ys. take row lines ++ ys) (drop_more lines row d within) in
+    let at : 0 + length (take row lines) ≡ row = zero-add (length (take row lines)) ∙ length-take-le row lines (omega arith) in
+    ap (starts_from columns 0) cut ∙ starts-append columns 0 (take row lines) (get_or lines row d ∷ drop (row + 1) lines)
+    ∙ ap (λ n. starts_from columns 0 (take row lines) ++ starts_from columns n (get_or lines row d ∷ drop (row + 1) lines)) at
+
+-- ---- which places lie ahead of a cursor, and behind it
+
+pub not_ahead : (cursor : ℕ × ℕ) (at : Bool) (p : ℕ × ℕ) → p.0 < cursor.0 → is_ahead cursor at p ≡ false
+not_ahead cursor at p h = grind (arith, nat_tests)
+
+pub ahead : (cursor : ℕ × ℕ) (at : Bool) (p : ℕ × ℕ) → cursor.0 < p.0 → is_ahead cursor at p ≡ true
+ahead cursor at p h = grind (arith, nat_tests)
+
+-- ---- the first start of lines, and the last
+
+first_of_append : {X : Type 0} (xs ys : List X) (x : X) → slice_get xs 0 ≡ Some x → slice_get (xs ++ ys) 0 ≡ Some x
+first_of_append [] ys x e = cc
+first_of_append (z ∷ xs) ys x e = e
+
+pub first_start_here : (columns : List ℕ → List ℕ) (row : ℕ) (lines : List (List ℕ)) (i : ℕ) (d : List ℕ) (column : ℕ) → i < length lines →
+    slice_get (columns (get_or lines i d)) 0 ≡ Some column →
+    slice_get (starts_from columns row (drop i lines)) 0 ≡ Some (row, column)
+first_start_here columns row lines i d column within e =
+    rw (drop_more lines i d within)
+    (first_of_append (map (λ c. (row, c)) (columns (get_or lines i d))) _ (row, column)
+    (slice_get-map (λ c. (row, c)) (columns (get_or lines i d)) 0 ∙ ap (option_map (λ c. (row, c))) e))
+
+pub first_start_next : (columns : List ℕ → List ℕ) (row : ℕ) (lines : List (List ℕ)) (i : ℕ) (d : List ℕ) → i < length lines →
+    slice_get (columns (get_or lines i d)) 0 ≡ None →
+    starts_from columns row (drop i lines) ≡ starts_from columns (row + 1) (drop (i + 1) lines)
+first_start_next columns row lines i d within e =
+    ap (starts_from columns row) (drop_more lines i d within)
+    ∙ ap (λ cs. map (λ c. (row, c)) cs ++ starts_from columns (row + 1) (drop (i + 1) lines)) (nil_of_first (columns (get_or lines i d)) e)
+
+nil_of_reverse : {X : Type 0} (xs : List X) → slice_get (reverse xs) 0 ≡ None → xs ≡ []
+nil_of_reverse [] e = refl
+nil_of_reverse (x ∷ xs) e = absurd (omega (arith, ap length (nil_of_first (reverse (x ∷ xs)) e), length-reverse (x ∷ xs)))
+
+pub map_reverse : {X Y : Type 0} (f : X → Y) (xs : List X) → map f (reverse xs) ≡ reverse (map f xs)
+map_reverse f [] = refl
+map_reverse f (x ∷ xs) =
+    ap (map f) (reverse-append (x ∷ []) xs) ∙ map-append f (reverse xs) (x ∷ [])
+    ∙ ap (λ ys. ys ++ f x ∷ []) (map_reverse f xs) ∙ sym (reverse-append (f x ∷ []) (map f xs))
+
+-- the starts of the lines up to the one at i, the last first
+starts_reversed : (columns : List ℕ → List ℕ) (row : ℕ) (lines : List (List ℕ)) (i : ℕ) (d : List ℕ) → i < length lines →
+    reverse (starts_from columns row (take (i + 1) lines))
+    ≡ reverse (map (λ c. (row + i, c)) (columns (get_or lines i d))) ++ reverse (starts_from columns row (take i lines))
+starts_reversed columns row lines i d within =
+    let at : row + length (take i lines) ≡ row + i = ap (λ n. row + n) (length-take-le i lines (omega arith)) in
+    ap (λ ys. reverse (starts_from columns row ys)) (take_more lines i d within)
+    ∙ ap reverse (starts-append columns row (take i lines) (get_or lines i d ∷ [])
+    ∙ ap (λ n. starts_from columns row (take i lines) ++ starts_from columns n (get_or lines i d ∷ [])) at
+    ∙ ap (λ ys. starts_from columns row (take i lines) ++ ys) (append-nil (map (λ c. (row + i, c)) (columns (get_or lines i d)))))
+    ∙ reverse-append (starts_from columns row (take i lines)) (map (λ c. (row + i, c)) (columns (get_or lines i d)))
+
+pub last_start_here : (columns : List ℕ → List ℕ) (row : ℕ) (lines : List (List ℕ)) (i : ℕ) (d : List ℕ) (column : ℕ) → i < length lines →
+    slice_get (reverse (columns (get_or lines i d))) 0 ≡ Some column →
+    slice_get (reverse (starts_from columns row (take (i + 1) lines))) 0 ≡ Some (row + i, column)
+last_start_here columns row lines i d column within e =
+    ap (λ ys. slice_get ys 0) (starts_reversed columns row lines i d within)
+    ∙ first_of_append (reverse (map (λ c. (row + i, c)) (columns (get_or lines i d)))) _ (row + i, column)
+    (ap (λ ys. slice_get ys 0) (sym (map_reverse (λ c. (row + i, c)) (columns (get_or lines i d))))
+    ∙ slice_get-map (λ c. (row + i, c)) (reverse (columns (get_or lines i d))) 0
+    ∙ ap (option_map (λ c. (row + i, c))) e)
+
+pub last_start_next : (columns : List ℕ → List ℕ) (row : ℕ) (lines : List (List ℕ)) (i : ℕ) (d : List ℕ) → i < length lines →
+    slice_get (reverse (columns (get_or lines i d))) 0 ≡ None →
+    reverse (starts_from columns row (take (i + 1) lines)) ≡ reverse (starts_from columns row (take i lines))
+last_start_next columns row lines i d within e =
+    starts_reversed columns row lines i d within
+    ∙ ap (λ cs. reverse (map (λ c. (row + i, c)) cs) ++ reverse (starts_from columns row (take i lines))) (nil_of_reverse (columns (get_or lines i d)) e)
+
+-- ---- the text of a line
+
+pub text_at : (lines : List (String Global)) (i : ℕ) (line : String Global) → i < length lines → line ≡ get_or lines i line →
+    get_or (map string_bytes lines) i (string_bytes line) ≡ string_bytes line
+text_at lines i line within e = get_or-map string_bytes lines i line (string_bytes line) within ∙ ap string_bytes (sym e)
+
+-- ---- a search in parts
+
+find-same : {X : Type 0} (p q : X → Bool) (xs : List X) → ((x : X) → p x ≡ q x) → find p xs ≡ find q xs
+find-same p q [] h = refl
+find-same p q (x ∷ xs) h = rw (h x) (ap (cond (q x) (Some x)) (find-same p q xs h))
+
+same_row : (row : ℕ) (b : Bool) → (nat_lt row row || ((row == row) && b)) ≡ b
+same_row row b = grind (arith, nat_tests)
+
+-- the starts up to a line, with those in it
+starts_upto : (columns : List ℕ → List ℕ) (lines : List (List ℕ)) (row : ℕ) (d : List ℕ) → row < length lines →
+    starts_from columns 0 (take row lines) ++ map (λ column. (row, column)) (columns (get_or lines row d)) ≡ starts_from columns 0 (take (row + 1) lines)
+starts_upto columns lines row d within =
+    let at : 0 + length (take row lines) ≡ row = zero-add (length (take row lines)) ∙ length-take-le row lines (omega arith) in
+    sym (ap (starts_from columns 0) (take_more lines row d within)
+    ∙ starts-append columns 0 (take row lines) (get_or lines row d ∷ [])
+    ∙ ap (λ n. starts_from columns 0 (take row lines) ++ starts_from columns n (get_or lines row d ∷ [])) at
+    ∙ ap (λ ys. starts_from columns 0 (take row lines) ++ ys) (append-nil (map (λ c. (row, c)) (columns (get_or lines row d)))))
+
+module _ (columns : List ℕ → List ℕ) (lines : List (List ℕ)) (row column : ℕ) (at : Bool) (d : List ℕ) (within : row < length lines) where
+  pub next_start_in_parts : next_start (starts_from columns 0 lines) (row, column) at
+      ≡ option_or (option_map (λ c. (row, c)) (find (is_ahead_in_line column at) (columns (get_or lines row d))))
+      (option_or (slice_get (starts_from columns (row + 1) (drop (row + 1) lines)) 0) (slice_get (starts_from columns 0 (take (row + 1) lines)) 0))
+  next_start_in_parts =
+      let test : ℕ × ℕ → Bool = is_ahead (row, column) at in
+      let front = starts_from columns 0 (take row lines) in
+      let here : List (ℕ × ℕ) = map (λ c. (row, c)) (columns (get_or lines row d)) in
+      let beyond = starts_from columns (row + 1) (drop (row + 1) lines) in
+      let none : All (λ p. test p ≡ false) front =
+      All-weaker (λ (p : ℕ × ℕ). p.0 < row) (λ p. test p ≡ false) (λ p h. not_ahead (row, column) at p h) front
+      (starts_from-below columns 0 row (take row lines) (omega (arith, length-take-le row lines (omega arith)))) in
+      let each : All (λ p. test p ≡ true) beyond =
+      All-weaker (λ (p : ℕ × ℕ). row + 1 ≤ p.0) (λ p. test p ≡ true) (λ p h. ahead (row, column) at p (omega arith)) beyond
+      (starts_from-above columns (row + 1) (row + 1) (drop (row + 1) lines) (omega arith)) in
+      let found : find test here ≡ option_map (λ c. (row, c)) (find (is_ahead_in_line column at) (columns (get_or lines row d))) =
+      find-map test (λ c. (row, c)) (columns (get_or lines row d))
+      ∙ ap (option_map (λ c. (row, c))) (find-same (λ c. test (row, c)) (is_ahead_in_line column at) (columns (get_or lines row d)) (λ c. same_row row (is_ahead_in_line column at c))) in
+      ap (find_or_first test) (starts_in_parts columns lines row d within)
+      ∙ find_in_parts test front here beyond none each
+      ∙ ap (λ o. option_or o (option_or (slice_get beyond 0) (slice_get (front ++ here) 0))) found
+      ∙ ap (λ ys. option_or (option_map (λ c. (row, c)) (find (is_ahead_in_line column at) (columns (get_or lines row d)))) (option_or (slice_get beyond 0) (slice_get ys 0))) (starts_upto columns lines row d within)
+
+  pub previous_start_in_parts : previous_start (starts_from columns 0 lines) (row, column) at
+      ≡ option_or (option_map (λ c. (row, c)) (find (λ c. is_ahead_in_line c at column) (reverse (columns (get_or lines row d)))))
+      (option_or (slice_get (reverse (starts_from columns 0 (take row lines))) 0) (slice_get (reverse (starts_from columns row (drop row lines))) 0))
+  previous_start_in_parts =
+      let test : ℕ × ℕ → Bool = is_behind (row, column) at in
+      let front = starts_from columns 0 (take row lines) in
+      let here : List (ℕ × ℕ) = map (λ c. (row, c)) (columns (get_or lines row d)) in
+      let beyond = starts_from columns (row + 1) (drop (row + 1) lines) in
+      let none : All (λ p. test p ≡ false) (reverse beyond) =
+      All-reverse (λ p. test p ≡ false) beyond
+      (All-weaker (λ (p : ℕ × ℕ). row + 1 ≤ p.0) (λ p. test p ≡ false) (λ p h. not_ahead p at (row, column) (omega arith)) beyond
+      (starts_from-above columns (row + 1) (row + 1) (drop (row + 1) lines) (omega arith))) in
+      let each : All (λ p. test p ≡ true) (reverse front) =
+      All-reverse (λ p. test p ≡ true) front
+      (All-weaker (λ (p : ℕ × ℕ). p.0 < row) (λ p. test p ≡ true) (λ p h. ahead p at (row, column) h) front
+      (starts_from-below columns 0 row (take row lines) (omega (arith, length-take-le row lines (omega arith))))) in
+      let found : find test (reverse here) ≡ option_map (λ c. (row, c)) (find (λ c. is_ahead_in_line c at column) (reverse (columns (get_or lines row d)))) =
+      ap (find test) (sym (map_reverse (λ c. (row, c)) (columns (get_or lines row d))))
+      ∙ find-map test (λ c. (row, c)) (reverse (columns (get_or lines row d)))
+      ∙ ap (option_map (λ c. (row, c))) (find-same (λ c. test (row, c)) (λ c. is_ahead_in_line c at column) (reverse (columns (get_or lines row d))) (λ c. same_row row (is_ahead_in_line c at column))) in
+      let turned : reverse (front ++ (here ++ beyond)) ≡ reverse beyond ++ (reverse here ++ reverse front) =
+      reverse-append front (here ++ beyond) ∙ ap (λ ys. ys ++ reverse front) (reverse-append here beyond)
+      ∙ append_assoc (reverse beyond) (reverse here) (reverse front) in
+      let rest : reverse beyond ++ reverse here ≡ reverse (starts_from columns row (drop row lines)) =
+      sym (ap (λ ys. reverse (starts_from columns row ys)) (drop_more lines row d within) ∙ reverse-append here beyond) in
+      ap (λ ys. find_or_first test (reverse ys)) (starts_in_parts columns lines row d within)
+      ∙ ap (find_or_first test) turned
+      ∙ find_in_parts test (reverse beyond) (reverse here) (reverse front) none each
+      ∙ ap (λ o. option_or o (option_or (slice_get (reverse front) 0) (slice_get (reverse beyond ++ reverse here) 0))) found
+      ∙ ap (λ ys. option_or (option_map (λ c. (row, c)) (find (λ c. is_ahead_in_line c at column) (reverse (columns (get_or lines row d))))) (option_or (slice_get (reverse front) 0) (slice_get ys 0))) rest
+
+-- ---- the same as the code reads it: a row of strings, those behind it, and those up to it
+
+module _ (columns : List ℕ → List ℕ) (lines : List (String Global)) (row column : ℕ) (at : Bool) (line : String Global)
+    (within : row < length lines) (is_line : line ≡ get_or lines row line) where
+  forward_parts : next_start (starts_from columns 0 (map string_bytes lines)) (row, column) at
+      ≡ option_or (option_map (λ c. (row, c)) (find (is_ahead_in_line column at) (columns (string_bytes line))))
+      (option_or (slice_get (starts_from columns (row + 1) (map string_bytes (take (length lines - (row + 1)) (drop (row + 1) lines)))) 0)
+      (slice_get (starts_from columns 0 (map string_bytes (take (row + 1) lines))) 0))
+  forward_parts =
+      let within' : row < length (map string_bytes lines) = rw length-map within in
+      rw (take_rest lines (row + 1), ← drop-map string_bytes (row + 1) lines, ← take-map string_bytes (row + 1) lines, ← text_at lines row line within is_line)
+      (next_start_in_parts columns (map string_bytes lines) row column at (string_bytes line) within')
+
+  pub forward_here : (start : ℕ) → find (is_ahead_in_line column at) (columns (string_bytes line)) ≡ Some start →
+      next_start (starts_from columns 0 (map string_bytes lines)) (row, column) at ≡ Some (row, start)
+  forward_here start found = forward_parts ∙ rw found refl
+
+  pub forward_beyond : (p : ℕ × ℕ) → find (is_ahead_in_line column at) (columns (string_bytes line)) ≡ None →
+      slice_get (starts_from columns (row + 1) (map string_bytes (take (length lines - (row + 1)) (drop (row + 1) lines)))) 0 ≡ Some p →
+      next_start (starts_from columns 0 (map string_bytes lines)) (row, column) at ≡ Some p
+  forward_beyond p none found = forward_parts ∙ rw (none, found) refl
+
+  pub forward_wrapped : find (is_ahead_in_line column at) (columns (string_bytes line)) ≡ None →
+      slice_get (starts_from columns (row + 1) (map string_bytes (take (length lines - (row + 1)) (drop (row + 1) lines)))) 0 ≡ None →
+      next_start (starts_from columns 0 (map string_bytes lines)) (row, column) at
+      ≡ slice_get (starts_from columns 0 (map string_bytes (take (row + 1) lines))) 0
+  forward_wrapped none nothing = forward_parts ∙ rw (none, nothing) refl
+
+  back_parts : previous_start (starts_from columns 0 (map string_bytes lines)) (row, column) at
+      ≡ option_or (option_map (λ c. (row, c)) (find (λ c. is_ahead_in_line c at column) (reverse (columns (string_bytes line)))))
+      (option_or (slice_get (reverse (starts_from columns 0 (map string_bytes (take row lines)))) 0)
+      (slice_get (reverse (starts_from columns row (map string_bytes (take (length lines - row) (drop row lines))))) 0))
+  back_parts =
+      let within' : row < length (map string_bytes lines) = rw length-map within in
+      rw (take_rest lines row, ← drop-map string_bytes row lines, ← take-map string_bytes row lines, ← text_at lines row line within is_line)
+      (previous_start_in_parts columns (map string_bytes lines) row column at (string_bytes line) within')
+
+  pub back_here : (start : ℕ) → find (λ c. is_ahead_in_line c at column) (reverse (columns (string_bytes line))) ≡ Some start →
+      previous_start (starts_from columns 0 (map string_bytes lines)) (row, column) at ≡ Some (row, start)
+  back_here start found = back_parts ∙ rw found refl
+
+  pub back_before : (p : ℕ × ℕ) → find (λ c. is_ahead_in_line c at column) (reverse (columns (string_bytes line))) ≡ None →
+      slice_get (reverse (starts_from columns 0 (map string_bytes (take row lines)))) 0 ≡ Some p →
+      previous_start (starts_from columns 0 (map string_bytes lines)) (row, column) at ≡ Some p
+  back_before p none found = back_parts ∙ rw (none, found) refl
+
+  pub back_wrapped : find (λ c. is_ahead_in_line c at column) (reverse (columns (string_bytes line))) ≡ None →
+      slice_get (reverse (starts_from columns 0 (map string_bytes (take row lines)))) 0 ≡ None →
+      previous_start (starts_from columns 0 (map string_bytes lines)) (row, column) at
+      ≡ slice_get (reverse (starts_from columns row (map string_bytes (take (length lines - row) (drop row lines))))) 0
+  back_wrapped none nothing = back_parts ∙ rw (none, nothing) refl

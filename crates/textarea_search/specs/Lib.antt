@@ -1,0 +1,5 @@
+pub mod Columns
+pub mod Failures
+pub mod Matches
+pub mod Spans
+pub mod Starts

@@ -1,0 +1,6 @@
+//! Search for a pattern in the lines of a text.
+#![tactic(auto)]
+
+pub mod search;
+#[cfg(test)]
+mod tests;

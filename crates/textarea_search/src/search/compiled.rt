@@ -1,0 +1,110 @@
+ghost use Rattle.std.specs.Prelude.{◌≡◌, ◌≢◌, ◌<◌, [], length, Some, IfOk, IfErr, IfSome};
+ghost use Rattle.regex.specs.Strings.{regex_pattern, regex_source, regex_config, matcher_pattern, IsReadFromSource};
+ghost use Rattle.regex.specs.Patterns.{default_config};
+ghost use Rattle.textarea_search.specs.Failures.{IsPatternFailure, IsCarried};
+ghost use Rattle.textarea_search.specs.Matches.{match_spans};
+ghost use Rattle.textarea_search.specs.Starts.{starts_of, next_start, previous_start, IsPlaceIn};
+
+use crate::search::error::SearchError;
+use crate::search::lines::{next_start, previous_start};
+use regex::{Matcher, Regex};
+use std::alloc::{AllocError, Global};
+use std::rc::Rc;
+
+/// A pattern that was built, shared with the clones of the search that built it, and what gives memory to its matchers.
+#[derive(Drop)]
+pub(crate) struct Compiled {
+    regex: Rc<Regex>,
+    alloc: Global,
+    ghost filled: { regex_source regex.value ≢ [] },
+    ghost by_default: { regex_config regex.value ≡ default_config },
+    ghost read: { ∥ IsReadFromSource regex.value ∥₁ },
+}
+
+impl Compiled {
+    /// Builds the pattern.
+    pub(crate) fn new(alloc: Global, pattern: &str) -> Result<Compiled, SearchError>
+        requires { pattern.now ≢ [] }
+        ensures ok { IfOk result (λ c. regex_source c.regex.value ≡ pattern.now) }
+        ensures refused { IfErr result (IsPatternFailure pattern.now) }
+        ensures carried { IfErr result (IsCarried pattern.now) }
+    {
+        let regex = match Regex::new(alloc, pattern) {
+            Ok(regex) => regex,
+            Err(error) => return Err(SearchError::Pattern(error)),
+        };
+        let Ok(regex) = Rc::new(alloc, regex) else {
+            return Err(SearchError::Memory(AllocError));
+        };
+        Ok(Compiled { regex, alloc })
+    }
+
+    /// The text of the pattern.
+    pub(crate) fn text(&self) -> &str
+        ensures { result.now ≡ regex_source self.now.regex.value }
+    {
+        self.regex.as_str()
+    }
+
+    /// The same pattern once more. Only a refused count of the owners makes it fail.
+    pub(crate) fn share(&self) -> Result<Compiled, AllocError>
+        ensures { IfOk result (λ c. c.regex.value ≡ self.now.regex.value) }
+    {
+        Ok(Compiled {
+            regex: self.regex.clone()?,
+            alloc: self.alloc,
+        })
+    }
+
+    /// What goes over the matches of line after line.
+    pub(crate) fn matcher(&self) -> Result<Matcher<'_>, AllocError>
+        ensures { IfOk result (λ m. matcher_pattern m ≡ regex_pattern self.now.regex.value) }
+    {
+        self.regex.matcher(self.alloc)
+    }
+
+    /// The matches of a line.
+    pub(crate) fn spans(&self, line: &str) -> Result<Vec<(usize, usize)>, AllocError>
+        ensures { IfOk result (λ spans. spans.items
+            ≡ match_spans (regex_source self.now.regex.value) line.now) }
+    {
+        let mut matcher = self.matcher()?;
+        let mut spans = Vec::new(self.alloc);
+        for found in matcher.find_iter(line) {
+            spans.push((found.start(), found.end()))?;
+        }
+        Ok(spans)
+    }
+
+    /// Where a search from the cursor goes, by one matcher.
+    pub(crate) fn forward(
+        &self,
+        lines: &[String],
+        cursor: (usize, usize),
+        match_cursor: bool,
+    ) -> Result<Option<(usize, usize)>, AllocError>
+        requires { cursor.0 < length lines.now }
+        ensures found { IfOk result (λ place. place ≡ next_start
+            (starts_of (Some (regex_source self.now.regex.value)) lines.now) cursor match_cursor) }
+        ensures within { IfOk result (λ place. IfSome place (IsPlaceIn lines.now)) }
+    {
+        let mut matcher = self.matcher()?;
+        Ok(next_start(&mut matcher, lines, cursor, match_cursor))
+    }
+
+    /// Where a search back from the cursor goes, by one matcher.
+    pub(crate) fn back(
+        &self,
+        lines: &[String],
+        cursor: (usize, usize),
+        match_cursor: bool,
+    ) -> Result<Option<(usize, usize)>, AllocError>
+        requires { cursor.0 < length lines.now }
+        ensures found { IfOk result (λ place. place ≡ previous_start
+            (starts_of (Some (regex_source self.now.regex.value)) lines.now) cursor match_cursor) }
+        ensures within { IfOk result (λ place. IfSome place (IsPlaceIn lines.now)) }
+    {
+        let mut matcher = self.matcher()?;
+        Ok(previous_start(&mut matcher, lines, cursor, match_cursor))
+    }
+}

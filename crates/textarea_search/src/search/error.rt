@@ -1,0 +1,13 @@
+use std::alloc::AllocError;
+use thiserror::Error;
+
+/// Why a pattern was not set.
+#[derive(Debug, Drop, Error)]
+pub enum SearchError {
+    /// Memory for the pattern was refused.
+    #[error(transparent)]
+    Memory(AllocError),
+    /// What `regex` answered for the pattern, as it is. It may also stand for memory.
+    #[error(transparent)]
+    Pattern(regex::Error),
+}

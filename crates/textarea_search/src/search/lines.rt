@@ -1,0 +1,94 @@
+//! The way from a cursor to the next start of a match in a text, by one matcher for all lines.
+ghost use Rattle.std.specs.Prelude.{◌≡◌, ◌+◌, ◌^◌, ◌<◌, map, length, reverse, slice_get, string_bytes, IfSome};
+ghost use Rattle.regex.specs.Strings.{matcher_pattern};
+ghost use Rattle.textarea_search.specs.Spans.{columns_in};
+ghost use Rattle.textarea_search.specs.Starts.{starts_from, next_start, previous_start, IsPlaceFrom, IsPlaceIn};
+
+use crate::search::listed::{column_ahead, column_behind, first_column, last_column};
+use regex::Matcher;
+
+/// The first place of these lines at which a match starts.
+fn first_start(
+    matcher: &mut Matcher<'_>,
+    lines: &[String],
+    first_row: usize,
+) -> Option<(usize, usize)>
+    requires { first_row + length lines.now < 2 ^ 64 }
+    ensures found { result ≡ slice_get (starts_from (columns_in (matcher_pattern matcher.old)) first_row
+        (map string_bytes lines.now)) 0 }
+    ensures within { IfSome result (IsPlaceFrom first_row lines.now) }
+    ensures same { matcher_pattern matcher.new ≡ matcher_pattern matcher.old }
+{
+    for (i, line) in lines.iter().enumerate() {
+        if let Some(column) = first_column(matcher, line) {
+            return Some((first_row + i, column));
+        }
+    }
+    None
+}
+
+/// The last place of these lines at which a match starts.
+fn last_start(
+    matcher: &mut Matcher<'_>,
+    lines: &[String],
+    first_row: usize,
+) -> Option<(usize, usize)>
+    requires { first_row + length lines.now < 2 ^ 64 }
+    ensures found { result ≡ slice_get (reverse (starts_from (columns_in (matcher_pattern matcher.old)) first_row
+        (map string_bytes lines.now))) 0 }
+    ensures within { IfSome result (IsPlaceFrom first_row lines.now) }
+    ensures same { matcher_pattern matcher.new ≡ matcher_pattern matcher.old }
+{
+    let mut i = lines.len();
+    while i > 0 {
+        i -= 1;
+        if let Some(column) = last_column(matcher, &lines[i]) {
+            return Some((first_row + i, column));
+        }
+    }
+    None
+}
+
+/// The next start behind the cursor or, where that counts, at it, and past the last one the first of the text.
+pub(crate) fn next_start(
+    matcher: &mut Matcher<'_>,
+    lines: &[String],
+    cursor: (usize, usize),
+    match_cursor: bool,
+) -> Option<(usize, usize)>
+    requires { cursor.0 < length lines.now }
+    ensures found { result ≡ next_start (starts_from (columns_in (matcher_pattern matcher.old)) 0
+        (map string_bytes lines.now)) cursor match_cursor }
+    ensures within { IfSome result (IsPlaceIn lines.now) }
+{
+    let (row, column) = cursor;
+    if let Some(start) = column_ahead(matcher, &lines[row], column, match_cursor) {
+        return Some((row, start));
+    }
+    match first_start(matcher, &lines[row + 1..], row + 1) {
+        Some(place) => Some(place),
+        None => first_start(matcher, &lines[..row + 1], 0),
+    }
+}
+
+/// The last start before the cursor or, where that counts, at it, and past the first one the last of the text.
+pub(crate) fn previous_start(
+    matcher: &mut Matcher<'_>,
+    lines: &[String],
+    cursor: (usize, usize),
+    match_cursor: bool,
+) -> Option<(usize, usize)>
+    requires { cursor.0 < length lines.now }
+    ensures found { result ≡ previous_start (starts_from (columns_in (matcher_pattern matcher.old)) 0
+        (map string_bytes lines.now)) cursor match_cursor }
+    ensures within { IfSome result (IsPlaceIn lines.now) }
+{
+    let (row, column) = cursor;
+    if let Some(start) = column_behind(matcher, &lines[row], column, match_cursor) {
+        return Some((row, start));
+    }
+    match last_start(matcher, &lines[..row], 0) {
+        Some(place) => Some(place),
+        None => last_start(matcher, &lines[row..], row),
+    }
+}

@@ -1,0 +1,159 @@
+//! The matches that `regex` lists for a line, one after another, by a matcher whose pattern stays known, so that one
+//! serves line after line.
+ghost use Rattle.std.specs.Prelude.{◌≡◌, ◌+◌, ◌≤◌, ◌<◌, [], ◌∷◌, length, take, find, reverse, slice_get, option_map, encode_utf8_all, IsCharBoundary, IfSome, MatchOption};
+ghost use Rattle.std.specs.Str.{chars};
+ghost use Rattle.regex.specs.Strings.{matcher_pattern, match_span, match_haystack};
+ghost use Rattle.textarea_search.specs.Columns.{column_at};
+ghost use Rattle.textarea_search.specs.Spans.{spans_after, columns_in};
+ghost use Rattle.textarea_search.specs.Starts.{is_ahead_in_line};
+
+use regex::{Match, Matcher};
+
+/// The first listed match behind the one that ended at `after - 1`, or the first of all where `after` is 0.
+fn next_listed<'h>(matcher: &mut Matcher<'_>, line: &'h str, after: usize) -> Option<Match<'h>>
+    ensures found { MatchOption result (spans_after (matcher_pattern matcher.old) line.now after ≡ [])
+        (λ m. spans_after (matcher_pattern matcher.old) line.now after
+        ≡ match_span m ∷ spans_after (matcher_pattern matcher.old) line.now ((match_span m).1 + 1)) }
+    ensures within { IfSome result (λ m. match_haystack m ≡ line.now) }
+    ensures forth { IfSome result (λ m. (after ≤ (match_span m).0 + 1) × (after ≤ (match_span m).1)) }
+    ensures same { matcher_pattern matcher.new ≡ matcher_pattern matcher.old }
+{
+    let found = matcher.find_at(line, after.saturating_sub(1))?;
+    if found.end() < after {
+        return matcher.find_at(line, after);
+    }
+    Some(found)
+}
+
+/// Whether a place of a line is behind the mark or, where that counts, at it.
+fn is_ahead(mark: usize, at_mark: bool, place: usize) -> bool
+    ensures { result ≡ is_ahead_in_line mark at_mark place }
+{
+    place > mark || (at_mark && place == mark)
+}
+
+/// The first listed match that starts behind the byte or, where that counts, at it.
+fn first_ahead<'h>(
+    matcher: &mut Matcher<'_>,
+    line: &'h str,
+    byte: usize,
+    at_byte: bool,
+) -> Option<Match<'h>>
+    ensures found { option_map match_span result ≡ find (λ s. is_ahead_in_line byte at_byte s.0)
+        (spans_after (matcher_pattern matcher.old) line.now 0) }
+    ensures within { IfSome result (λ m. match_haystack m ≡ line.now) }
+    ensures same { matcher_pattern matcher.new ≡ matcher_pattern matcher.old }
+{
+    let mut after = 0;
+    loop {
+        let found = next_listed(matcher, line, after)?;
+        if is_ahead(byte, at_byte, found.start()) {
+            return Some(found);
+        }
+        after = found.end() + 1;
+    }
+}
+
+/// The last listed match that starts before the byte or, where that counts, at it. It looks for none behind the byte.
+fn last_behind<'h>(
+    matcher: &mut Matcher<'_>,
+    line: &'h str,
+    byte: usize,
+    at_byte: bool,
+) -> Option<Match<'h>>
+    ensures found { option_map match_span result ≡ find (λ s. is_ahead_in_line s.0 at_byte byte)
+        (reverse (spans_after (matcher_pattern matcher.old) line.now 0)) }
+    ensures within { IfSome result (λ m. match_haystack m ≡ line.now) }
+    ensures same { matcher_pattern matcher.new ≡ matcher_pattern matcher.old }
+{
+    let mut last = None;
+    let mut after = 0;
+    loop {
+        let Some(found) = next_listed(matcher, line, after) else {
+            return last;
+        };
+        if is_ahead(found.start(), at_byte, byte) {
+            last = Some(found);
+            after = found.end() + 1;
+        } else {
+            return last;
+        }
+    }
+}
+
+/// The byte at which the column's character begins, or the length of the line for the column at its end. For a column
+/// past that it is greater than the length.
+fn byte_of(line: &str, column: usize) -> usize
+    ensures inside { column ≤ length (chars line.now) → result ≡ length (encode_utf8_all (take column (chars line.now))) }
+    ensures past { length (chars line.now) < column → length line.now < result }
+{
+    let mut rest = line.chars();
+    for _index in 0..column {
+        if rest.next().is_none() {
+            return line.len() + 1;
+        }
+    }
+    line.len() - rest.as_str().len()
+}
+
+/// How many characters of a line stand before a byte.
+fn column_of(line: &str, byte: usize) -> usize
+    requires { IsCharBoundary line.now byte }
+    ensures { result ≡ column_at line.now byte }
+{
+    line[..byte].chars().count()
+}
+
+/// The first column behind the given one or, where that counts, at it, at which a listed match starts.
+pub(crate) fn column_ahead(
+    matcher: &mut Matcher<'_>,
+    line: &str,
+    column: usize,
+    at_column: bool,
+) -> Option<usize>
+    ensures found { result ≡ find (λ start. is_ahead_in_line column at_column start)
+        (columns_in (matcher_pattern matcher.old) line.now) }
+    ensures within { IfSome result (λ start. start ≤ length (chars line.now)) }
+    ensures same { matcher_pattern matcher.new ≡ matcher_pattern matcher.old }
+{
+    let byte = byte_of(line, column);
+    let found = first_ahead(matcher, line, byte, at_column)?;
+    Some(column_of(line, found.start()))
+}
+
+/// The last column before the given one or, where that counts, at it, at which a listed match starts.
+pub(crate) fn column_behind(
+    matcher: &mut Matcher<'_>,
+    line: &str,
+    column: usize,
+    at_column: bool,
+) -> Option<usize>
+    ensures found { result ≡ find (λ start. is_ahead_in_line start at_column column)
+        (reverse (columns_in (matcher_pattern matcher.old) line.now)) }
+    ensures within { IfSome result (λ start. start ≤ length (chars line.now)) }
+    ensures same { matcher_pattern matcher.new ≡ matcher_pattern matcher.old }
+{
+    let byte = byte_of(line, column);
+    let found = last_behind(matcher, line, byte, at_column)?;
+    Some(column_of(line, found.start()))
+}
+
+/// The first column at which a listed match starts.
+pub(crate) fn first_column(matcher: &mut Matcher<'_>, line: &str) -> Option<usize>
+    ensures found { result ≡ slice_get (columns_in (matcher_pattern matcher.old) line.now) 0 }
+    ensures within { IfSome result (λ start. start ≤ length (chars line.now)) }
+    ensures same { matcher_pattern matcher.new ≡ matcher_pattern matcher.old }
+{
+    let found = first_ahead(matcher, line, 0, true)?;
+    Some(column_of(line, found.start()))
+}
+
+/// The last column at which a listed match starts.
+pub(crate) fn last_column(matcher: &mut Matcher<'_>, line: &str) -> Option<usize>
+    ensures found { result ≡ slice_get (reverse (columns_in (matcher_pattern matcher.old) line.now)) 0 }
+    ensures within { IfSome result (λ start. start ≤ length (chars line.now)) }
+    ensures same { matcher_pattern matcher.new ≡ matcher_pattern matcher.old }
+{
+    let found = last_behind(matcher, line, line.len(), true)?;
+    Some(column_of(line, found.start()))
+}

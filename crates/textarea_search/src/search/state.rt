@@ -1,0 +1,137 @@
+ghost use Rattle.std.specs.Prelude.{◌≡◌, ◌≢◌, ◌<◌, [], length, option_map, IsNone, IsOk, IfOk, IfErr, IfSome, OnOk, OnErr};
+ghost use Rattle.std.specs.Option.{option_copied};
+ghost use Rattle.textarea_search.specs.Failures.{IsPatternFailure, IsCarried};
+ghost use Rattle.textarea_search.specs.Matches.{match_spans};
+ghost use Rattle.textarea_search.specs.Starts.{starts_of, next_start, previous_start, IsPlaceIn};
+
+use crate::search::compiled::Compiled;
+use crate::search::error::SearchError;
+use crate::search::matches::Matches;
+use std::alloc::{AllocError, Global};
+use std::marker::Model;
+
+/// The pattern that is searched for, if there is one. Contracts see its text. Clones share what was built of it.
+#[derive(Drop)]
+pub struct Search {
+    compiled: Option<Compiled>,
+}
+
+impl Model for Search {
+    ghost use Rattle.std.specs.Prelude.{ℕ, List, Option, option_map};
+    ghost use Rattle.regex.specs.Strings.{regex_source};
+
+    ghost Value = { Option (List ℕ) };
+
+    ghost view = { λ search. option_map (λ compiled. regex_source compiled.regex.value) search.compiled };
+}
+
+impl Search {
+    /// Searches for this pattern from now on, in the syntax of `regex`, and for none if it is empty. The empty text and
+    /// that of the present pattern take no memory.
+    pub fn set_pattern(&mut self, alloc: Global, pattern: &str) -> Result<(), SearchError>
+        ensures empty { pattern.now ≡ [] → IsOk result × IsNone self.new }
+        ensures set { pattern.now ≢ [] → OnOk result (self.new ≡ Some pattern.now) }
+        ensures present { self.old ≡ Some pattern.now → IsOk result }
+        ensures refused { IfErr result (IsPatternFailure pattern.now) }
+        ensures carried { IfErr result (IsCarried pattern.now) }
+        ensures err { OnErr result (self.new ≡ self.old) }
+    {
+        if pattern.is_empty() {
+            self.compiled = None;
+            return Ok(());
+        }
+        if self.pattern() == Some(pattern) {
+            return Ok(());
+        }
+        self.compiled = Some(Compiled::new(alloc, pattern)?);
+        Ok(())
+    }
+
+    /// The text of the pattern.
+    pub fn pattern(&self) -> Option<&str>
+        ensures { option_copied result ≡ self.now }
+    {
+        match &self.compiled {
+            Some(compiled) => Some(compiled.text()),
+            None => None,
+        }
+    }
+
+    /// The matches of a line, as `regex` lists them: from the left, none overlapping the one before. None without a
+    /// pattern.
+    pub fn matches(&self, line: &str) -> Result<Option<Matches>, AllocError>
+        ensures found { IfOk result (λ found. found
+            ≡ option_map (λ pattern. match_spans pattern line.now) self.now) }
+        ensures no_pattern { IsNone self.now → IsOk result }
+    {
+        match &self.compiled {
+            Some(compiled) => Ok(Some(Matches::new(compiled.spans(line)?))),
+            None => Ok(None),
+        }
+    }
+
+    /// The row and column, in characters, of the next start of a match behind the cursor or, with `match_cursor`, at
+    /// it; past the last of them the search goes on from the beginning of the text. It reads no line behind the one in
+    /// which it finds. Without a pattern it takes no memory.
+    pub fn forward(
+        &self,
+        lines: &[String],
+        cursor: (usize, usize),
+        match_cursor: bool,
+    ) -> Result<Option<(usize, usize)>, AllocError>
+        requires { cursor.0 < length lines.now }
+        ensures found { IfOk result (λ place. place
+            ≡ next_start (starts_of self.now lines.now) cursor match_cursor) }
+        ensures within { IfOk result (λ place. IfSome place (IsPlaceIn lines.now)) }
+        ensures no_pattern { IsNone self.now → IsOk result }
+    {
+        match &self.compiled {
+            Some(compiled) => compiled.forward(lines, cursor, match_cursor),
+            None => Ok(None),
+        }
+    }
+
+    /// The row and column, in characters, of the last start of a match before the cursor or, with `match_cursor`, at
+    /// it; past the first of them the search goes on from the end of the text. It reads no line before the one in which
+    /// it finds. Without a pattern it takes no memory.
+    pub fn back(
+        &self,
+        lines: &[String],
+        cursor: (usize, usize),
+        match_cursor: bool,
+    ) -> Result<Option<(usize, usize)>, AllocError>
+        requires { cursor.0 < length lines.now }
+        ensures found { IfOk result (λ place. place
+            ≡ previous_start (starts_of self.now lines.now) cursor match_cursor) }
+        ensures within { IfOk result (λ place. IfSome place (IsPlaceIn lines.now)) }
+        ensures no_pattern { IsNone self.now → IsOk result }
+    {
+        match &self.compiled {
+            Some(compiled) => compiled.back(lines, cursor, match_cursor),
+            None => Ok(None),
+        }
+    }
+
+    /// A search for the same pattern, which the two share.
+    pub fn clone(&self) -> Result<Search, AllocError>
+        ensures same { IfOk result (λ copy. copy ≡ self.now) }
+        ensures no_pattern { IsNone self.now → IsOk result }
+    {
+        match &self.compiled {
+            Some(compiled) => Ok(Search {
+                compiled: Some(compiled.share()?),
+            }),
+            None => Ok(Search { compiled: None }),
+        }
+    }
+}
+
+impl Default for Search {
+    ghost use Rattle.std.specs.Prelude.{IsNone};
+
+    fn default() -> Search
+        ensures { IsNone result }
+    {
+        Search { compiled: None }
+    }
+}
