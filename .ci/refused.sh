@@ -1,0 +1,34 @@
+#!/bin/bash
+# Checks the programs that must not compile: each file .ci/refused/NAME.rt.txt names in its first two lines the error that is
+# wanted and the crates of this repository that it needs.
+set -euo pipefail
+top=$(cd "$(dirname "$0")/.." && pwd)
+rt=${RT:-rt}
+failed=0
+for program in "$top"/.ci/refused/*.rt.txt; do
+  name=$(basename "$program" .rt.txt)
+  wanted=$(sed -n 's|^// error: ||p' "$program")
+  needed=$(sed -n 's|^// crates: ||p' "$program")
+  folder=$(mktemp -d)
+  mkdir -p "$folder/crates/refused/src"
+  echo "refused: $needed" > "$folder/crates.txt"
+  for crate in $needed; do
+    grep -E "^$crate( [a-z_=]+)*:" "$top/crates.txt" >> "$folder/crates.txt"
+    cp -a "$top/crates/$crate" "$folder/crates/$crate"
+  done
+  cp "$top/HANDLES" "$folder/HANDLES"
+  tail -n +3 "$program" > "$folder/crates/refused/src/lib.rt"
+  log="$folder/log"
+  if (cd "$folder/crates/refused" && $rt check) > "$log" 2>&1; then
+    echo "refused: $name was not refused"
+    failed=1
+  elif grep -qF "error[$wanted]" "$log"; then
+    echo "refused: $name: error[$wanted]"
+  else
+    echo "refused: $name was refused, but not by error[$wanted]:"
+    tail -n 20 "$log"
+    failed=1
+  fi
+  rm -rf "$folder"
+done
+exit $failed

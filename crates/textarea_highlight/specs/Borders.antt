@@ -1,0 +1,47 @@
+-- Where the highlights of a row start and end, and the order of these borders.
+use Rattle.std.specs.Prelude.{ℕ, List, [], ◌∷◌, ◌++◌, length, min, nat_lt, IsPermutation, if◌then◌else◌}
+use Rattle.std.specs.Fmt.Cut.{floor_char_boundary}
+use Rattle.std.specs.declared.cmp.Ordering.{Ordering}
+use Rattle.std.specs.Ordering.{nat_cmp, ordering_then}
+use Rattle.std.specs.List.Sorted.{IsSortedByKey, IsStableByKey}
+use Rattle.textarea_screen.specs.declared.screen.style.Style.{Style}
+use Rattle.textarea_highlight.specs.declared.highlight.borders.Border.{Border}
+use Rattle.textarea_highlight.specs.declared.highlight.borders.Mark.TheVariants.{Start, End}
+
+-- the offset clipped to the row, and then rounded down to the place where a character starts or the row ends
+abbrev pub rounded_down : List ℕ → ℕ → ℕ
+rounded_down row offset = floor_char_boundary row (min offset (length row))
+
+-- a highlight's start at one offset, and its end at another, which has the rank 0
+abbrev pub start_and_end : ℕ → ℕ → Style → ℕ → List Border
+start_and_end from to style rank =
+    record { offset = from; rank = rank; mark = Start style } ∷ record { offset = to; rank = 0; mark = End } ∷ []
+
+-- the borders of a highlight from one offset to another: none where no character lies between them
+abbrev pub highlight_borders : List ℕ → ℕ → ℕ → Style → ℕ → List Border
+highlight_borders row from to style rank =
+    if nat_lt (rounded_down row from) (rounded_down row to) then start_and_end (rounded_down row from) (rounded_down row to) style rank else []
+
+-- the rank of a match's highlight
+abbrev pub search_rank : ℕ
+search_rank = 20
+
+-- the borders of matches, each given by the bytes at which it begins and ends
+abbrev pub match_borders : List ℕ → List (ℕ × ℕ) → Style → List Border
+match_borders row [] style = []
+match_borders row (found ∷ others) style =
+    highlight_borders row found.0 found.1 style search_rank ++ match_borders row others style
+
+-- where a border stands, and its rank there
+abbrev pub place_of : Border → ℕ × ℕ
+place_of border = (border.offset, border.rank)
+
+-- by offset, then by rank
+abbrev pub place_cmp : ℕ × ℕ → ℕ × ℕ → Ordering
+place_cmp a b = ordering_then (nat_cmp a.0 b.0) (nat_cmp a.1 b.1)
+
+-- the borders in order, and those at one offset of one rank as they were added
+pub record IsBorderOrder (added sorted : List Border) : Type 0 where
+  pub same : IsPermutation added sorted
+  pub in_order : IsSortedByKey place_of place_cmp sorted
+  pub stable : IsStableByKey place_of place_cmp added sorted

@@ -1,0 +1,35 @@
+-- Which of several starts is open, where each end closes one.
+use Rattle.std.specs.Prelude.{◌≡◌, ◌⊎◌, ℕ, suc, ◌<◌, ◌≤◌, Bool, true, false, List, take, drop, count_by, Some}
+use Rattle.std.specs.List.{slice_get}
+use Rattle.textarea_screen.specs.declared.screen.style.Style.{Style}
+use Rattle.textarea_highlight.specs.declared.highlight.borders.Mark.{Mark}
+use Rattle.textarea_highlight.specs.declared.highlight.borders.Mark.TheVariants.{Start, End}
+
+abbrev pub is_start : Mark → Bool
+is_start (Start style) = true
+is_start End = false
+
+abbrev pub is_end : Mark → Bool
+is_end (Start style) = false
+is_end End = true
+
+-- no stretch of the marks that begins with the first holds more ends than starts
+abbrev pub StaysOpen : List Mark → Type 0
+StaysOpen marks = (n : ℕ) → count_by is_end (take n marks) ≤ count_by is_start (take n marks)
+
+-- the mark at i starts this style, and what follows leaves it open
+abbrev pub OpensAt : List Mark → ℕ → Style → Type 0
+OpensAt marks i style = (slice_get marks i ≡ Some (Start style)) × StaysOpen (drop (suc i) marks)
+
+-- the last start that is open is one of this style
+abbrev pub OpensLast : List Mark → Style → Type 0
+OpensLast marks style =
+    (i : ℕ) × OpensAt marks i style × ((k : ℕ) (other : Style) → i < k → ¬ (OpensAt marks k other))
+
+-- each start was closed again
+abbrev pub OpensNone : List Mark → Type 0
+OpensNone marks = (k : ℕ) (other : Style) → ¬ (OpensAt marks k other)
+
+-- the style behind these marks: that of the last start that is open, or the base
+abbrev pub IsStyleBehind : List Mark → Style → Style → Type 0
+IsStyleBehind marks base style = OpensLast marks style ⊎ (OpensNone marks × (style ≡ base))

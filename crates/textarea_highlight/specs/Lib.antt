@@ -1,0 +1,9 @@
+pub mod Texts
+pub mod Borders
+pub mod Brackets
+pub mod OpenStyles
+pub mod Display
+pub mod Cut
+pub mod Numbers
+pub mod Highlights
+pub mod Row

@@ -1,0 +1,21 @@
+-- The spans of a whole row.
+use Rattle.std.specs.Prelude.{◌≡◌, ◌<◌, List, ◌++◌, length, encode_utf8_all}
+use Rattle.std.specs.Str.{chars}
+use Rattle.textarea_screen.specs.Style.{empty_style}
+use Rattle.textarea_screen.specs.Text.{ShownSpan, ShownLine}
+use Rattle.textarea_highlight.specs.declared.highlight.borders.Border.{Border}
+use Rattle.textarea_highlight.specs.Borders.{IsBorderOrder}
+use Rattle.textarea_highlight.specs.Display.{shown}
+use Rattle.textarea_highlight.specs.Cut.{IsCut, text_of_spans}
+use Rattle.textarea_highlight.specs.Highlights.{Highlights, end_style, end_cell}
+
+-- the line shows the row: what stands in front of it, its pieces, and the cell behind it
+pub record ShowsRow (h : Highlights) (line : ShownLine) : Type 0 where
+  pub sorted : List Border
+  pub order : IsBorderOrder h.borders sorted
+  pub pieces : List ShownSpan
+  pub cut : IsCut h.row sorted h.base h.tab_len h.mask 0 pieces (length h.row)
+  pub spans : line.spans ≡ h.numbers ++ (pieces ++ end_cell (end_style h))
+  pub style : line.style ≡ empty_style
+  -- where tabs have stops, the pieces together show the same text whatever is highlighted and wherever the cursor stands
+  pub whole : 0 < h.tab_len → text_of_spans pieces ≡ encode_utf8_all (shown h.mask h.tab_len 0 (chars h.row))

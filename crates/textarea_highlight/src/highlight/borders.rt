@@ -1,0 +1,104 @@
+//! Where highlights start and end on a row.
+ghost use Rattle.std.specs.Prelude.{◌≡◌, ◌++◌, ℕ, List, All, IfOk, OnOk, OnErr, IsCharBoundary, IsPermutation};
+ghost use Rattle.std.specs.Iterator.{IsFinite, Drains};
+ghost use Rattle.std.specs.List.Sorted.{IsSortedByKey, IsStableByKey};
+ghost use Rattle.textarea_highlight.specs.Borders.{rounded_down, highlight_borders, match_borders, place_of, place_cmp};
+
+use std::alloc::{AllocError, Global};
+use textarea_screen::screen::Style;
+
+/// What a border does: it starts a highlight in this style, or ends the newest one that is open.
+#[derive(Clone, Copy, Debug, PartialEq, Eq)]
+pub enum Mark {
+    Start(Style),
+    End,
+}
+
+/// A place of a row at which a highlight starts or ends.
+#[derive(Clone, Copy, Debug, PartialEq, Eq)]
+pub struct Border {
+    /// In bytes from the row's start.
+    pub offset: usize,
+    /// Of the borders at one offset, those of a lower rank come first.
+    pub rank: u8,
+    pub mark: Mark,
+}
+
+const END_RANK: u8 = 0;
+
+/// The rank of a match's highlight.
+const MATCH_RANK: u8 = 20;
+
+/// Adds the start and the end of a highlight from one byte of the row to another, each rounded down
+/// to a character's start and clipped to the row; nothing where no character lies between them.
+pub fn push_highlight(
+    borders: &mut Vec<Border>,
+    row: &str,
+    from: usize,
+    to: usize,
+    style: Style,
+    rank: u8,
+) -> Result<(), AllocError>
+    ensures added { OnOk result (borders.new.items
+        ≡ borders.old.items ++ highlight_borders row.now from to style rank) }
+    ensures placed { All (λ border. IsCharBoundary row.now border.offset) borders.old.items
+        → All (λ border. IsCharBoundary row.now border.offset) borders.new.items }
+    ensures err { OnErr result (borders.new.items ≡ borders.old.items) }
+{
+    let start = rounded_down(row, from);
+    let end = rounded_down(row, to);
+    if start < end {
+        borders.extend_from_slice(&[
+            Border {
+                offset: start,
+                rank,
+                mark: Mark::Start(style),
+            },
+            Border {
+                offset: end,
+                rank: END_RANK,
+                mark: Mark::End,
+            },
+        ])?;
+    }
+    Ok(())
+}
+
+/// The borders of the matches' highlights, in the order of the matches.
+pub fn borders_of_matches<I: Iterator<Item = (usize, usize)> + Drop>(
+    alloc: Global,
+    row: &str,
+    matches: I,
+    style: Style,
+) -> Result<Vec<Border>, AllocError>
+    requires can { I.can_next matches }
+    requires ends { IsFinite (I.remaining matches) }
+    ensures borders { IfOk result (λ borders. (pairs : List (ℕ × ℕ)) × Drains I.next_gives matches pairs
+        × (borders.items ≡ match_borders row.now pairs style)) }
+    ensures placed { IfOk result (λ borders. All (λ border. IsCharBoundary row.now border.offset) borders.items) }
+{
+    let mut borders = Vec::new(alloc);
+    for found in matches {
+        push_highlight(&mut borders, row, found.0, found.1, style, MATCH_RANK)?;
+    }
+    Ok(borders)
+}
+
+/// The last place up to an offset, and in the row, at which a character starts or the row ends.
+fn rounded_down(row: &str, offset: usize) -> usize
+    ensures value { result ≡ rounded_down row.now offset }
+    ensures boundary { IsCharBoundary row.now result }
+{
+    row.floor_char_boundary(offset)
+}
+
+/// Puts the borders in order: by offset, then by rank, and else as they were added.
+pub fn sort(borders: &mut Vec<Border>) -> Result<(), AllocError>
+    ensures permutation { IsPermutation borders.old.items borders.new.items }
+    ensures sorted { OnOk result (IsSortedByKey place_of place_cmp borders.new.items) }
+    ensures stable { IsStableByKey place_of place_cmp borders.old.items borders.new.items }
+    ensures err { OnErr result (borders.new.items ≡ borders.old.items) }
+{
+    borders.sort_by_key(|border| (border.offset, border.rank))?;
+    Ok(())
+}

@@ -1,0 +1,91 @@
+//! A row cut into spans at its borders.
+ghost use Rattle.std.specs.Prelude.{◌≡◌, ◌+◌, ◌-◌, ◌*◌, ◌^◌, ◌<◌, ◌≤◌, ◌++◌, map, length, All, OnOk, IsCharBoundary};
+ghost use Rattle.textarea_screen.specs.Text.{shown_span};
+ghost use Rattle.textarea_wrap.specs.Columns.{end_column};
+ghost use Rattle.textarea_highlight.specs.Highlights.{end_cell};
+ghost use Rattle.textarea_highlight.specs.Cut.{IsAscending, AddsPieces, AddsPiece, piece_of};
+
+use super::borders::Border;
+use super::brackets::OpenStyles;
+use super::display::Display;
+use std::alloc::{AllocError, Global};
+use textarea_screen::screen::{Span, SpanText, Style};
+
+/// What holds for all pieces of a row.
+#[derive(Clone, Copy)]
+pub struct RowStyle {
+    pub base: Style,
+    pub tab_len: u8,
+    pub mask: Option<char>,
+}
+
+/// Cuts a row at each border, and adds the pieces to the spans, each in the style that the borders
+/// before it leave.
+pub fn cut<'a>(
+    alloc: Global,
+    spans: &mut Vec<Span<'a>>,
+    row: &'a str,
+    borders: &[Border],
+    row_style: RowStyle,
+) -> Result<(), AllocError>
+    requires room { 255 * length row.now < 2 ^ 63 }
+    requires placed { All (λ border. IsCharBoundary row.now border.offset) borders.now }
+    requires ordered { IsAscending borders.now }
+    ensures { OnOk result (AddsPieces row.now borders.now row_style.base row_style.tab_len row_style.mask
+        (map shown_span spans.old.items) (map shown_span spans.new.items)) }
+{
+    let mut display = Display {
+        alloc,
+        tab_len: row_style.tab_len,
+        mask: row_style.mask,
+        column: 0,
+    };
+    let mut styles = OpenStyles::new(alloc, row_style.base);
+    let mut start = 0;
+    for border in borders {
+        cut_to(row, &mut display, &styles, spans, start, border.offset)?;
+        styles.pass(border.mark)?;
+        start = border.offset;
+    }
+    cut_to(row, &mut display, &styles, spans, start, row.len())?;
+    Ok(())
+}
+
+/// Adds the piece of the row between two offsets, if it is not empty.
+fn cut_to<'a>(
+    row: &'a str,
+    display: &mut Display,
+    styles: &OpenStyles,
+    spans: &mut Vec<Span<'a>>,
+    from: usize,
+    to: usize,
+) -> Result<(), AllocError>
+    requires order { from ≤ to }
+    requires from_boundary { IsCharBoundary row.now from }
+    requires to_boundary { IsCharBoundary row.now to }
+    requires room { display.old.column + 255 * (to - from) < 2 ^ 63 }
+    ensures added { OnOk result (AddsPiece row.now display.old styles.now from to
+        (map shown_span spans.old.items) (map shown_span spans.new.items)) }
+    ensures shown { OnOk result (display.new ≡ record display.old {
+      column = end_column display.old.tab_len display.old.column (piece_of row.now from to);
+    }) }
+    ensures bound { OnOk result (display.new.column ≤ display.old.column + 255 * (to - from)) }
+{
+    if from < to {
+        let content = display.show(&row[from..to])?;
+        let style = styles.style();
+        spans.push(Span { content, style })?;
+    }
+    Ok(())
+}
+
+/// Adds a blank in this style for the cell behind the row, or nothing.
+pub fn push_end_cell(spans: &mut Vec<Span<'_>>, style: Option<Style>) -> Result<(), AllocError>
+    ensures { OnOk result (map shown_span spans.new.items ≡ map shown_span spans.old.items ++ end_cell style) }
+{
+    if let Some(style) = style {
+        let content = SpanText::Borrowed(" ");
+        spans.push(Span { content, style })?;
+    }
+    Ok(())
+}

@@ -1,0 +1,135 @@
+//! What stands on the screen for the pieces of a row.
+ghost use Rattle.std.specs.Prelude.{◌≡◌, ◌+◌, ◌*◌, ◌^◌, ◌<◌, ◌≤◌, ◌↔◌, IsTrue, ◌++◌, map, length, drop, None, IfOk, OnOk, chars, encode_utf8_all, string_bytes};
+ghost use Rattle.std.specs.List.{list_any};
+ghost use Rattle.textarea_screen.specs.Text.{shown_content};
+ghost use Rattle.textarea_highlight.specs.Texts.{bytes_of, IsLent};
+ghost use Rattle.textarea_wrap.specs.Columns.{column_after, end_column};
+ghost use Rattle.textarea_highlight.specs.Display.{is_tab, shown_char, with_spaces, without_tabs, shown};
+
+use super::numbers::spaces;
+use std::alloc::{AllocError, Global};
+use textarea_screen::screen::SpanText;
+use textarea_wrap::wrap::columns::{column_behind, column_behind_text};
+
+/// What is shown for the pieces of one row, which come from left to right.
+#[derive(Drop)]
+pub struct Display {
+    pub alloc: Global,
+    pub tab_len: u8,
+    pub mask: Option<char>,
+    /// The column at which the next piece begins.
+    pub column: usize,
+}
+
+impl Display {
+    /// The text that is shown for the next piece: the piece itself where there is no mask and it
+    /// stays as it is, and else a text of its own.
+    pub fn show<'a>(&mut self, piece: &'a str) -> Result<SpanText<'a>, AllocError>
+        requires { self.old.column + 255 * length piece.now < 2 ^ 63 }
+        ensures text { IfOk result (λ content. bytes_of (shown_content content)
+            ≡ encode_utf8_all (shown self.old.mask self.old.tab_len self.old.column (chars piece.now))) }
+        ensures borrowed { IfOk result (λ content. IsLent (shown_content content) ↔ ((self.old.mask ≡ None)
+            × (shown self.old.mask self.old.tab_len self.old.column (chars piece.now) ≡ chars piece.now))) }
+        ensures column { OnOk result (self.new ≡ record self.old {
+          column = end_column self.old.tab_len self.old.column (chars piece.now);
+        }) }
+        ensures bound { OnOk result (self.new.column ≤ self.old.column + 255 * length piece.now) }
+    {
+        let content = match self.mask {
+            Some(mask) => SpanText::Owned(masked(self.alloc, piece, mask)?),
+            None => unmasked(self.alloc, piece, self.tab_len, self.column)?,
+        };
+        self.column = column_behind_text(piece, self.column, self.tab_len);
+        Ok(content)
+    }
+}
+
+fn unmasked<'a>(
+    alloc: Global,
+    piece: &'a str,
+    tab_len: u8,
+    column: usize,
+) -> Result<SpanText<'a>, AllocError>
+    requires { column + 255 * length piece.now < 2 ^ 63 }
+    ensures text { IfOk result (λ content. bytes_of (shown_content content)
+        ≡ encode_utf8_all (shown None tab_len column (chars piece.now))) }
+    ensures borrowed { IfOk result (λ content. IsLent (shown_content content)
+        ↔ (shown None tab_len column (chars piece.now) ≡ chars piece.now)) }
+{
+    if tab_len == 0 {
+        if has_tab_behind_start(piece) {
+            Ok(SpanText::Owned(drop_tabs(alloc, piece)?))
+        } else {
+            Ok(SpanText::Borrowed(piece))
+        }
+    } else if has_tab(piece) {
+        Ok(SpanText::Owned(expand_tabs(alloc, piece, tab_len, column)?))
+    } else {
+        Ok(SpanText::Borrowed(piece))
+    }
+}
+
+fn has_tab(piece: &str) -> bool
+    ensures { result ≡ list_any is_tab (chars piece.now) }
+{
+    piece.chars().any(|c| c == '\t')
+}
+
+fn has_tab_behind_start(piece: &str) -> bool
+    ensures { result ≡ list_any is_tab (drop 1 (chars piece.now)) }
+{
+    piece.chars().skip(1).any(|c| c == '\t')
+}
+
+/// The mask character for each character.
+fn masked(alloc: Global, piece: &str, mask: char) -> Result<String, AllocError>
+    ensures { IfOk result (λ s. string_bytes s ≡ encode_utf8_all (map (λ _. mask) (chars piece.now))) }
+{
+    piece.chars().map(|_| mask).collect(alloc)
+}
+
+/// The text without its tabs, but for one at its very start.
+fn drop_tabs(alloc: Global, piece: &str) -> Result<String, AllocError>
+    ensures { IfOk result (λ s. string_bytes s ≡ encode_utf8_all (without_tabs (chars piece.now))) }
+{
+    let first = piece.chars().take(1);
+    let others = piece.chars().skip(1).filter(|c| *c != '\t');
+    first.chain(others).collect(alloc)
+}
+
+/// The text with spaces in the place of each tab, up to the next tab stop.
+fn expand_tabs(alloc: Global, piece: &str, tab_len: u8, column: usize) -> Result<String, AllocError>
+    requires { column + 255 * length piece.now < 2 ^ 63 }
+    ensures { IfOk result (λ s. string_bytes s ≡ encode_utf8_all (with_spaces tab_len column (chars piece.now))) }
+{
+    let mut expanded = String::new(alloc);
+    let mut at = column;
+    for c in piece.chars() {
+        let next = column_behind(c, at, tab_len);
+        push_shown(&mut expanded, c, at, next, tab_len)?;
+        at = next;
+    }
+    Ok(expanded)
+}
+
+/// Adds what is shown for a character between two columns.
+fn push_shown(
+    text: &mut String,
+    c: char,
+    column: usize,
+    next: usize,
+    tab_len: u8,
+) -> Result<(), AllocError>
+    requires next { next ≡ column_after tab_len column c }
+    requires room { next ≤ column + 255 }
+    requires after { column ≤ next }
+    ensures { OnOk result (string_bytes text.new
+        ≡ string_bytes text.old ++ encode_utf8_all (shown_char tab_len column c)) }
+{
+    if c == '\t' {
+        text.push_str(spaces(next - column))?;
+    } else {
+        text.push(c)?;
+    }
+    Ok(())
+}

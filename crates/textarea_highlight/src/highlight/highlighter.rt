@@ -1,0 +1,325 @@
+//! What is highlighted in a row, and the spans that it gives.
+ghost use Rattle.std.specs.Prelude.{◌≡◌, ◌+◌, ◌^◌, ◌<◌, ◌≤◌, ℕ, List, length, chars, IfOk, IfNone, IfSome, OnOk, OnErr, IsErr};
+ghost use Rattle.std.specs.Fmt.{decimal};
+ghost use Rattle.std.specs.Iterator.{IsFinite, Drains};
+ghost use Rattle.textarea_screen.specs.Text.{shown_line};
+ghost use Rattle.textarea_highlight.specs.Highlights.{byte_of, plain_row, with_number, with_placeholder, with_base, with_cursor_line, with_matches, with_range, with_selection, with_segment, end_style};
+ghost use Rattle.textarea_highlight.specs.Row.{ShowsRow};
+
+use super::borders::{Border, borders_of_matches, push_highlight, sort};
+use super::cut::{RowStyle, cut, push_end_cell};
+use super::numbers::{push_number, push_placeholder};
+use std::alloc::{AllocError, Global};
+use std::marker::Model;
+use textarea_screen::screen::{Line, Span, Style};
+
+/// How the cell at the cursor is drawn.
+#[derive(Clone, Copy, Debug, PartialEq, Eq)]
+pub enum CursorCellRender {
+    /// In this style.
+    Draw(Style),
+    /// As any other cell, since a terminal's own cursor stands there.
+    Hidden,
+}
+
+impl From<Style> for CursorCellRender {
+    ghost use Rattle.std.specs.Prelude.{◌≡◌};
+    ghost use Rattle.textarea_highlight.specs.declared.highlight.highlighter.CursorCellRender.TheVariants.{Draw};
+
+    ghost from_gives = { λ style render. render ≡ Draw style };
+
+    fn from(style: Style) -> CursorCellRender {
+        CursorCellRender::Draw(style)
+    }
+}
+
+const CURSOR_RANK: u8 = 30;
+
+const SELECTION_RANK: u8 = 10;
+
+/// The length in bytes up to which rows are drawn.
+const MAX_ROW_LENGTH: usize = 1 << 48;
+
+/// A row of text with its highlights, which `into_spans` cuts into styled spans.
+///
+/// Offsets are in bytes of the row. Each is clipped to the row and, inside a character, rounded down
+/// to its start; a highlight that is then empty is dropped. Highlights replace one another where they
+/// meet, and an end restores what stood before the newest start that is open.
+#[derive(Drop)]
+pub struct LineHighlighter<'a> {
+    alloc: Global,
+    row: &'a str,
+    spans: Vec<Span<'a>>,
+    borders: Vec<Border>,
+    base: Style,
+    cursor_at_end: bool,
+    cursor_cell: CursorCellRender,
+    tab_len: u8,
+    mask: Option<char>,
+    break_is_selected: bool,
+    select_style: Style,
+}
+
+impl<'a> Model for LineHighlighter<'a> {
+    ghost use Rattle.std.specs.Prelude.{map, All, IsCharBoundary};
+    ghost use Rattle.textarea_screen.specs.Text.{shown_span};
+    ghost use Rattle.textarea_highlight.specs.Highlights.{Highlights};
+
+    ghost Value = { Highlights };
+
+    ghost view = { λ h. record {
+      row = h.row.now;
+      numbers = map shown_span h.spans.items;
+      borders = h.borders.items;
+      base = h.base;
+      cursor_at_end = h.cursor_at_end;
+      cursor_cell = h.cursor_cell;
+      tab_len = h.tab_len;
+      mask = h.mask;
+      break_is_selected = h.break_is_selected;
+      select_style = h.select_style;
+    } };
+
+    ghost invariant = { λ h. All (λ border. IsCharBoundary h.row.now border.offset) h.borders.items };
+}
+
+impl<'a> LineHighlighter<'a> {
+    /// The row with no highlight, in the empty style, with nothing in front of it. At a `tab_len` of 0
+    /// tabs are dropped; under a mask each character is shown as the mask character.
+    pub fn new(
+        alloc: Global,
+        line: &'a str,
+        cursor_cell: CursorCellRender,
+        tab_len: u8,
+        mask: Option<char>,
+        select_style: Style,
+    ) -> LineHighlighter<'a>
+        ensures { result ≡ plain_row line.now cursor_cell tab_len mask select_style }
+    {
+        LineHighlighter {
+            alloc,
+            row: line,
+            spans: Vec::new(alloc),
+            borders: Vec::new(alloc),
+            base: Style::new(),
+            cursor_at_end: false,
+            cursor_cell,
+            tab_len,
+            mask,
+            break_is_selected: false,
+            select_style,
+        }
+    }
+
+    /// Puts the number of the line with this index in front of the row: `row + 1` at the right of
+    /// `lnum_len` columns, with a space on either side, `lnum_len + 2` columns in all.
+    pub fn line_number(&mut self, row: usize, lnum_len: u8, style: Style) -> Result<(), AllocError>
+        requires counted { row + 1 < 2 ^ 64 }
+        requires fits { length (decimal (row + 1)) ≤ lnum_len }
+        requires room { lnum_len ≤ 253 }
+        ensures ok { OnOk result (self.new ≡ with_number self.old row lnum_len style) }
+        ensures unchanged { OnErr result (self.new ≡ self.old) }
+    {
+        push_number(self.alloc, &mut self.spans, row, lnum_len, style)
+    }
+
+    /// Puts `lnum_len + 2` spaces in front of the row, as wide as a line's number.
+    pub fn line_number_placeholder(&mut self, lnum_len: u8, style: Style) -> Result<(), AllocError>
+        requires room { lnum_len ≤ 253 }
+        ensures ok { OnOk result (self.new ≡ with_placeholder self.old lnum_len style) }
+        ensures unchanged { OnErr result (self.new ≡ self.old) }
+    {
+        push_placeholder(&mut self.spans, lnum_len, style)
+    }
+
+    /// The cursor stands at this column, in characters of the row, and `style` is that of its line. Its
+    /// cell is a highlight where the row has that character and the cell is drawn.
+    pub fn cursor_line(&mut self, cursor_column: usize, style: Style) -> Result<(), AllocError>
+        ensures ok { OnOk result (self.new ≡ with_cursor_line self.old cursor_column style) }
+        ensures unchanged { OnErr result (self.new ≡ self.old) }
+    {
+        match bytes_of_character(self.row, cursor_column) {
+            Some((start, end)) => {
+                if let CursorCellRender::Draw(cursor_style) = self.cursor_cell {
+                    push_highlight(
+                        &mut self.borders,
+                        self.row,
+                        start,
+                        end,
+                        cursor_style,
+                        CURSOR_RANK,
+                    )?;
+                }
+            }
+            None => self.cursor_at_end = true,
+        }
+        self.base = style;
+        Ok(())
+    }
+
+    /// The style where no highlight is.
+    pub fn set_line_style(&mut self, style: Style)
+        ensures { self.new ≡ with_base self.old style }
+    {
+        self.base = style;
+    }
+
+    /// Adds a highlight for each match, given by the bytes at which it begins and ends.
+    pub fn search<I: Iterator<Item = (usize, usize)> + Drop>(
+        &mut self,
+        matches: I,
+        style: Style,
+    ) -> Result<(), AllocError>
+        requires can { I.can_next matches }
+        requires ends { IsFinite (I.remaining matches) }
+        ensures ok { OnOk result ((pairs : List (ℕ × ℕ)) × Drains I.next_gives matches pairs
+            × (self.new ≡ with_matches self.old pairs style)) }
+        ensures unchanged { OnErr result (self.new ≡ self.old) }
+    {
+        let borders = borders_of_matches(self.alloc, self.row, matches, style)?;
+        self.borders.extend_from_slice(&borders)
+    }
+
+    /// Adds the part of a selection that is in the row with the index `current_row`. The row's break is
+    /// selected too where the selection goes on behind that row.
+    pub fn selection(
+        &mut self,
+        current_row: usize,
+        start_row: usize,
+        start_offset: usize,
+        end_row: usize,
+        end_offset: usize,
+    ) -> Result<(), AllocError>
+        ensures ok { OnOk result (self.new ≡ with_selection self.old current_row ((start_row, start_offset), (end_row, end_offset))) }
+        ensures unchanged { OnErr result (self.new ≡ self.old) }
+    {
+        let range = ((start_row, start_offset), (end_row, end_offset));
+        let style = self.select_style;
+        self.add_range(current_row, range, style, SELECTION_RANK)
+    }
+
+    /// Adds a part of a selection in this row, and with `select_at_end` the row's break.
+    pub fn selection_segment(
+        &mut self,
+        start_offset: usize,
+        end_offset: usize,
+        select_at_end: bool,
+    ) -> Result<(), AllocError>
+        ensures ok { OnOk result (self.new ≡ with_segment self.old start_offset end_offset select_at_end) }
+        ensures unchanged { OnErr result (self.new ≡ self.old) }
+    {
+        push_highlight(
+            &mut self.borders,
+            self.row,
+            start_offset,
+            end_offset,
+            self.select_style,
+            SELECTION_RANK,
+        )?;
+        if select_at_end {
+            self.break_is_selected = true;
+        }
+        Ok(())
+    }
+
+    /// Adds the part of a range that is in the row with the index `current_row`. A range has a row and an
+    /// offset for its start and for its end. Of the highlights that start at one offset, the one of the
+    /// highest priority is seen: the cursor's is 30, a match's 20 and a selection's 10.
+    pub fn custom(
+        &mut self,
+        current_row: usize,
+        range: ((usize, usize), (usize, usize)),
+        style: Style,
+        priority: u8,
+    ) -> Result<(), AllocError>
+        ensures ok { OnOk result (self.new ≡ with_range self.old current_row range style priority) }
+        ensures unchanged { OnErr result (self.new ≡ self.old) }
+    {
+        self.add_range(current_row, range, style, priority)
+    }
+
+    fn add_range(
+        &mut self,
+        current_row: usize,
+        range: ((usize, usize), (usize, usize)),
+        style: Style,
+        rank: u8,
+    ) -> Result<(), AllocError>
+        ensures ok { OnOk result (self.new ≡ with_range self.old current_row range style rank) }
+        ensures unchanged { OnErr result (self.new ≡ self.old) }
+    {
+        let ((start_row, start_offset), (end_row, end_offset)) = range;
+        if current_row < start_row || current_row > end_row {
+            return Ok(());
+        }
+        let start = if current_row == start_row {
+            start_offset
+        } else {
+            0
+        };
+        let end = if current_row == end_row {
+            end_offset
+        } else {
+            self.row.len()
+        };
+        push_highlight(&mut self.borders, self.row, start, end, style, rank)?;
+        if current_row < end_row {
+            self.break_is_selected = true;
+        }
+        Ok(())
+    }
+
+    /// The spans of the row: what stands in front of it, its pieces, and a blank for the cell behind it
+    /// where that is drawn. A piece borrows from the row where it is shown as it is. A row of more than
+    /// 2^48 bytes is answered as want of memory.
+    pub fn into_spans(self) -> Result<Line<'a>, AllocError>
+        ensures shown { IfOk result (λ line. ShowsRow self.entry (shown_line line)) }
+        ensures too_long { 2 ^ 48 < length self.entry.row → IsErr result }
+    {
+        if self.row.len() > MAX_ROW_LENGTH {
+            return Err(AllocError);
+        }
+        let end_style = self.end_style();
+        let row_style = RowStyle {
+            base: self.base,
+            tab_len: self.tab_len,
+            mask: self.mask,
+        };
+        let LineHighlighter {
+            alloc,
+            row,
+            mut spans,
+            mut borders,
+            ..
+        } = self;
+        sort(&mut borders)?;
+        cut(alloc, &mut spans, row, borders.as_slice(), row_style)?;
+        push_end_cell(&mut spans, end_style)?;
+        Ok(Line {
+            spans,
+            style: Style::new(),
+        })
+    }
+
+    /// The style of the cell behind the row, if it is drawn.
+    fn end_style(&self) -> Option<Style>
+        ensures { result ≡ end_style self.now }
+    {
+        match self.cursor_cell {
+            CursorCellRender::Draw(style) if self.cursor_at_end => Some(style),
+            _ if self.break_is_selected => Some(self.select_style),
+            _ if self.cursor_at_end => Some(self.base),
+            _ => None,
+        }
+    }
+}
+
+/// The bytes at which the character of this column begins and ends, if the row has it.
+fn bytes_of_character(row: &str, column: usize) -> Option<(usize, usize)>
+    ensures found { IfSome result (λ bytes. bytes ≡ (byte_of row.now column, byte_of row.now (column + 1))) }
+    ensures within { IfSome result (λ _. column < length (chars row.now)) }
+    ensures none { IfNone result (length (chars row.now) ≤ column) }
+{
+    let (start, c) = row.char_indices().nth(column)?;
+    Some((start, start + c.len_utf8()))
+}

@@ -1,0 +1,193 @@
+-- A whitespace unit, taken by itself, is one cluster: between whitespace characters a boundary depends on these two alone.
+use Rattle.std.proofs.Common.{◌≡◌, ℕ, zero, suc, ◌+◌, ◌<◌, ◌≤◌, Bool, true, false, cond, not, ◌&&◌, ◌||◌, ◌==◌, nat_lt, unwrap_or, List, [], ◌∷◌, ◌++◌, map, length, refl, sym, ap, ap₂, subst, ◌∙◌, ⊎_elim, arith}
+use Rattle.std.proofs.lemmas.Bool.{false≢true, and_parts, or_cases, cases_order, cond_both}
+use Rattle.std.proofs.lemmas.Str.{chars-encodes}
+use Rattle.std.specs.List.{flat_map, list_all, AllByRecursion}
+use Rattle.std.specs.Char.{is_whitespace}
+use Rattle.std.specs.Prelude.{encode_utf8_all}
+use Rattle.std.specs.Str.{chars}
+use borrow.Author.Tests.{ltb-true, eqb-true}
+use lib.Utf8.{scalar, scalars}
+use Rattle.unicode_segmentation.specs.GraphemeClusterBreak.{grapheme_cluster_break}
+use Rattle.unicode_segmentation.specs.IndicConjunctBreak.{indic_conjunct_break}
+use Rattle.unicode_segmentation.specs.Grapheme.{graphemes, is_grapheme_break, break_by_pair, is_zwj, is_regional, is_consonant}
+use Rattle.unicode_segmentation.specs.Segments.{prepend, cut, segments}
+use Rattle.unicode_segmentation.specs.Word.{word_bounds}
+use Rattle.unicode_segmentation.proofs.Computing.{unicode_segmentation}
+use Rattle.textarea_wrap.specs.Units.{is_blank, units_of_piece, line_units}
+use Rattle.textarea_wrap.specs.Cutting.{Run}
+use Rattle.textarea_wrap.proofs.FewestWordLemmas.{AreBlanksClusters}
+
+-- the character joins nothing by the rules that read further back
+pub record IsPlain (c : ℕ) : Type 0 where
+  pub is_scalar : scalar c ≡ true
+  pub no_joiner : is_zwj (grapheme_cluster_break c) ≡ false
+  pub no_flag : is_regional (grapheme_cluster_break c) ≡ false
+  pub no_consonant : is_consonant (indic_conjunct_break c) ≡ false
+
+-- n characters from one on
+abbrev AreAllPlain : ℕ → ℕ → Type 0
+AreAllPlain low zero = Unit {0}
+AreAllPlain low (suc n) = IsPlain low × AreAllPlain (low + 1) n
+
+IsPlain-between : (n low c : ℕ) → AreAllPlain low n → low ≤ c → c < low + n → IsPlain c
+IsPlain-between zero low c all above below = absurd (omega arith)
+IsPlain-between (suc n) low c all above below =
+    ⊎_elim (λ same. subst IsPlain same all.0)
+    (λ apart. ⊎_elim (λ over. IsPlain-between n (low + 1) c all.1 (omega arith) (omega arith)) (λ under. absurd (omega arith)) apart) (cases_order low c)
+
+plain : (c : ℕ) → scalar c ≡ true → is_zwj (grapheme_cluster_break c) ≡ false → is_regional (grapheme_cluster_break c) ≡ false
+    → is_consonant (indic_conjunct_break c) ≡ false → IsPlain c
+plain c s z f k = record { is_scalar = s; no_joiner = z; no_flag = f; no_consonant = k }
+
+controls : AreAllPlain 9 5
+unfolding unicode_segmentation
+controls = (plain 9 refl refl refl refl, (plain 10 refl refl refl refl, (plain 11 refl refl refl refl, (plain 12 refl refl refl refl, (plain 13 refl refl refl refl, tt)))))
+
+plain_32 : IsPlain 32
+unfolding unicode_segmentation
+plain_32 = plain 32 refl refl refl refl
+
+line_ends : IsPlain 133 × IsPlain 160 × IsPlain 5760
+unfolding unicode_segmentation
+line_ends = (plain 133 refl refl refl refl, plain 160 refl refl refl refl, plain 5760 refl refl refl refl)
+
+wide_spaces : AreAllPlain 8192 11
+unfolding unicode_segmentation
+wide_spaces =
+    (plain 8192 refl refl refl refl, (plain 8193 refl refl refl refl, (plain 8194 refl refl refl refl, (plain 8195 refl refl refl refl, (plain 8196 refl refl refl refl, (plain 8197 refl refl refl refl, (plain 8198 refl refl refl refl, (plain 8199 refl refl refl refl, (plain 8200 refl refl refl refl, (plain 8201 refl refl refl refl, (plain 8202 refl refl refl refl, tt)))))))))))
+
+others : IsPlain 8232 × IsPlain 8233 × IsPlain 8239 × IsPlain 8287 × IsPlain 12288
+unfolding unicode_segmentation
+others = (plain 8232 refl refl refl refl, plain 8233 refl refl refl refl, plain 8239 refl refl refl refl, plain 8287 refl refl refl refl, plain 12288 refl refl refl refl)
+
+or_last : (c n : ℕ) (x : Bool) → IsPlain n → (x ≡ true → IsPlain c) → (x || (c == n)) ≡ true → IsPlain c
+or_last c n x p k h = ⊎_elim k (λ e. subst IsPlain (sym (eqb-true c n e)) p) (or_cases x (c == n) h)
+
+between : (c low n : ℕ) → AreAllPlain (low + 1) n → (nat_lt low c && nat_lt c (low + 1 + n)) ≡ true → IsPlain c
+between c low n all h =
+    let parts = and_parts (nat_lt low c) (nat_lt c (low + 1 + n)) h in
+    let above : low < c = ltb-true low c parts.0 in
+    let below : c < low + 1 + n = ltb-true c (low + 1 + n) parts.1 in
+    IsPlain-between n (low + 1) c all (omega arith) below
+
+IsPlain-whitespace : (c : ℕ) → is_whitespace c ≡ true → IsPlain c
+IsPlain-whitespace c =
+    or_last c 12288 _ others.4 (or_last c 8287 _ others.3 (or_last c 8239 _ others.2 (or_last c 8233 _ others.1 (or_last c 8232 _ others.0
+    (λ h. ⊎_elim
+    (or_last c 5760 _ line_ends.2 (or_last c 160 _ line_ends.1 (or_last c 133 _ line_ends.0 (or_last c 32 _ plain_32 (between c 8 5 controls)))))
+    (between c 8191 11 wide_spaces)
+    (or_cases ((((nat_lt 8 c && nat_lt c 14) || c == 32) || c == 133) || c == 160 || c == 5760) (nat_lt 8191 c && nat_lt c 8203) h))))))
+
+abbrev ArePlain : List ℕ → Type 0
+ArePlain cs = AllByRecursion IsPlain cs
+
+-- ---- boundaries between such characters
+
+pair : ℕ → ℕ → Bool
+pair c d = is_grapheme_break true (c ∷ []) (d ∷ [])
+
+inner : (x cns zw y z h rg : Bool) → cns ≡ false → zw ≡ false → rg ≡ false → not ((true && (x && cns)) || ((zw && y) && z) || (h && rg)) ≡ true
+inner x true zw y z h rg k _ _ = absurd (false≢true (sym k))
+inner x false true y z h rg _ k _ = absurd (false≢true (sym k))
+inner x false false y z h true _ _ k = absurd (false≢true (sym k))
+inner true false false y z true false _ _ _ = refl
+inner true false false y z false false _ _ _ = refl
+inner false false false y z true false _ _ _ = refl
+inner false false false y z false false _ _ _ = refl
+
+break_alone : (c d : ℕ) (before after : List ℕ) → IsPlain c → IsPlain d
+    → is_grapheme_break true (c ∷ before) (d ∷ after) ≡ unwrap_or (break_by_pair true (grapheme_cluster_break c) (grapheme_cluster_break d)) true
+unfolding is_grapheme_break
+break_alone c d before after p q =
+    ap (unwrap_or (break_by_pair true (grapheme_cluster_break c) (grapheme_cluster_break d))) (inner _ _ _ _ _ _ _ q.no_consonant p.no_joiner q.no_flag)
+
+pair_same : (c d : ℕ) (before after : List ℕ) → IsPlain c → IsPlain d → is_grapheme_break true (c ∷ before) (d ∷ after) ≡ pair c d
+unfolding pair
+pair_same c d before after p q = break_alone c d before after p q ∙ sym (break_alone c d [] [] p q)
+
+-- no boundary is inside
+abbrev NoBreak : List ℕ → Type 0
+NoBreak [] = Unit {0}
+NoBreak (c ∷ []) = Unit {0}
+NoBreak (c ∷ (d ∷ cs)) = (pair c d ≡ false) × NoBreak (d ∷ cs)
+
+-- the characters are one cluster
+record IsOneCluster (cs : List ℕ) : Type 0 where
+  some : 0 < length cs
+  plain_chars : ArePlain cs
+  whole : NoBreak cs
+
+cut_one : (before : List ℕ) (c : ℕ) (cs : List ℕ) → ArePlain (c ∷ cs) → NoBreak (c ∷ cs) → cut (is_grapheme_break true) before (c ∷ cs) [] ≡ (c ∷ cs) ∷ []
+unfolding cut
+cut_one before c [] p n =
+    cond_both (is_grapheme_break true (c ∷ before) []) ((c ∷ []) ∷ []) (prepend (c ∷ []) []) (λ t. t ≡ (c ∷ []) ∷ []) (λ _. refl) (λ _. refl)
+cut_one before c (d ∷ cs) p n =
+    ap₂ (λ b t. cond b ((c ∷ []) ∷ t) (prepend (c ∷ []) t)) (pair_same c d before (cs ++ []) p.0 p.1.0 ∙ n.0) (cut_one (c ∷ before) d cs p.1 n.1)
+
+-- a character before segments of which the first begins with another, as a segment of its own or joined to it
+join : (b : Bool) (c d : ℕ) (seg : List ℕ) (segs : List (List ℕ)) → pair c d ≡ b → IsPlain c → AllByRecursion IsOneCluster ((d ∷ seg) ∷ segs)
+    → AllByRecursion IsOneCluster (cond b ((c ∷ []) ∷ (d ∷ seg) ∷ segs) ((c ∷ (d ∷ seg)) ∷ segs))
+join true c d seg segs e p all = (record { some = omega arith; plain_chars = (p, tt); whole = tt }, all)
+join false c d seg segs e p all = (record { some = omega arith; plain_chars = (p, all.0.plain_chars); whole = (e, all.0.whole) }, all.1)
+
+front : (b : Bool) (c : ℕ) (segs : List (List ℕ)) → (seg : List ℕ) × (rest : List (List ℕ)) × (cond b ((c ∷ []) ∷ segs) (prepend (c ∷ []) segs) ≡ (c ∷ seg) ∷ rest)
+front true c segs = ([], segs, refl)
+front false c [] = ([], [], refl)
+front false c (seg ∷ segs) = (seg, segs, refl)
+
+-- the first segment begins with the first character
+cut_head : (before : List ℕ) (c : ℕ) (cs : List ℕ) → (seg : List ℕ) × (segs : List (List ℕ)) × (cut (is_grapheme_break true) before (c ∷ cs) [] ≡ (c ∷ seg) ∷ segs)
+unfolding cut
+cut_head before c cs = front (is_grapheme_break true (c ∷ before) (cs ++ [])) c (cut (is_grapheme_break true) (c ∷ before) cs [])
+
+cut_clusters : (before cs : List ℕ) → ArePlain cs → AllByRecursion IsOneCluster (cut (is_grapheme_break true) before cs [])
+unfolding cut
+cut_clusters before [] p = tt
+cut_clusters before (c ∷ []) p =
+    let one : AllByRecursion IsOneCluster ((c ∷ []) ∷ []) = (record { some = omega arith; plain_chars = (p.0, tt); whole = tt }, tt) in
+    cond_both (is_grapheme_break true (c ∷ before) []) ((c ∷ []) ∷ []) (prepend (c ∷ []) []) (AllByRecursion IsOneCluster) (λ _. one) (λ _. one)
+cut_clusters before (c ∷ (d ∷ cs)) p =
+    let head = cut_head (c ∷ before) d cs in
+    let later = subst (AllByRecursion IsOneCluster) head.2 (cut_clusters (c ∷ before) (d ∷ cs) p.1) in
+    subst (λ t. AllByRecursion IsOneCluster (cond (is_grapheme_break true (c ∷ before) (d ∷ (cs ++ []))) ((c ∷ []) ∷ t) (prepend (c ∷ []) t))) (sym head.2)
+    (join (is_grapheme_break true (c ∷ before) (d ∷ (cs ++ []))) c d head.0 head.1 (sym (pair_same c d before (cs ++ []) p.0 p.1.0)) p.0 later)
+
+-- ---- texts of such characters
+
+scalars-ArePlain : (cs : List ℕ) → ArePlain cs → scalars cs ≡ true
+scalars-ArePlain [] p = refl
+scalars-ArePlain (c ∷ cs) p = ap₂ ◌&&◌ p.0.is_scalar (scalars-ArePlain cs p.1)
+
+-- by itself it is one cluster
+length-graphemes-one : (cs : List ℕ) → IsOneCluster cs → length (graphemes true (encode_utf8_all cs)) ≡ 1
+unfolding segments
+length-graphemes-one [] one = let some = one.some in absurd (omega arith)
+length-graphemes-one (c ∷ cs) one =
+    ap (λ t. length (map encode_utf8_all (cut (is_grapheme_break true) [] t []))) (chars-encodes (c ∷ cs) (scalars-ArePlain (c ∷ cs) one.plain_chars))
+    ∙ ap (λ t. length (map encode_utf8_all t)) (cut_one [] c cs one.plain_chars one.whole)
+
+blanks_from_clusters : (segs : List (List ℕ)) → AllByRecursion IsOneCluster segs → AreBlanksClusters (map encode_utf8_all segs)
+blanks_from_clusters [] all = tt
+blanks_from_clusters (seg ∷ segs) all = ((λ _. length-graphemes-one seg all.0), blanks_from_clusters segs all.1)
+
+ArePlain-blank : (cs : List ℕ) → list_all is_whitespace cs ≡ true → ArePlain cs
+ArePlain-blank [] h = tt
+ArePlain-blank (c ∷ cs) h = let parts = and_parts (is_whitespace c) (list_all is_whitespace cs) h in (IsPlain-whitespace c parts.0, ArePlain-blank cs parts.1)
+
+blanks_of_piece : (piece : List ℕ) → AreBlanksClusters (units_of_piece piece)
+unfolding segments
+blanks_of_piece piece = cond_both (is_blank piece) (graphemes true piece) (piece ∷ []) AreBlanksClusters
+    (λ blank. blanks_from_clusters _ (cut_clusters [] (chars piece) (ArePlain-blank (chars piece) blank)))
+    (λ content. ((λ blank. absurd (false≢true (sym content ∙ blank))), tt))
+
+blanks_append : (xs ys : Run) → AreBlanksClusters xs → AreBlanksClusters ys → AreBlanksClusters (xs ++ ys)
+blanks_append [] ys p q = q
+blanks_append (x ∷ xs) ys p q = (p.0, blanks_append xs ys p.1 q)
+
+blanks_of_pieces : (pieces : Run) → AreBlanksClusters (flat_map units_of_piece pieces)
+blanks_of_pieces [] = tt
+blanks_of_pieces (piece ∷ pieces) = blanks_append (units_of_piece piece) (flat_map units_of_piece pieces) (blanks_of_piece piece) (blanks_of_pieces pieces)
+
+pub AreBlanksClusters-line_units : (line : List ℕ) → AreBlanksClusters (line_units line)
+AreBlanksClusters-line_units line = blanks_of_pieces (word_bounds line)

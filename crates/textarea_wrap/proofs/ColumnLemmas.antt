@@ -1,0 +1,67 @@
+-- Columns of characters and pieces that are put together.
+use Rattle.std.proofs.Common.{◌≡◌, ℕ, ◌+◌, ◌-◌, ◌/◌, ◌%◌, ◌<◌, ◌≤◌, true, false, cond, nat_eq, le_refl, le_trans, List, [], ◌∷◌, ◌++◌, refl, sym, ap, subst, ◌∙◌, append-nil, arith}
+use Rattle.std.proofs.Math.Nat.{div-add-mod, mul-le-mul_left}
+use Rattle.std.proofs.lemmas.Nat.{le-div, mod_below}
+use Rattle.std.proofs.lemmas.Bool.Decides.{nat_tests}
+use Rattle.std.proofs.lemmas.Grind.{flat_map-append}
+use Rattle.std.specs.List.{flat_map}
+use Rattle.std.specs.Str.{chars}
+use Rattle.textarea_wrap.specs.Cutting.{Run}
+use Rattle.textarea_wrap.specs.Columns.{plain_width, next_stop, column_after, end_column, run_width}
+
+pub end_column-append : (tab_len column : ℕ) (cs ds : List ℕ) → end_column tab_len column (cs ++ ds) ≡ end_column tab_len (end_column tab_len column cs) ds
+end_column-append tab_len column [] ds = refl
+end_column-append tab_len column (c ∷ cs) ds = end_column-append tab_len (column_after tab_len column c) cs ds
+
+pub run_width-one : (tab_len : ℕ) (piece : List ℕ) → run_width tab_len (piece ∷ []) ≡ end_column tab_len 0 (chars piece)
+run_width-one tab_len piece = ap (end_column tab_len 0) (append-nil (chars piece))
+
+pub run_width-push : (tab_len : ℕ) (run : List (List ℕ)) (piece : List ℕ) → run_width tab_len (run ++ piece ∷ []) ≡ end_column tab_len (run_width tab_len run) (chars piece)
+run_width-push tab_len run piece =
+    ap (end_column tab_len 0) (flat_map-append chars run (piece ∷ []) ∙ ap (λ t. flat_map chars run ++ t) (append-nil (chars piece)))
+    ∙ end_column-append tab_len 0 (flat_map chars run) (chars piece)
+
+-- ---- columns that begin later
+
+stop-le : (t x y : ℕ) → 0 < t → x ≤ y → x + (t - x % t) ≤ y + (t - y % t)
+stop-le t x y some h =
+    let quotient : x / t ≤ y / t = le-div (x / t) y t some (omega (arith, div-add-mod x t)) in
+    omega (arith, div-add-mod x t, div-add-mod y t, mod_below x t some, mod_below y t some, mul-le-mul_left t quotient)
+
+next_stop-le : (t x y : ℕ) → x ≤ y → next_stop t x ≤ next_stop t y
+next_stop-le t x y h = grind (arith, nat_tests, stop-le t x y)
+
+next_stop-after : (t x : ℕ) → x ≤ next_stop t x
+next_stop-after t x = grind (arith, nat_tests)
+
+column_after-le : (t x y c : ℕ) → x ≤ y → column_after t x c ≤ column_after t y c
+column_after-le t x y c h =
+    elim (nat_eq c 9) as (λ is_tab. cond is_tab (next_stop t x) (x + plain_width c) ≤ cond is_tab (next_stop t y) (y + plain_width c)) [
+      | true ↦ next_stop-le t x y h
+      | false ↦ omega arith
+    ]
+
+column_after-after : (t x c : ℕ) → x ≤ column_after t x c
+column_after-after t x c =
+    elim (nat_eq c 9) as (λ is_tab. x ≤ cond is_tab (next_stop t x) (x + plain_width c)) [ true ↦ next_stop-after t x | false ↦ omega arith ]
+
+-- characters that begin later end no earlier
+pub end_column-le : (t x y : ℕ) (cs : List ℕ) → x ≤ y → end_column t x cs ≤ end_column t y cs
+end_column-le t x y [] h = h
+end_column-le t x y (c ∷ cs) h = end_column-le t (column_after t x c) (column_after t y c) cs (column_after-le t x y c h)
+
+pub end_column-after : (t x : ℕ) (cs : List ℕ) → x ≤ end_column t x cs
+end_column-after t x [] = le_refl x
+end_column-after t x (c ∷ cs) = le_trans (column_after-after t x c) (end_column-after t (column_after t x c) cs)
+
+run_width-append : (t : ℕ) (front back : Run) → run_width t (front ++ back) ≡ end_column t (run_width t front) (flat_map chars back)
+run_width-append t front back = ap (end_column t 0) (flat_map-append chars front back) ∙ end_column-append t 0 (flat_map chars front) (flat_map chars back)
+
+-- a run that begins later is never wider, tabs included
+pub run_width-back : (t : ℕ) (front back : Run) → run_width t back ≤ run_width t (front ++ back)
+run_width-back t front back =
+    subst (λ n. run_width t back ≤ n) (sym (run_width-append t front back)) (end_column-le t 0 (run_width t front) (flat_map chars back) (omega arith))
+
+pub run_width-front : (t : ℕ) (front back : Run) → run_width t front ≤ run_width t (front ++ back)
+run_width-front t front back =
+    subst (λ n. run_width t front ≤ n) (sym (run_width-append t front back)) (end_column-after t (run_width t front) (flat_map chars back))

@@ -1,0 +1,11 @@
+pub mod BlankLemmas
+pub mod ColumnLemmas
+pub mod DigitLemmas
+pub mod FewestLemmas
+pub mod FewestRowLemmas
+pub mod FewestWordLemmas
+pub mod GlyphLemmas
+pub mod OneRowLemmas
+pub mod RowLemmas
+pub mod TallyWalks
+pub mod WordLemmas

@@ -1,0 +1,228 @@
+-- A walk over the units of a line, with the blocks that are full and the row that is open.
+use Rattle.std.proofs.Common.{◌≡◌, ℕ, ◌+◌, ◌<◌, ◌≤◌, ◌⊎◌, inl, inr, true, not, List, [], ◌∷◌, ◌++◌, length, refl, sym, ap, ap₂, subst, ◌∙◌, ⊎_elim, append_assoc, append-nil, length-append, arith, map, ◌-◌, add-one, take, take_all, drop, drop-cons, length-drop, get_or, Bor}
+use Rattle.std.proofs.lemmas.Grind.{flat_map-append}
+use Rattle.std.proofs.lemmas.List.Folds.{concat-append}
+use Rattle.std.specs.List.{concat, flat_map, AllByRecursion}
+use Rattle.std.specs.Str.{chars}
+use Rattle.textarea_wrap.specs.Columns.{end_column, run_width}
+use Rattle.textarea_wrap.specs.Units.{is_blank}
+use Rattle.textarea_wrap.specs.Cutting.{Run, Block, shared, split, units_of, rows_of, ranges_from, HangsOver, IsBlock, AreBlocks, IsGlyphCutting}
+use Rattle.textarea_wrap.specs.WordWalk.{IsWordWalk}
+use Rattle.textarea_wrap.proofs.ColumnLemmas.{run_width-one, run_width-push}
+use Rattle.textarea_wrap.proofs.GlyphLemmas.{ranges_from-append, length-concat-push, nonempty_from_bytes}
+
+pub units_of-push : (blocks : List Block) (block : Block) (later : Run) → flat_map units_of (blocks ++ block ∷ []) ++ later ≡ flat_map units_of blocks ++ (units_of block ++ later)
+units_of-push blocks block later =
+    ap (λ t. t ++ later) (flat_map-append units_of blocks (block ∷ []) ∙ ap (λ t. flat_map units_of blocks ++ t) (append-nil (units_of block)))
+    ∙ append_assoc (flat_map units_of blocks) (units_of block) later
+
+pub rows_of-push : (blocks : List Block) (block : Block) → flat_map rows_of (blocks ++ block ∷ []) ≡ flat_map rows_of blocks ++ rows_of block
+rows_of-push blocks block = flat_map-append rows_of blocks (block ∷ []) ∙ ap (λ t. flat_map rows_of blocks ++ t) (append-nil (rows_of block))
+
+pub AreBlocks-push : (tab_len width : ℕ) (blocks : List Block) (block : Block) (later : Run) → AreBlocks tab_len width blocks (units_of block ++ later)
+    → IsBlock tab_len width block later → AreBlocks tab_len width (blocks ++ block ∷ []) later
+AreBlocks-push tab_len width [] block later before here = (here, tt)
+AreBlocks-push tab_len width (first ∷ blocks) block later before here =
+    (subst (IsBlock tab_len width first) (sym (units_of-push blocks block later)) before.0, AreBlocks-push tab_len width blocks block later before.1 here)
+
+-- rows more, behind rows that end where they begin
+ranges-push : (before rows : List (ℕ × ℕ)) (blocks : List Block) (block : Block) (at : ℕ)
+    → rows ≡ before ++ ranges_from 0 (flat_map rows_of blocks) → at ≡ length (concat (flat_map rows_of blocks))
+    → rows ++ ranges_from at (rows_of block) ≡ before ++ ranges_from 0 (flat_map rows_of (blocks ++ block ∷ []))
+ranges-push before rows blocks block at rows_are at_is =
+    ap₂ (λ t n. t ++ ranges_from n (rows_of block)) rows_are at_is ∙ append_assoc before _ _
+    ∙ ap (λ t. before ++ t) (sym (ap (ranges_from 0) (rows_of-push blocks block)
+    ∙ ranges_from-append 0 (flat_map rows_of blocks) (rows_of block)
+    ∙ ap (λ n. ranges_from 0 (flat_map rows_of blocks) ++ ranges_from n (rows_of block)) (omega arith)))
+
+length-rows-push : (blocks : List Block) (block : Block)
+    → length (concat (flat_map rows_of (blocks ++ block ∷ []))) ≡ length (concat (flat_map rows_of blocks)) + length (concat (rows_of block))
+length-rows-push blocks block =
+    ap (λ t. length (concat t)) (rows_of-push blocks block) ∙ ap length (concat-append (flat_map rows_of blocks) (rows_of block))
+    ∙ length-append (concat (flat_map rows_of blocks)) (concat (rows_of block))
+
+module _ (tab_len width : ℕ) (units : Run) (before : List (ℕ × ℕ)) where
+  pub IsWordWalk-start : AllByRecursion (λ p. 0 < length p) units → IsWordWalk tab_len width units before before units 0 0 0
+  IsWordWalk-start some = record {
+    blocks = [];
+    open_run = [];
+    joined = refl;
+    cut = tt;
+    rows_are = sym (append-nil before);
+    begins = refl;
+    ends = refl;
+    column_is = refl;
+    closed = λ _. refl;
+    opened = λ h. absurd (omega arith);
+    some = some;
+  }
+
+  module _ (rows : List (ℕ × ℕ)) (unit : List ℕ) (left : Run) (row_start row_end column end : ℕ)
+      (w : IsWordWalk tab_len width units before rows (unit ∷ left) row_start row_end column)
+      (end_is : end ≡ end_column tab_len column (chars unit)) where
+    pushed_width : end ≡ run_width tab_len (w.open_run ++ unit ∷ [])
+    pushed_width = end_is ∙ ap (λ x. end_column tab_len x (chars unit)) w.column_is ∙ sym (run_width-push tab_len w.open_run unit)
+
+    -- an open row before whitespace is within the width
+    open_within : row_start < row_end → is_blank unit ≡ true → run_width tab_len w.open_run ≤ width
+    open_within started blank =
+        let run = w.opened started in
+        subst (λ r. run_width tab_len r ≤ width) (sym run.run_is)
+        (⊎_elim (λ within. within) (λ hang. let content : not (is_blank unit) ≡ true = hang.2.2 in absurd (let no : not true ≡ true = ap not (sym blank) ∙ content in cc)) run.fits)
+
+    -- the unit joins the open row, which is empty or has room for it
+    pub IsWordWalk-join : (end ≤ width) ⊎ ((row_start < row_end) × HangsOver width end unit left)
+        → IsWordWalk tab_len width units before rows left row_start (row_end + length unit) end
+    IsWordWalk-join room =
+        let regroup = append_assoc w.open_run (unit ∷ []) left in
+        let ends = w.ends in
+        let unit_some = w.some.0 in
+        let len = length-concat-push w.open_run unit in
+        record {
+          blocks = w.blocks;
+          open_run = w.open_run ++ unit ∷ [];
+          joined = ap (λ t. flat_map units_of w.blocks ++ t) regroup ∙ w.joined;
+          cut = subst (AreBlocks tab_len width w.blocks) (sym regroup) w.cut;
+          rows_are = w.rows_are;
+          begins = w.begins;
+          ends = omega arith;
+          column_is = pushed_width;
+          closed = λ h. absurd (omega arith);
+          opened = λ _. record {
+            front = w.open_run;
+            last = unit;
+            run_is = refl;
+            fits = ⊎_elim (λ within. inl (subst (λ n. n ≤ width) pushed_width within))
+                (λ hang. inr (nonempty_from_bytes w.open_run (let started = hang.0 in omega arith), open_within hang.0 hang.1.1, subst (λ n. HangsOver width n unit left) pushed_width hang.1)) room;
+          };
+          some = w.some.1;
+        }
+
+    -- the unit does not fit, and the open row ends before it
+    pub IsWordWalk-close : row_start < row_end → width < end → (HangsOver width end unit left → ⊥)
+        → IsWordWalk tab_len width units before (rows ++ (row_start, row_end) ∷ []) (unit ∷ left) row_end row_end 0
+    IsWordWalk-close started over stands =
+        let ends = w.ends in
+        let block = shared w.open_run in
+        let range : (row_start, row_end) ∷ [] ≡ ranges_from row_start (rows_of block) = ap (λ n. (row_start, n) ∷ []) w.ends in
+        record {
+          blocks = w.blocks ++ block ∷ [];
+          open_run = [];
+          joined = units_of-push w.blocks block (unit ∷ left) ∙ w.joined;
+          cut = AreBlocks-push tab_len width w.blocks block (unit ∷ left) w.cut (
+            w.opened started,
+            λ fits. ⊎_elim (λ within. let over' = subst (λ n. width < n) pushed_width over in omega arith)
+                (λ hang. stands (subst (λ n. HangsOver width n unit left) (sym pushed_width) hang.2)) fits,
+          );
+          rows_are = ap (λ t. rows ++ t) range ∙ ranges-push before rows w.blocks block row_start w.rows_are w.begins;
+          begins = w.ends ∙ ap (λ n. n + length (concat w.open_run)) w.begins ∙ omega (arith, length-rows-push w.blocks block, length-append (concat w.open_run) []);
+          ends = omega arith;
+          column_is = refl;
+          closed = λ _. refl;
+          opened = λ h. absurd (omega arith);
+          some = w.some;
+        }
+
+  module _ (rows : List (ℕ × ℕ)) (unit : List ℕ) (left : Run) (row_start row_end column : ℕ)
+      (w : IsWordWalk tab_len width units before rows (unit ∷ left) row_start row_end column) where
+    -- a row that holds nothing is at column 0
+    pub IsWordWalk-empty : row_end ≤ row_start → IsWordWalk tab_len width units before rows (unit ∷ left) row_end row_end 0
+    IsWordWalk-empty none =
+        let ends = w.ends in
+        let same : row_start ≡ row_end = omega arith in
+        let nothing = w.closed none in
+        record {
+          blocks = w.blocks;
+          open_run = [];
+          joined = ap (λ run. flat_map units_of w.blocks ++ (run ++ unit ∷ left)) (sym nothing) ∙ w.joined;
+          cut = subst (λ run. AreBlocks tab_len width w.blocks (run ++ unit ∷ left)) nothing w.cut;
+          rows_are = w.rows_are;
+          begins = sym same ∙ w.begins;
+          ends = omega arith;
+          column_is = refl;
+          closed = λ _. refl;
+          opened = λ h. absurd (omega arith);
+          some = w.some;
+        }
+
+    -- a unit that is too wide has rows of its own
+    pub IsWordWalk-split : (texts : List (List ℕ)) → row_end ≤ row_start → width < end_column tab_len 0 (chars unit)
+        → IsGlyphCutting tab_len width unit texts → concat texts ≡ unit
+        → IsWordWalk tab_len width units before (rows ++ ranges_from row_end texts) left (row_end + length unit) (row_end + length unit) 0
+    IsWordWalk-split texts none over cutting whole =
+        let ends = w.ends in
+        let same : row_start ≡ row_end = omega arith in
+        let nothing = w.closed none in
+        let begins = sym same ∙ w.begins in
+        let block = split unit texts in
+        record {
+          blocks = w.blocks ++ block ∷ [];
+          open_run = [];
+          joined = units_of-push w.blocks block left ∙ ap (λ run. flat_map units_of w.blocks ++ (run ++ unit ∷ left)) (sym nothing) ∙ w.joined;
+          cut = AreBlocks-push tab_len width w.blocks block left (subst (λ run. AreBlocks tab_len width w.blocks (run ++ unit ∷ left)) nothing w.cut)
+              (subst (λ n. width < n) (sym (run_width-one tab_len unit)) over, cutting);
+          rows_are = ranges-push before rows w.blocks block row_end w.rows_are begins;
+          begins = ap (λ n. n + length unit) begins ∙ omega (arith, length-rows-push w.blocks block, ap length whole);
+          ends = omega arith;
+          column_is = refl;
+          closed = λ _. refl;
+          opened = λ h. absurd (omega arith);
+          some = w.some.1;
+        }
+
+  module _ (rows : List (ℕ × ℕ)) (row_start row_end column : ℕ)
+      (w : IsWordWalk tab_len width units before rows [] row_start row_end column) where
+    -- no unit is left, and the open row is closed
+    pub IsWordWalk-end_open : row_start < row_end
+        → (blocks : List Block) × (flat_map units_of blocks ≡ units) × AreBlocks tab_len width blocks []
+        × (rows ++ (row_start, row_end) ∷ [] ≡ before ++ ranges_from 0 (flat_map rows_of blocks))
+    IsWordWalk-end_open started =
+        let block = shared w.open_run in
+        let range : (row_start, row_end) ∷ [] ≡ ranges_from row_start (rows_of block) = ap (λ n. (row_start, n) ∷ []) w.ends in (
+          w.blocks ++ block ∷ [],
+          sym (append-nil _) ∙ units_of-push w.blocks block [] ∙ w.joined,
+          AreBlocks-push tab_len width w.blocks block [] w.cut (w.opened started, tt),
+          ap (λ t. rows ++ t) range ∙ ranges-push before rows w.blocks block row_start w.rows_are w.begins,
+        )
+
+    -- no unit is left, and no row is open
+    pub IsWordWalk-end_closed : row_end ≤ row_start
+        → (blocks : List Block) × (flat_map units_of blocks ≡ units) × AreBlocks tab_len width blocks []
+        × (rows ≡ before ++ ranges_from 0 (flat_map rows_of blocks))
+    IsWordWalk-end_closed none =
+        let empty = ap (λ t. t ++ []) (w.closed none) in (
+          w.blocks,
+          sym (append-nil _) ∙ ap (λ t. flat_map units_of w.blocks ++ t) (sym empty) ∙ w.joined,
+          subst (AreBlocks tab_len width w.blocks) empty w.cut,
+          w.rows_are,
+        )
+
+-- ---- units in a slice
+
+abbrev unit_bytes : List (Bor (List ℕ)) → Run
+unit_bytes = map (λ unit. unit.now)
+
+abbrev no_unit : Bor (List ℕ)
+no_unit = record { ref_ptr = (0, 0); now = [] }
+
+all_later : (units : List (Bor (List ℕ))) (i : ℕ) → take (length units - (i + 1)) (drop (i + 1) units) ≡ drop (i + 1) units
+all_later units i = take_all _ (drop (i + 1) units) (omega (arith, length-drop (i + 1) units))
+
+units_from : (units : List (Bor (List ℕ))) (i : ℕ) → i < length units → unit_bytes (drop i units) ≡ (get_or units i no_unit).now ∷ unit_bytes (drop (i + 1) units)
+units_from units i inside = let first : drop i units ≡ get_or units i no_unit ∷ drop (i + 1) units = rw (add-one, drop-cons units i no_unit) in ap unit_bytes first
+
+-- a unit, and those behind it
+pub units_at : (units : List (Bor (List ℕ))) (i : ℕ) → i < length units
+    → unit_bytes (drop i units) ≡ (get_or units i no_unit).now ∷ unit_bytes (take (length units - (i + 1)) (drop (i + 1) units))
+units_at units i inside = units_from units i inside ∙ ap (λ later. (get_or units i no_unit).now ∷ unit_bytes later) (sym (all_later units i))
+
+pub length-units_at : (units : List (Bor (List ℕ))) (i : ℕ) → i < length units
+    → length (concat (unit_bytes (drop i units))) ≡ length (get_or units i no_unit).now + length (concat (unit_bytes (drop (i + 1) units)))
+length-units_at units i inside =
+    ap (λ t. length (concat t)) (units_from units i inside) ∙ length-append (get_or units i no_unit).now (concat (unit_bytes (drop (i + 1) units)))
+
+pub IsWordWalk-later : (tab_len width : ℕ) (all : Run) (before rows : List (ℕ × ℕ)) (row_start row_end column : ℕ) (units : List (Bor (List ℕ))) (i : ℕ)
+    → IsWordWalk tab_len width all before rows (unit_bytes (take (length units - (i + 1)) (drop (i + 1) units))) row_start row_end column
+    → IsWordWalk tab_len width all before rows (unit_bytes (drop (i + 1) units)) row_start row_end column
+IsWordWalk-later tab_len width all before rows row_start row_end column units i walk =
+    subst (λ later. IsWordWalk tab_len width all before rows (unit_bytes later) row_start row_end column) (all_later units i) walk

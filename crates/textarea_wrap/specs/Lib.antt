@@ -1,0 +1,7 @@
+pub mod Columns
+pub mod Cutting
+pub mod Layout
+pub mod RowsView
+pub mod Units
+pub mod WordWalk
+pub mod Wrapped

@@ -1,0 +1,82 @@
+//! The columns of line numbers, and the width that is left for rows.
+ghost use Rattle.std.specs.Prelude.{◌≡◌, ◌+◌, ◌≤◌, length};
+ghost use Rattle.std.specs.Fmt.{decimal};
+ghost use Rattle.textarea_wrap.specs.Layout.{line_number_columns, columns_for_rows};
+
+use crate::wrap::WrapMode;
+use std::marker::Model;
+
+/// One column is kept free behind each row, for a caret that stands at its end.
+const CARET_WIDTH: usize = 1;
+
+/// The columns of line numbers, and the width at which lines are wrapped, for an inner area and a number of lines.
+#[derive(Clone, Copy, Debug, PartialEq, Eq)]
+pub struct LayoutMetrics {
+    line_number_width: usize,
+    wrap_width: Option<usize>,
+}
+
+impl Model for LayoutMetrics {
+    ghost use Rattle.textarea_wrap.specs.Layout.{LayoutView};
+
+    ghost Value = { LayoutView };
+
+    ghost view = { λ metrics. record { line_number_width = metrics.line_number_width; wrap_width = metrics.wrap_width } };
+
+    ghost inverse = { λ view. record { line_number_width = view.line_number_width; wrap_width = view.wrap_width } };
+}
+
+impl LayoutMetrics {
+    /// The numbers for an inner area of `inner_width` columns that shows `line_count` lines.
+    pub fn new(
+        inner_width: u16,
+        line_count: usize,
+        line_numbers: bool,
+        mode: WrapMode,
+    ) -> LayoutMetrics
+        ensures numbers { result.line_number_width ≡ line_number_columns line_numbers line_count }
+        ensures rows { result.wrap_width ≡ columns_for_rows mode inner_width (line_number_columns line_numbers line_count) }
+    {
+        let line_number_width = if line_numbers {
+            digit_count(line_count) + 2
+        } else {
+            0
+        };
+        let text_width = (inner_width as usize).saturating_sub(line_number_width);
+        let wrap_width = match mode {
+            WrapMode::None => None,
+            WrapMode::Word | WrapMode::Glyph | WrapMode::WordOrGlyph => {
+                Some(text_width.saturating_sub(CARET_WIDTH).max(1))
+            }
+        };
+        LayoutMetrics {
+            line_number_width,
+            wrap_width,
+        }
+    }
+
+    /// The columns of a line number with the blanks before and behind it, or 0 where lines have no numbers.
+    pub fn line_number_width(&self) -> usize
+        ensures { result ≡ self.now.line_number_width }
+    {
+        self.line_number_width
+    }
+
+    /// The width at which lines are wrapped, at least 1, or `None` where they are not.
+    pub fn wrap_width(&self) -> Option<usize>
+        ensures { result ≡ self.now.wrap_width }
+    {
+        self.wrap_width
+    }
+}
+
+// How many digits the number is written with, 1 for 0.
+fn digit_count(n: usize) -> usize
+    ensures value { result ≡ length (decimal n) }
+    ensures few { result ≤ 20 }
+{
+    match n.checked_ilog10() {
+        None => 1,
+        Some(exponent) => exponent as usize + 1,
+    }
+}

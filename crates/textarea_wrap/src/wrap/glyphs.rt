@@ -1,0 +1,41 @@
+//! Rows that are cut at the ends of clusters.
+ghost use Rattle.std.specs.Prelude.{◌≡◌, ℕ, ◌+◌, ◌*◌, ◌^◌, ◌<◌, ◌≤◌, List, ◌++◌, length, OnOk};
+ghost use Rattle.std.specs.List.{concat};
+ghost use Rattle.textarea_wrap.specs.Cutting.{IsGlyphCutting, ranges_from};
+
+use super::Ranges;
+use super::columns::column_behind_text;
+use std::alloc::AllocError;
+use unicode_segmentation::UnicodeSegmentation;
+
+/// Adds the byte ranges of the text's rows, where the text begins at the offset `start`.
+pub fn push_glyph_rows(
+    rows: &mut Ranges,
+    text: &str,
+    start: usize,
+    width: usize,
+    tab_len: u8,
+) -> Result<(), AllocError>
+    requires { start + 255 * length text.now < 2 ^ 63 }
+    ensures { OnOk result ((texts : List (List ℕ)) × IsGlyphCutting tab_len width text.now texts
+        × (concat texts ≡ text.now) × (rows.new.items ≡ rows.old.items ++ ranges_from start texts)) }
+{
+    let mut row_start = start;
+    let mut row_end = start;
+    let mut column = 0;
+    for cluster in text.graphemes(true) {
+        let end = column_behind_text(cluster, column, tab_len);
+        if row_start < row_end && width < end {
+            rows.push((row_start, row_end))?;
+            row_start = row_end;
+            column = column_behind_text(cluster, 0, tab_len);
+        } else {
+            column = end;
+        }
+        row_end += cluster.len();
+    }
+    if row_start < row_end {
+        rows.push((row_start, row_end))?;
+    }
+    Ok(())
+}

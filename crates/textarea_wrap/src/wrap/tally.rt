@@ -1,0 +1,47 @@
+//! A number without a greatest value that contracts alone see. It has no bytes, and its functions do nothing at run time.
+//!
+//! The three functions are proved by hand, and such a proof could set any number. No other code makes a `Tally`.
+ghost use Rattle.std.specs.Prelude.{◌≡◌, ℕ, ◌+◌};
+ghost use Rattle.std.specs.Borrow.{ftrue};
+
+use std::marker::{Model, PhantomData};
+
+/// A number that only proofs hold.
+#[derive(Drop)]
+pub struct Tally {
+    marker: PhantomData<u8>,
+    pub ghost number: { ℕ },
+}
+
+impl Model for Tally {
+    ghost also_owns = { λ _. ftrue };
+}
+
+impl Tally {
+    /// A tally at 0.
+    pub fn zero() -> Tally
+        ensures { result.number ≡ 0 }
+    {
+        Tally {
+            marker: PhantomData,
+        }
+    }
+
+    /// A tally at the same number.
+    pub fn same(&self) -> Tally
+        ensures { result.number ≡ self.now.number }
+    {
+        Tally {
+            marker: PhantomData,
+        }
+    }
+
+    /// A tally at the number behind.
+    pub fn next(&self) -> Tally
+        ensures { result.number ≡ self.now.number + 1 }
+    {
+        Tally {
+            marker: PhantomData,
+        }
+    }
+}

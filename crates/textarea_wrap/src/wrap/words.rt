@@ -1,0 +1,109 @@
+//! Rows that are cut at the ends of units.
+ghost use Rattle.std.specs.Prelude.{◌≡◌, ℕ, ◌+◌, ◌*◌, ◌^◌, ◌<◌, ◌≤◌, ◌↔◌, List, [], ◌∷◌, ◌++◌, length, map, IsTrue, IfOk, OnOk};
+ghost use Rattle.std.specs.List.{concat, flat_map, AllByRecursion};
+ghost use Rattle.textarea_wrap.specs.Cutting.{Run, Block, AreBlocks, HangsOver, begins_with_content, units_of, rows_of, ranges_from};
+ghost use Rattle.textarea_wrap.specs.WordWalk.{IsWordWalk};
+
+use super::Ranges;
+use super::columns::column_behind_text;
+use super::glyphs::push_glyph_rows;
+use super::units::is_all_whitespace;
+use std::alloc::AllocError;
+
+/// Whether there is a unit, and the first is not all whitespace.
+fn starts_with_content(units: &[&str]) -> bool
+    ensures { result ≡ begins_with_content (map (λ unit. unit.now) units.now) }
+{
+    match units.first() {
+        None => false,
+        Some(unit) => !is_all_whitespace(unit),
+    }
+}
+
+/// Whether the unit, which ends at the column `end`, is whitespace that ends one column past the width, before content.
+fn hangs_over(unit: &str, later: &[&str], end: usize, width: usize) -> bool
+    ensures { IsTrue result ↔ HangsOver width end unit.now (map (λ unit. unit.now) later.now) }
+{
+    width < end && end - 1 == width && is_all_whitespace(unit) && starts_with_content(later)
+}
+
+// A row that is being filled: the offset of its first byte, the offset behind its last one, and the column behind it.
+#[derive(Clone, Copy)]
+struct OpenRow {
+    start: usize,
+    end: usize,
+    column: usize,
+}
+
+// Puts a unit into the open row or into the next one, or cuts it into rows of its own, and gives the row that is open then.
+fn place_unit(
+    rows: &mut Ranges,
+    row: OpenRow,
+    unit: &str,
+    later: &[&str],
+    width: usize,
+    tab_len: u8,
+) -> Result<OpenRow, AllocError>
+    requires some { 0 < length unit.now }
+    requires short { row.end + 255 * length unit.now < 2 ^ 63 }
+    requires narrow { row.column + 255 * length unit.now < 2 ^ 63 }
+    ensures placed { IfOk result (λ placed. (units : Run) → (before : List (ℕ × ℕ))
+        → IsWordWalk tab_len width units before rows.old.items (unit.now ∷ map (λ unit. unit.now) later.now) row.start row.end row.column
+        → IsWordWalk tab_len width units before rows.new.items (map (λ unit. unit.now) later.now) placed.start placed.end placed.column) }
+    ensures end { IfOk result (λ placed. placed.end ≡ row.end + length unit.now) }
+    ensures near { IfOk result (λ placed. placed.column ≤ row.column + 255 * length unit.now) }
+{
+    let end = row.end + unit.len();
+    let joined = column_behind_text(unit, row.column, tab_len);
+    let is_open = row.start < row.end;
+    if joined <= width || is_open && hangs_over(unit, later, joined, width) {
+        return Ok(OpenRow {
+            start: row.start,
+            end,
+            column: joined,
+        });
+    }
+    if is_open {
+        rows.push((row.start, row.end))?;
+    }
+    let alone = column_behind_text(unit, 0, tab_len);
+    if alone <= width {
+        return Ok(OpenRow {
+            start: row.end,
+            end,
+            column: alone,
+        });
+    }
+    push_glyph_rows(rows, unit, row.end, width, tab_len)?;
+    Ok(OpenRow {
+        start: end,
+        end,
+        column: 0,
+    })
+}
+
+/// Adds the byte ranges of the rows of these units, which make up the line.
+pub fn push_word_rows(
+    rows: &mut Ranges,
+    units: &[&str],
+    width: usize,
+    tab_len: u8,
+) -> Result<(), AllocError>
+    requires nonempty { AllByRecursion (λ unit. 0 < length unit) (map (λ unit. unit.now) units.now) }
+    requires short { 255 * length (concat (map (λ unit. unit.now) units.now)) < 2 ^ 62 }
+    ensures { OnOk result ((blocks : List Block) × (flat_map units_of blocks ≡ map (λ unit. unit.now) units.now)
+        × AreBlocks tab_len width blocks [] × (rows.new.items ≡ rows.old.items ++ ranges_from 0 (flat_map rows_of blocks))) }
+{
+    let mut row = OpenRow {
+        start: 0,
+        end: 0,
+        column: 0,
+    };
+    for (i, unit) in units.iter().enumerate() {
+        row = place_unit(rows, row, unit, &units[i + 1..], width, tab_len)?;
+    }
+    if row.start < row.end {
+        rows.push((row.start, row.end))?;
+    }
+    Ok(())
+}
