@@ -389,3 +389,10 @@ undoes_none old new was now none log_is now_is = subst (λ (o : Option Splice). 
 
 pub redoes_none : (old new : Log) (was now : List Symbol) → next old ≡ None → new ≡ old → now ≡ was → Redoes old new was now None
 redoes_none old new was now none log_is now_is = subst (λ (o : Option Splice). RedoesBy o old new was now None) (sym none) (refl, log_is, now_is)
+
+-- done and undone together are the edits of the store
+pub bounded_log : (items : List Stored) (index maximum : ℕ) (run_open : Bool) (last : ℕ) (log : Log) → length items ≤ maximum → log_at (map splice_in items) index maximum run_open last ≡ log → length log.done + length log.undone ≤ maximum
+bounded_log items index maximum run_open last log bounded view =
+    let splices = map splice_in items in
+    subst (λ (l : Log). length l.done + length l.undone ≤ maximum) view
+    (omega (arith, length-map items splice_in, length-append (take index splices) (drop index splices), ap length (take-append-drop index splices)))

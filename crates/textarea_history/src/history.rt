@@ -58,17 +58,19 @@ impl History {
         }
     }
 
+    /// How many edits are kept at most, done and undone together.
     pub fn max_items(&self) -> usize
-        ensures { result ≡ self.now.log.maximum }
+        ensures value { result ≡ self.now.log.maximum }
+        ensures bound { length self.now.log.done + length self.now.log.undone ≤ result }
     {
-        self.max_items
+        self.max_items // as it was set
     }
 
     /// Ends the run, if one is open.
     pub fn break_run(&mut self)
         ensures { self.new.log ≡ record self.old.log { run_open = false } }
     {
-        self.run = None;
+        self.run = None; // the next edit can't join
     }
 
     /// Records the edit, as one typed with coalescing on or not.
@@ -201,7 +203,7 @@ impl History {
         requires { IsSome (newest self.old.log) }
         ensures { (splice : Splice) → newest self.old.log ≡ Some splice → self.new.log ≡ taken_back self.old.log splice }
     {
-        self.index -= 1;
+        self.index -= 1; // it is the first undone one now
         self.run = None;
     }
 
@@ -210,7 +212,7 @@ impl History {
         requires { IsSome (next self.old.log) }
         ensures { (splice : Splice) → next self.old.log ≡ Some splice → self.new.log ≡ made_again self.old.log splice }
     {
-        self.index += 1;
+        self.index += 1; // it is the newest done one now
         self.run = None;
     }
 

@@ -80,7 +80,7 @@ impl TextArea {
         ensures some { 0 < length result.now }
         ensures limit { size_of result.now ≤ 2 ^ 48 }
     {
-        self.lines.as_slice()
+        self.lines.as_slice() // one line at least, by the invariant
     }
 
     /// The cursor's (row, column), which is always a place of the text.
@@ -88,7 +88,7 @@ impl TextArea {
         ensures value { result ≡ self.now.document.cursor }
         ensures place { IsPlace self.now.document.text result }
     {
-        self.cursor
+        self.cursor // a place of the text, by the invariant
     }
 
     /// Whether the text is one empty line.
