@@ -4,9 +4,10 @@
 
 pub use textarea_history::{history, laws};
 pub use textarea_input::input;
+pub use textarea_pieces::{given, part, places, tab};
 pub use textarea_screen::screen;
 pub use textarea_scroll::scroll;
 pub use textarea_search::search;
-pub use textarea_text::{rows, util};
+pub use textarea_text::{inside, rows, util};
 pub use textarea_word::word;
 pub use textarea_wrap::{layout, wrap};

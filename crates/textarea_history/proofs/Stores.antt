@@ -12,15 +12,8 @@ use Rattle.textarea_text.specs.Place.{Place}
 use Rattle.textarea_text.specs.Splice.{Splice, applied, inverse, place_before, place_after}
 use Rattle.textarea_history.specs.Edit.{Stored, IsWellFormed}
 use Rattle.textarea_history.specs.Log.{Log, with_done, kept, character_of, typed_character, newest, next, taken_back, made_again, Undoes, UndoesBy, Redoes, RedoesBy, joins, continues, continues_newest, is_same_direction, is_same_place, is_empty, is_typed, done_joined, grown, merged, edge_of, pause}
+use Rattle.textarea_history.proofs.Joins.{left_of, right_of, same_direction, same_place}
 use Rattle.textarea_history.specs.Store.{log_at, splice_in, spare_in, room_at, IsRun, RunIs, IsStore}
-
-left_of : (a b : Bool) → (a && b) ≡ true → a ≡ true
-left_of true b e = refl
-left_of false b e = cc
-
-right_of : (a b : Bool) → (a && b) ≡ true → b ≡ true
-right_of true b e = e
-right_of false b e = cc
 
 -- ---- the newest edit
 
@@ -51,17 +44,6 @@ pub record Joining (items : List Stored) (index : ℕ) (run : Option ℕ) (newes
   pub grows : newest_edit.grows ≡ true
   pub direction : edit.inserts ≡ newest_edit.splice.inserts
   pub place : place_after newest_edit.splice ≡ place_before edit
-
-same_direction : (a b : Bool) → is_same_direction a b ≡ true → b ≡ a
-same_direction true true e = refl
-same_direction true false e = cc
-same_direction false true e = cc
-same_direction false false e = refl
-
-same_place : (first second : Place) → is_same_place first second ≡ true → first ≡ second
-same_place first second e =
-    ap (λ (n : ℕ). (n, first.1)) (eqb-true first.0 second.0 (left_of (eqb first.0 second.0) (eqb first.1 second.1) e))
-    ∙ ap (λ (n : ℕ). (second.0, n)) (eqb-true first.1 second.1 (right_of (eqb first.0 second.0) (eqb first.1 second.1) e))
 
 last_read : (items : List Stored) (index : ℕ) (edit : Stored) → index ≡ length items → 0 < index → edit ≡ get_or items (index - 1) edit → slice_get items (length items - 1) ≡ Some edit
 last_read items index edit whole some e =

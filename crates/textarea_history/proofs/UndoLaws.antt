@@ -15,11 +15,11 @@ inverse-inverse splice = ap (λ (b : Bool). record splice { inserts = b }) (not-
     not-not true = refl
     not-not false = refl
 
-applied_all-last : (text : List Symbol) (changes : List Splice) (splice : Splice) → applied_all text (changes ++ splice ∷ []) ≡ applied (applied_all text changes) splice
+pub applied_all-last : (text : List Symbol) (changes : List Splice) (splice : Splice) → applied_all text (changes ++ splice ∷ []) ≡ applied (applied_all text changes) splice
 applied_all-last text [] splice = refl
 applied_all-last text (change ∷ changes) splice = applied_all-last (applied text change) changes splice
 
-CanApply-last : (text : List Symbol) (changes : List Splice) (splice : Splice) → CanApply text changes → Fits (applied_all text changes) splice → CanApply text (changes ++ splice ∷ [])
+pub CanApply-last : (text : List Symbol) (changes : List Splice) (splice : Splice) → CanApply text changes → Fits (applied_all text changes) splice → CanApply text (changes ++ splice ∷ [])
 CanApply-last text [] splice can fits = (fits, tt)
 CanApply-last text (change ∷ changes) splice can fits = (can.0, CanApply-last (applied text change) changes splice can.1 fits)
 

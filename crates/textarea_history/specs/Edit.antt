@@ -36,6 +36,12 @@ pieces_of (InsertChunk pieces) = Some (length pieces.items)
 pieces_of (DeleteChunk pieces) = Some (length pieces.items)
 pieces_of kind = None
 
+-- a copy of a kind puts in or takes out the same symbols, and has as many pieces of a chunk
+pub record IsCopyOfKind (kind copy : EditKind) : Type 0 where
+  pub symbols : symbols_of copy ≡ symbols_of kind
+  pub inserts : inserts_of copy ≡ inserts_of kind
+  pub pieces : pieces_of copy ≡ pieces_of kind
+
 -- the change, of the cursor's places before and after it: made at the first where it inserts, and at the second where it removes
 abbrev pub splice_of : EditKind → Place → Place → Splice
 splice_of kind before after = record { place = cond (inserts_of kind) before after; symbols = symbols_of kind; inserts = inserts_of kind }
@@ -66,6 +72,14 @@ before_of edit = cond edit.splice.inserts edit.splice.place edit.stop
 
 abbrev pub after_of : Stored → Place
 after_of edit = cond edit.splice.inserts edit.stop edit.splice.place
+
+-- a copy of an edit makes the same change between the same places, and grows where it does; the memory that it has for
+-- that may be another
+pub record IsCopyOfEdit (edit copy : Stored) : Type 0 where
+  pub splice : copy.splice ≡ edit.splice
+  pub stop : copy.stop ≡ edit.stop
+  pub pieces : copy.pieces ≡ edit.pieces
+  pub grows : copy.grows ≡ edit.grows
 
 -- ---- as an `Edit` keeps it
 
@@ -100,3 +114,9 @@ stored_of kept inserts start stop = record {
   grows = grows_of kept;
   spare = spare_of kept;
 }
+
+-- a copy of a content has the same symbols, whichever way they go
+pub record IsCopyOfContent (kept copy : Content) : Type 0 where
+  pub symbols : (inserts : Bool) → symbols_in inserts copy ≡ symbols_in inserts kept
+  pub pieces : pieces_in copy ≡ pieces_in kept
+  pub grows : grows_of copy ≡ grows_of kept

@@ -1,7 +1,8 @@
 //! One edit of the lines, which can be made again, taken back, and grown by one character.
-ghost use Rattle.std.specs.Prelude.{◌≡◌, ◌<◌, ◌≤◌, ◌+◌, ◌++◌, length, OnOk, OnErr, IfOk, IfSome, Some, true, false, [], ◌∷◌, vec_len};
+ghost use Rattle.std.specs.Prelude.{◌≡◌, ◌<◌, ◌≤◌, ◌+◌, ◌++◌, if◌then◌else◌, length, min, reverse, IsOk, OnOk, OnErr, IfOk, IfSome, Some, true, false, [], ◌∷◌, vec_len};
 ghost use Rattle.std.specs.Str.{chars};
 ghost use Rattle.textarea_text.specs.Text.{Character, characters, following, lines_of, text_of};
+ghost use Rattle.textarea_text.specs.Size.{weight};
 ghost use Rattle.textarea_text.specs.Place.{StandsAt, IsPlace, end, inserted, removed};
 ghost use Rattle.textarea_text.specs.Splice.{Fits, applied, inverse, place_after, place_before};
 ghost use Rattle.textarea_text.specs.Replaced.{replaced};
@@ -10,7 +11,8 @@ ghost use Rattle.textarea_history.specs.Log.{character_of, continues, edge_of, m
 use crate::texts::{only_character, reversed};
 use std::alloc::{AllocError, Global};
 use std::marker::Model;
-use textarea_text::rows::{Replacement, prepare_change};
+use textarea_text::inside::{insert_inside, remove_inside};
+use textarea_text::rows::{Replacement, prepare_change, size_of};
 use textarea_text::util::Pos;
 use textarea_word::word::CharKind;
 
@@ -28,6 +30,26 @@ pub enum EditKind {
     DeleteChunk(Vec<String>),
 }
 
+impl Clone for EditKind {
+    ghost use Rattle.textarea_history.specs.Edit.{IsCopyOfKind};
+
+    ghost is_clone = { λ kind copy. IsCopyOfKind kind copy };
+
+    /// The same kind with the same symbols, or an error where there is no memory for its text.
+    fn clone(&self) -> Result<EditKind, AllocError> {
+        match self {
+            EditKind::InsertChar(c) => Ok(EditKind::InsertChar(*c)),
+            EditKind::DeleteChar(c) => Ok(EditKind::DeleteChar(*c)),
+            EditKind::InsertNewline => Ok(EditKind::InsertNewline),
+            EditKind::DeleteNewline => Ok(EditKind::DeleteNewline),
+            EditKind::InsertStr(s) => Ok(EditKind::InsertStr(s.clone()?)),
+            EditKind::DeleteStr(s) => Ok(EditKind::DeleteStr(s.clone()?)),
+            EditKind::InsertChunk(pieces) => Ok(EditKind::InsertChunk(pieces.clone()?)),
+            EditKind::DeleteChunk(pieces) => Ok(EditKind::DeleteChunk(pieces.clone()?)),
+        }
+    }
+}
+
 /// What is put in or taken out. `Typed` has the characters in the order of typing: those that
 /// Backspace took out stand last first, so that a run of either direction grows at the end.
 #[derive(Drop)]
@@ -37,6 +59,22 @@ enum Content {
     Typed(String),
     Break,
     Chunk(Vec<String>),
+}
+
+impl Clone for Content {
+    ghost use Rattle.textarea_history.specs.Edit.{IsCopyOfContent};
+
+    ghost is_clone = { λ kept copy. IsCopyOfContent kept copy };
+
+    fn clone(&self) -> Result<Content, AllocError> {
+        match self {
+            Content::Character(c) => Ok(Content::Character(*c)),
+            Content::Text(text) => Ok(Content::Text(text.clone()?)),
+            Content::Typed(text) => Ok(Content::Typed(text.clone()?)),
+            Content::Break => Ok(Content::Break),
+            Content::Chunk(pieces) => Ok(Content::Chunk(pieces.clone()?)),
+        }
+    }
 }
 
 /// One edit. The content stands from the start to the end, once it is put in or before it is taken out.
@@ -56,6 +94,22 @@ impl Model for Edit {
     ghost use Rattle.textarea_history.specs.Edit.{stored_of};
 
     ghost view = { λ edit. stored_of edit.content edit.inserts edit.start edit.end };
+}
+
+impl Clone for Edit {
+    ghost use Rattle.textarea_history.specs.Edit.{IsCopyOfEdit};
+
+    ghost is_clone = { λ edit copy. IsCopyOfEdit edit copy };
+
+    /// The same edit, or an error where there is no memory for its text.
+    fn clone(&self) -> Result<Edit, AllocError> {
+        Ok(Edit {
+            content: self.content.clone()?,
+            inserts: self.inserts,
+            start: self.start,
+            end: self.end,
+        })
+    }
 }
 
 impl Edit {
@@ -127,7 +181,28 @@ impl Edit {
         if self.inserts { self.end } else { self.start }
     }
 
-    /// Makes the edit on lines that it fits.
+    /// Whether the edit puts its symbols in, or takes them out.
+    pub fn inserts(&self) -> bool
+        ensures { result ≡ self.now.splice.inserts }
+    {
+        self.inserts // as it was made
+    }
+
+    /// The bytes that the edit's symbols take, a line break counting one; the greatest `usize` where they are more.
+    pub fn weight(&self) -> usize
+        ensures { result ≡ min (weight self.now.splice.symbols) usize.MAX }
+    {
+        match &self.content {
+            Content::Character(c) => c.len_utf8(),
+            Content::Text(text) => text.len(),
+            Content::Typed(text) => text.len(),
+            Content::Break => 1,
+            Content::Chunk(pieces) => weight_of_pieces(pieces.as_slice()),
+        }
+    }
+
+    /// Makes the edit on lines that it fits: in place where it has no line break, so that to take such symbols out takes
+    /// no memory. Where memory is missing the lines stay.
     pub fn redo(&self, lines: &mut Vec<String>) -> Result<(), AllocError>
         requires well_formed { IsWellFormed self.now }
         requires nonempty { 0 < vec_len lines.old }
@@ -135,12 +210,16 @@ impl Edit {
         ensures ok { OnOk result (text_of lines.new.items ≡ applied (text_of lines.old.items) self.now.splice) }
         ensures err { OnErr result (lines.new.items ≡ lines.old.items) }
         ensures nonempty { 0 < vec_len lines.new }
+        ensures no_memory { self.now.splice.inserts ≡ false → self.now.stop.0 ≡ self.now.splice.place.0 → IsOk result }
     {
-        let change = self.prepare_redo(*lines.allocator(), lines.as_slice())?;
-        change.apply(lines)
+        if self.inserts {
+            self.put_in(lines) // made again
+        } else {
+            self.take_out(lines) // made again
+        }
     }
 
-    /// Takes the edit back on lines that its inverse fits.
+    /// Takes the edit back on lines that its inverse fits, as `redo` makes it.
     pub fn undo(&self, lines: &mut Vec<String>) -> Result<(), AllocError>
         requires well_formed { IsWellFormed self.now }
         requires nonempty { 0 < vec_len lines.old }
@@ -148,8 +227,52 @@ impl Edit {
         ensures ok { OnOk result (text_of lines.new.items ≡ applied (text_of lines.old.items) (inverse self.now.splice)) }
         ensures err { OnErr result (lines.new.items ≡ lines.old.items) }
         ensures nonempty { 0 < vec_len lines.new }
+        ensures no_memory { self.now.splice.inserts ≡ true → self.now.stop.0 ≡ self.now.splice.place.0 → IsOk result }
     {
-        let change = self.prepare_undo(*lines.allocator(), lines.as_slice())?;
+        if self.inserts {
+            self.take_out(lines) // taken back
+        } else {
+            self.put_in(lines) // taken back
+        }
+    }
+
+    fn put_in(&self, lines: &mut Vec<String>) -> Result<(), AllocError>
+        requires pieces { IfSome self.now.pieces (λ n. 2 ≤ n) }
+        requires nonempty { 0 < vec_len lines.old }
+        requires place { IsPlace (text_of lines.old.items) self.now.splice.place }
+        ensures ok { OnOk result (text_of lines.new.items ≡ inserted (text_of lines.old.items) self.now.splice.place self.now.splice.symbols) }
+        ensures err { OnErr result (lines.new.items ≡ lines.old.items) }
+        ensures nonempty { 0 < vec_len lines.new }
+    {
+        match &self.content {
+            Content::Character(c) => {
+                let mut buffer = [0u8; 4];
+                insert_inside(lines, self.start, c.encode_utf8(&mut buffer))
+            }
+            Content::Text(text) => insert_inside(lines, self.start, text.as_str()),
+            Content::Typed(text) => put_in_typed(lines, self.start, text.as_str(), self.inserts),
+            Content::Break | Content::Chunk(_) => {
+                let change = self.prepare_putting_in(*lines.allocator(), lines.as_slice())?;
+                change.apply(lines)
+            }
+        }
+    }
+
+    fn take_out(&self, lines: &mut Vec<String>) -> Result<(), AllocError>
+        requires ends { self.now.stop ≡ end self.now.splice.place self.now.splice.symbols }
+        requires nonempty { 0 < vec_len lines.old }
+        requires place { IsPlace (text_of lines.old.items) self.now.splice.place }
+        requires stands { StandsAt (text_of lines.old.items) self.now.splice.place self.now.splice.symbols }
+        ensures ok { OnOk result (text_of lines.new.items ≡ removed (text_of lines.old.items) self.now.splice.place self.now.splice.symbols) }
+        ensures err { OnErr result (lines.new.items ≡ lines.old.items) }
+        ensures nonempty { 0 < vec_len lines.new }
+        ensures no_memory { self.now.stop.0 ≡ self.now.splice.place.0 → IsOk result }
+    {
+        if self.start.0 == self.end.0 {
+            remove_inside(lines, self.start, self.end.1);
+            return Ok(());
+        }
+        let change = self.prepare_taking_out(*lines.allocator(), lines.as_slice())?;
         change.apply(lines)
     }
 
@@ -320,6 +443,37 @@ impl Edit {
                 self.start = edit.start;
             }
         }
+    }
+}
+
+// Typed text, put into its line: as it was typed, or turned around where it was taken out.
+fn put_in_typed(
+    lines: &mut Vec<String>,
+    place: (usize, usize),
+    text: &str,
+    inserts: bool,
+) -> Result<(), AllocError>
+    requires nonempty { 0 < vec_len lines.old }
+    requires place { IsPlace (text_of lines.old.items) place }
+    ensures ok { OnOk result (text_of lines.new.items ≡ inserted (text_of lines.old.items) place (characters (if inserts then chars text.now else reverse (chars text.now)))) }
+    ensures err { OnErr result (lines.new.items ≡ lines.old.items) }
+    ensures len { vec_len lines.new ≡ vec_len lines.old }
+{
+    if inserts {
+        insert_inside(lines, place, text)
+    } else {
+        let restored = reversed(*lines.allocator(), text)?;
+        insert_inside(lines, place, restored.as_str())
+    }
+}
+
+// The bytes of the pieces, with one for each break between two.
+fn weight_of_pieces(pieces: &[String]) -> usize
+    ensures { result ≡ min (weight (text_of pieces.now)) usize.MAX }
+{
+    match pieces {
+        [] => 0,
+        [first, rest @ ..] => size_of(rest).saturating_add(first.len()),
     }
 }
 

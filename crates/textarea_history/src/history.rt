@@ -45,6 +45,21 @@ impl Model for History {
     ghost invariant = { λ h. IsStore h.items.items h.index h.max_items h.run };
 }
 
+impl Clone for History {
+    ghost is_clone = { λ history copy. copy.log ≡ history.log };
+
+    /// A history with the same edits, done and undone, or an error where there is no memory for them.
+    fn clone(&self) -> Result<History, AllocError> {
+        Ok(History {
+            items: self.items.clone()?,
+            index: self.index,
+            max_items: self.max_items,
+            run: self.run,
+            last: self.last,
+        })
+    }
+}
+
 impl History {
     pub fn new(alloc: Global, max_items: usize) -> Self
         ensures { result.log ≡ empty_log max_items }

@@ -1,10 +1,12 @@
 -- The lines of a script, taken one after another with their index.
-use Rattle.std.proofs.Common.{◌≡◌, ℕ, ◌+◌, ◌<◌, List, length, take, get_or, nat_lt, true, ap, sym, ◌∙◌, arith, zero-add}
+use Rattle.std.proofs.Common.{◌≡◌, ℕ, ◌+◌, ◌<◌, List, length, take, get_or, nat_lt, true, ap, subst, sym, ◌∙◌, arith, zero-add}
 use Rattle.std.specs.List.{enumerate_from}
 use Rattle.std.proofs.lemmas.List.FromFn.{length-enumerate_from, get_or-enumerate_from}
 use Rattle.std.proofs.lemmas.List.Sums.{count_by_more_no, count_by_more_yes}
 use Rattle.std.proofs.lemmas.Bool.Decides.{nat_tests}
-use Rattle.textarea_script.specs.Script.{filled_lines}
+use Rattle.textarea_script.specs.Script.{filled_lines, IsAtLine, IsFilledLine, NamesLine}
+use Rattle.textarea_script.specs.declared.commands.ReadError.{ReadError}
+use Rattle.textarea_script.specs.declared.commands.ReadError.TheVariants.{Line, Memory}
 
 -- an item that stands at this count of lines with their indices
 pub record IsTurn (lines : List (List ℕ)) (count index : ℕ) (line : List ℕ) : Type 0 where
@@ -28,3 +30,8 @@ pub filled_lines-filled : (lines : List (List ℕ)) (count index : ℕ) (line : 
 filled_lines-filled lines count index line turn some =
     let test : nat_lt 0 (length line) ≡ true = grind (arith, nat_tests) in
     count_by_more_yes (λ l. nat_lt 0 (length l)) lines count line turn.within (ap (λ (l : List ℕ). nat_lt 0 (length l)) turn.line_is ∙ test)
+
+-- an error that says of which line it is names a line that holds something, where that line does
+pub names_line : (script : List ℕ) (number : ℕ) (error : ReadError) → IsFilledLine script number → IsAtLine number error → NamesLine script error
+names_line script number (Line named) filled is_there = subst (IsFilledLine script) (sym is_there) filled
+names_line script number Memory filled is_there = tt

@@ -2,10 +2,11 @@
 use Rattle.std.proofs.Common.{◌≡◌, List, [], ◌∷◌, true, false, refl}
 use Rattle.textarea_text.specs.Text.{Character, Break}
 use Rattle.tui_textarea.specs.State.{State, new_state}
+use Rattle.textarea_move.specs.declared.cursor_move.CursorMove.TheVariants.{Back, Head}
 use Rattle.textarea_script.specs.Run.{answers_of, state_at}
+use Rattle.textarea_script.specs.Said.{Done, Flag, Text}
 use Rattle.textarea_script.specs.declared.call.Call.{Call}
-use Rattle.textarea_script.specs.declared.call.Call.TheVariants.{InsertChar, InsertNewline, DeleteChar, Undo, Redo}
-use Rattle.textarea_script.specs.declared.call.Answer.TheVariants.{Done, Flag}
+use Rattle.textarea_script.specs.declared.call.Call.TheVariants.{InsertChar, InsertNewline, DeleteChar, DeleteStr, Cut, Paste, Undo, Redo, StartSelection, SelectAll, YankText, Move}
 
 abbrev empty : State
 empty = new_state []
@@ -25,7 +26,7 @@ two_lines-cursor : (state_at empty two_lines).document.cursor ≡ (1, 1)
 two_lines-cursor = refl
 
 -- the removal can be made again
-two_lines-undone : (state_at empty two_lines).log.undone ≡ (record { place = (1, 0); symbols = Character 98 ∷ []; inserts = false }) ∷ []
+two_lines-undone : (state_at empty two_lines).document.log.undone ≡ (record { place = (1, 0); symbols = Character 98 ∷ []; inserts = false }) ∷ []
 two_lines-undone = refl
 
 -- a new edit drops what was undone
@@ -43,8 +44,32 @@ return-text : (state_at empty (InsertChar 13 ∷ [])).document.text ≡ Break �
 return-text = refl
 
 -- nothing to do
-idle-answers : answers_of empty (DeleteChar ∷ Undo ∷ Redo ∷ []) ≡ Flag false ∷ Flag false ∷ Flag false ∷ []
+idle-answers : answers_of empty (DeleteChar ∷ Undo ∷ Redo ∷ Cut ∷ Paste ∷ []) ≡ Flag false ∷ Flag false ∷ Flag false ∷ Flag false ∷ Flag false ∷ []
 idle-answers = refl
 
-idle-state : state_at empty (DeleteChar ∷ Undo ∷ Redo ∷ []) ≡ empty
+idle-state : state_at empty (DeleteChar ∷ Undo ∷ Redo ∷ Cut ∷ Paste ∷ []) ≡ empty
 idle-state = refl
+
+-- `a`, a break and `b`, all selected and cut: the yank has a line feed for the break
+abbrev cut_all : List Call
+cut_all = InsertChar 97 ∷ InsertNewline ∷ InsertChar 98 ∷ SelectAll ∷ Cut ∷ YankText ∷ []
+
+cut_all-answers : answers_of empty cut_all ≡ Done ∷ Done ∷ Done ∷ Done ∷ Flag true ∷ Text (97 ∷ 10 ∷ 98 ∷ []) ∷ []
+cut_all-answers = refl
+
+cut_all-text : (state_at empty cut_all).document.text ≡ []
+cut_all-text = refl
+
+-- what is typed takes the place of what is selected, as two edits
+abbrev typed_over : List Call
+typed_over = InsertChar 97 ∷ StartSelection ∷ Move Back ∷ InsertChar 98 ∷ Undo ∷ []
+
+typed_over-text : (state_at empty typed_over).document.text ≡ []
+typed_over-text = refl
+
+-- the removal of two symbols behind the cursor, a break among them
+abbrev removed_count : List Call
+removed_count = InsertNewline ∷ InsertChar 97 ∷ Move Head ∷ Move Back ∷ DeleteStr 2 ∷ []
+
+removed_count-yank : (state_at empty removed_count).yank ≡ Break ∷ Character 97 ∷ []
+removed_count-yank = refl

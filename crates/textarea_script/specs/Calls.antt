@@ -1,43 +1,139 @@
 -- What each call answers and makes of the state of a text area, and where it may answer out of memory.
-use Rattle.std.specs.Prelude.{◌≡◌, ◌≢◌, not, is_some, None, true}
-use Rattle.textarea_text.specs.Text.{Break}
-use Rattle.textarea_history.specs.Log.{newest, next}
-use Rattle.tui_textarea.specs.State.{State}
-use Rattle.tui_textarea.specs.Outcomes.{is_at_start, redone, symbol_of, undone, with_symbol, without_symbol_before}
+use Rattle.std.specs.Prelude.{◌≡◌, ◌≢◌, ◌<◌, false, List, length, is_some, None, String}
+use Rattle.std.specs.Coded.{le_prop, Unit-prop}
+use Rattle.std.specs.Duration.{as_nanos}
+use Rattle.std.specs.Str.{chars}
+use Rattle.textarea_text.specs.Place.{Place}
+use Rattle.textarea_text.specs.Text.{lines_of, text_of}
+use Rattle.textarea_history.specs.Log.{empty_log, newest, next}
+use Rattle.textarea_pieces.specs.Given.{given, written}
+use Rattle.textarea_pieces.specs.Part.{clip}
+use Rattle.textarea_document.specs.State.{fresh_document}
+use Rattle.textarea_document.specs.Edits.{is_filled}
+use Rattle.textarea_document.specs.Outcomes.{redone, run_ended, undone}
+use Rattle.textarea_document.specs.Selection.{is_selected}
+use Rattle.tui_textarea.specs.State.{State, with_document}
+use Rattle.tui_textarea.specs.Edits.{inserts_tab, inserts_text, with_char, with_newline, with_tab, with_text}
+use Rattle.tui_textarea.specs.Removals.{break_before_out, cleared, has_ahead, has_before, has_behind, has_break_before, has_line_before, has_line_behind, line_end_out, line_head_out, removes_or, symbol_before_out, symbol_behind_out, symbols_ahead_out, unselected_or, word_before_out, word_behind_out}
+use Rattle.tui_textarea.specs.Selection.{all_selected, copied, cut_out, dropped, selection_started, unselected}
+use Rattle.tui_textarea.specs.Selection as selection
+use Rattle.tui_textarea.specs.Moves.{after_move}
+use Rattle.textarea_script.specs.Said.{Said, Done, Flag, Text}
 use Rattle.textarea_script.specs.declared.call.Call.{Call}
-use Rattle.textarea_script.specs.declared.call.Call.TheVariants.{InsertChar, InsertNewline, DeleteChar, Undo, Redo}
-use Rattle.textarea_script.specs.declared.call.Answer.{Answer}
-use Rattle.textarea_script.specs.declared.call.Answer.TheVariants.{Done, Flag}
+use Rattle.textarea_script.specs.declared.call.Call.TheVariants.{InsertChar, InsertStr, InsertTab, InsertNewline, DeleteStr, DeleteNewline, DeleteChar, DeleteNextChar, DeleteLineByEnd, DeleteLineByHead, DeleteWord, DeleteNextWord, Clear, Cut, Copy, Paste, Undo, Redo, StartSelection, CancelSelection, SelectAll, SetYankText, YankText, SetTabLength, SetHardTabIndent, SetMaxHistories, SetUndoCoalescing, SetNow, Move, SetLines}
 
 -- what the call answers
-abbrev pub answer_of : State → Call → Answer
-answer_of state (InsertChar c) = Done
-answer_of state InsertNewline = Done
-answer_of state DeleteChar = Flag (not (is_at_start state))
-answer_of state Undo = Flag (is_some (newest state.log))
-answer_of state Redo = Flag (is_some (next state.log))
+abbrev pub answer_of : State → Call → Said
+answer_of state (InsertStr text) = Flag (inserts_text state (given (chars text.now)))
+answer_of state InsertTab = Flag (inserts_tab state)
+answer_of state (DeleteStr count) = Flag (removes_or state (has_ahead state count))
+answer_of state DeleteNewline = Flag (removes_or state (has_break_before state))
+answer_of state DeleteChar = Flag (removes_or state (has_before state))
+answer_of state DeleteNextChar = Flag (removes_or state (has_behind state))
+answer_of state DeleteLineByEnd = Flag (removes_or state (has_line_behind state))
+answer_of state DeleteLineByHead = Flag (removes_or state (has_line_before state))
+answer_of state DeleteWord = Flag (removes_or state (has_line_before state))
+answer_of state DeleteNextWord = Flag (removes_or state (has_line_behind state))
+answer_of state Clear = Flag (is_filled state.document.text)
+answer_of state Cut = Flag (is_selected state.document)
+answer_of state Paste = Flag (is_filled state.yank)
+answer_of state Undo = Flag (is_some (newest state.document.log))
+answer_of state Redo = Flag (is_some (next state.document.log))
+answer_of state YankText = Text (written state.yank)
+answer_of state call = Done
+
+-- the lines take the place of the old ones, and all edits are forgotten: the cursor goes to the nearest place of theirs,
+-- and nothing is selected
+abbrev pub with_lines : {Z : Type 0} → State → List (String Z) → Place → State
+with_lines state lines cursor =
+    with_document state (fresh_document (text_of lines) (clip (lines_of lines) cursor) state.document.log.maximum)
+
+-- the state after a call that takes no memory in any state: a move, a setting, or a begun, dropped or whole selection; any
+-- other call leaves it here
+abbrev pub after_setting : State → Call → State
+after_setting state StartSelection = selection_started state
+after_setting state CancelSelection = dropped state
+after_setting state SelectAll = all_selected state
+after_setting state (SetTabLength columns) = record state { settings = record state.settings { tab_length = columns } }
+after_setting state (SetHardTabIndent hard) = record state { settings = record state.settings { hard_tab_indent = hard } }
+after_setting state (SetMaxHistories maximum) =
+    with_document state (record state.document { log = empty_log maximum })
+after_setting state (SetUndoCoalescing joins) =
+    record state { document = record state.document { log = run_ended state.document.log }; settings = record state.settings { undo_coalescing = joins } }
+after_setting state (SetNow moment) = record state { moment = as_nanos moment }
+after_setting state (Move cursor_move) = after_move state cursor_move
+after_setting state call = state
 
 -- the state after the call
 abbrev pub state_after : State → Call → State
-state_after state (InsertChar c) = with_symbol state (symbol_of c)
-state_after state InsertNewline = with_symbol state Break
-state_after state DeleteChar = without_symbol_before state
-state_after state Undo = undone state
-state_after state Redo = redone state
+state_after state (InsertChar c) = with_char state c
+state_after state (InsertStr text) = with_text state (given (chars text.now))
+state_after state InsertTab = with_tab state
+state_after state InsertNewline = with_newline state
+state_after state (DeleteStr count) = unselected_or state (symbols_ahead_out state count)
+state_after state DeleteNewline = unselected_or state (break_before_out state)
+state_after state DeleteChar = unselected_or state (symbol_before_out state)
+state_after state DeleteNextChar = unselected_or state (symbol_behind_out state)
+state_after state DeleteLineByEnd = unselected_or state (line_end_out state)
+state_after state DeleteLineByHead = unselected_or state (line_head_out state)
+state_after state DeleteWord = unselected_or state (word_before_out state)
+state_after state DeleteNextWord = unselected_or state (word_behind_out state)
+state_after state Clear = cleared state
+state_after state Cut = cut_out state
+state_after state Copy = copied state
+state_after state Paste = with_text state state.yank
+state_after state Undo = with_document state (undone state.document)
+state_after state Redo = with_document state (redone state.document)
+state_after state (SetYankText text) = record state { yank = given (chars text.now) }
+state_after state YankText = state
+state_after state (SetLines lines cursor) = with_lines state lines.now cursor
+state_after state call = after_setting state call
 
--- the call may answer out of memory: not where it has nothing to do
+-- the call may answer out of memory: not where it has nothing to do, and a move, a setting and a begun, dropped or whole
+-- selection never
 abbrev pub MayRefuse : State → Call → Type 0
 MayRefuse state (InsertChar c) = Unit {0}
+MayRefuse state (InsertStr text) = inserts_text state (given (chars text.now)) ≢ false
+MayRefuse state InsertTab = inserts_tab state ≢ false
 MayRefuse state InsertNewline = Unit {0}
-MayRefuse state DeleteChar = is_at_start state ≢ true
-MayRefuse state Undo = newest state.log ≢ None
-MayRefuse state Redo = next state.log ≢ None
+MayRefuse state (DeleteStr count) = removes_or state (has_ahead state count) ≢ false
+MayRefuse state DeleteNewline = removes_or state (has_break_before state) ≢ false
+MayRefuse state DeleteChar = removes_or state (has_before state) ≢ false
+MayRefuse state DeleteNextChar = removes_or state (has_behind state) ≢ false
+MayRefuse state DeleteLineByEnd = removes_or state (has_line_behind state) ≢ false
+MayRefuse state DeleteLineByHead = removes_or state (has_line_before state) ≢ false
+MayRefuse state DeleteWord = removes_or state (has_line_before state) ≢ false
+MayRefuse state DeleteNextWord = removes_or state (has_line_behind state) ≢ false
+MayRefuse state Clear = is_filled state.document.text ≢ false
+MayRefuse state Cut = is_selected state.document ≢ false
+MayRefuse state Copy = is_selected state.document ≢ false
+MayRefuse state Paste = inserts_text state state.yank ≢ false
+MayRefuse state Undo = newest state.document.log ≢ None
+MayRefuse state Redo = next state.document.log ≢ None
+MayRefuse state (SetYankText text) = Unit {0}
+MayRefuse state YankText = Unit {0}
+MayRefuse state (SetLines lines cursor) = Unit {0}
+MayRefuse state call = ⊥
 
--- what a call that answered out of memory leaves: the state as it was
+-- what a call that answered out of memory leaves: the state as it was, or, of an insertion, the one without what was selected
 abbrev pub IsLeft : State → Call → State → Type 0
+IsLeft old (InsertChar c) new = selection.IsLeft old new
+IsLeft old (InsertStr text) new = selection.IsLeft old new
+IsLeft old InsertTab new = selection.IsLeft old new
+IsLeft old InsertNewline new = selection.IsLeft old new
+IsLeft old Paste new = selection.IsLeft old new
 IsLeft old call new = new ≡ old
 
 -- the call answered out of memory, which it may, and this is the state that it left
 pub record Refused (old : State) (call : Call) (new : State) : Type 0 where
   pub may : MayRefuse old call
   pub left : IsLeft old call new
+
+-- the call can be made: lines that take the place of others are one at least
+abbrev pub CanBeMade : Call → Type 0
+CanBeMade (SetLines lines cursor) = 0 < length lines.now
+CanBeMade call = Unit {0}
+
+pub CanBeMade-prop : (call : Call) → IsProp (CanBeMade call)
+CanBeMade-prop (SetLines lines cursor) = le_prop
+CanBeMade-prop call = Unit-prop

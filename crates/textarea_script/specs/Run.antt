@@ -1,12 +1,13 @@
 -- A run of calls: the outcomes one after another, up to the first call that is refused memory.
-use Rattle.std.specs.Prelude.{◌≡◌, ◌<◌, ◌⊎◌, ℕ, List, [], ◌∷◌, length, take, slice_get, Option, Some, None}
+use Rattle.std.specs.Prelude.{◌≡◌, ◌<◌, ◌⊎◌, ℕ, List, [], ◌∷◌, length, map, take, slice_get, Option, Some, None}
 use Rattle.tui_textarea.specs.State.{State}
 use Rattle.textarea_script.specs.declared.call.Call.{Call}
 use Rattle.textarea_script.specs.declared.call.Answer.{Answer}
+use Rattle.textarea_script.specs.Said.{Said, said}
 use Rattle.textarea_script.specs.Calls.{answer_of, state_after, Refused}
 
--- the answers of the calls, each in the state that those before it left
-abbrev pub answers_of : State → List Call → List Answer
+-- what the calls answer, each in the state that those before it left
+abbrev pub answers_of : State → List Call → List Said
 answers_of state [] = []
 answers_of state (call ∷ calls) = answer_of state call ∷ answers_of (state_after state call) calls
 
@@ -17,14 +18,14 @@ state_at state (call ∷ calls) = state_at (state_after state call) calls
 
 -- all calls were made
 pub record Completes (old : State) (calls : List Call) (answers : List Answer) (new : State) : Type 0 where
-  pub answered : answers ≡ answers_of old calls
+  pub answered : map said answers ≡ answers_of old calls
   pub state : new ≡ state_at old calls
 
 -- the calls before the one of this index were made, and that one was refused
 pub record StopsAt (old : State) (calls : List Call) (answers : List Answer) (index : ℕ) (new : State) : Type 0 where
   pub call : Call
   pub here : slice_get calls index ≡ Some call
-  pub answered : answers ≡ answers_of old (take index calls)
+  pub answered : map said answers ≡ answers_of old (take index calls)
   pub refused : Refused (state_at old (take index calls)) call new
 
 -- there is a call and no room for its answer, so none was made

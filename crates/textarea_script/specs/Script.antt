@@ -1,6 +1,10 @@
 -- The lines of a script, and what its reading says of them.
-use Rattle.std.specs.Prelude.{ℕ, ◌≤◌, ◌<◌, ◌-◌, ◌==◌, List, [], length, count_by, nat_lt, slice_index_or}
+use Rattle.std.specs.Prelude.{◌≡◌, ℕ, ◌≤◌, ◌<◌, ◌-◌, ◌==◌, List, [], length, count_by, nat_lt, slice_index_or, vec_len}
+use Rattle.std.specs.Coded.{le_prop, Unit-prop}
 use Rattle.std.specs.List.{slice_split}
+use Rattle.textarea_script.specs.Calls.{CanBeMade, CanBeMade-prop}
+use Rattle.textarea_script.specs.declared.commands.Content.{Content}
+use Rattle.textarea_script.specs.declared.commands.Content.TheVariants.{Plain, InsertStr, SetYankText, SetLines}
 use Rattle.textarea_script.specs.declared.commands.ReadError.{ReadError}
 use Rattle.textarea_script.specs.declared.commands.ReadError.TheVariants.{Line, Memory}
 
@@ -22,3 +26,21 @@ pub record IsFilledLine (script : List ℕ) (number : ℕ) : Type 0 where
 abbrev pub NamesLine : List ℕ → ReadError → Type 0
 NamesLine script (Line number) = IsFilledLine script number
 NamesLine script Memory = Unit {0}
+
+-- the error says that this is the line that isn't read, or that there was no memory for it
+abbrev pub IsAtLine : ℕ → ReadError → Type 0
+IsAtLine number (Line named) = named ≡ number
+IsAtLine number Memory = Unit {0}
+
+-- what a line commands stands for a call that can be made
+abbrev pub IsReady : Content → Type 0
+IsReady (Plain call) = CanBeMade call
+IsReady (InsertStr text) = Unit {0}
+IsReady (SetYankText text) = Unit {0}
+IsReady (SetLines lines cursor) = 0 < vec_len lines
+
+pub IsReady-prop : (content : Content) → IsProp (IsReady content)
+IsReady-prop (Plain call) = CanBeMade-prop call
+IsReady-prop (InsertStr text) = Unit-prop
+IsReady-prop (SetYankText text) = Unit-prop
+IsReady-prop (SetLines lines cursor) = le_prop

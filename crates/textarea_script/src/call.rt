@@ -1,18 +1,90 @@
 // The calls that a script may make, and what they answer.
+ghost use Rattle.std.specs.Prelude.{◌↔◌, IsTrue};
+ghost use Rattle.textarea_script.specs.Calls.{CanBeMade};
+
+use std::time::Duration;
+use textarea_move::cursor_move::CursorMove;
 
 /// One call on a text area, with its arguments.
 #[derive(Clone, Copy, Debug, PartialEq, Eq)]
-pub enum Call {
+pub enum Call<'a> {
     /// `TextArea::insert_char`
     InsertChar(char),
+    /// `TextArea::insert_str`
+    InsertStr(&'a str),
+    /// `TextArea::insert_tab`
+    InsertTab,
     /// `TextArea::insert_newline`
     InsertNewline,
+    /// `TextArea::delete_str`
+    DeleteStr(usize),
+    /// `TextArea::delete_newline`
+    DeleteNewline,
     /// `TextArea::delete_char`
     DeleteChar,
+    /// `TextArea::delete_next_char`
+    DeleteNextChar,
+    /// `TextArea::delete_line_by_end`
+    DeleteLineByEnd,
+    /// `TextArea::delete_line_by_head`
+    DeleteLineByHead,
+    /// `TextArea::delete_word`
+    DeleteWord,
+    /// `TextArea::delete_next_word`
+    DeleteNextWord,
+    /// `TextArea::clear`
+    Clear,
+    /// `TextArea::cut`
+    Cut,
+    /// `TextArea::copy`
+    Copy,
+    /// `TextArea::paste`
+    Paste,
     /// `TextArea::undo`
     Undo,
     /// `TextArea::redo`
     Redo,
+    /// `TextArea::start_selection`
+    StartSelection,
+    /// `TextArea::cancel_selection`
+    CancelSelection,
+    /// `TextArea::select_all`
+    SelectAll,
+    /// `TextArea::set_yank_text`
+    SetYankText(&'a str),
+    /// `TextArea::yank_text`
+    YankText,
+    /// `TextArea::set_tab_length`
+    SetTabLength(u8),
+    /// `TextArea::set_hard_tab_indent`
+    SetHardTabIndent(bool),
+    /// `TextArea::set_max_histories`
+    SetMaxHistories(usize),
+    /// `TextArea::set_undo_coalescing`
+    SetUndoCoalescing(bool),
+    /// `TextArea::set_now`
+    SetNow(Duration),
+    /// `TextArea::move_cursor`
+    Move(CursorMove),
+    /// `TextArea::set_lines`, with a copy of these lines, of which there is one at least
+    SetLines {
+        /// The lines that are copied.
+        lines: &'a [String],
+        /// The place whose nearest place of the lines the cursor takes: (row, column).
+        cursor: (usize, usize),
+    },
+}
+
+impl Call<'_> {
+    /// Whether the call can be made: lines that take the place of others are one at least.
+    pub fn can_be_made(&self) -> bool
+        ensures { IsTrue result ↔ CanBeMade self.now }
+    {
+        match self {
+            Call::SetLines { lines, .. } => !lines.is_empty(),
+            _ => true,
+        }
+    }
 }
 
 /// What a call answered.
@@ -22,4 +94,6 @@ pub enum Answer {
     Done,
     /// Whether the call found something to do.
     Flag(bool),
+    /// What was yanked last.
+    Text(String),
 }

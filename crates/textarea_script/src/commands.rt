@@ -1,10 +1,16 @@
 // Reading a script: each line is a command, and stands for one call.
-ghost use Rattle.std.specs.Prelude.{◌≡◌, IfOk, IfErr, vec_len};
-ghost use Rattle.textarea_script.specs.Script.{lines_of, filled_lines, NamesLine};
+ghost use Rattle.std.specs.Prelude.{◌≡◌, ◌+◌, All, IfOk, IfErr, IfSome, length, vec_len};
+ghost use Rattle.textarea_script.specs.Calls.{CanBeMade};
+ghost use Rattle.textarea_script.specs.Script.{lines_of, filled_lines, IsAtLine, IsReady, IsReady-prop, NamesLine};
 
+use crate::arguments::{
+    Unread, move_named, number, one_character, truth, two_numbers, unescaped, unescaped_lines,
+};
 use crate::call::Call;
-use std::alloc::{AllocFailed, Global};
+use std::alloc::{AllocError, AllocFailed, Global};
 use std::str::from_utf8;
+use std::time::Duration;
+use textarea_move::cursor_move::CursorMove;
 
 /// Why a script was not read.
 #[derive(Clone, Copy, Debug, PartialEq, Eq)]
@@ -26,78 +32,175 @@ impl<T: Drop> From<AllocFailed<T>> for ReadError {
     }
 }
 
-/// Reads the calls of a script, a command a line. Each line but the last ends in a line feed; empty
-/// lines are skipped, and each other line is one call. The error's line is the first that is no command
-/// or isn't UTF-8.
-pub fn read(alloc: Global, script: &[u8]) -> Result<Vec<Call>, ReadError>
-    ensures ok { IfOk result (λ calls. vec_len calls ≡ filled_lines (lines_of script.now)) }
+/// A command that was read, with texts of its own. The call that it stands for can be made.
+#[derive(Drop)]
+pub struct Command {
+    content: Content,
+    ghost ready: { IsReady content } by { IsReady-prop content },
+}
+
+#[derive(Drop)]
+enum Content {
+    // The call itself, which borrows no text.
+    Plain(Call<'static>),
+    InsertStr(String),
+    SetYankText(String),
+    SetLines {
+        lines: Vec<String>,
+        cursor: (usize, usize),
+    },
+}
+
+impl Command {
+    /// The call that the command stands for.
+    pub fn call(&self) -> Call<'_>
+        ensures { CanBeMade result }
+    {
+        match &self.content {
+            Content::Plain(call) => *call,
+            Content::InsertStr(text) => Call::InsertStr(text.as_str()),
+            Content::SetYankText(text) => Call::SetYankText(text.as_str()),
+            Content::SetLines { lines, cursor } => Call::SetLines {
+                lines: lines.as_slice(),
+                cursor: *cursor,
+            },
+        }
+    }
+}
+
+/// Reads a script, a command a line. Each line but the last ends in a line feed; empty lines are
+/// skipped, and each other line is one command. The error's line is the first that is no command or
+/// isn't UTF-8.
+pub fn read(alloc: Global, script: &[u8]) -> Result<Vec<Command>, ReadError>
+    ensures ok { IfOk result (λ commands. vec_len commands ≡ filled_lines (lines_of script.now)) }
     ensures err { IfErr result (NamesLine script.now) }
 {
-    let mut calls = Vec::new(alloc);
+    let mut commands = Vec::new(alloc);
     for (index, line) in script.split(|byte| *byte == b'\n').enumerate() {
         if line.is_empty() {
             continue;
         }
-        match from_utf8(line).ok().and_then(command) {
-            Some(call) => calls.push(call)?,
-            None => return Err(ReadError::Line(index + 1)),
-        }
+        commands.push(read_line(alloc, line, index + 1)?)?;
+    }
+    Ok(commands)
+}
+
+/// The calls that the commands stand for, in their order.
+pub fn calls(alloc: Global, commands: &[Command]) -> Result<Vec<Call<'_>>, AllocError>
+    ensures count { IfOk result (λ calls. vec_len calls ≡ length commands.now) }
+    ensures ready { IfOk result (λ calls. All CanBeMade calls.items) }
+{
+    let mut calls = Vec::new(alloc);
+    for command in commands {
+        calls.push(command.call())?;
     }
     Ok(calls)
 }
 
-// The call that a line stands for: the call's name and, after one space, its argument.
-fn command(line: &str) -> Option<Call> {
-    let (name, argument) = match line.split_once(' ') {
-        Some((name, argument)) => (name, Some(argument)),
+// Reads the line of this number.
+fn read_line(alloc: Global, line: &[u8], number: usize) -> Result<Command, ReadError>
+    ensures { IfErr result (IsAtLine number) }
+{
+    let Ok(text) = from_utf8(line) else {
+        return Err(ReadError::Line(number));
+    };
+    match content_of(alloc, text) {
+        Ok(content) => Ok(Command { content }),
+        Err(Unread::NoCommand) => Err(ReadError::Line(number)),
+        Err(Unread::Memory) => Err(ReadError::Memory),
+    }
+}
+
+// What a line commands: a call's name and, after one space, its arguments.
+fn content_of(alloc: Global, line: &str) -> Result<Content, Unread>
+    ensures { IfOk result IsReady }
+{
+    let (name, arguments) = match line.split_once(' ') {
+        Some((name, arguments)) => (name, Some(arguments)),
         None => (line, None),
     };
-    Some(match (name, argument) {
-        ("insert_char", Some(text)) => Call::InsertChar(one_character(text)?),
-        ("insert_newline", None) => Call::InsertNewline,
-        ("delete_char", None) => Call::DeleteChar,
-        ("undo", None) => Call::Undo,
-        ("redo", None) => Call::Redo,
+    match name {
+        "insert_str" => {
+            let text = unescaped(alloc, arguments.unwrap_or(""))?;
+            Ok(Content::InsertStr(text))
+        }
+        "set_yank_text" => {
+            let text = unescaped(alloc, arguments.unwrap_or(""))?;
+            Ok(Content::SetYankText(text))
+        }
+        "set_lines" => set_lines(alloc, arguments.unwrap_or("")),
+        _ => {
+            let call = match arguments {
+                Some(arguments) => call_with(name, arguments),
+                None => call_alone(name),
+            };
+            call.map(Content::Plain).ok_or(Unread::NoCommand)
+        }
+    }
+}
+
+// A `set_lines` of these arguments: a row, a column, and a text that may be left out.
+fn set_lines(alloc: Global, arguments: &str) -> Result<Content, Unread>
+    ensures { IfOk result IsReady }
+{
+    let (row, rest) = arguments.split_once(' ').ok_or(Unread::NoCommand)?;
+    let (column, text) = rest.split_once(' ').unwrap_or((rest, ""));
+    let row = number(row).ok_or(Unread::NoCommand)?;
+    let column = number(column).ok_or(Unread::NoCommand)?;
+    Ok(Content::SetLines {
+        lines: unescaped_lines(alloc, text)?,
+        cursor: (row as usize, column as usize),
+    })
+}
+
+// The call of this name, without arguments.
+fn call_alone(name: &str) -> Option<Call<'static>>
+    ensures { IfSome result CanBeMade }
+{
+    Some(match name {
+        "insert_tab" => Call::InsertTab,
+        "insert_newline" => Call::InsertNewline,
+        "delete_newline" => Call::DeleteNewline,
+        "delete_char" => Call::DeleteChar,
+        "delete_next_char" => Call::DeleteNextChar,
+        "delete_line_by_end" => Call::DeleteLineByEnd,
+        "delete_line_by_head" => Call::DeleteLineByHead,
+        "delete_word" => Call::DeleteWord,
+        "delete_next_word" => Call::DeleteNextWord,
+        "clear" => Call::Clear,
+        "cut" => Call::Cut,
+        "copy" => Call::Copy,
+        "paste" => Call::Paste,
+        "undo" => Call::Undo,
+        "redo" => Call::Redo,
+        "start_selection" => Call::StartSelection,
+        "cancel_selection" => Call::CancelSelection,
+        "select_all" => Call::SelectAll,
+        "yank_text" => Call::YankText,
         _ => return None,
     })
 }
 
-// The character that the whole text stands for, as itself or by an escape.
-fn one_character(text: &str) -> Option<char> {
-    let (c, rest) = first_character(text)?;
-    rest.is_empty().then_some(c)
-}
-
-// The first character that a text with escapes stands for, and the text behind it.
-fn first_character(text: &str) -> Option<(char, &str)> {
-    let mut rest = text.chars();
-    let c = match rest.next()? {
-        '\\' => return escaped(rest.as_str()),
-        c => c,
-    };
-    Some((c, rest.as_str()))
-}
-
-// The character of an escape, whose text is given behind its backslash, and the text behind it.
-fn escaped(text: &str) -> Option<(char, &str)> {
-    let mut rest = text.chars();
-    let c = match rest.next()? {
-        'n' => '\n',
-        'r' => '\r',
-        't' => '\t',
-        '\\' => '\\',
-        'u' => return numbered(rest.as_str()),
+// The call of this name and these arguments, none of which is a text.
+fn call_with(name: &str, arguments: &str) -> Option<Call<'static>>
+    ensures { IfSome result CanBeMade }
+{
+    Some(match name {
+        "insert_char" => Call::InsertChar(one_character(arguments)?),
+        "delete_str" => Call::DeleteStr(number(arguments)? as usize),
+        "set_tab_length" => Call::SetTabLength(u8::try_from(number(arguments)?).ok()?),
+        "set_hard_tab_indent" => Call::SetHardTabIndent(truth(arguments)?),
+        "set_max_histories" => Call::SetMaxHistories(number(arguments)? as usize),
+        "set_undo_coalescing" => Call::SetUndoCoalescing(truth(arguments)?),
+        "move" => Call::Move(move_named(arguments)?),
+        "jump" => Call::Move(jump(arguments)?),
+        "now" => Call::SetNow(Duration::from_millis(number(arguments)?)),
         _ => return None,
-    };
-    Some((c, rest.as_str()))
+    })
 }
 
-// The character of a number in braces, of 1 to 6 hexadecimal digits, and the text behind it.
-fn numbered(text: &str) -> Option<(char, &str)> {
-    let (digits, rest) = text.strip_prefix('{')?.split_once('}')?;
-    if 6 < digits.len() || !digits.bytes().all(|byte| byte.is_ascii_hexdigit()) {
-        return None;
-    }
-    let number = u32::from_str_radix(digits, 16).ok()?;
-    Some((char::from_u32(number)?, rest))
+// The jump to a row and a column.
+fn jump(arguments: &str) -> Option<CursorMove> {
+    let (row, column) = two_numbers(arguments)?;
+    Some(CursorMove::Jump(u16::try_from(row).ok()?, u16::try_from(column).ok()?))
 }

@@ -2,6 +2,7 @@
 // the program `tascript`, from the bytes that it reads to the bytes that it prints.
 #![tactic(auto)]
 
+mod arguments;
 pub mod call;
 pub mod commands;
 pub mod perform;

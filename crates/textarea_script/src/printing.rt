@@ -23,7 +23,14 @@ impl fmt::Display for Report<'_> {
         }
         let (row, column) = self.area.cursor();
         writeln!(f, "cursor {row} {column}")?;
-        writeln!(f, "selection none")
+        match self.area.selection_range() {
+            Some((start, end)) => writeln!(
+                f,
+                "selection {} {} {} {}",
+                start.0, start.1, end.0, end.1
+            ),
+            None => writeln!(f, "selection none"),
+        }
     }
 }
 
@@ -32,6 +39,7 @@ impl fmt::Display for Answer {
         match self {
             Answer::Done => write!(f, "ok"),
             Answer::Flag(flag) => write!(f, "{flag}"),
+            Answer::Text(text) => write!(f, "text {}", Escaped(text.as_str())),
         }
     }
 }

@@ -1,4 +1,6 @@
 // A run: a list of calls, made one after another.
+ghost use Rattle.std.specs.Prelude.{All};
+ghost use Rattle.textarea_script.specs.Calls.{CanBeMade};
 ghost use Rattle.textarea_script.specs.Run.{Run};
 
 use crate::call::{Answer, Call};
@@ -21,11 +23,13 @@ pub struct RunEnd {
 /// visual rows, measured height, drawn cells, caret and hit tests are those of a layout computed
 /// anew from text, cursor, highlights, settings, viewport and last area.
 ///
-/// For the calls so far the first half holds, of text, cursor and both history lists, edit by edit.
+/// For the calls so far the first half holds, of text, cursor, selection, yank and both history lists,
+/// edit by edit.
 ///
-/// Room for the answers is reserved first. Where that is refused, no call is made and the refused
-/// index is 0.
-pub fn run(area: &mut TextArea, calls: &[Call]) -> RunEnd
+/// It asks that each `Call::SetLines` holds a line. Room for the answers is reserved first. Where that
+/// is refused, no call is made and the refused index is 0.
+pub fn run(area: &mut TextArea, calls: &[Call<'_>]) -> RunEnd
+    requires { All CanBeMade calls.now }
     ensures { Run area.old calls.now result.answers.items result.refused area.new }
 {
     let alloc = *area.lines()[0].allocator();

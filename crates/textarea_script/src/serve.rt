@@ -88,7 +88,8 @@ fn run_script<R: Read, W: Write>(
     if reader.read_to_end(&mut script).is_err() {
         return Err(Failure::Stream);
     }
-    let calls = commands::read(alloc, script.as_slice())?;
+    let commands = commands::read(alloc, script.as_slice())?;
+    let calls = commands::calls(alloc, commands.as_slice())?;
     let mut area = TextArea::try_default(alloc)?;
     let end = run(&mut area, calls.as_slice());
     if end.refused.is_some() {

@@ -1,4 +1,5 @@
 // Worked rows: a list of calls on an empty text area, and what it comes to.
+use crate::table::compare_lines;
 use std::process::Abort;
 use std::test::Fail;
 use textarea_script::run::run;
@@ -7,7 +8,7 @@ use tui_textarea::TextArea;
 
 #[derive(Clone, Copy)]
 struct Row<'a> {
-    calls: &'a [Call],
+    calls: &'a [Call<'a>],
     answers: &'a [Answer],
     lines: &'a [&'a str],
     cursor: (usize, usize),
@@ -15,15 +16,12 @@ struct Row<'a> {
 
 fn check(rt: &(impl Abort + AllocGlobal), row: &Row<'_>) -> Result<(), Fail> {
     let mut area = TextArea::try_default(rt.alloc())?;
+    assert!(rt; row.calls.iter().all(|call| call.can_be_made()));
     let end = run(&mut area, row.calls);
     assert_eq!(rt; end.refused, None);
     assert_eq!(rt; end.answers.as_slice(), row.answers);
-    assert_eq!(rt; area.lines().len(), row.lines.len());
-    for (line, wanted) in area.lines().iter().zip(row.lines) {
-        assert_eq!(rt; line.as_str(), *wanted);
-    }
+    compare_lines(rt, &area, row.lines);
     assert_eq!(rt; area.cursor(), row.cursor);
-    assert_eq!(rt; area.is_empty(), row.lines == [""].as_slice());
     Ok(())
 }
 

@@ -56,6 +56,72 @@ fn scripts_that_run(rt: HostRuntime) -> Result<(), Fail> {
     Ok(())
 }
 
+// Each command, with what it prints.
+#[test]
+fn commands(rt: HostRuntime) -> Result<(), Fail> {
+    for (script, output) in [
+        // A removal at a line's end.
+        (
+            "insert_str ab\\ncd\ndelete_char\nundo\n",
+            "1 true\n2 true\n3 true\nlines 2\n|ab\n|cd\ncursor 1 2\nselection none\n",
+        ),
+        (
+            "set_lines 0 2 hello world\\nfoo\nmove WordForward\ndelete_word\nyank_text\ndelete_next_word\ndelete_line_by_end\npaste\ndelete_line_by_head\ndelete_newline\ndelete_next_char\ndelete_str 00001\nundo\nredo\nstart_selection\nmove End\ncopy\nselect_all\ncut\nset_yank_text a\\tb\npaste\nclear\ninsert_newline\njump 0 0\nstart_selection\njump 1 0\ncancel_selection\nselect_all\n",
+            "1 ok\n2 ok\n3 true\n4 text hello \n5 true\n6 true\n7 true\n8 true\n9 false\n10 true\n11 true\n12 true\n13 true\n14 ok\n15 ok\n16 ok\n17 ok\n18 true\n19 ok\n20 true\n21 true\n22 ok\n23 ok\n24 ok\n25 ok\n26 ok\n27 ok\nlines 2\n|\n|\ncursor 1 0\nselection 0 0 1 0\n",
+        ),
+        (
+            "set_tab_length 2\ninsert_tab\nset_hard_tab_indent true\ninsert_tab\nset_hard_tab_indent false\nset_max_histories 1\nset_undo_coalescing true\nnow 0\ninsert_char a\nnow 499\ninsert_char b\nundo\nundo\nset_max_histories 18446744073709551615\nnow 18446744073709551615\ndelete_str 18446744073709551615\n",
+            "1 ok\n2 true\n3 ok\n4 true\n5 ok\n6 ok\n7 ok\n8 ok\n9 ok\n10 ok\n11 ok\n12 true\n13 false\n14 ok\n15 ok\n16 false\nlines 1\n|  \\t\ncursor 0 3\nselection none\n",
+        ),
+        // Texts that are empty, and an empty yank.
+        (
+            "insert_str\ninsert_str \nset_yank_text\nset_yank_text \nyank_text\nset_lines 7 7\nset_lines 0 0 \nselect_all\n",
+            "1 false\n2 false\n3 ok\n4 ok\n5 text \n6 ok\n7 ok\n8 ok\nlines 1\n|\ncursor 0 0\nselection 0 0 0 0\n",
+        ),
+        // Lines are cut at the escape alone, texts at each line feed; an escaped backslash is none.
+        (
+            "set_lines 1 0 a\\u{a}b\\\\n\\nc\n",
+            "1 ok\nlines 2\n|a\\nb\\\\n\n|c\ncursor 1 0\nselection none\n",
+        ),
+        (
+            "insert_str x\\u{a}y\\r\\nz \n",
+            "1 true\nlines 3\n|x\n|y\n|z \ncursor 2 2\nselection none\n",
+        ),
+        (
+            "set_yank_text x\\u{a}\\\\y\nyank_text\n",
+            "1 ok\n2 text x\\n\\\\y\nlines 1\n|\ncursor 0 0\nselection none\n",
+        ),
+    ] {
+        check(&rt, script.as_bytes(), 0, output, "")?;
+    }
+    Ok(())
+}
+
+// Each move by its name, from row 1 and column 1.
+#[test]
+fn moves_by_name(rt: HostRuntime) -> Result<(), Fail> {
+    for (name, cursor) in [
+        ("Forward", "1 2"),
+        ("Back", "1 0"),
+        ("Head", "1 0"),
+        ("End", "1 5"),
+        ("Top", "0 1"),
+        ("Bottom", "3 1"),
+        ("WordForward", "1 3"),
+        ("WordEnd", "1 4"),
+        ("WordBack", "1 0"),
+        ("ParagraphForward", "3 1"),
+        ("ParagraphBack", "0 1"),
+    ] {
+        let script = format!(in rt.alloc(); "set_lines 1 1 ab cd\\nef gh\\n\\nij\nmove {name}\n")?;
+        let output = format!(in rt.alloc();
+            "1 ok\n2 ok\nlines 4\n|ab cd\n|ef gh\n|\n|ij\ncursor {cursor}\nselection none\n"
+        )?;
+        check(&rt, script.as_bytes(), 0, output.as_str(), "")?;
+    }
+    Ok(())
+}
+
 #[test]
 fn lines_that_are_not_read(rt: HostRuntime) -> Result<(), Fail> {
     for (script, errors) in [
@@ -93,6 +159,62 @@ fn lines_that_are_not_read(rt: HostRuntime) -> Result<(), Fail> {
         (b"insert_char \\u{61}a", "line 1: not read\n"),
     ] {
         check(&rt, script, 2, "", errors)?;
+    }
+    Ok(())
+}
+
+#[test]
+fn arguments_that_are_not_read(rt: HostRuntime) -> Result<(), Fail> {
+    for line in [
+        // Nothing follows a command without arguments, not even a space.
+        "insert_tab ",
+        "copy x",
+        "yank_text x",
+        // A number has digits alone, and fits its type.
+        "delete_str",
+        "delete_str ",
+        "delete_str +1",
+        "delete_str -1",
+        "delete_str 1 ",
+        "delete_str 1 2",
+        "delete_str 1x",
+        "delete_str 18446744073709551616",
+        "set_max_histories 1.5",
+        "set_tab_length 256",
+        "now",
+        "now -1",
+        // Two numbers, and one space between them.
+        "jump",
+        "jump 1",
+        "jump 1 ",
+        "jump 1  2",
+        "jump 1 2 3",
+        "jump 65536 0",
+        "jump 0 65536",
+        // Moves by their names; a jump has its own command, and moves over the rows of a screen have none.
+        "move",
+        "move Jump",
+        "move Up",
+        "move Down",
+        "move InViewport",
+        "move forward",
+        "move Forward ",
+        "set_hard_tab_indent",
+        "set_hard_tab_indent True",
+        "set_undo_coalescing 1",
+        // Escapes in texts.
+        "insert_str a\\q",
+        "insert_str a\\",
+        "set_yank_text \\u{}",
+        "set_lines",
+        "set_lines 1",
+        "set_lines 1 ",
+        "set_lines a 1",
+        "set_lines 1 b x",
+        "set_lines 0 0 \\x",
+        "set_lines 0 0 a\\n\\x",
+    ] {
+        check(&rt, line.as_bytes(), 2, "", "line 1: not read\n")?;
     }
     Ok(())
 }

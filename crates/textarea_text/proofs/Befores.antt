@@ -1,8 +1,11 @@
 -- The symbol before a place of some lines.
 use Rattle.std.proofs.Common.{◌≡◌, ℕ, ◌+◌, ◌-◌, ◌<◌, ◌≤◌, List, [], ◌∷◌, ◌++◌, length, take, drop, sym, ap, refl, ◌∙◌, arith, get_or, subst, String, encode_utf8_all, encode_utf8, Option, Some, None, MatchOption}
 use Rattle.std.specs.Option.{IsSome}
-use Rattle.std.proofs.lemmas.List.{append-nil, length-take-le, length-map, length-drop, drop_more, take-append-drop, drop-drop}
-use Rattle.std.proofs.lemmas.Str.{cons_from_encodes, length-le-encodes}
+use Rattle.std.proofs.lemmas.List.{append-nil, length-append, length-take-le, length-map, length-drop, drop_more, take_at, get_or-take, get_or_at, take-append-drop, drop-drop}
+use Rattle.std.proofs.lemmas.Str.{cons_from_encodes, length-le-encodes, chars-append, IsUtf8-encode, IsUtf8-take, IsCharBoundary-at_seam}
+use Rattle.std.specs.Char.{IsScalar}
+use Rattle.std.specs.Str.{chars, IsUtf8}
+use Rattle.textarea_text.proofs.Columns.{offset_in, take_offset, length-offset, chars-take, chars_from_bytes}
 use Rattle.textarea_text.specs.Text.{Character, Break, characters, characters_of, joined, lines_of, text_of}
 use Rattle.textarea_text.specs.Place.{Place, IsPlace, IsPlaceOf, IsSymbolBefore, StandsAt}
 use Rattle.textarea_text.proofs.Splices.{lines-joined}
@@ -72,3 +75,31 @@ next_is Same cs was rest column c found e h is =
     let read : was ≡ encode_utf8 c ++ rest = subst (λ (o : Option ℕ). MatchOption o ((length was ≡ 0) × Same) (λ d. was ≡ encode_utf8 d ++ rest)) is h in
     let first = cons_from_encodes (drop column cs) rest c (sym e ∙ read) in
     first.1 ∙ ap (λ (t : List ℕ). c ∷ t) (ap (drop 1) (sym first.1) ∙ drop-drop 1 column cs)
+
+-- ---- the character that ends at a column
+
+pub back_some : (Same : Type 0) (was rest : List ℕ) (found : Option ℕ) → 0 < length was → MatchOption found ((length was ≡ 0) × Same) (λ c. was ≡ rest ++ encode_utf8 c) → IsSome found
+back_some Same was rest None some h = absurd (omega (arith, h.0))
+back_some Same was rest (Some c) some h = refl
+
+pub back_is : (Same : Type 0) (was rest : List ℕ) (found : Option ℕ) (c : ℕ) → found ≡ Some c → MatchOption found ((length was ≡ 0) × Same) (λ d. was ≡ rest ++ encode_utf8 d) → was ≡ rest ++ encode_utf8 c
+back_is Same was rest found c is h = subst (λ (o : Option ℕ). MatchOption o ((length was ≡ 0) × Same) (λ d. was ≡ rest ++ encode_utf8 d)) is h
+
+-- before a column that is not the first there are bytes
+pub some_before : (bs before : List ℕ) (column : ℕ) → IsUtf8 bs → 0 < column → column ≤ length (chars bs) → before ≡ take (offset_in (chars bs) column) bs → 0 < length before
+some_before bs before column text some within e =
+    omega (arith, ap length (e ∙ take_offset bs column text), length-offset bs column text within)
+
+pub last_before : (bs before rest : List ℕ) (column c : ℕ) → IsUtf8 bs → IsUtf8 before → IsScalar c → 0 < column → column ≤ length (chars bs) → before ≡ take (offset_in (chars bs) column) bs → before ≡ rest ++ encode_utf8 c → drop (column - 1) (chars bs) ≡ c ∷ drop (column - 1 + 1) (chars bs)
+last_before bs before rest column c text text' scalar some within is e =
+    let cs = chars bs in
+    let one = IsUtf8-encode c scalar in
+    let seam = IsCharBoundary-at_seam before rest (encode_utf8 c) e one in
+    let text'' : IsUtf8 rest = subst IsUtf8 (ap (take (length rest)) e ∙ take_at rest (encode_utf8 c) (length rest) refl) (IsUtf8-take before (length rest) text' seam) in
+    let split : take column cs ≡ chars rest ++ c ∷ [] =
+    sym (chars-take bs before column text text' is) ∙ ap chars e ∙ chars-append rest (encode_utf8 c) text''
+    ∙ ap (λ t. chars rest ++ t) (chars_from_bytes (encode_utf8 c) (c ∷ []) one (sym (append-nil (encode_utf8 c)))) in
+    let at : length (chars rest) ≡ column - 1 = omega (arith, ap length split, length-append (chars rest) (c ∷ []), length-take-le column cs within) in
+    let found : get_or cs (column - 1) 0 ≡ c =
+    sym (get_or-take column cs (column - 1) 0 (omega arith)) ∙ ap (λ t. get_or t (column - 1) 0) split ∙ get_or_at (chars rest) c [] 0 (column - 1) at in
+    drop_more cs (column - 1) 0 (omega arith) ∙ ap (λ (n : ℕ). n ∷ drop (column - 1 + 1) cs) found

@@ -6,3 +6,4 @@ pub mod StringRows
 pub mod Replacing
 pub mod Sizes
 pub mod Befores
+pub mod Insides

@@ -1,8 +1,12 @@
 -- How large lines are that are put together, and of which some give place to others.
-use Rattle.std.proofs.Common.{◌≡◌, ℕ, ◌+◌, ◌≤◌, ◌<◌, List, [], ◌∷◌, ◌++◌, length, take, drop, sym, ap, ◌∙◌, arith, get_or, String, string_len}
-use Rattle.std.proofs.lemmas.List.{take-append-drop, take_more, drop-drop}
+use Rattle.std.proofs.Common.{◌≡◌, ℕ, ◌+◌, ◌≤◌, ◌<◌, List, [], ◌∷◌, ◌++◌, length, take, drop, reverse, refl, sym, ap, ◌∙◌, arith, get_or, String, string_bytes, string_len, encode_utf8, encode_utf8_all}
+use Rattle.std.proofs.lemmas.List.{take-append-drop, take_more, drop-drop, length-append, reverse-append}
+use Rattle.std.proofs.lemmas.Str.{encodes-chars, IsUtf8-string_bytes}
+use Rattle.textarea_text.specs.Text.{Symbol, Character, Break, characters, characters_of, following, lines_of, text_of}
+use Rattle.textarea_text.specs.Place.{Place, StandsAt, index_of, inserted, removed}
 use Rattle.textarea_text.specs.Replaced.{replaced}
-use Rattle.textarea_text.specs.Size.{size_of}
+use Rattle.textarea_text.specs.Size.{size_of, weight}
+use Rattle.textarea_text.proofs.Splices.{characters-append}
 
 pub size_of-append : {Z : Type 0} (above below : List (String Z)) → size_of (above ++ below) ≡ size_of above + size_of below
 size_of-append [] below = omega arith
@@ -32,3 +36,55 @@ size_of-replaced lines new row count =
 pub length-le-size_of : {Z : Type 0} (lines : List (String Z)) → length lines ≤ size_of lines
 length-le-size_of [] = omega arith
 length-le-size_of (line ∷ lines) = omega (arith, length-le-size_of lines)
+
+-- ---- the bytes that a text takes
+
+pub weight-append : (above below : List Symbol) → weight (above ++ below) ≡ weight above + weight below
+weight-append [] below = omega arith
+weight-append (Character c ∷ above) below = omega (arith, weight-append above below)
+weight-append (Break ∷ above) below = omega (arith, weight-append above below)
+
+pub weight-characters : (cs : List ℕ) → weight (characters cs) ≡ length (encode_utf8_all cs)
+weight-characters [] = refl
+weight-characters (c ∷ cs) = omega (arith, weight-characters cs, length-append (encode_utf8 c) (encode_utf8_all cs))
+
+pub weight-reverse : (cs : List ℕ) → weight (characters (reverse cs)) ≡ weight (characters cs)
+weight-reverse [] = refl
+weight-reverse (c ∷ cs) =
+    ap (λ t. weight (characters t)) (reverse-append (c ∷ []) cs)
+    ∙ ap weight (characters-append (reverse cs) (c ∷ []))
+    ∙ omega (arith, weight-append (characters (reverse cs)) (Character c ∷ []), weight-reverse cs)
+
+-- a line takes as many bytes as its `String` has
+pub weight_of_line : {Z : Type 0} (line : String Z) → weight (characters (characters_of line)) ≡ string_len line
+weight_of_line line =
+    weight-characters (characters_of line) ∙ ap length (encodes-chars (string_bytes line) (IsUtf8-string_bytes line)) ∙ sym line.bytes.ok.0
+
+pub weight_of_following : {Z : Type 0} (strings : List (String Z)) → weight (following (lines_of strings)) ≡ size_of strings
+weight_of_following [] = refl
+weight_of_following (line ∷ strings) =
+    omega (arith, weight-append (characters (characters_of line)) (following (lines_of strings)), weight_of_line line, weight_of_following strings)
+
+-- the first line has no break
+pub weight_of_text : {Z : Type 0} (first : String Z) (rest : List (String Z)) → weight (text_of (first ∷ rest)) ≡ string_len first + size_of rest
+weight_of_text first rest =
+    omega (arith, weight-append (characters (characters_of first)) (following (lines_of rest)), weight_of_line first, weight_of_following rest)
+
+pub size_of_text : {Z : Type 0} (strings : List (String Z)) → 0 < length strings → size_of strings ≡ weight (text_of strings) + 1
+size_of_text [] some = absurd (omega arith)
+size_of_text (first ∷ rest) some = omega (arith, weight_of_text first rest)
+
+pub weight_inserted : (text : List Symbol) (place : Place) (symbols : List Symbol) → weight (inserted text place symbols) ≡ weight text + weight symbols
+weight_inserted text place symbols =
+    let i = index_of text place in
+    let whole = sym (weight-append (take i text) (drop i text)) ∙ ap weight (take-append-drop i text) in
+    omega (arith, whole, weight-append (take i text) (symbols ++ drop i text), weight-append symbols (drop i text))
+
+pub weight_removed : (text : List Symbol) (place : Place) (symbols : List Symbol) → StandsAt text place symbols → weight (removed text place symbols) + weight symbols ≡ weight text
+weight_removed text place symbols stands =
+    let i = index_of text place in
+    let rest = drop (i + length symbols) text in
+    let behind : drop i text ≡ symbols ++ rest =
+    sym (take-append-drop (length symbols) (drop i text)) ∙ ap (λ t. t ++ drop (length symbols) (drop i text)) stands ∙ ap (λ t. symbols ++ t) (drop-drop (length symbols) i text) in
+    let whole = sym (weight-append (take i text) (drop i text)) ∙ ap weight (take-append-drop i text) in
+    omega (arith, whole, ap weight behind, weight-append symbols rest, weight-append (take i text) rest)

@@ -111,6 +111,12 @@ rows_ordered place [] = omega arith
 rows_ordered place (Character c ∷ symbols) = omega (arith, rows_ordered (place.0, place.1 + 1) symbols)
 rows_ordered place (Break ∷ symbols) = omega (arith, rows_ordered (place.0 + 1, 0) symbols)
 
+-- symbols that end in the row where they begin end no earlier in it
+pub columns_ordered : (place : Place) (symbols : List Symbol) → (end place symbols).0 ≡ place.0 → place.1 ≤ (end place symbols).1
+columns_ordered place [] e = omega arith
+columns_ordered place (Character c ∷ symbols) e = omega (arith, columns_ordered (place.0, place.1 + 1) symbols e)
+columns_ordered place (Break ∷ symbols) e = absurd (omega (arith, e, rows_ordered (place.0 + 1, 0) symbols))
+
 -- symbols that stand at a place end at a place, as far behind as they are long
 pub stands_until : (text : List Symbol) (place : Place) (symbols : List Symbol) → IsPlace text place → StandsAt text place symbols → IsPlace text (end place symbols) × (index_of text (end place symbols) ≡ index_of text place + length symbols)
 stands_until text place symbols h stands =

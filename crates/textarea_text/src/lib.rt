@@ -1,6 +1,7 @@
 //! The text of an editor as lines: positions, and lines that take the place of other lines.
 #![tactic(auto)]
 
+pub mod inside;
 pub mod replace;
 pub mod rows;
 pub mod util;

@@ -1,5 +1,5 @@
 //! Changes of the lines, made ready while the old lines stand, and put in without memory.
-ghost use Rattle.std.specs.Prelude.{◌≡◌, ◌+◌, ◌<◌, ◌≤◌, ◌++◌, ◌∷◌, length, take, drop, MatchOption, encode_utf8_all, vec_len, vec_capacity, min, IfOk, OnOk, OnErr};
+ghost use Rattle.std.specs.Prelude.{◌≡◌, ◌+◌, ◌-◌, ◌<◌, ◌≤◌, ◌++◌, ◌∷◌, length, take, drop, MatchOption, encode_utf8_all, vec_len, vec_capacity, min, IfOk, OnOk, OnErr};
 ghost use Rattle.std.specs.Str.{chars};
 ghost use Rattle.textarea_text.specs.Text.{characters, following, lines_of, symbol_in, text_of};
 ghost use Rattle.textarea_text.specs.Place.{IsPlaceOf, IsSymbolBefore, ReplacesRows, changed, index_of};
@@ -9,11 +9,15 @@ ghost use Rattle.textarea_text.specs.Size.{size_of};
 use crate::replace::put_in;
 use std::alloc::{AllocError, Global};
 
-/// The byte at which the column of a line begins; a column counts characters, and the line's length is one.
+/// The byte at which the column of a line begins; a column counts characters, and the line's length is one. The line is
+/// not walked where the column is its length in bytes, since then each character is one byte.
 pub fn byte_offset(line: &str, column: usize) -> usize
     requires { column ≤ length (chars line.now) }
     ensures { result ≡ length (encode_utf8_all (take column (chars line.now))) }
 {
+    if line.len() == column {
+        return column;
+    }
     let mut rest = line.chars();
     for _index in 0..column {
         rest.next();
@@ -41,6 +45,16 @@ pub fn character_at(line: &str, column: usize) -> char
     rest.next().unwrap()
 }
 
+// The character that ends at the column of a line.
+fn character_before(line: &str, column: usize) -> char
+    requires some { 0 < column }
+    requires within { column ≤ length (chars line.now) }
+    ensures { drop (column - 1) (chars line.now) ≡ result ∷ drop (column - 1 + 1) (chars line.now) }
+{
+    let mut before = line[..byte_offset(line, column)].chars();
+    before.next_back().unwrap()
+}
+
 /// What stands directly before a place, and where it begins: a character, or none for the break between two lines.
 #[derive(Clone, Copy, Debug, PartialEq, Eq)]
 pub struct SymbolBefore {
@@ -58,7 +72,7 @@ pub fn symbol_before(lines: &[String], place: (usize, usize)) -> Option<SymbolBe
     if 0 < column {
         return Some(SymbolBefore {
             start: (row, column - 1),
-            character: Some(character_at(lines[row].as_str(), column - 1)),
+            character: Some(character_before(lines[row].as_str(), column)),
         });
     }
     if row == 0 {
@@ -148,9 +162,10 @@ fn new_rows(
     ensures len { IfOk result (λ rows. vec_len rows ≡ length rest.now + 1) }
 {
     let before = lines[start.0].as_str();
-    let head = &before[..byte_offset(before, start.1)];
+    let offset = byte_offset(before, start.1);
+    let head = &before[..offset];
     let behind = lines[end.0].as_str();
-    let tail = &behind[byte_offset(behind, end.1)..];
+    let tail = &behind[end_offset(behind, end, start, offset)..];
     let mut rows = Vec::with_capacity(alloc, rest.len() + 1)?;
     let mut line = String::from_str(alloc, head)?;
     line.push_str(first)?;
@@ -162,6 +177,18 @@ fn new_rows(
     line.push_str(tail)?;
     rows.push(line)?;
     Ok(rows)
+}
+
+// The byte at which the end's column begins in its line, of the byte at which the start's does in its own.
+fn end_offset(line: &str, end: (usize, usize), start: (usize, usize), offset: usize) -> usize
+    requires column { end.1 ≤ length (chars line.now) }
+    requires offset { start.0 ≡ end.0 → offset ≡ length (encode_utf8_all (take start.1 (chars line.now))) }
+    ensures { result ≡ length (encode_utf8_all (take end.1 (chars line.now))) }
+{
+    if start.0 == end.0 && start.1 == end.1 {
+        return offset;
+    }
+    byte_offset(line, end.1)
 }
 
 /// The bytes of the lines and their number, summed, or the greatest `usize` where that is less.

@@ -1,11 +1,14 @@
 -- Worked cases of the definitions, each by computing.
-use Rattle.std.proofs.Common.{◌≡◌, List, [], ◌∷◌, refl, true, false}
+use Rattle.std.proofs.Common.{◌≡◌, List, [], ◌∷◌, Some, refl, true, false}
 use Rattle.textarea_text.specs.Text.{Symbol, Character, Break, joined, lines}
 use Rattle.textarea_text.specs.Place.{Place, end, index_of, place_of, inserted, removed}
 use Rattle.textarea_text.specs.Splice.{Splice}
 use Rattle.textarea_history.specs.Log.{empty_log, recorded}
-use Rattle.tui_textarea.specs.State.{State, new_state}
-use Rattle.tui_textarea.specs.Outcomes.{redone, symbol_of, undone, with_symbol, without_symbol_before}
+use Rattle.tui_textarea.specs.State.{State, new_state, with_document}
+use Rattle.textarea_document.specs.Outcomes.{redone, undone}
+use Rattle.tui_textarea.specs.Edits.{with_char, with_newline}
+use Rattle.tui_textarea.specs.Selection.{cut_out}
+use Rattle.tui_textarea.specs.Removals.{symbol_before_out, unselected_or}
 
 -- lines as one flat text, and back
 pub joined_case : joined ((97 ∷ 98 ∷ []) ∷ (99 ∷ []) ∷ []) ≡ Character 97 ∷ Character 98 ∷ Break ∷ Character 99 ∷ []
@@ -50,16 +53,43 @@ pub parted_run_case : (recorded (recorded (empty_log 2) (typed (Character 97 ∷
 parted_run_case = refl
 
 -- `a`, a line feed, `b`, the removal of `b`, and its undo: two lines, the cursor behind the `b`
-abbrev pub first_run : State
-first_run = undone (without_symbol_before (with_symbol (with_symbol (with_symbol (new_state []) (symbol_of 97)) Break) (symbol_of 98)))
+abbrev pub undo_of : State → State
+undo_of state = with_document state (undone state.document)
 
-pub first_run_case : first_run.document ≡ record { text = Character 97 ∷ Break ∷ Character 98 ∷ []; cursor = (1, 1) }
+abbrev pub redo_of : State → State
+redo_of state = with_document state (redone state.document)
+
+-- the first character is selected, and the cursor stands behind it
+abbrev pub selected_first : State → State
+selected_first state = with_document state (record state.document { cursor = (0, 1); anchor = Some (0, 0) })
+
+abbrev pub deleted_char : State → State
+deleted_char state = unselected_or state (symbol_before_out state)
+
+abbrev pub first_run : State
+first_run = undo_of (deleted_char (with_char (with_newline (with_char (new_state []) 97)) 98))
+
+pub first_run_case : first_run.document.text ≡ Character 97 ∷ Break ∷ Character 98 ∷ []
 first_run_case = refl
 
+pub first_run_cursor_case : first_run.document.cursor ≡ (1, 1)
+first_run_cursor_case = refl
+
 -- a change after an undo: there is nothing left to make again
-pub redo_case : (redone (with_symbol (undone (with_symbol (new_state []) (symbol_of 97))) (symbol_of 98))).document.text ≡ Character 98 ∷ []
+pub redo_case : (redo_of (with_char (undo_of (with_char (new_state []) 97)) 98)).document.text ≡ Character 98 ∷ []
 redo_case = refl
 
 -- a carriage return breaks the line
-pub carriage_return_case : (with_symbol (new_state []) (symbol_of 13)).document ≡ record { text = Break ∷ []; cursor = (1, 0) }
+pub carriage_return_case : (with_char (new_state []) 13).document.text ≡ Break ∷ []
 carriage_return_case = refl
+
+-- an insertion over a selection is two changes: the removal and the insertion
+pub over_selection_case : (with_char (selected_first (new_state (Character 97 ∷ Character 98 ∷ []))) 120).document.log.done ≡ (record { place = (0, 0); symbols = Character 97 ∷ []; inserts = false }) ∷ (record { place = (0, 0); symbols = Character 120 ∷ []; inserts = true }) ∷ []
+over_selection_case = refl
+
+-- a selection's removal yanks nothing, and a cut yanks
+pub selection_out_case : (deleted_char (selected_first (new_state (Character 97 ∷ Character 98 ∷ [])))).yank ≡ []
+selection_out_case = refl
+
+pub cut_case : (cut_out (selected_first (new_state (Character 97 ∷ Character 98 ∷ [])))).yank ≡ Character 97 ∷ []
+cut_case = refl

@@ -1,3 +1,4 @@
-pub mod Area
-pub mod Sound
-pub mod Cases
+pub mod Ahead
+pub mod Copying
+pub mod Given
+mod Cases

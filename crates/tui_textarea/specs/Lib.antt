@@ -1,3 +1,5 @@
 pub mod State
-pub mod Outcomes
-pub mod Sound
+pub mod Edits
+pub mod Removals
+pub mod Selection
+pub mod Moves

@@ -1,19 +1,44 @@
 -- The state of a text area, by parts.
-use Rattle.std.specs.Prelude.{List}
-use Rattle.textarea_text.specs.Text.{Symbol}
-use Rattle.textarea_text.specs.Place.{Place}
-use Rattle.textarea_history.specs.Log.{Log, empty_log}
+use Rattle.std.specs.Prelude.{ℕ, List, [], false, map}
+use Rattle.std.specs.Borrow.{Bor}
+use Rattle.std.specs.Str.{chars}
+use Rattle.textarea_text.specs.Text.{Symbol, joined}
+use Rattle.textarea_text.specs.Splice.{Splice}
+use Rattle.textarea_document.specs.State.{DocumentState, new_document}
+use Rattle.textarea_document.specs.Outcomes.{edited}
+use Rattle.tui_textarea.specs.declared.textarea.settings.Settings.{Settings}
 
--- the text as one flat list of symbols, and where the cursor stands
-pub record Document : Type 0 where
-  pub text : List Symbol
-  pub cursor : Place
-
--- a text area as its callers see it: what it shows, and the changes made and taken back
+-- a text area as its callers see it: the document; what was yanked last; the settings; and the moment that was handed in
+-- last, in nanoseconds
 pub record State : Type 0 where
-  pub document : Document
-  pub log : Log
+  pub document : DocumentState
+  pub yank : List Symbol
+  pub settings : Settings
+  pub moment : ℕ
 
--- a new text area: the cursor at the start, and a log of at most 50 changes without any
+-- the settings at first: a tab of four columns made of spaces, and no joining of typed edits
+abbrev pub default_settings : Settings
+default_settings = record { tab_length = 4; hard_tab_indent = false; undo_coalescing = false }
+
+-- a new text area: the cursor at the start, nothing selected, at most 50 edits remembered and none yet, nothing yanked
 abbrev pub new_state : List Symbol → State
-new_state text = record { document = record { text = text; cursor = (0, 0) }; log = empty_log 50 }
+new_state text = record { document = new_document text 50; yank = []; settings = default_settings; moment = 0 }
+
+-- the document changes, and all else stays
+abbrev pub with_document : State → DocumentState → State
+with_document state document = record state { document = document }
+
+-- the change is made and recorded: not as a typed one, or as a typed one, which may join the run before it where joining is on
+abbrev pub changed : State → Splice → State
+changed state splice = with_document state (edited state.document splice false state.moment)
+
+abbrev pub typed : State → Splice → State
+typed state splice = with_document state (edited state.document splice state.settings.undo_coalescing state.moment)
+
+-- the characters of a text that is lent
+abbrev pub lent_characters : Bor (List ℕ) → List ℕ
+lent_characters text = chars text.now
+
+-- the text of which each of these is a line
+abbrev pub text_of_each : List (Bor (List ℕ)) → List Symbol
+text_of_each texts = joined (map lent_characters texts)

@@ -4,8 +4,8 @@ use Rattle.std.proofs.lemmas.List.FromFn.{length-enumerate_from}
 use Rattle.std.proofs.lemmas.Bool.Decides.{nat_tests}
 use Rattle.std.proofs.lemmas.Iterator.Splits.{YieldsList-from_slice_split}
 use Rattle.std.proofs.lemmas.Iterator.Consumers.{YieldsList-from_enumerate, YieldsList-turn, YieldsList-end, YieldsList-at}
-use Rattle.textarea_script.specs.Script.{lines_of, filled_lines}
-use Rattle.textarea_script.proofs.Scripts.{turn_at, filled_lines-empty, filled_lines-filled}
+use Rattle.textarea_script.specs.Script.{lines_of, filled_lines, IsFilledLine, NamesLine}
+use Rattle.textarea_script.proofs.Scripts.{names_line, turn_at, filled_lines-empty, filled_lines-filled}
 use Rattle.textarea_script.proofs.commands.read.Goals as goal
 
 pub loop-index-preserved-then-is_empty : goal.loop-index-preserved-then-is_empty
@@ -28,13 +28,13 @@ loop-index-preserved c =
     let t = YieldsList-turn (YieldsList-from_enumerate {s = c.into_iter-index-iterator.result} (YieldsList-at (cc) (YieldsList-from_slice_split {s = c.split.result} _ (λ byte. byte == 10) c.args.script.now c.split.ensures.rest c.split.ensures.done c.split.ensures.closure (λ x r q k. search (rules, tests)))) (cc)) c.loop-index.yielded _ c.loop-index.yielded_by _ _ (c.in-Some.index, c.in-Some.line) c.in-Some.is c.next.ensures.steps in
     let turn = turn_at lines count c.in-Some.index line t.0 t.1 in
     let some : 0 < length line = grind (arith, nat_tests) in
-    c.in_ok-push-in-Some-and_then.ensures.len
+    c.in_ok-push.ensures.len
     ∙ ap (λ k. k + 1) c.loop-index.invariant
     ∙ sym (filled_lines-filled lines count c.in-Some.index line turn some)
     ∙ ap (λ k. filled_lines (take k lines)) (sym (length_push c.loop-index.yielded (c.in-Some.index, c.in-Some.line)))
 
-pub returns-in-None-and_then-clause-err : goal.returns-in-None-and_then-clause-err
-returns-in-None-and_then-clause-err c =
+pub returns-in_err-read_line-clause-err : goal.returns-in_err-read_line-clause-err
+returns-in_err-read_line-clause-err c =
     let lines = lines_of c.args.script.now in
     let count = length c.loop-index.yielded in
     let line = c.in-Some.line.now in
@@ -44,11 +44,13 @@ returns-in-None-and_then-clause-err c =
     let here : c.in-Some.index + 1 - 1 ≡ count = omega (arith, turn.index_is) in
     let found : get_or lines (c.in-Some.index + 1 - 1) [] ≡ line =
     ap (λ k. get_or lines k []) here ∙ get_or_default lines count [] line turn.within ∙ turn.line_is in
-    record {
+    let is_filled : IsFilledLine c.args.script.now (c.in-Some.index + 1) = record {
       from_one = omega arith;
       within = omega (arith, turn.index_is, turn.within);
       filled = subst (λ (l : List ℕ). 0 < length l) (sym found) some;
-    }
+    } in
+    let named : NamesLine c.args.script.now c.in_err-read_line.field-0.0 = names_line c.args.script.now (c.in-Some.index + 1) c.in_err-read_line.field-0.0 is_filled c.in_err-read_line.ensures in
+    search rules
 
 pub returns-clause-ok : goal.returns-clause-ok
 returns-clause-ok c =

@@ -1,20 +1,20 @@
-use Rattle.std.proofs.Common.{◌≡◌, ◌+◌, ◌<◌, ◌∷◌, [], ◌++◌, ◌∙◌, ap, cond, arith, is_ok, true, vec_len, vec_capacity}
-use Rattle.textarea_script.specs.declared.call.Call.TheVariants.{InsertChar}
+use Rattle.std.proofs.Common.{◌≡◌, ◌+◌, ◌<◌, ◌∷◌, [], ◌++◌, ◌∙◌, ap, cond, map, arith, is_ok, true, vec_len, vec_capacity}
+use Rattle.textarea_script.specs.Said.{said}
 use Rattle.textarea_script.proofs.Runs.{answers_more, state_more}
 use Rattle.textarea_script.proofs.run.run.Goals as goal
 
 pub loop-index-preserved : goal.loop-index-preserved
 loop-index-preserved c =
     let before = c.loop-index.invariant in
-    let did = c.in-Ok.ensures.ok in
+    let did = c.in-Ok.ensures in
     let within = c.loop-index-test.true in
     let free : vec_len c.loop-index.answers < vec_capacity c.loop-index.answers = omega (arith, before.counted, before.room, within) in
     let pushed : is_ok c.push.result ≡ true = c.push.ensures.succeeds free in
     let items : c.push.new.self.items ≡ c.loop-index.answers.items ++ (c.in-Ok.answer ∷ []) =
     c.push.ensures.items ∙ ap (λ b. cond b (c.loop-index.answers.items ++ c.in-Ok.answer ∷ []) c.loop-index.answers.items) pushed in
     record {
-      answered = items ∙ answers_more c.args.area.now c.loop-index.area c.args.calls.now c.loop-index.answers.items c.loop-index.index (InsertChar 0) c.in-Ok.answer within before.answered before.state did.0;
-      state = state_more c.args.area.now c.loop-index.area c.perform.new.area c.args.calls.now c.loop-index.index (InsertChar 0) within before.state did.1;
+      answered = ap (map said) items ∙ answers_more c.args.area.now c.loop-index.area c.args.calls.now c.loop-index.answers.items c.loop-index.index c.index-calls-index.result c.in-Ok.answer within c.index-calls-index.is before.answered before.state did.answer;
+      state = state_more c.args.area.now c.loop-index.area c.perform.new.area c.args.calls.now c.loop-index.index c.index-calls-index.result within c.index-calls-index.is before.state did.ok;
       counted = c.push.ensures.len ∙ ap (λ b. cond b (vec_len c.loop-index.answers + 1) (vec_len c.loop-index.answers)) pushed ∙ ap (λ n. n + 1) before.counted;
       room = omega (arith, before.room, c.push.ensures.capacity);
     }

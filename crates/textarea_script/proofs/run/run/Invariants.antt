@@ -1,10 +1,11 @@
-use Rattle.std.proofs.Common.{◌≡◌, ◌≤◌, take, length, vec_len, vec_capacity}
+use Rattle.std.proofs.Common.{◌≡◌, ◌≤◌, map, take, length, vec_len, vec_capacity}
 use Rattle.textarea_script.specs.Run.{answers_of, state_at}
+use Rattle.textarea_script.specs.Said.{said}
 use Rattle.textarea_script.proofs.run.run.Given as goal
 
 abbrev pub invariant-loop-index : goal.invariant-loop-index
 invariant-loop-index l = record {
-  answered : l.answers.items ≡ answers_of l.initial.area (take l.index l.calls);
+  answered : map said l.answers.items ≡ answers_of l.initial.area (take l.index l.calls);
   state : l.area ≡ state_at l.initial.area (take l.index l.calls);
   counted : vec_len l.answers ≡ l.index;
   room : length l.calls ≤ vec_capacity l.answers;

@@ -9,11 +9,11 @@ use Rattle.textarea_text.proofs.rows.new_rows.Goals as goal
 
 pub range-head-requires-clause-end_boundary : goal.range-head-requires-clause-end_boundary
 range-head-requires-clause-end_boundary c =
-    boundary_at c.index-lines-start.result c.as_str-before.result.now c.args.start.1 c.byte_offset.result c.as_str-before.ensures.value c.byte_offset.ensures
+    boundary_at c.index-lines-start.result c.as_str-before.result.now c.args.start.1 c.byte_offset-offset.result c.as_str-before.ensures.value c.byte_offset-offset.ensures
 
 pub range_from-tail-requires : goal.range_from-tail-requires
 range_from-tail-requires c =
-    λ _. boundary_at c.index-lines-end.result c.as_str-behind.result.now c.args.end.1 c.byte_offset-2.result c.as_str-behind.ensures.value c.byte_offset-2.ensures
+    λ _. boundary_at c.index-lines-end.result c.as_str-behind.result.now c.args.end.1 c.end_offset.result c.as_str-behind.ensures.value c.end_offset.ensures
 
 pub loop-piece-preserved : goal.loop-piece-preserved
 loop-piece-preserved c =
@@ -31,11 +31,11 @@ pub returns-clause-rows : goal.returns-clause-rows
 returns-clause-rows c =
     let line = c.index-lines-start.result in
     let behind = c.index-lines-end.result in
-    let offset = offset_of_line line c.as_str-before.result.now c.args.start.1 c.byte_offset.result c.as_str-before.ensures.value c.byte_offset.ensures in
-    let offset' = offset_of_line behind c.as_str-behind.result.now c.args.end.1 c.byte_offset-2.result c.as_str-behind.ensures.value c.byte_offset-2.ensures in
+    let offset = offset_of_line line c.as_str-before.result.now c.args.start.1 c.byte_offset-offset.result c.as_str-before.ensures.value c.byte_offset-offset.ensures in
+    let offset' = offset_of_line behind c.as_str-behind.result.now c.args.end.1 c.end_offset.result c.as_str-behind.ensures.value c.end_offset.ensures in
     let head : characters_of c.in_ok-line.line ≡ take c.args.start.1 (get_or (lines_of c.args.lines.now) c.args.start.0 []) =
     chars-take (string_bytes line) (string_bytes c.in_ok-line.line) c.args.start.1 (IsUtf8-string_bytes line) (IsUtf8-string_bytes c.in_ok-line.line)
-    (c.in_ok-line.ensures.ok ∙ c.range-head.ensures.value ∙ ap (λ n. take n c.as_str-before.result.now) (sub-zero c.byte_offset.result ∙ offset) ∙ ap (take _) c.as_str-before.ensures.value)
+    (c.in_ok-line.ensures.ok ∙ c.range-head.ensures.value ∙ ap (λ n. take n c.as_str-before.result.now) (sub-zero c.byte_offset-offset.result ∙ offset) ∙ ap (take _) c.as_str-before.ensures.value)
     ∙ ap (take c.args.start.1) (sym (line_at c.args.lines.now c.args.start.0 line (row_within c.args.lines.now c.args.start c.requires.start) c.index-lines-start.is)) in
     let tail : chars c.range_from-tail.result.now ≡ drop c.args.end.1 (get_or (lines_of c.args.lines.now) c.args.end.0 []) =
     chars-drop (string_bytes behind) c.range_from-tail.result.now c.args.end.1 (IsUtf8-string_bytes behind) c.range_from-tail.utf8

@@ -1,4 +1,4 @@
-use Rattle.std.proofs.Common.{ap, is_some, arith}
+use Rattle.std.proofs.Common.{ap, is_some}
 use Rattle.std.specs.Duration.{as_nanos}
 use Rattle.textarea_history.specs.Log.{Kept}
 use Rattle.textarea_history.proofs.Stores.{next_within, stepped_forward}

@@ -1,0 +1,107 @@
+-- What stands directly behind a place.
+use Rattle.std.proofs.Common.{◌≡◌, ◌≢◌, ℕ, zero, suc, Bool, false, cond, ◌==◌, ◌-◌, ◌+◌, ◌≤◌, ◌<◌, List, [], ◌∷◌, ◌++◌, length, take, drop, get_or, sym, ap, refl, ◌∙◌, arith, String, subst, Option, Some, None, ◌^◌, encode_utf8, encode_utf8_all}
+use Rattle.std.specs.Option.{MatchOption}
+use Rattle.std.specs.Str.{chars, IsCharBoundary, IsUtf8}
+use Rattle.std.proofs.lemmas.List.{append-nil, drop_all, length-drop, length-map}
+use Rattle.std.proofs.lemmas.Str.{length-le-encodes}
+use Rattle.textarea_text.proofs.Columns.{IsCharBoundary-column, offset_in}
+use Rattle.textarea_text.proofs.Befores.{next_is}
+use Rattle.textarea_document.proofs.Area.{column_bound}
+use Rattle.textarea_text.specs.Text.{Symbol, Character, Break, characters, characters_of, following, joined, lines, lines_of, text_of}
+use Rattle.textarea_text.specs.Place.{Place, IsPlace, IsPlaceOf, index_of}
+use Rattle.textarea_text.proofs.Befores.{break_stands, character_stands, text_place}
+use Rattle.textarea_text.proofs.StringRows.{line_at}
+use Rattle.textarea_text.specs.Splice.{Fits}
+use Rattle.textarea_history.specs.Edit.{inserts_of, splice_of, symbols_of}
+use Rattle.textarea_history.specs.declared.edit.EditKind.{EditKind}
+use Rattle.textarea_text.proofs.Places.{part_rows, index_parted}
+use Rattle.textarea_document.specs.State.{DocumentState}
+use Rattle.textarea_document.specs.Outcomes.{edited, unanchored}
+use Rattle.textarea_document.specs.Edits.{IsSymbolBehind, break_removal, symbol_removal, without_behind, without_break_before}
+use Rattle.textarea_document.proofs.Parts.{place_of-index}
+use Rattle.std.proofs.lemmas.Bool.Decides.{nat_tests}
+
+-- an index at which a symbol stands is not the text's end
+not_end : (text : List Symbol) (index : ℕ) (symbol : Symbol) → take 1 (drop index text) ≡ symbol ∷ [] → index ≢ length text
+not_end text index symbol e = λ same. cc (e, drop_all index text (omega arith))
+
+pub character_is_behind : (rows : List (List ℕ)) (row column c : ℕ) → IsPlaceOf rows (row, column) → drop column (get_or rows row []) ≡ c ∷ drop (column + 1) (get_or rows row []) → IsSymbolBehind (joined rows) (row, column) (row, column + 1) (Character c)
+character_is_behind rows row column c h e =
+    let stands = character_stands rows row column c h.0 h.1 e in
+    record { index = not_end (joined rows) (index_of (joined rows) (row, column)) (Character c) stands; symbol_is = stands; ends = refl }
+
+pub break_is_behind : (rows : List (List ℕ)) (row column : ℕ) → row + 1 < length rows → column ≡ length (get_or rows row []) → IsSymbolBehind (joined rows) (row, column) (row + 1, 0) Break
+break_is_behind rows row column within e =
+    let stands : take 1 (drop (index_of (joined rows) (row, column)) (joined rows)) ≡ Break ∷ [] =
+    ap (λ (n : ℕ). take 1 (drop (index_of (joined rows) (row, n)) (joined rows))) e ∙ break_stands rows row within in
+    record { index = not_end (joined rows) (index_of (joined rows) (row, column)) Break stands; symbol_is = stands; ends = refl }
+
+pub none_is_behind : (rows : List (List ℕ)) (row column : ℕ) → (h : IsPlaceOf rows (row, column)) → length rows ≤ row + 1 → length (get_or rows row []) ≤ column → index_of (joined rows) (row, column) ≡ length (joined rows)
+unfolding part_rows
+none_is_behind rows row column h last e =
+    let parts = part_rows rows row column h in
+    let line = get_or rows row [] in
+    let back : parts.back ≡ [] = ap (λ t. characters t ++ following (drop (row + 1) rows)) (drop_all column line e) ∙ ap following (drop_all (row + 1) rows last) in
+    let whole : joined rows ≡ parts.front = parts.is ∙ ap (λ t. parts.front ++ t) back ∙ append-nil parts.front in
+    ap (λ t. index_of t (row, column)) parts.is ∙ index_parted (row, column) parts.front parts.back parts.ends ∙ ap length (sym whole)
+
+-- ---- of strings
+
+pub boundary_of : (line : List ℕ) (column offset : ℕ) → IsUtf8 line → offset ≡ offset_in (chars line) column → IsCharBoundary line offset
+boundary_of line column offset utf8 e = subst (IsCharBoundary line) (sym e) (IsCharBoundary-column line column utf8)
+
+-- a call of `next` behind the column
+pub behind_is : (Same : Type 0) (cs was rest : List ℕ) (column : ℕ) (found : Option ℕ) → column ≤ length cs → was ≡ encode_utf8_all (drop column cs) → MatchOption found ((length was ≡ 0) × Same) (λ d. was ≡ encode_utf8 d ++ rest) → MatchOption found (column ≡ length cs) (λ c. drop column cs ≡ c ∷ drop (column + 1) cs)
+behind_is Same cs was rest column None within e h = omega (arith, h.0, ap length e, length-le-encodes (drop column cs), length-drop column cs)
+behind_is Same cs was rest column (Some c) within e h = next_is Same cs was rest column c (Some c) e h refl
+
+-- a column of a string can be counted on by one
+pub column_in_string : {Z : Type 0} (items : List (String Z)) (place : Place) → IsPlaceOf (lines_of items) place → place.1 + 1 < 2 ^ 64
+column_in_string items place h = omega (arith, h.1, column_bound items place.0)
+
+-- ---- the break before a row
+
+-- its removal fits the text
+pub break_removal_fits : {Z : Type 0} (items : List (String Z)) (text : List Symbol) (row column : ℕ) (line : String Z) → text_of items ≡ text → row + 1 < length items → line ≡ get_or items row line → column ≡ length (characters_of line) → Fits text (record { place = (row, column); symbols = Break ∷ []; inserts = false })
+break_removal_fits items text row column line e within read column_is =
+    let rows = lines_of items in
+    let at : column ≡ length (get_or rows row []) = column_is ∙ ap length (sym (line_at items row line (omega arith) read)) in
+    let more : row + 1 < length rows = omega (arith, length-map items characters_of) in
+    subst (λ t. Fits t (record { place = (row, column); symbols = Break ∷ []; inserts = false })) e
+    (record {
+      some = omega arith;
+      is_place = text_place items (row, column) (omega arith, omega arith);
+      allowed = ap (λ (n : ℕ). take 1 (drop (index_of (joined rows) (row, n)) (joined rows))) at ∙ break_stands rows row more;
+    })
+
+-- and it is the one that the definition means
+pub break_removal_is : {Z : Type 0} (items : List (String Z)) (text : List Symbol) (row column : ℕ) (line : String Z) → lines_of items ≡ lines text → row < length items → line ≡ get_or items row line → column ≡ length (characters_of line) → record { place = (row, column); symbols = Break ∷ []; inserts = false } ≡ break_removal text row
+break_removal_is items text row column line e within read column_is =
+    let at : column ≡ length (get_or (lines text) row []) = column_is ∙ ap length (sym (line_at items row line within read)) ∙ ap (λ rows. length (get_or rows row [])) e in
+    ap (λ (n : ℕ). record { place = (row, n); symbols = Break ∷ []; inserts = false }) at
+
+pub without_break_in : (document : DocumentState) (row now : ℕ) → row ≢ 0 → without_break_before document row now ≡ edited document (break_removal document.text (row - 1)) false now
+without_break_in document zero now apart = absurd (apart refl)
+without_break_in document (suc row) now apart = ap (λ n. edited document (break_removal document.text n) false now) (let same : row ≡ suc row - 1 = omega arith in same)
+
+-- ---- the symbol behind the cursor
+
+-- its removal fits the text, and is the one that the definition means
+pub behind_removal_fits : (text : List Symbol) (place stop : Place) (symbol : Symbol) → IsPlace text place → IsSymbolBehind text place stop symbol → Fits text (record { place = place; symbols = symbol ∷ []; inserts = false })
+behind_removal_fits text place stop symbol h behind = record { some = omega arith; is_place = h; allowed = behind.symbol_is }
+
+pub without_behind_is : (document : DocumentState) (stop : Place) (symbol : Symbol) (typed : Bool) (now : ℕ) → IsPlace document.text document.cursor → IsSymbolBehind document.text document.cursor stop symbol → edited document (record { place = document.cursor; symbols = symbol ∷ []; inserts = false }) typed now ≡ without_behind document typed now
+without_behind_is document stop symbol typed now h behind =
+    let index = index_of document.text document.cursor in
+    ap (λ (s : List Symbol). edited document (record { place = document.cursor; symbols = s; inserts = false }) typed now) (sym behind.symbol_is)
+    ∙ ap (λ (p : Place). edited document (record { place = p; symbols = take 1 (drop index document.text); inserts = false }) typed now) (sym (place_of-index document.text document.cursor h))
+    ∙ ap (λ b. cond b (unanchored document) (edited document (symbol_removal document.text index) typed now)) (sym (not_equal index (length document.text) behind.index))
+  where
+    not_equal : (m n : ℕ) → m ≢ n → (m == n) ≡ false
+    not_equal m n apart = grind (arith, nat_tests)
+
+-- the change of an edit that removes
+pub removal_of_kind : (kind : EditKind) (before after : Place) (symbols : List Symbol) → inserts_of kind ≡ false → symbols_of kind ≡ symbols → splice_of kind before after ≡ record { place = after; symbols = symbols; inserts = false }
+removal_of_kind kind before after symbols removes e =
+    ap (λ (b : Bool). record { place = cond b before after; symbols = symbols_of kind; inserts = b }) removes
+    ∙ ap (λ (s : List Symbol). record { place = after; symbols = s; inserts = false }) e

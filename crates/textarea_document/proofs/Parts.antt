@@ -1,0 +1,69 @@
+-- What stands between two places of a text.
+use Rattle.std.proofs.Common.{◌≡◌, ◌+◌, ◌-◌, ◌≤◌, ◌<◌, List, [], ◌∷◌, length, take, drop, sym, ap, refl, ◌∙◌, subst, arith, String}
+use Rattle.std.specs.Option.{IfSome}
+use Rattle.std.proofs.lemmas.List.{length-append, length-drop, length-take-le, take_at}
+use Rattle.std.proofs.Math.Seq.{take-add}
+use Rattle.textarea_text.specs.Text.{Symbol, text_of}
+use Rattle.textarea_text.specs.Place.{Place, IsPlace, StandsAt, end, index_of, place_of}
+use Rattle.textarea_text.specs.Splice.{Splice, Fits}
+use Rattle.textarea_text.proofs.Places.{parted, index_parted}
+use Rattle.textarea_text.proofs.Splices.{end-append}
+use Rattle.textarea_history.specs.Edit.{Stored, IsWellFormed}
+use Rattle.textarea_pieces.specs.Part.{part}
+use Rattle.textarea_document.specs.Edits.{removal}
+
+pub index_within : (text : List Symbol) (place : Place) → IsPlace text place → index_of text place ≤ length text
+index_within text place h =
+    let parts = parted text place h in
+    omega (arith, ap (λ t. index_of t place) parts.is, index_parted place parts.front parts.back parts.ends, ap length parts.is, length-append parts.front parts.back)
+
+-- a place is that of its index
+pub place_of-index : (text : List Symbol) (place : Place) → IsPlace text place → place_of text (index_of text place) ≡ place
+place_of-index text place h =
+    let parts = parted text place h in
+    let index : index_of text place ≡ length parts.front = ap (λ t. index_of t place) parts.is ∙ index_parted place parts.front parts.back parts.ends in
+    ap (λ n. end (0, 0) (take n text)) index
+    ∙ ap (λ t. end (0, 0) (take (length parts.front) t)) parts.is
+    ∙ ap (end (0, 0)) (take_at parts.front parts.back (length parts.front) refl)
+    ∙ parts.ends
+
+length-part : (text : List Symbol) (from to : Place) → IsPlace text to → index_of text from ≤ index_of text to → length (part text from to) ≡ index_of text to - index_of text from
+length-part text from to h ordered =
+    let i = index_of text from in
+    let j = index_of text to in
+    length-take-le (j - i) (drop i text) (omega (arith, length-drop i text, index_within text to h))
+
+-- a part stands at its start, and ends at its end
+pub part_stands : (text : List Symbol) (from to : Place) → IsPlace text to → index_of text from ≤ index_of text to → StandsAt text from (part text from to)
+part_stands text from to h ordered = ap (λ n. take n (drop (index_of text from) text)) (length-part text from to h ordered)
+
+pub part_ends : (text : List Symbol) (from to : Place) → IsPlace text from → IsPlace text to → index_of text from ≤ index_of text to → to ≡ end from (part text from to)
+part_ends text from to h h' ordered =
+    let i = index_of text from in
+    let j = index_of text to in
+    let size : j ≡ i + (j - i) = omega arith in
+    sym (place_of-index text to h')
+    ∙ ap (λ n. end (0, 0) (take n text)) size
+    ∙ ap (end (0, 0)) (take-add i (j - i) text)
+    ∙ end-append (0, 0) (take i text) (take (j - i) (drop i text))
+    ∙ ap (λ (p : Place). end p (part text from to)) (place_of-index text from h)
+
+pub part_some : (text : List Symbol) (from to : Place) → IsPlace text to → index_of text from < index_of text to → 0 < length (part text from to)
+part_some text from to h ordered = omega (arith, length-part text from to h (omega arith))
+
+-- its removal fits the text
+pub removal_fits : (text : List Symbol) (from to : Place) → IsPlace text from → IsPlace text to → index_of text from < index_of text to → Fits text (removal text from to)
+removal_fits text from to h h' ordered = record { some = part_some text from to h' ordered; is_place = h; allowed = part_stands text from to h' (omega arith) }
+
+-- an edit of this change with these ends is well formed
+pub well_formed : (edit : Stored) (splice : Splice) → edit.splice ≡ splice → 0 < length splice.symbols → edit.stop ≡ end splice.place splice.symbols → IfSome edit.pieces (λ n. 2 ≤ n) → IsWellFormed edit
+well_formed edit splice is some ends pieces = record {
+  some = subst (λ (s : Splice). 0 < length s.symbols) (sym is) some;
+  pieces = pieces;
+  ends = ends ∙ ap (λ (s : Splice). end s.place s.symbols) (sym is);
+}
+
+-- pieces that hold a symbol are some
+pub some_pieces : {Z : Type 0} (pieces : List (String Z)) {symbols : List Symbol} → text_of pieces ≡ symbols → 0 < length symbols → 0 < length pieces
+some_pieces [] e some = omega (arith, ap length e)
+some_pieces (piece ∷ pieces) e some = omega arith

@@ -1,0 +1,6 @@
+pub mod State
+pub mod Outcomes
+pub mod Edits
+pub mod Selection
+pub mod Law
+pub mod Sound

@@ -1,0 +1,55 @@
+-- What an edit, an undo, a redo and a move make of a document.
+use Rattle.std.specs.Prelude.{Bool, false, ℕ, Option, Some, None}
+use Rattle.textarea_text.specs.Place.{Place}
+use Rattle.textarea_text.specs.Splice.{Splice, applied, inverse, place_before, place_after}
+use Rattle.textarea_history.specs.Log.{Log, recorded, newest, next, taken_back, made_again}
+use Rattle.textarea_document.specs.State.{DocumentState}
+
+-- a change is made and recorded, as a typed one or not, at the moment: the cursor stands behind what was put in, or
+-- where what was taken out began, and nothing is selected
+abbrev pub edited : DocumentState → Splice → Bool → ℕ → DocumentState
+edited document splice typed now = record {
+  text = applied document.text splice;
+  cursor = place_after splice;
+  anchor = None;
+  log = recorded document.log splice typed now;
+}
+
+-- the newest change is taken back, if there is one: the cursor stands behind the text that came back, or where the text
+-- that went began, and nothing is selected
+abbrev pub undone_by : Option Splice → DocumentState → DocumentState
+undone_by None document = document
+undone_by (Some splice) document = record {
+  text = applied document.text (inverse splice);
+  cursor = place_before splice;
+  anchor = None;
+  log = taken_back document.log splice;
+}
+
+abbrev pub undone : DocumentState → DocumentState
+undone document = undone_by (newest document.log) document
+
+-- the change that was taken back last is made again, if there is one: the cursor stands where it had left it
+abbrev pub redone_by : Option Splice → DocumentState → DocumentState
+redone_by None document = document
+redone_by (Some splice) document = record {
+  text = applied document.text splice;
+  cursor = place_after splice;
+  anchor = None;
+  log = made_again document.log splice;
+}
+
+abbrev pub redone : DocumentState → DocumentState
+redone document = redone_by (next document.log) document
+
+-- a run of typing ends
+abbrev pub run_ended : Log → Log
+run_ended log = record log { run_open = false }
+
+-- the cursor goes to the place, and the selection begins where the anchor says; a run of typing ends
+abbrev pub moved : DocumentState → Place → Option Place → DocumentState
+moved document cursor anchor = record document { cursor = cursor; anchor = anchor; log = run_ended document.log }
+
+-- nothing is selected any more, not even an empty selection
+abbrev pub unanchored : DocumentState → DocumentState
+unanchored document = record document { anchor = None }

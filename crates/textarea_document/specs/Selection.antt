@@ -1,0 +1,43 @@
+-- What is selected in a document.
+use Rattle.std.specs.Prelude.{Bool, ℕ, ◌==◌, ◌&&◌, ◌||◌, nat_lt, List, Option, Some, None, unwrap_or, if◌then◌else◌}
+use Rattle.textarea_text.specs.Text.{Symbol}
+use Rattle.textarea_text.specs.Place.{Place}
+use Rattle.textarea_pieces.specs.Part.{part}
+use Rattle.textarea_document.specs.State.{DocumentState}
+use Rattle.textarea_document.specs.Edits.{without_part}
+
+-- a place before another: in a row above, or in the same row and a column before
+abbrev pub is_before : Place → Place → Bool
+is_before first second = nat_lt first.0 second.0 || ((first.0 == second.0) && nat_lt first.1 second.1)
+
+-- where the selection began; the cursor where there is none
+abbrev pub origin : DocumentState → Place
+origin document = unwrap_or document.anchor document.cursor
+
+-- the two ends of the selection, the first one first
+abbrev pub selection_start : DocumentState → Place
+selection_start document = if is_before document.cursor (origin document) then document.cursor else origin document
+
+abbrev pub selection_end : DocumentState → Place
+selection_end document = if is_before document.cursor (origin document) then origin document else document.cursor
+
+-- the ends of a selection, an empty one too
+abbrev pub selection_by : Option Place → DocumentState → Option (Place × Place)
+selection_by None document = None
+selection_by (Some anchor) document = Some (selection_start document, selection_end document)
+
+abbrev pub selection : DocumentState → Option (Place × Place)
+selection document = selection_by document.anchor document
+
+-- whether a symbol is selected
+abbrev pub is_selected : DocumentState → Bool
+is_selected document = is_before (selection_start document) (selection_end document)
+
+-- the symbols selected
+abbrev pub selected : DocumentState → List Symbol
+selected document = part document.text (selection_start document) (selection_end document)
+
+-- what is selected is taken out, if a symbol is
+abbrev pub without_selected : DocumentState → ℕ → DocumentState
+without_selected document now =
+    if is_selected document then without_part document (selection_start document) (selection_end document) now else document

@@ -1,0 +1,21 @@
+-- What holds of every document.
+use Rattle.std.specs.Prelude.{◌≡◌, ℕ, ◌+◌, ◌^◌, ◌<◌, ◌≤◌, List, length, reverse, String, IfSome}
+use Rattle.textarea_text.specs.Place.{IsPlace}
+use Rattle.textarea_text.specs.Size.{size_of}
+use Rattle.textarea_text.specs.Splice.{CanApply, CanTakeBack}
+use Rattle.textarea_document.specs.State.{DocumentState}
+
+-- the cursor and the anchor are places of the text; the done changes can be taken back, the newest first; the undone ones
+-- can be made again, the next one first; together they are at most the maximum
+pub record IsSound (document : DocumentState) : Type 0 where
+  pub cursor : IsPlace document.text document.cursor
+  pub anchor : IfSome document.anchor (IsPlace document.text)
+  pub undo : CanTakeBack document.text (reverse document.log.done)
+  pub redo : CanApply document.text document.log.undone
+  pub bounded : length document.log.done + length document.log.undone ≤ document.log.maximum
+
+-- there is a line; the bytes and the lines, summed, are the size that is kept, and at most 2^48
+pub record IsStored {Z : Type 0} (lines : List (String Z)) (size : ℕ) : Type 0 where
+  pub some : 0 < length lines
+  pub size_is : size ≡ size_of lines
+  pub limit : size ≤ 2 ^ 48

@@ -1,0 +1,282 @@
+//! The document: lines, a cursor, an anchor and a history.
+pub mod insertions;
+mod laws;
+mod removals;
+mod selection;
+
+ghost use Rattle.std.specs.Prelude.{◌≡◌, ◌<◌, ◌≤◌, ◌+◌, ◌^◌, ◌↔◌, length, OnOk, OnErr, IsOk, IfOk, IfSome, None, IsTrue, ◌-◌, if◌then◌else◌, is_some, [], vec_len};
+ghost use Rattle.std.specs.Duration.{as_nanos};
+ghost use Rattle.textarea_text.specs.Text.{lines, lines_of, text_of};
+ghost use Rattle.textarea_text.specs.Place.{IsPlace};
+ghost use Rattle.textarea_text.specs.Size.{size_of};
+ghost use Rattle.textarea_text.specs.Splice.{Fits};
+ghost use Rattle.textarea_history.specs.Edit.{IsWellFormed};
+ghost use Rattle.textarea_history.specs.Log.{empty_log, newest, next};
+ghost use Rattle.textarea_pieces.specs.Part.{clip};
+ghost use Rattle.textarea_document.specs.State.{new_document, fresh_document};
+ghost use Rattle.textarea_document.specs.Outcomes.{edited, moved, redone, run_ended, undone};
+
+use std::alloc::{AllocError, Global};
+use std::marker::Model;
+use std::time::Duration;
+use textarea_history::history::{Edit, History};
+use textarea_pieces::places::clipped;
+use textarea_text::rows;
+
+/// The most bytes and lines together that a document holds; what would grow past that is answered as out of memory.
+const MAX_SIZE: usize = 0x1_0000_0000_0000;
+
+/// Lines of text, a cursor, the place where a selection began, and a history of edits.
+///
+/// Rows and columns count from 0, columns in characters. A call that runs out of memory leaves the document as it was.
+#[derive(Drop)]
+pub struct Document {
+    lines: Vec<String>,
+    size: usize,
+    cursor: (usize, usize),
+    anchor: Option<(usize, usize)>,
+    history: History,
+}
+
+impl Model for Document {
+    ghost use Rattle.textarea_text.specs.Text.{text_of};
+    ghost use Rattle.textarea_document.specs.State.{DocumentState};
+
+    ghost Value = { DocumentState };
+
+    ghost use Rattle.textarea_document.specs.Sound.{IsSound, IsStored};
+
+    ghost view = { λ document. record { text = text_of document.lines.items; cursor = document.cursor; anchor = document.anchor; log = document.history.log } };
+
+    ghost invariant = { λ document. IsStored document.lines.items document.size × IsSound (record { text = text_of document.lines.items; cursor = document.cursor; anchor = document.anchor; log = document.history.log }) };
+}
+
+impl Clone for Document {
+    ghost is_clone = { λ document copy. copy ≡ document };
+
+    /// The same document, or an error where there is no memory for its lines and edits.
+    fn clone(&self) -> Result<Document, AllocError> {
+        Ok(Document {
+            lines: self.lines.clone()?,
+            size: self.size,
+            cursor: self.cursor,
+            anchor: self.anchor,
+            history: self.history.clone()?,
+        })
+    }
+}
+
+impl Document {
+    /// A document of these lines, the cursor at the start, which remembers so many edits; no line at all becomes one empty
+    /// line. A line feed inside a line stays a character of that line.
+    pub fn new(
+        alloc: Global,
+        mut lines: Vec<String>,
+        max_histories: usize,
+    ) -> Result<Self, AllocError>
+        ensures { IfOk result (λ document. document ≡ new_document (text_of lines.items) max_histories) }
+    {
+        if lines.is_empty() {
+            lines.push(String::new(alloc))?;
+        }
+        let size = rows::size_of(lines.as_slice());
+        if MAX_SIZE < size {
+            return Err(AllocError);
+        }
+        Ok(Document {
+            lines,
+            size,
+            cursor: (0, 0),
+            anchor: None,
+            history: History::new(alloc, max_histories),
+        })
+    }
+
+    /// The lines, one at least. Their bytes and their number together are at most 2^48.
+    pub fn lines(&self) -> &[String]
+        ensures value { text_of result.now ≡ self.now.text }
+        ensures lines { lines_of result.now ≡ lines self.now.text }
+        ensures some { 0 < length result.now }
+        ensures limit { size_of result.now ≤ 2 ^ 48 }
+    {
+        self.lines.as_slice() // one line at least, by the invariant
+    }
+
+    /// Where all memory of the document comes from.
+    pub fn allocator(&self) -> Global {
+        *self.lines.allocator()
+    }
+
+    /// The cursor's (row, column), which is always a place of the text.
+    pub fn cursor(&self) -> (usize, usize)
+        ensures value { result ≡ self.now.cursor }
+        ensures place { IsPlace self.now.text result }
+        ensures small { (result.0 < 2 ^ 48) × (result.1 ≤ 2 ^ 48) }
+    {
+        self.cursor // a place of the text, by the invariant
+    }
+
+    /// Where the selection began, if there is one; always a place of the text.
+    pub fn anchor(&self) -> Option<(usize, usize)>
+        ensures value { result ≡ self.now.anchor }
+        ensures place { IfSome result (IsPlace self.now.text) }
+    {
+        self.anchor // a place of the text, by the invariant
+    }
+
+    /// Whether the text is one empty line.
+    pub fn is_empty(&self) -> bool
+        ensures { IsTrue result ↔ (self.now.text ≡ []) }
+    {
+        self.lines.len() == 1 && self.lines[0].is_empty()
+    }
+
+    /// Takes back the newest edit, and says whether there was one. The cursor then stands behind the text that came
+    /// back, or where the text that went began, and nothing is selected.
+    pub fn undo(&mut self) -> Result<bool, AllocError>
+        ensures undone { IfOk result (λ found. found ≡ is_some (newest self.old.log)) }
+        ensures ok { OnOk result (self.new ≡ undone self.old) }
+        ensures err { OnErr result (self.new ≡ self.old) }
+        ensures nothing { newest self.old.log ≡ None → IsOk result }
+    {
+        let Some(edit) = self.history.newest() else {
+            return Ok(false);
+        };
+        let size = size_after(self.size, edit.weight(), !edit.inserts())?;
+        let back = edit.cursor_before();
+        edit.undo(&mut self.lines)?;
+        self.history.step_back();
+        self.size = size;
+        self.cursor = back;
+        self.anchor = None; // as behind every undo
+        Ok(true)
+    }
+
+    /// Makes again the edit that was undone last, and says whether there was one. The cursor then stands where that edit
+    /// had left it, and nothing is selected.
+    pub fn redo(&mut self) -> Result<bool, AllocError>
+        ensures redone { IfOk result (λ found. found ≡ is_some (next self.old.log)) }
+        ensures ok { OnOk result (self.new ≡ redone self.old) }
+        ensures err { OnErr result (self.new ≡ self.old) }
+        ensures nothing { next self.old.log ≡ None → IsOk result }
+    {
+        let Some(edit) = self.history.next() else {
+            return Ok(false);
+        };
+        let size = size_after(self.size, edit.weight(), edit.inserts())?;
+        let ahead = edit.cursor_after();
+        edit.redo(&mut self.lines)?;
+        self.history.step_forward();
+        self.size = size;
+        self.cursor = ahead;
+        self.anchor = None;
+        Ok(true)
+    }
+
+    /// Makes an edit that fits the text, and records it, as typed with coalescing on or not. All memory is taken before
+    /// the first change.
+    pub fn edit(&mut self, edit: Edit, typed: bool, now: Duration) -> Result<(), AllocError>
+        requires well_formed { IsWellFormed edit }
+        requires fits { Fits self.old.text edit.splice }
+        ensures ok { OnOk result (self.new ≡ edited self.old edit.splice typed (as_nanos now)) }
+        ensures err { OnErr result (self.new ≡ self.old) }
+    {
+        let size = size_after(self.size, edit.weight(), edit.inserts())?;
+        self.history.reserve()?;
+        edit.redo(&mut self.lines)?;
+        self.cursor = edit.cursor_after();
+        self.history.put(edit, typed, now);
+        self.size = size;
+        self.anchor = None; // as behind every edit
+        Ok(())
+    }
+
+    /// Puts the cursor and the anchor at places of the text, and ends a run of typing.
+    pub fn move_to(&mut self, cursor: (usize, usize), anchor: Option<(usize, usize)>)
+        requires cursor { IsPlace self.old.text cursor }
+        requires anchor { IfSome anchor (IsPlace self.old.text) }
+        ensures { self.new ≡ moved self.old cursor anchor }
+    {
+        self.cursor = cursor;
+        self.anchor = anchor;
+        self.history.break_run(); // a move ends it
+    }
+
+    /// Sets where the selection began, or that nothing is selected.
+    pub fn set_anchor(&mut self, anchor: Option<(usize, usize)>)
+        requires { IfSome anchor (IsPlace self.old.text) }
+        ensures { self.new ≡ record self.old { anchor = anchor } }
+    {
+        self.anchor = anchor; // the cursor stays, and so does a run of typing
+    }
+
+    /// Ends a run of typing: the next edit is one of its own.
+    pub fn break_run(&mut self)
+        ensures { self.new ≡ record self.old { log = run_ended self.old.log } }
+    {
+        self.history.break_run();
+    }
+
+    /// How many edits are remembered at most, done and undone together.
+    pub fn max_histories(&self) -> usize
+        ensures value { result ≡ self.now.log.maximum }
+        ensures bound { length self.now.log.done + length self.now.log.undone ≤ result }
+    {
+        self.history.max_items()
+    }
+
+    /// Forgets the text and all edits, and holds these lines, the cursor at the nearest place; it remembers as many edits as
+    /// before.
+    pub fn set_lines(
+        &mut self,
+        lines: Vec<String>,
+        cursor: (usize, usize),
+    ) -> Result<(), AllocError>
+        requires some { 0 < vec_len lines }
+        ensures ok { OnOk result (self.new ≡ fresh_document (text_of lines.items) (clip (lines_of lines.items) cursor) self.old.log.maximum) }
+        ensures err { OnErr result (self.new ≡ self.old) }
+    {
+        let size = rows::size_of(lines.as_slice());
+        if MAX_SIZE < size {
+            return Err(AllocError);
+        }
+        self.cursor = clipped(lines.as_slice(), cursor);
+        self.anchor = None;
+        self.size = size;
+        self.history = History::new(*lines.allocator(), self.history.max_items());
+        self.lines = lines;
+        Ok(())
+    }
+
+    /// The lines alone.
+    pub fn into_lines(self) -> Vec<String>
+        ensures text { text_of result.items ≡ self.text }
+        ensures some { 0 < vec_len result }
+    {
+        let Document { lines, .. } = self;
+        lines
+    }
+
+    /// Forgets all edits, and remembers so many from now on.
+    pub fn set_max_histories(&mut self, max_histories: usize)
+        ensures { self.new ≡ record self.old { log = empty_log max_histories } }
+    {
+        self.history = History::new(*self.lines.allocator(), max_histories);
+    }
+}
+
+// How large the lines are after an edit of that weight that puts in, or takes out; more than the limit is out of memory.
+fn size_after(size: usize, weight: usize, grows: bool) -> Result<usize, AllocError>
+    requires { size ≤ 2 ^ 48 }
+    ensures size { IfOk result (λ after. after ≡ if grows then size + weight else size - weight) }
+    ensures limit { IfOk result (λ after. after ≤ 2 ^ 48) }
+{
+    if !grows {
+        return Ok(size.saturating_sub(weight));
+    }
+    let after = size.saturating_add(weight);
+    if MAX_SIZE < after {
+        return Err(AllocError);
+    }
+    Ok(after)
+}

@@ -1,0 +1,93 @@
+//! Insertions at the cursor of a document.
+ghost use Rattle.std.specs.Prelude.{◌≡◌, ◌<◌, ◌≤◌, OnOk, OnErr, IsOk, IfOk, IfSome, [], length, vec_len};
+ghost use Rattle.std.specs.Duration.{as_nanos};
+ghost use Rattle.textarea_text.specs.Text.{text_of};
+ghost use Rattle.textarea_document.specs.Edits.{insertion, is_filled, with_break, with_character, with_symbols};
+
+use crate::document::{Document, MAX_SIZE};
+use std::alloc::AllocError;
+use std::time::Duration;
+use textarea_history::history::{Edit, EditKind};
+use textarea_pieces::places::end_of;
+use textarea_text::rows;
+
+impl Document {
+    /// Puts the character in at the cursor, as a typed one or not. A line feed stays a character of the line.
+    pub fn insert_character(
+        &mut self,
+        c: char,
+        typed: bool,
+        now: Duration,
+    ) -> Result<(), AllocError>
+        ensures ok { OnOk result (self.new ≡ with_character self.old c typed (as_nanos now)) }
+        ensures err { OnErr result (self.new ≡ self.old) }
+    {
+        let (row, column) = self.cursor();
+        let after = (row, column + 1);
+        self.edit(
+            Edit::between(EditKind::InsertChar(c), (row, column), after),
+            typed,
+            now,
+        )
+    }
+
+    /// Breaks the line at the cursor.
+    pub fn insert_break(&mut self, now: Duration) -> Result<(), AllocError>
+        ensures ok { OnOk result (self.new ≡ with_break self.old (as_nanos now)) }
+        ensures err { OnErr result (self.new ≡ self.old) }
+    {
+        let (row, column) = self.cursor();
+        let after = (row + 1, 0);
+        self.edit(
+            Edit::between(EditKind::InsertNewline, (row, column), after),
+            false,
+            now,
+        )
+    }
+
+    /// Puts the pieces, with a line break between each two, in at the cursor, and says whether there was a symbol to put
+    /// in. Without one only the selection is dropped, and no memory is taken.
+    pub fn insert(&mut self, pieces: Vec<String>, now: Duration) -> Result<bool, AllocError>
+        requires some { 0 < vec_len pieces }
+        ensures inserted { IfOk result (λ inserted. inserted ≡ is_filled (text_of pieces.items)) }
+        ensures ok { OnOk result (self.new ≡ with_symbols self.old (text_of pieces.items) (as_nanos now)) }
+        ensures err { OnErr result (self.new ≡ self.old) }
+        ensures nothing { text_of pieces.items ≡ [] → IsOk result }
+    {
+        if !has_symbol(pieces.as_slice()) {
+            self.set_anchor(None);
+            return Ok(false);
+        }
+        if MAX_SIZE < rows::size_of(pieces.as_slice()) {
+            return Err(AllocError);
+        }
+        let start = self.cursor();
+        let stop = end_of(start, pieces.as_slice());
+        self.edit(insertion_of(pieces, start, stop), false, now)?;
+        Ok(true)
+    }
+}
+
+/// Whether the pieces hold a symbol: a break between two of them, or a character.
+pub fn has_symbol(pieces: &[String]) -> bool
+    ensures { result ≡ is_filled (text_of pieces.now) }
+{
+    if pieces.is_empty() {
+        return false;
+    }
+    1 < pieces.len() || !pieces[0].is_empty()
+}
+
+// The pieces, put in between two places.
+fn insertion_of(mut pieces: Vec<String>, start: (usize, usize), stop: (usize, usize)) -> Edit
+    requires { 0 < vec_len pieces }
+    ensures splice { result.splice ≡ insertion start (text_of pieces.items) }
+    ensures stop { result.stop ≡ stop }
+    ensures pieces { IfSome result.pieces (λ n. 2 ≤ n) }
+{
+    if 1 < pieces.len() {
+        return Edit::between(EditKind::InsertChunk(pieces), start, stop);
+    }
+    let text = pieces.pop().unwrap();
+    Edit::between(EditKind::InsertStr(text), start, stop)
+}

@@ -1,0 +1,177 @@
+//! Removals from a document.
+ghost use Rattle.std.specs.Prelude.{◌≡◌, ◌<◌, ◌≤◌, OnOk, OnErr, IsOk, IfOk, IfSome, MatchOption, not, true, false, ◌==◌, ◌++◌, ◌∷◌, ◌+◌, None, [], drop, length, vec_len};
+ghost use Rattle.std.specs.Str.{chars};
+ghost use Rattle.std.specs.Duration.{as_nanos};
+ghost use Rattle.textarea_text.specs.Text.{lines_of, symbol_in, text_of};
+ghost use Rattle.textarea_text.specs.Place.{IsPlace, IsPlaceOf, index_of};
+ghost use Rattle.textarea_history.specs.Edit.{inserts_of, pieces_of, symbols_of};
+ghost use Rattle.textarea_pieces.specs.Part.{part};
+ghost use Rattle.textarea_document.specs.Edits.{IsSymbolBehind, is_at_end, is_at_start, without_before, without_behind, without_break, without_part};
+
+use crate::document::Document;
+use std::alloc::AllocError;
+use std::time::Duration;
+use textarea_history::history::{Edit, EditKind};
+use textarea_pieces::part::between;
+use textarea_text::rows;
+
+impl Document {
+    /// Takes out what stands between two places of the text.
+    pub fn remove(
+        &mut self,
+        from: (usize, usize),
+        to: (usize, usize),
+        now: Duration,
+    ) -> Result<(), AllocError>
+        requires from { IsPlace self.old.text from }
+        requires to { IsPlace self.old.text to }
+        requires ordered { index_of self.old.text from < index_of self.old.text to }
+        ensures ok { OnOk result (self.new ≡ without_part self.old from to (as_nanos now)) }
+        ensures err { OnErr result (self.new ≡ self.old) }
+    {
+        let pieces = between(self.allocator(), self.lines(), from, to)?;
+        self.edit(removal_of(pieces, from, to), false, now)
+    }
+
+    /// Takes out what stands between two places of the text, and hands it out as pieces with a line break between each
+    /// two.
+    pub fn take(
+        &mut self,
+        from: (usize, usize),
+        to: (usize, usize),
+        now: Duration,
+    ) -> Result<Vec<String>, AllocError>
+        requires from { IsPlace self.old.text from }
+        requires to { IsPlace self.old.text to }
+        requires ordered { index_of self.old.text from < index_of self.old.text to }
+        ensures taken { IfOk result (λ pieces. text_of pieces.items ≡ part self.old.text from to) }
+        ensures ok { OnOk result (self.new ≡ without_part self.old from to (as_nanos now)) }
+        ensures err { OnErr result (self.new ≡ self.old) }
+    {
+        let pieces = between(self.allocator(), self.lines(), from, to)?;
+        self.remove(from, to, now)?;
+        Ok(pieces)
+    }
+
+    /// Takes out the character before the cursor, or at column 0 the line break there, as a typed edit or not, and says
+    /// whether there was one. At the start of the text it takes no memory.
+    pub fn remove_before(&mut self, typed: bool, now: Duration) -> Result<bool, AllocError>
+        ensures removed { IfOk result (λ removed. removed ≡ not (is_at_start self.old)) }
+        ensures ok { OnOk result (self.new ≡ without_before self.old typed (as_nanos now)) }
+        ensures err { OnErr result (self.new ≡ self.old) }
+        ensures nothing { is_at_start self.old ≡ true → IsOk result }
+    {
+        let cursor = self.cursor();
+        let Some(before) = rows::symbol_before(self.lines(), cursor) else {
+            self.set_anchor(None);
+            return Ok(false);
+        };
+        let kind = deletion_of(before.character);
+        self.edit(Edit::between(kind, cursor, before.start), typed, now)?;
+        Ok(true)
+    }
+
+    /// Takes out the character behind the cursor, or at a line's end the line break there, as a typed edit or not, and
+    /// says whether there was one. At the end of the text it takes no memory.
+    pub fn remove_behind(&mut self, typed: bool, now: Duration) -> Result<bool, AllocError>
+        ensures removed { IfOk result (λ removed. removed ≡ not (is_at_end self.old)) }
+        ensures ok { OnOk result (self.new ≡ without_behind self.old typed (as_nanos now)) }
+        ensures err { OnErr result (self.new ≡ self.old) }
+        ensures nothing { is_at_end self.old ≡ true → IsOk result }
+    {
+        let cursor = self.cursor();
+        let Some(behind) = symbol_behind(self.lines(), cursor) else {
+            self.set_anchor(None);
+            return Ok(false);
+        };
+        let kind = deletion_of(behind.character);
+        self.edit(Edit::between(kind, behind.end, cursor), typed, now)?;
+        Ok(true)
+    }
+
+    /// Takes out the line break before the cursor's line, and says whether there was one. In the first line it takes no
+    /// memory.
+    pub fn remove_break(&mut self, now: Duration) -> Result<bool, AllocError>
+        ensures removed { IfOk result (λ removed. removed ≡ not (self.old.cursor.0 == 0)) }
+        ensures ok { OnOk result (self.new ≡ without_break self.old (as_nanos now)) }
+        ensures err { OnErr result (self.new ≡ self.old) }
+        ensures nothing { self.old.cursor.0 ≡ 0 → IsOk result }
+    {
+        let (row, _) = self.cursor();
+        if row == 0 {
+            self.set_anchor(None);
+            return Ok(false);
+        }
+        let column = rows::column_count(self.lines()[row - 1].as_str());
+        let start = (row - 1, column);
+        self.edit(
+            Edit::between(EditKind::DeleteNewline, (row, 0), start),
+            false,
+            now,
+        )?;
+        Ok(true)
+    }
+}
+
+// What stands directly behind a place, and where it ends: a character, or none for the break between two lines.
+#[derive(Clone, Copy)]
+struct SymbolBehind {
+    end: (usize, usize),
+    character: Option<char>,
+}
+
+// The symbol behind the place; none at the end of the text.
+fn symbol_behind(lines: &[String], place: (usize, usize)) -> Option<SymbolBehind>
+    requires { IsPlaceOf (lines_of lines.now) place }
+    ensures { MatchOption result (index_of (text_of lines.now) place ≡ length (text_of lines.now))
+        (λ behind. IsSymbolBehind (text_of lines.now) place behind.end (symbol_in behind.character)) }
+{
+    let (row, column) = place;
+    if let Some(c) = character_behind(lines[row].as_str(), column) {
+        return Some(SymbolBehind {
+            end: (row, column + 1),
+            character: Some(c),
+        });
+    }
+    if row + 1 == lines.len() {
+        return None;
+    }
+    Some(SymbolBehind {
+        end: (row + 1, 0),
+        character: None,
+    })
+}
+
+// The character behind the column of a line; none at the line's end.
+fn character_behind(line: &str, column: usize) -> Option<char>
+    requires { column ≤ length (chars line.now) }
+    ensures { MatchOption result (column ≡ length (chars line.now)) (λ c. drop column (chars line.now) ≡ c ∷ drop (column + 1) (chars line.now)) }
+{
+    line[rows::byte_offset(line, column)..].chars().next()
+}
+
+// The pieces, which stand between two places, taken out.
+fn removal_of(mut pieces: Vec<String>, start: (usize, usize), stop: (usize, usize)) -> Edit
+    requires { 0 < vec_len pieces }
+    ensures splice { result.splice ≡ record { place = start; symbols = text_of pieces.items; inserts = false } }
+    ensures stop { result.stop ≡ stop }
+    ensures pieces { IfSome result.pieces (λ n. 2 ≤ n) }
+{
+    if 1 < pieces.len() {
+        return Edit::between(EditKind::DeleteChunk(pieces), stop, start);
+    }
+    let text = pieces.pop().unwrap();
+    Edit::between(EditKind::DeleteStr(text), stop, start)
+}
+
+// The removal of a character, or of a break where there is none.
+fn deletion_of(character: Option<char>) -> EditKind
+    ensures symbols { symbols_of result ≡ symbol_in character ∷ [] }
+    ensures inserts { inserts_of result ≡ false }
+    ensures pieces { pieces_of result ≡ None }
+{
+    match character {
+        Some(c) => EditKind::DeleteChar(c),
+        None => EditKind::DeleteNewline,
+    }
+}

@@ -1,0 +1,61 @@
+//! What is selected in a document.
+ghost use Rattle.std.specs.Prelude.{◌≡◌, ◌<◌, ◌≤◌, OnOk, OnErr, IsOk, IfOk, IfSome, MatchOption, true, false};
+ghost use Rattle.std.specs.Duration.{as_nanos};
+ghost use Rattle.textarea_text.specs.Place.{IsPlace, index_of};
+ghost use Rattle.textarea_document.specs.Selection.{is_before, is_selected, selection, selection_end, selection_start, without_selected};
+
+use crate::document::Document;
+use std::alloc::AllocError;
+use std::time::Duration;
+
+impl Document {
+    /// The two ends of the selection, the first one first; of an empty selection too.
+    pub fn selection(&self) -> Option<((usize, usize), (usize, usize))>
+        ensures value { result ≡ selection self.now }
+        ensures places { IfSome result (λ ends. IsPlace self.now.text ends.0 × IsPlace self.now.text ends.1) }
+    {
+        let cursor = self.cursor();
+        let anchor = self.anchor()?;
+        Some(if comes_before(cursor, anchor) {
+            (cursor, anchor)
+        } else {
+            (anchor, cursor)
+        })
+    }
+
+    /// The two ends of what is selected, the first one first; none where no symbol is selected.
+    pub fn selected(&self) -> Option<((usize, usize), (usize, usize))>
+        ensures found { MatchOption result (is_selected self.now ≡ false) (λ ends. is_selected self.now ≡ true) }
+        ensures ends { IfSome result (λ ends. ends ≡ (selection_start self.now, selection_end self.now)) }
+        ensures places { IfSome result (λ ends. IsPlace self.now.text ends.0 × IsPlace self.now.text ends.1) }
+        ensures ordered { IfSome result (λ ends. index_of self.now.text ends.0 < index_of self.now.text ends.1) }
+    {
+        let (start, end) = self.selection()?;
+        if comes_before(start, end) {
+            Some((start, end))
+        } else {
+            None
+        }
+    }
+
+    /// Takes out what is selected, and says whether there was a symbol; an empty selection stays.
+    pub fn remove_selection(&mut self, now: Duration) -> Result<bool, AllocError>
+        ensures removed { IfOk result (λ removed. removed ≡ is_selected self.old) }
+        ensures ok { OnOk result (self.new ≡ without_selected self.old (as_nanos now)) }
+        ensures err { OnErr result (self.new ≡ self.old) }
+        ensures nothing { is_selected self.old ≡ false → IsOk result }
+    {
+        let Some((start, end)) = self.selected() else {
+            return Ok(false);
+        };
+        self.remove(start, end, now)?;
+        Ok(true)
+    }
+}
+
+// Whether a place comes before another.
+fn comes_before(first: (usize, usize), second: (usize, usize)) -> bool
+    ensures { result ≡ is_before first second }
+{
+    first.0 < second.0 || first.0 == second.0 && first.1 < second.1
+}

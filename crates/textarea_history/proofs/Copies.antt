@@ -1,0 +1,62 @@
+-- Copies of edits, and of a history's list of them.
+use Rattle.std.proofs.Common.{◌≡◌, ◌≤◌, ◌-◌, ℕ, zero, suc, List, [], ◌∷◌, length, map, Option, Some, None, sym, ap, refl, ◌∙◌, arith, subst, slice_get, String, string_bytes}
+use Rattle.std.specs.List.{AllZip}
+use Rattle.std.specs.Option.{IfSome}
+use Rattle.std.specs.Str.{chars}
+use Rattle.std.proofs.lemmas.List.Elements.{AllZip-get_or, length_all_zip}
+use Rattle.textarea_text.specs.Place.{end}
+use Rattle.textarea_text.specs.Splice.{Splice}
+use Rattle.textarea_text.specs.Text.{lines_of}
+use Rattle.textarea_history.specs.Edit.{Stored, IsCopyOfEdit, IsWellFormed}
+use Rattle.textarea_history.specs.Log.{edge_of}
+use Rattle.textarea_history.specs.Store.{splice_in, IsRun, RunIs, IsStore}
+
+-- ---- the pieces of a chunk
+
+pub lines_copied : {Z : Type 0} (pieces copies : List (String Z)) → AllZip (λ s t. string_bytes t ≡ string_bytes s) pieces copies → lines_of copies ≡ lines_of pieces
+lines_copied [] [] h = refl
+lines_copied [] (copy ∷ copies) h = absurd h
+lines_copied (piece ∷ pieces) [] h = absurd h
+lines_copied (piece ∷ pieces) (copy ∷ copies) h =
+    ap (λ t. chars t ∷ lines_of copies) h.0 ∙ ap (λ t. chars (string_bytes piece) ∷ t) (lines_copied pieces copies h.1)
+
+-- ---- the list of edits
+
+pub splices_copied : (items copies : List Stored) → AllZip IsCopyOfEdit items copies → map splice_in copies ≡ map splice_in items
+splices_copied [] [] h = refl
+splices_copied [] (copy ∷ copies) h = absurd h
+splices_copied (edit ∷ items) [] h = absurd h
+splices_copied (edit ∷ items) (copy ∷ copies) h =
+    ap (λ (s : Splice). s ∷ map splice_in copies) h.0.splice ∙ ap (λ (t : List Splice). edit.splice ∷ t) (splices_copied items copies h.1)
+
+formed_copied : (edit copy : Stored) → IsCopyOfEdit edit copy → IsWellFormed edit → IsWellFormed copy
+formed_copied edit copy same h = record {
+  some = omega (arith, h.some, ap (λ (s : Splice). length s.symbols) same.splice);
+  pieces = subst (λ (o : Option ℕ). IfSome o (λ n. 2 ≤ n)) (sym same.pieces) h.pieces;
+  ends = same.stop ∙ h.ends ∙ ap (λ (s : Splice). end s.place s.symbols) (sym same.splice);
+}
+
+run_copied : (edge : ℕ) (items copies : List Stored) (n : ℕ) → AllZip IsCopyOfEdit items copies → IfSome (slice_get items n) (λ edit. IsRun edit edge) → IfSome (slice_get copies n) (λ edit. IsRun edit edge)
+run_copied edge [] [] n h run = run
+run_copied edge [] (copy ∷ copies) n h run = absurd h
+run_copied edge (edit ∷ items) [] n h run = absurd h
+run_copied edge (edit ∷ items) (copy ∷ copies) zero h run = record { grows = h.0.grows ∙ run.grows; edge_is = ap edge_of h.0.splice ∙ run.edge_is }
+run_copied edge (edit ∷ items) (copy ∷ copies) (suc n) h run = run_copied edge items copies n h.1 run
+
+runs_copied : (items copies : List Stored) (index : ℕ) (run : Option ℕ) → AllZip IsCopyOfEdit items copies → length items ≡ length copies → RunIs items index run → RunIs copies index run
+runs_copied items copies index None h same is = is
+runs_copied items copies index (Some edge) h same is = (
+  is.0 ∙ same,
+  omega (arith, is.1),
+  subst (λ n. IfSome (slice_get copies (n - 1)) (λ edit. IsRun edit edge)) same (run_copied edge items copies (length items - 1) h is.2),
+)
+
+pub store_copied : (items copies : List Stored) (index maximum : ℕ) (run : Option ℕ) → AllZip IsCopyOfEdit items copies → IsStore items index maximum run → IsStore copies index maximum run
+store_copied items copies index maximum run h store =
+    let same : length items ≡ length copies = length_all_zip IsCopyOfEdit items copies h in
+    record {
+      sound = λ k d within. formed_copied _ _ (AllZip-get_or IsCopyOfEdit items copies k d d h (omega arith)) (store.sound k d (omega arith));
+      within = omega (arith, store.within);
+      bounded = omega (arith, store.bounded);
+      run_is = runs_copied items copies index run h same store.run_is;
+    }

@@ -1,0 +1,124 @@
+-- Rows of one line that follow each other, and the row that holds an offset.
+use Rattle.std.proofs.Common.{◌≡◌, ℕ, zero, suc, ◌+◌, ◌-◌, ◌<◌, ◌≤◌, max, List, [], ◌∷◌, length, take, drop, get_or, sym, ap, refl, ◌∙◌, arith, subst, encode_utf8_all, String, string_bytes}
+use Rattle.std.proofs.lemmas.List.{length-append}
+use Rattle.std.proofs.lemmas.Str.{encodes-chars, IsUtf8-string_bytes}
+use Rattle.std.specs.List.{concat, AllByRecursion}
+use Rattle.std.specs.Str.{chars}
+use Rattle.textarea_text.specs.Text.{characters_of, lines_of}
+use Rattle.textarea_text.proofs.StringRows.{line_at}
+use Rattle.textarea_text.proofs.Columns.{length_cut}
+use Rattle.textarea_wrap.specs.Columns.{display_end_column}
+use Rattle.textarea_wrap.specs.RowsView.{RowsView}
+use Rattle.textarea_wrap.specs.Cutting.{ranges_from}
+use Rattle.textarea_wrap.specs.Wrapped.{IsWrapped, IsRowRange, AreRowTexts}
+use Rattle.textarea_wrap.specs.declared.wrap.WrapMode.{WrapMode}
+use Rattle.textarea_map.specs.declared.layout.Wrapping.{Wrapping}
+use Rattle.textarea_map.specs.Layout.{AreRowsOf}
+use Rattle.textarea_map.specs.Map.{ranges_at, row_total}
+use Rattle.textarea_map.specs.Seen.{HoldsOffset, offset_of, range_at}
+
+-- a row begins where the one before it ends
+next_range : (at : ℕ) (texts : List (List ℕ)) (k : ℕ) → k + 1 < length (ranges_from at texts) → (range_at (ranges_from at texts) (k + 1)).0 ≡ (range_at (ranges_from at texts) k).1
+next_range at [] k within = absurd (omega arith)
+next_range at (t ∷ []) k within = absurd (omega arith)
+next_range at (t ∷ u ∷ rest) zero within = refl
+next_range at (t ∷ u ∷ rest) (suc k) within = next_range (at + length t) (u ∷ rest) k (omega arith)
+
+-- the last row ends where the line does
+last_range : (at : ℕ) (texts : List (List ℕ)) (k : ℕ) → k + 1 ≡ length (ranges_from at texts) → (range_at (ranges_from at texts) k).1 ≡ at + length (concat texts)
+last_range at [] k last = absurd (omega arith)
+last_range at (t ∷ []) zero last = omega (arith, length-append t [])
+last_range at (t ∷ []) (suc k) last = absurd (omega arith)
+last_range at (t ∷ u ∷ rest) zero last = absurd (omega arith)
+last_range at (t ∷ u ∷ rest) (suc k) last =
+    omega (arith, last_range (at + length t) (u ∷ rest) k (omega arith), length-append t (concat (u ∷ rest)))
+
+some_texts : (mode : WrapMode) (tab_len width : ℕ) (line : List ℕ) (texts : List (List ℕ)) → AreRowTexts mode tab_len width line texts → concat texts ≡ line → 0 < length texts
+some_texts mode tab_len width [] texts cut joined = omega (arith, ap length cut)
+some_texts mode tab_len width (byte ∷ line) [] cut joined = absurd (omega (arith, ap length joined))
+some_texts mode tab_len width (byte ∷ line) (t ∷ texts) cut joined = omega arith
+
+length-ranges_from : (at : ℕ) (texts : List (List ℕ)) → length (ranges_from at texts) ≡ length texts
+length-ranges_from at [] = refl
+length-ranges_from at (t ∷ texts) = ap suc (length-ranges_from (at + length t) texts)
+
+first_range : (at : ℕ) (texts : List (List ℕ)) → 0 < length texts → (range_at (ranges_from at texts) 0).0 ≡ at
+first_range at [] some = absurd (omega arith)
+first_range at (t ∷ texts) some = refl
+
+-- a line has a row, and the first begins where the line does
+pub some_rows : (mode : WrapMode) (tab_len width : ℕ) (line : List ℕ) (ranges : List (ℕ × ℕ)) → IsWrapped mode tab_len width line ranges → 0 < length ranges
+some_rows mode tab_len width line ranges h =
+    omega (arith, some_texts mode tab_len width line h.texts h.cut h.joined, length-ranges_from 0 h.texts, ap length h.ranges_are)
+
+pub first_begins : (mode : WrapMode) (tab_len width : ℕ) (line : List ℕ) (ranges : List (ℕ × ℕ)) → IsWrapped mode tab_len width line ranges → (range_at ranges 0).0 ≡ 0
+first_begins mode tab_len width line ranges h =
+    ap (λ (t : List (ℕ × ℕ)). (range_at t 0).0) h.ranges_are ∙ first_range 0 h.texts (some_texts mode tab_len width line h.texts h.cut h.joined)
+
+ends : (row n offset end : ℕ) → row < n → (row + 1 < n → offset < end) → (row + 1 ≡ n → offset ≤ end) → offset ≤ end
+ends row zero offset end within before last = absurd (omega arith)
+ends zero (suc zero) offset end within before last = last refl
+ends zero (suc (suc n)) offset end within before last = omega (arith, before (omega arith))
+ends (suc row) (suc n) offset end within before last =
+    ends row n offset end (omega arith) (λ h. before (omega (arith, h))) (λ e. last (omega (arith, e)))
+
+-- the last row that begins at an offset or before it holds it
+pub holds_offset : (mode : WrapMode) (tab_len width : ℕ) (line : List ℕ) (ranges : List (ℕ × ℕ)) (row offset : ℕ) → IsWrapped mode tab_len width line ranges → offset ≤ length line → row < length ranges → (range_at ranges row).0 ≤ offset → (row + 1 < length ranges → offset < (range_at ranges (row + 1)).0) → HoldsOffset ranges row offset
+holds_offset mode tab_len width line ranges row offset h inside within from next =
+    let before : row + 1 < length ranges → offset < (range_at ranges row).1 =
+    λ more. omega (arith, next more, ap (λ (t : List (ℕ × ℕ)). (range_at t (row + 1)).0) h.ranges_are, ap (λ (t : List (ℕ × ℕ)). (range_at t row).1) h.ranges_are, next_range 0 h.texts row (omega (arith, more, ap length h.ranges_are))) in
+    let last : row + 1 ≡ length ranges → offset ≤ (range_at ranges row).1 =
+    λ e. omega (arith, ap (λ (t : List (ℕ × ℕ)). (range_at t row).1) h.ranges_are, last_range 0 h.texts row (omega (arith, e, ap length h.ranges_are)), ap length h.joined) in
+    record {
+      within = within;
+      from = from;
+      to = ends row (length ranges) offset (range_at ranges row).1 within before last;
+      before_next = before;
+    }
+
+-- one line of some
+pub rows_at : (w : Wrapping) (lines : List (List ℕ)) (rows : List RowsView) (i : ℕ) → AreRowsOf w lines rows → i < length lines → IsWrapped w.mode w.tab_len (max w.width 1) (encode_utf8_all (get_or lines i [])) (ranges_at rows i)
+rows_at w [] rows i h within = absurd (omega arith)
+rows_at w (line ∷ lines) [] i h within = absurd h
+rows_at w (line ∷ lines) (r ∷ rows) zero h within = h.0
+rows_at w (line ∷ lines) (r ∷ rows) (suc i) h within = rows_at w lines rows i h.1 (omega arith)
+
+all_ranges : (line : List ℕ) (ranges : List (ℕ × ℕ)) (row : ℕ) → AllByRecursion (IsRowRange line) ranges → row < length ranges → IsRowRange line (range_at ranges row)
+all_ranges line [] row h within = absurd (omega arith)
+all_ranges line (range ∷ ranges) zero h within = h.0
+all_ranges line (range ∷ ranges) (suc row) h within = all_ranges line ranges row h.1 (omega arith)
+
+pub range_is : (mode : WrapMode) (tab_len width : ℕ) (line : List ℕ) (ranges : List (ℕ × ℕ)) (row : ℕ) → IsWrapped mode tab_len width line ranges → row < length ranges → IsRowRange line (range_at ranges row)
+range_is mode tab_len width line ranges row h within = all_ranges line ranges row h.placed within
+
+-- the bytes of a line, from its `String` and from its characters
+pub bytes_of_line : {Z : Type 0} (items : List (String Z)) (i : ℕ) (line : String Z) (text : List ℕ) → i < length items → line ≡ get_or items i line → text ≡ string_bytes line → text ≡ encode_utf8_all (get_or (lines_of items) i [])
+bytes_of_line items i line text within read same =
+    same ∙ sym (encodes-chars (string_bytes line) (IsUtf8-string_bytes line)) ∙ ap encode_utf8_all (sym (line_at items i line within read))
+
+-- the rows of a line are some of all
+pub row_total-at : (rows : List RowsView) (i : ℕ) → i < length rows → row_total (take i rows) + length (ranges_at rows i) ≤ row_total rows
+row_total-at [] i within = absurd (omega arith)
+row_total-at (r ∷ rows) zero within = omega arith
+row_total-at (r ∷ rows) (suc i) within = omega (arith, row_total-at rows i (omega arith))
+
+-- ---- a row and an offset as the code has them
+
+pub cut_of : (w : Wrapping) (lines : List (List ℕ)) (rows : List RowsView) (i : ℕ) (ranges : List (ℕ × ℕ)) → ranges ≡ ranges_at rows i → AreRowsOf w lines rows → i < length lines → IsWrapped w.mode w.tab_len (max w.width 1) (encode_utf8_all (get_or lines i [])) ranges
+cut_of w lines rows i ranges e h within =
+    subst (λ (t : List (ℕ × ℕ)). IsWrapped w.mode w.tab_len (max w.width 1) (encode_utf8_all (get_or lines i [])) t) (sym e) (rows_at w lines rows i h within)
+
+pub offset_is : {Z : Type 0} (items : List (String Z)) (i column offset : ℕ) (line : String Z) (text : List ℕ) → i < length items → line ≡ get_or items i line → text ≡ string_bytes line → offset ≡ length (encode_utf8_all (take column (chars text))) → offset ≡ offset_of (get_or (lines_of items) i []) column
+offset_is items i column offset line text within read same e =
+    e ∙ ap (λ (t : List ℕ). length (encode_utf8_all (take column (chars t)))) same
+    ∙ ap (λ (t : List ℕ). length (encode_utf8_all (take column t))) (sym (line_at items i line within read))
+
+pub offset_within : {Z : Type 0} (line : String Z) (text : List ℕ) (column offset : ℕ) → text ≡ string_bytes line → offset ≡ length (encode_utf8_all (take column (chars text))) → offset ≤ length text
+offset_within line text column offset same e =
+    omega (arith, e, ap length same, ap (λ (t : List ℕ). length (encode_utf8_all (take column (chars t)))) same, length_cut (string_bytes line) column (IsUtf8-string_bytes line))
+
+pub column_same : (tab_len start start' offset offset' : ℕ) (text text' : List ℕ) → start ≡ start' → offset ≡ offset' → text ≡ text' → display_end_column tab_len 0 (chars (take (offset - start) (drop start text))) ≡ display_end_column tab_len 0 (chars (take (offset' - start') (drop start' text')))
+column_same tab_len start start' offset offset' text text' a b e =
+    ap (λ (n : ℕ). display_end_column tab_len 0 (chars (take (offset - n) (drop n text)))) a
+    ∙ ap (λ (n : ℕ). display_end_column tab_len 0 (chars (take (n - start') (drop start' text)))) b
+    ∙ ap (λ (t : List ℕ). display_end_column tab_len 0 (chars (take (offset' - start') (drop start' t)))) e

@@ -1,0 +1,117 @@
+-- The numbers of lines' first rows, as lines give place to others.
+use Rattle.std.proofs.Common.{◌≡◌, ℕ, zero, suc, ◌+◌, ◌-◌, ◌≤◌, ◌<◌, List, [], ◌∷◌, ◌++◌, length, take, drop, get_or, set, sym, ap, refl, ◌∙◌, arith}
+use Rattle.std.proofs.lemmas.List.{take_more, take-append-drop, take_more_set, take_at, take-take, take-append-le, length-take, length-take-le}
+use Rattle.std.proofs.Math.Seq.{take-add}
+use Rattle.textarea_text.proofs.Replacing.{take_two, drop_two}
+use Rattle.textarea_wrap.specs.RowsView.{RowsView}
+use Rattle.textarea_map.specs.Map.{row_total, firsts_from}
+use Rattle.textarea_text.specs.Replaced.{replaced}
+
+pub row_total-append : (rows more : List RowsView) → row_total (rows ++ more) ≡ row_total rows + row_total more
+row_total-append [] more = omega arith
+row_total-append (r ∷ rows) more = omega (arith, row_total-append rows more)
+
+pub row_total-take_drop : (n : ℕ) (rows : List RowsView) → row_total (take n rows) + row_total (drop n rows) ≡ row_total rows
+row_total-take_drop n rows = sym (row_total-append (take n rows) (drop n rows)) ∙ ap row_total (take-append-drop n rows)
+
+-- one line more
+pub row_total-more : (rows : List RowsView) (i : ℕ) (r : RowsView) → i < length rows → r ≡ get_or rows i r → row_total (take (i + 1) rows) ≡ row_total (take i rows) + length r.ranges
+row_total-more rows i r within e =
+    ap row_total (take_more rows i r within) ∙ row_total-append (take i rows) (get_or rows i r ∷ [])
+    ∙ ap (λ (s : RowsView). row_total (take i rows) + (length s.ranges + 0)) (sym e) ∙ omega arith
+
+pub row_total-take_le : (n : ℕ) (rows : List RowsView) → row_total (take n rows) ≤ row_total rows
+row_total-take_le n rows = omega (arith, row_total-take_drop n rows)
+
+-- the rows of the lines that give place, and of those that come for them
+pub row_total-replaced : (rows new : List RowsView) (start count : ℕ) → row_total (replaced rows start count new) + row_total (take (start + count) rows) ≡ row_total rows + row_total (take start rows) + row_total new
+row_total-replaced rows new start count =
+    omega (arith, row_total-append (take start rows) (new ++ drop (start + count) rows), row_total-append new (drop (start + count) rows), row_total-take_drop (start + count) rows)
+
+pub length-firsts : (first : ℕ) (rows : List RowsView) → length (firsts_from first rows) ≡ length rows
+length-firsts first [] = refl
+length-firsts first (r ∷ rows) = ap suc (length-firsts (first + length r.ranges) rows)
+
+pub get_or-firsts : (first : ℕ) (rows : List RowsView) (i d : ℕ) → i < length rows → get_or (firsts_from first rows) i d ≡ first + row_total (take i rows)
+get_or-firsts first [] i d within = absurd (omega arith)
+get_or-firsts first (r ∷ rows) zero d within = omega arith
+get_or-firsts first (r ∷ rows) (suc i) d within = get_or-firsts (first + length r.ranges) rows i d (omega arith) ∙ omega arith
+
+firsts-append : (first : ℕ) (rows more : List RowsView) → firsts_from first (rows ++ more) ≡ firsts_from first rows ++ firsts_from (first + row_total rows) more
+firsts-append first [] more = ap (λ n. firsts_from n more) (omega arith)
+firsts-append first (r ∷ rows) more =
+    ap (λ t. first ∷ t)
+    (firsts-append (first + length r.ranges) rows more
+    ∙ ap (λ n. firsts_from (first + length r.ranges) rows ++ firsts_from n more) (omega arith))
+
+pub take-firsts : (first n : ℕ) (rows : List RowsView) → take n (firsts_from first rows) ≡ firsts_from first (take n rows)
+take-firsts first zero rows = refl
+take-firsts first (suc n) [] = refl
+take-firsts first (suc n) (r ∷ rows) = ap (λ t. first ∷ t) (take-firsts (first + length r.ranges) n rows)
+
+pub drop-firsts : (first n : ℕ) (rows : List RowsView) → drop n (firsts_from first rows) ≡ firsts_from (first + row_total (take n rows)) (drop n rows)
+drop-firsts first zero rows = ap (λ k. firsts_from k rows) (omega arith)
+drop-firsts first (suc n) [] = refl
+drop-firsts first (suc n) (r ∷ rows) = drop-firsts (first + length r.ranges) n rows ∙ ap (λ k. firsts_from k (drop n rows)) (omega arith)
+
+-- ---- a loop that numbers lines
+
+pub numbered_more : (rows : List RowsView) (firsts : List ℕ) (i at : ℕ) → i < length rows → length firsts ≡ length rows → at ≡ row_total (take i rows) → take i firsts ≡ take i (firsts_from 0 rows) → take (i + 1) (set firsts i at) ≡ take (i + 1) (firsts_from 0 rows)
+numbered_more rows firsts i at within size e above =
+    take_more_set firsts i at (omega arith)
+    ∙ ap (λ t. t ++ at ∷ []) above
+    ∙ ap (λ (n : ℕ). take i (firsts_from 0 rows) ++ n ∷ []) (e ∙ omega arith ∙ sym (get_or-firsts 0 rows i 0 within))
+    ∙ sym (take_more (firsts_from 0 rows) i 0 (omega (arith, length-firsts 0 rows)))
+
+pub numbered_all : (rows : List RowsView) (firsts : List ℕ) (n : ℕ) → take n firsts ≡ take n (firsts_from 0 rows) → drop n firsts ≡ drop n (firsts_from 0 rows) → firsts ≡ firsts_from 0 rows
+numbered_all rows firsts n above below =
+    sym (take-append-drop n firsts) ∙ ap (λ t. t ++ drop n firsts) above ∙ ap (λ t. take n (firsts_from 0 rows) ++ t) below ∙ take-append-drop n (firsts_from 0 rows)
+
+-- ---- lines give place to others
+
+pub row_total-span : (rows : List RowsView) (row count : ℕ) → row_total (take row rows) ≤ row_total (take (row + count) rows)
+row_total-span rows row count =
+    omega (arith, ap row_total (take-add row count rows), row_total-append (take row rows) (take count (drop row rows)))
+
+take-replaced : (rows new : List RowsView) (row count : ℕ) → row ≤ length rows → take row (replaced rows row count new) ≡ take row rows
+take-replaced rows new row count within = take_at (take row rows) (new ++ drop (row + count) rows) row (length-take-le row rows within)
+
+pub first_replaced : (rows new : List RowsView) (row count : ℕ) → row ≤ length rows → row_total (take row (replaced rows row count new)) ≡ row_total (take row rows)
+first_replaced rows new row count within = ap row_total (take-replaced rows new row count within)
+
+-- the lines above keep their numbers
+pub numbers_above : (rows new : List RowsView) (firsts : List ℕ) (row count : ℕ) → row ≤ length rows → firsts ≡ firsts_from 0 rows → take row firsts ≡ take row (firsts_from 0 (replaced rows row count new))
+numbers_above rows new firsts row count within e =
+    ap (take row) e ∙ take-firsts 0 row rows
+    ∙ ap (firsts_from 0) (sym (take-replaced rows new row count within))
+    ∙ sym (take-firsts 0 row (replaced rows row count new))
+
+-- so do the lines below, where as many lines with as many rows came
+pub numbers_below : (rows new : List RowsView) (firsts : List ℕ) (row count : ℕ) → row + count ≤ length rows → length new ≡ count → row_total (take (row + count) rows) ≡ row_total (take row rows) + row_total new → firsts ≡ firsts_from 0 rows → drop (row + count) firsts ≡ drop (row + count) (firsts_from 0 (replaced rows row count new))
+numbers_below rows new firsts row count within size same e =
+    let seam : length (take row rows) + length new ≡ row + count = omega (arith, length-take-le row rows (omega arith)) in
+    let now : row_total (take (row + count) (replaced rows row count new)) ≡ row_total (take (row + count) rows) =
+    ap row_total (take_two (take row rows) new (drop (row + count) rows) (row + count) seam) ∙ row_total-append (take row rows) new ∙ sym same in
+    ap (drop (row + count)) e ∙ drop-firsts 0 (row + count) rows
+    ∙ ap (λ n. firsts_from (0 + n) (drop (row + count) rows)) (sym now)
+    ∙ ap (λ t. firsts_from (0 + row_total (take (row + count) (replaced rows row count new))) t) (sym (drop_two (take row rows) new (drop (row + count) rows) (row + count) seam))
+    ∙ sym (drop-firsts 0 (row + count) (replaced rows row count new))
+
+-- numbers that are cut off or filled up behind the row
+pub resized_above : (firsts filling : List ℕ) (row n : ℕ) → row ≤ n → row ≤ length firsts → take row (take n firsts ++ filling) ≡ take row firsts
+resized_above firsts filling row n within there =
+    take-append-le row (take n firsts) filling (omega (arith, length-take n firsts)) ∙ take-take row n firsts within
+
+-- the number of rows afterwards, from the numbers of the first row that goes and of the one behind the last
+pub total_replaced : (rows new : List RowsView) (row count total first end more : ℕ) → first ≡ row_total (take row rows) → end ≡ row_total (take (row + count) rows) → total ≡ row_total rows → more ≡ row_total new → total - (end - first) + more ≡ row_total (replaced rows row count new)
+total_replaced rows new row count total first end more a b c d =
+    omega (arith, row_total-span rows row count, row_total-take_le (row + count) rows, row_total-replaced rows new row count)
+
+-- ---- look-ups
+
+pub number_at : (firsts : List ℕ) (rows : List RowsView) (i x : ℕ) → firsts ≡ firsts_from 0 rows → i < length rows → x ≡ get_or firsts i x → x ≡ row_total (take i rows)
+number_at firsts rows i x e within read = read ∙ ap (λ t. get_or t i x) e ∙ get_or-firsts 0 rows i x within ∙ omega arith
+
+pub some_lines : (rows : List RowsView) (row : ℕ) → row < row_total rows → 0 < length rows
+some_lines [] row h = absurd (omega arith)
+some_lines (r ∷ rows) row h = omega arith

@@ -1,0 +1,5 @@
+//! The visual rows of all lines of a text, kept line by line.
+#![tactic(auto)]
+
+pub mod layout;
+pub mod screen_map;

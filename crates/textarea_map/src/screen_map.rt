@@ -1,0 +1,276 @@
+//! The rows of each line of a text, kept line by line with the number of the line's first visual row. Visual rows are counted
+//! from 0 over all lines.
+ghost use Rattle.std.specs.Prelude.{◌≡◌, ◌+◌, ◌<◌, ◌≤◌, ◌^◌, [], length, take, drop, get_or, encode_utf8_all, vec_len, vec_capacity, IfOk, OnOk};
+ghost use Rattle.textarea_text.specs.Text.{lines_of};
+ghost use Rattle.textarea_text.specs.Place.{IsPlaceOf};
+ghost use Rattle.textarea_text.specs.Replaced.{replaced};
+ghost use Rattle.textarea_map.specs.Layout.{AreFresh, AreRowsOf};
+ghost use Rattle.textarea_map.specs.Map.{IsReady, firsts_from, ranges_at, row_total};
+ghost use Rattle.textarea_map.specs.Seen.{IsSeenAt, range_at};
+
+use crate::layout::{MAX_ROWS, Wrapping, count_rows, push_rows};
+use std::alloc::{AllocError, Global};
+use std::marker::Model;
+use textarea_text::replace::put_in;
+use textarea_text::rows::byte_offset;
+use textarea_wrap::wrap::columns::display_column_behind_text;
+use textarea_wrap::wrap::{Rows, WrapCount};
+
+/// The rows of all lines. They change in two steps: `prepare`, which may find no memory and leaves them as they are, and
+/// `put_in`, which takes no memory and wraps nothing.
+#[derive(Drop)]
+pub struct ScreenMap {
+    rows: Vec<Rows>,
+    firsts: Vec<usize>,
+    total: usize,
+}
+
+impl Model for ScreenMap {
+    ghost use Rattle.std.specs.Prelude.{◌-◌, min, vec_len, vec_capacity};
+    ghost use Rattle.textarea_map.specs.Map.{MapView, IsNumbered};
+
+    ghost Value = { MapView };
+
+    ghost view = { λ map. record {
+      rows = map.rows.items;
+      room = min (vec_capacity map.rows - vec_len map.rows) (vec_capacity map.firsts - vec_len map.firsts);
+    } };
+
+    ghost invariant = { λ map. IsNumbered map.rows.items map.firsts.items map.total };
+}
+
+/// Rows that are to take the place of those of the `count` lines from `row` on, and how many they are in all. A map made room
+/// for them.
+#[derive(Drop)]
+pub struct PreparedRows {
+    pub row: usize,
+    pub count: usize,
+    pub rows: Vec<Rows>,
+    pub total: usize,
+}
+
+impl ScreenMap {
+    /// The map of the lines, each of which is cut once. Lines of more than 2^48 rows in all are answered with an `AllocError`.
+    pub fn new(
+        alloc: Global,
+        lines: &[String],
+        wrapping: Wrapping,
+        counter: &mut WrapCount,
+    ) -> Result<ScreenMap, AllocError>
+        ensures counted { OnOk result (counter.new ≡ counter.old + length lines.now) }
+        ensures rows { IfOk result (λ map. AreRowsOf wrapping (lines_of lines.now) map.rows) }
+        ensures fresh { IfOk result (λ map. AreFresh counter.old map.rows) }
+    {
+        let mut map = ScreenMap {
+            rows: Vec::new(alloc),
+            firsts: Vec::new(alloc),
+            total: 0,
+        };
+        let prepared = map.prepare(alloc, 0, 0, lines, wrapping, counter)?;
+        map.put_in(prepared);
+        Ok(map)
+    }
+
+    /// Cuts the lines that are to take the place of the `count` lines from `row` on, each once, and makes room for their rows.
+    /// The rows of the map stay as they are. A map that would have more than 2^48 rows is answered with an `AllocError`.
+    pub fn prepare(
+        &mut self,
+        alloc: Global,
+        row: usize,
+        count: usize,
+        lines: &[String],
+        wrapping: Wrapping,
+        counter: &mut WrapCount,
+    ) -> Result<PreparedRows, AllocError>
+        requires { row + count ≤ length self.old.rows }
+        ensures same { self.new.rows ≡ self.old.rows }
+        ensures ready { IfOk result (λ prepared. IsReady self.new prepared) }
+        ensures row { IfOk result (λ prepared. prepared.row ≡ row) }
+        ensures count { IfOk result (λ prepared. prepared.count ≡ count) }
+        ensures rows { IfOk result (λ prepared. AreRowsOf wrapping (lines_of lines.now) prepared.rows.items) }
+        ensures fresh { IfOk result (λ prepared. AreFresh counter.old prepared.rows.items) }
+        ensures counted { OnOk result (counter.new ≡ counter.old + length lines.now) }
+    {
+        let mut rows = Vec::with_capacity(alloc, lines.len())?;
+        push_rows(alloc, &mut rows, lines, wrapping, counter)?;
+        self.make_room(row, count, rows)
+    }
+
+    /// Makes room for rows that are to take the place of those of the `count` lines from `row` on. The rows of the map stay as
+    /// they are. A map that would have more than 2^48 rows is answered with an `AllocError`.
+    pub fn make_room(
+        &mut self,
+        row: usize,
+        count: usize,
+        rows: Vec<Rows>,
+    ) -> Result<PreparedRows, AllocError>
+        requires { row + count ≤ length self.old.rows }
+        ensures same { self.new.rows ≡ self.old.rows }
+        ensures ready { IfOk result (λ prepared. IsReady self.new prepared) }
+        ensures row { IfOk result (λ prepared. prepared.row ≡ row) }
+        ensures count { IfOk result (λ prepared. prepared.count ≡ count) }
+        ensures rows { IfOk result (λ prepared. prepared.rows.items ≡ rows.items) }
+    {
+        let total = count_rows(rows.as_slice())?;
+        let old = self.first_row(row + count) - self.first_row(row);
+        if total > MAX_ROWS - (self.total - old) {
+            return Err(AllocError);
+        }
+        let more = rows.len().saturating_sub(count);
+        self.rows.reserve(more)?;
+        self.firsts.reserve(more)?;
+        Ok(PreparedRows {
+            row,
+            count,
+            rows,
+            total,
+        })
+    }
+
+    /// Puts the rows in, without memory; no line is cut. Where lines and rows stay as many as they were, no other line is
+    /// touched; otherwise the lines behind are numbered anew.
+    pub fn put_in(&mut self, prepared: PreparedRows)
+        requires { IsReady self.old prepared }
+        ensures { self.new.rows ≡ replaced self.old.rows prepared.row prepared.count prepared.rows.items }
+    {
+        let PreparedRows {
+            row,
+            count,
+            rows,
+            total,
+        } = prepared;
+        let len = rows.len();
+        let first = self.first_row(row);
+        let old = self.first_row(row + count) - first;
+        put_in(&mut self.rows, row, count, rows);
+        self.total = self.total - old + total;
+        let lines = self.rows.as_slice();
+        if len == count && old == total {
+            number(self.firsts.as_mut_slice(), lines, row, row + len, first);
+        } else {
+            number_from(&mut self.firsts, lines, row, first);
+        }
+    }
+
+    /// How many visual rows there are.
+    pub fn row_count(&self) -> usize
+        ensures { result ≡ row_total self.now.rows }
+    {
+        self.total
+    }
+
+    /// The first visual row of the line, or the number of visual rows behind the last line.
+    pub fn first_row(&self, line: usize) -> usize
+        requires { line ≤ length self.now.rows }
+        ensures { result ≡ row_total (take line self.now.rows) }
+    {
+        if line < self.firsts.len() {
+            self.firsts[line]
+        } else {
+            self.total
+        }
+    }
+
+    /// The line of the visual row, and the row's number among the rows of that line.
+    pub fn line_of_row(&self, row: usize) -> (usize, usize)
+        requires { row < row_total self.now.rows }
+        ensures line { result.0 < length self.now.rows }
+        ensures row { row_total (take result.0 self.now.rows) + result.1 ≡ row }
+        ensures inside { row < row_total (take (result.0 + 1) self.now.rows) }
+    {
+        let mut low = 0;
+        let mut high = self.firsts.len();
+        'halving: while 1 < high - low {
+            let middle = low + (high - low) / 2;
+            if self.firsts[middle] <= row {
+                low = middle;
+            } else {
+                high = middle;
+            }
+        }
+        (low, row - self.firsts[low])
+    }
+
+    /// For each row of the line the offset in bytes of its first byte, and the offset behind its last one.
+    pub fn rows_of(&self, line: usize) -> &[(usize, usize)]
+        requires { line < length self.now.rows }
+        ensures { result.now ≡ ranges_at self.now.rows line }
+    {
+        self.rows[line].as_slice()
+    }
+
+    /// The visual row in which a place of the map's lines is seen, and its display column there. A tab reaches to the next tab
+    /// stop, and takes one column where there are none.
+    pub fn seen_at(
+        &self,
+        lines: &[String],
+        wrapping: Wrapping,
+        place: (usize, usize),
+    ) -> (usize, usize)
+        requires rows { AreRowsOf wrapping (lines_of lines.now) self.now.rows }
+        requires place { IsPlaceOf (lines_of lines.now) place }
+        requires short { length (encode_utf8_all (get_or (lines_of lines.now) place.0 [])) < 2 ^ 48 }
+        ensures { IsSeenAt wrapping.tab_len (lines_of lines.now) self.now.rows place result }
+    {
+        let line = lines[place.0].as_str();
+        let offset = byte_offset(line, place.1);
+        let ranges = self.rows_of(place.0);
+        let row = row_holding(ranges, offset);
+        let start = ranges[row].0;
+        let column = display_column_behind_text(&line[start..offset], 0, wrapping.tab_len);
+        (self.firsts[place.0] + row, column)
+    }
+}
+
+// The last of the rows of a line that begins at the offset or before it.
+fn row_holding(ranges: &[(usize, usize)], offset: usize) -> usize
+    requires some { 0 < length ranges.now }
+    requires first { (range_at ranges.now 0).0 ≤ offset }
+    ensures within { result < length ranges.now }
+    ensures from { (range_at ranges.now result).0 ≤ offset }
+    ensures next { result + 1 < length ranges.now → offset < (range_at ranges.now (result + 1)).0 }
+{
+    let mut low = 0;
+    let mut high = ranges.len();
+    'halving: while 1 < high - low {
+        let middle = low + (high - low) / 2;
+        if ranges[middle].0 <= offset {
+            low = middle;
+        } else {
+            high = middle;
+        }
+    }
+    low
+}
+
+// Numbers all lines from `from` on, however many lines had numbers before. There is room for them.
+fn number_from(firsts: &mut Vec<usize>, rows: &[Rows], from: usize, first: usize)
+    requires room { length rows.now ≤ vec_capacity firsts.old }
+    requires within { from ≤ length rows.now }
+    requires before { from ≤ vec_len firsts.old }
+    requires first { first ≡ row_total (take from rows.now) }
+    requires small { row_total rows.now ≤ 2 ^ 48 }
+    requires above { take from firsts.old.items ≡ take from (firsts_from 0 rows.now) }
+    ensures { firsts.new.items ≡ firsts_from 0 rows.now }
+{
+    let _ = firsts.resize(rows.len(), 0);
+    number(firsts.as_mut_slice(), rows, from, rows.len(), first);
+}
+
+// Numbers the lines from `from` up to `to` by the rows before them, where the others have their numbers.
+fn number(firsts: &mut [usize], rows: &[Rows], from: usize, to: usize, first: usize)
+    requires ordered { from ≤ to }
+    requires within { to ≤ length rows.now }
+    requires len { length firsts.old ≡ length rows.now }
+    requires first { first ≡ row_total (take from rows.now) }
+    requires small { row_total rows.now ≤ 2 ^ 48 }
+    requires above { take from firsts.old ≡ take from (firsts_from 0 rows.now) }
+    requires below { drop to firsts.old ≡ drop to (firsts_from 0 rows.now) }
+    ensures { firsts.new ≡ firsts_from 0 rows.now }
+{
+    let mut at = first;
+    for i in from..to {
+        firsts[i] = at;
+        at += rows[i].as_slice().len();
+    }
+}

@@ -1,0 +1,5 @@
+pub mod GivenLemmas
+pub mod PartLemmas
+pub mod PlaceLemmas
+pub mod TabLemmas
+pub mod Cases

@@ -1,0 +1,14 @@
+-- Parts of a text, and the nearest places of lines.
+use Rattle.std.specs.Prelude.{ℕ, ◌-◌, List, [], take, drop, length, min, slice_index_or}
+use Rattle.textarea_text.specs.Text.{Symbol}
+use Rattle.textarea_text.specs.Place.{Place, index_of}
+
+-- the symbols of the text between two places
+abbrev pub part : List Symbol → Place → Place → List Symbol
+part text from to = take (index_of text to - index_of text from) (drop (index_of text from) text)
+
+-- the nearest place of the lines: the row at most the last one, the column at most the length of that row's line
+abbrev pub clip : List (List ℕ) → Place → Place
+clip rows place =
+    let row = min place.0 (length rows - 1) in
+    (row, min place.1 (length (slice_index_or rows row [])))

@@ -1,0 +1,49 @@
+//! Parts of a text, cut out of its lines.
+ghost use Rattle.std.specs.Prelude.{◌≡◌, ◌+◌, ◌≤◌, length, take, drop, vec_len, string_bytes, IfOk};
+ghost use Rattle.std.specs.Str.{chars};
+ghost use Rattle.textarea_text.specs.Text.{lines_of, text_of};
+ghost use Rattle.textarea_text.specs.Place.{IsPlaceOf, index_of};
+ghost use Rattle.textarea_pieces.specs.Part.{part};
+
+use std::alloc::{AllocError, Global};
+use textarea_text::rows::byte_offset;
+
+/// The text between two places as pieces: one for each row that it touches.
+pub fn between(
+    alloc: Global,
+    lines: &[String],
+    from: (usize, usize),
+    to: (usize, usize),
+) -> Result<Vec<String>, AllocError>
+    requires from { IsPlaceOf (lines_of lines.now) from }
+    requires to { IsPlaceOf (lines_of lines.now) to }
+    requires ordered { index_of (text_of lines.now) from ≤ index_of (text_of lines.now) to }
+    ensures len { IfOk result (λ pieces. vec_len pieces + from.0 ≡ to.0 + 1) }
+    ensures text { IfOk result (λ pieces. text_of pieces.items ≡ part (text_of lines.now) from to) }
+{
+    let mut pieces = Vec::with_capacity(alloc, to.0 - from.0 + 1)?;
+    let mut start = from.1;
+    for line in &lines[from.0..to.0] {
+        pieces.push(text_behind(alloc, line.as_str(), start)?)?;
+        start = 0;
+    }
+    let last = text_before(lines[to.0].as_str(), to.1);
+    pieces.push(text_behind(alloc, last, start)?)?;
+    Ok(pieces)
+}
+
+/// What stands in a line before the column.
+pub(crate) fn text_before(line: &str, column: usize) -> &str
+    requires { column ≤ length (chars line.now) }
+    ensures { chars result.now ≡ take column (chars line.now) }
+{
+    &line[..byte_offset(line, column)]
+}
+
+// What stands in a line from the column on, as a text of its own.
+fn text_behind(alloc: Global, line: &str, column: usize) -> Result<String, AllocError>
+    requires { column ≤ length (chars line.now) }
+    ensures { IfOk result (λ s. chars (string_bytes s) ≡ drop column (chars line.now)) }
+{
+    String::from_str(alloc, &line[byte_offset(line, column)..])
+}

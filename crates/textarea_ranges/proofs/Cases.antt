@@ -1,0 +1,87 @@
+-- Worked cases of the definitions, each by computing.
+use Rattle.std.proofs.Common.{◌≡◌, ℕ, List, [], ◌∷◌, refl, Some, None}
+use Rattle.textarea_atomic.specs.declared.atomic.AtomicRange.{AtomicRange}
+use Rattle.textarea_atomic.specs.declared.atomic.RejectedAtomicRange.{RejectedAtomicRange}
+use Rattle.textarea_atomic.specs.declared.atomic.AtomicCursorBias.TheVariants.{Backward, Forward}
+use Rattle.textarea_atomic.specs.declared.atomic.AtomicDeleteDirection.TheVariants.{Backward as DeleteBackward, Forward as DeleteForward}
+use Rattle.textarea_atomic.specs.declared.atomic.AtomicRangeRejectReason.{AtomicRangeRejectReason}
+use Rattle.textarea_atomic.specs.declared.atomic.AtomicRangeRejectReason.TheVariants.{Empty, RowOutOfBounds, ColumnOutOfBounds, OverlapsPrevious}
+use Rattle.textarea_ranges.specs.Held.{hit, moved_out, widened}
+use Rattle.textarea_ranges.specs.Order.{in_order}
+use Rattle.textarea_ranges.specs.Rejected.{rejected_of}
+
+abbrev pub part : ℕ → ℕ → ℕ → AtomicRange
+part row start end = record { row = row; start_col = start; end_col = end }
+
+abbrev pub rejected : AtomicRange → AtomicRangeRejectReason → RejectedAtomicRange
+rejected range reason = record { range = range; reason = reason }
+
+-- ---- the line `abc`
+
+abbrev pub abc : List (List ℕ)
+abc = (97 ∷ 98 ∷ 99 ∷ []) ∷ []
+
+-- each reason, once
+abbrev pub tried : List AtomicRange
+tried = part 0 2 4 ∷ part 1 0 1 ∷ part 0 1 1 ∷ part 0 0 2 ∷ part 0 1 3 ∷ []
+
+pub order_case : in_order tried ≡ part 0 0 2 ∷ part 0 1 1 ∷ part 0 1 3 ∷ part 0 2 4 ∷ part 1 0 1 ∷ []
+order_case = refl
+
+pub rejected_case : rejected_of abc (in_order tried) ≡ rejected (part 0 1 1) Empty ∷ rejected (part 0 1 3) OverlapsPrevious ∷ rejected (part 0 2 4) ColumnOutOfBounds ∷ rejected (part 1 0 1) RowOutOfBounds ∷ []
+rejected_case = refl
+
+-- the empty one is refused as that, though its row doesn't exist either
+pub empty_first_case : rejected_of abc (part 7 5 5 ∷ []) ≡ rejected (part 7 5 5) Empty ∷ []
+empty_first_case = refl
+
+-- it starts behind its end in a row that doesn't exist
+pub row_second_case : rejected_of abc (part 7 5 4 ∷ []) ≡ rejected (part 7 5 4) RowOutOfBounds ∷ []
+row_second_case = refl
+
+-- the ranges of one row may touch
+pub touching_case : rejected_of abc (part 0 0 1 ∷ part 0 1 3 ∷ []) ≡ []
+touching_case = refl
+
+-- a range that is rejected doesn't reject others: 1..3 overlaps 0..2, and 2..3 only that one
+pub behind_rejected_case : rejected_of abc (part 0 0 2 ∷ part 0 1 3 ∷ part 0 2 3 ∷ []) ≡ rejected (part 0 1 3) OverlapsPrevious ∷ []
+behind_rejected_case = refl
+
+-- ranges that start at one place keep their order
+pub tie_case : in_order (part 0 1 3 ∷ part 0 0 1 ∷ part 0 1 2 ∷ []) ≡ part 0 0 1 ∷ part 0 1 3 ∷ part 0 1 2 ∷ []
+tie_case = refl
+
+-- ---- the line `Send [[a]] now`, whose `[[a]]` is a range
+
+abbrev pub bracket : List AtomicRange
+bracket = part 0 5 10 ∷ []
+
+pub moved_back_case : moved_out bracket (0, 7) Backward ≡ (0, 5)
+moved_back_case = refl
+
+pub moved_on_case : moved_out bracket (0, 7) Forward ≡ (0, 10)
+moved_on_case = refl
+
+pub moved_start_case : moved_out bracket (0, 5) Forward ≡ (0, 5)
+moved_start_case = refl
+
+pub moved_row_case : moved_out bracket (1, 7) Forward ≡ (1, 7)
+moved_row_case = refl
+
+pub hit_back_case : hit bracket (0, 10) DeleteBackward ≡ Some (part 0 5 10)
+hit_back_case = refl
+
+pub hit_back_start_case : hit bracket (0, 5) DeleteBackward ≡ None
+hit_back_start_case = refl
+
+pub hit_on_case : hit bracket (0, 5) DeleteForward ≡ Some (part 0 5 10)
+hit_on_case = refl
+
+pub hit_on_end_case : hit bracket (0, 10) DeleteForward ≡ None
+hit_on_end_case = refl
+
+pub widened_case : widened (part 0 5 10 ∷ part 1 0 4 ∷ []) (0, 7) (1, 2) ≡ ((0, 5), (1, 4))
+widened_case = refl
+
+pub widened_inside_case : widened bracket (0, 6) (0, 7) ≡ ((0, 5), (0, 10))
+widened_inside_case = refl

@@ -1,0 +1,195 @@
+-- A list is accepted exactly if it is valid; and the list of the rejected, range by range.
+use Rattle.std.proofs.Common.{◌≡◌, ◌≢◌, ◌↔◌, ℕ, ◌<◌, ◌≤◌, ◌==◌, nat_le, nat_lt, ◌||◌, Bool, true, false, List, [], ◌∷◌, ◌++◌, length, Option, Some, None, if◌then◌else◌, refl, sym, ap, ◌∙◌, inl, inr, arith, subst, zero-le, leb-false, ltb-false, eqb-true}
+use Rattle.std.proofs.lemmas.Bool.{cases_Bool, eqb-false}
+use Rattle.std.proofs.lemmas.Bool.Decides.{nat_tests}
+use Rattle.std.proofs.lemmas.List.Elements.{All-from_recursion, recursion_from_All}
+use Rattle.std.specs.List.{AllByRecursion}
+use Rattle.textarea_atomic.specs.declared.atomic.AtomicRange.{AtomicRange}
+use Rattle.textarea_atomic.specs.declared.atomic.RejectedAtomicRange.{RejectedAtomicRange}
+use Rattle.textarea_atomic.specs.declared.atomic.AtomicRangeRejectReason.{AtomicRangeRejectReason}
+use Rattle.textarea_atomic.specs.declared.atomic.AtomicRangeRejectReason.TheVariants.{Empty, RowOutOfBounds, ColumnOutOfBounds, OverlapsPrevious}
+use Rattle.textarea_ranges.specs.Order.{in_order, is_before}
+use Rattle.textarea_ranges.specs.Rejected.{free_from, last_valid, reason, rejected_behind, rejected_of, with_reason, AreAccepted, AreRefused}
+use Rattle.textarea_ranges.specs.Valid.{AreDisjoint, AreValid, IsPart, line_of}
+use Rattle.textarea_ranges.proofs.Lists.{AllPairs-later, EachLater, each_both, each_weaker, later-AllPairs}
+use Rattle.textarea_ranges.proofs.Sorts.{NotBefore}
+use Rattle.textarea_ranges.proofs.OrderLemmas.{each-in_order, each_from_in_order, later-in_order, later_from_in_order, sorted-in_order}
+
+-- ---- one range
+
+-- the range has no reason to be rejected: it is a part of a line, and starts where the row is free or behind that
+record Suits (rows : List (List ℕ)) (last : Option AtomicRange) (range : AtomicRange) : Type 0 where
+  part : IsPart rows range
+  behind : free_from last range.row ≤ range.start_col
+
+abbrev first_reason : Bool → Bool → Bool → Bool → Option AtomicRangeRejectReason
+first_reason a b c d = if a then Some Empty else (if b then Some RowOutOfBounds else (if c then Some ColumnOutOfBounds else (if d then Some OverlapsPrevious else None)))
+
+no_reason : (a b c d : Bool) → first_reason a b c d ≡ None → (a ≡ false) × (b ≡ false) × (c ≡ false) × (d ≡ false)
+no_reason true b c d h = absurd cc
+no_reason false true c d h = absurd cc
+no_reason false false true d h = absurd cc
+no_reason false false false true h = absurd cc
+no_reason false false false false h = (refl, refl, refl, refl)
+
+either_false : (a b : Bool) → (a || b) ≡ false → (a ≡ false) × (b ≡ false)
+either_false true b h = absurd cc
+either_false false b h = (refl, h)
+
+Suits-reason : (rows : List (List ℕ)) (last : Option AtomicRange) (range : AtomicRange) → reason rows last range ≡ None → Suits rows last range
+Suits-reason rows last range h =
+    let tests = no_reason (range.start_col == range.end_col) (nat_le (length rows) range.row) (nat_lt range.end_col range.start_col || nat_lt (length (line_of rows range.row)) range.end_col) (nat_lt range.start_col (free_from last range.row)) h in
+    let some : range.start_col ≢ range.end_col = eqb-false (range.start_col) (range.end_col) tests.0 in
+    let row : range.row < length rows = leb-false (length rows) range.row tests.1 in
+    let columns = either_false (nat_lt range.end_col range.start_col) (nat_lt (length (line_of rows range.row)) range.end_col) tests.2 in
+    let ordered : range.start_col ≤ range.end_col = ltb-false range.end_col range.start_col columns.0 in
+    let within : range.end_col ≤ length (line_of rows range.row) = ltb-false (length (line_of rows range.row)) range.end_col columns.1 in
+    record { part = (row, omega arith, within); behind = ltb-false range.start_col (free_from last range.row) tests.3 }
+
+reason-Suits : (rows : List (List ℕ)) (last : Option AtomicRange) (range : AtomicRange) → Suits rows last range → reason rows last range ≡ None
+reason-Suits rows last range suits =
+    let part = suits.part in
+    let behind = suits.behind in
+    let a : range.start_col == range.end_col ≡ false = grind (arith, nat_tests) in
+    let b : nat_le (length rows) range.row ≡ false = grind (arith, nat_tests) in
+    let c : nat_lt range.end_col range.start_col ≡ false = grind (arith, nat_tests) in
+    let d : nat_lt (length (line_of rows range.row)) range.end_col ≡ false = grind (arith, nat_tests) in
+    let e : nat_lt range.start_col (free_from last range.row) ≡ false = grind (arith, nat_tests) in
+    rw (a, b, c, d, e) refl
+
+free_from-same : (last : AtomicRange) (row : ℕ) → last.row ≡ row → free_from (Some last) row ≡ last.end_col
+free_from-same last row same = grind (arith, nat_tests)
+
+free_from-other : (last : AtomicRange) (row : ℕ) → last.row ≢ row → free_from (Some last) row ≡ 0
+free_from-other last row other = grind (arith, nat_tests)
+
+-- ---- ranges in order, behind the last valid one
+
+abbrev AllSuit : List (List ℕ) → Option AtomicRange → List AtomicRange → Type 0
+AllSuit rows last [] = Unit {0}
+AllSuit rows last (range ∷ rest) = Suits rows last range × AllSuit rows (Some range) rest
+
+suit_by_reason : (rows : List (List ℕ)) (last : Option AtomicRange) (range : AtomicRange) (rest : List AtomicRange) (o : Option AtomicRangeRejectReason) → reason rows last range ≡ o → (rejected_behind rows (Some range) rest ≡ [] → AllSuit rows (Some range) rest) → with_reason range o ++ rejected_behind rows (last_valid last range o) rest ≡ [] → AllSuit rows last (range ∷ rest)
+suit_by_reason rows last range rest None e below h = (Suits-reason rows last range e, below h)
+suit_by_reason rows last range rest (Some r) e below h = absurd cc
+
+suit-none_rejected : (rows : List (List ℕ)) (last : Option AtomicRange) (ranges : List AtomicRange) → rejected_behind rows last ranges ≡ [] → AllSuit rows last ranges
+suit-none_rejected rows last [] h = tt
+suit-none_rejected rows last (range ∷ rest) h = suit_by_reason rows last range rest (reason rows last range) refl (suit-none_rejected rows (Some range) rest) h
+
+none_rejected-suit : (rows : List (List ℕ)) (last : Option AtomicRange) (ranges : List AtomicRange) → AllSuit rows last ranges → rejected_behind rows last ranges ≡ []
+none_rejected-suit rows last [] suit = refl
+none_rejected-suit rows last (range ∷ rest) suit =
+    ap (λ (o : Option AtomicRangeRejectReason). with_reason range o ++ rejected_behind rows (last_valid last range o) rest) (reason-Suits rows last range suit.0)
+    ∙ none_rejected-suit rows (Some range) rest suit.1
+
+-- what the order says of two ranges
+not_before_parts : (one other : AtomicRange) → NotBefore is_before one other → (one.row ≤ other.row) × (one.row ≡ other.row → one.start_col ≤ other.start_col)
+not_before_parts one other h = (grind (arith, nat_tests), λ same. grind (arith, nat_tests))
+
+-- the one range ends by the start of the other where they are of one row
+abbrev EndsBy : AtomicRange → AtomicRange → Type 0
+EndsBy one other = one.row ≡ other.row → one.end_col ≤ other.start_col
+
+ends_by_all : (rows : List (List ℕ)) (range : AtomicRange) (rest : List AtomicRange) → AllSuit rows (Some range) rest → EachLater (NotBefore is_before) (range ∷ rest) → AllByRecursion (EndsBy range) rest
+ends_by_all rows range [] suit order = tt
+ends_by_all rows range (first ∷ rest) suit order =
+    let part = suit.0.part in
+    let up = not_before_parts range first order.0.0 in
+    let here : EndsBy range first = λ same. (let free = free_from-same range first.row same in omega (arith, suit.0.behind)) in
+    let below = ends_by_all rows first rest suit.1 order.1 in (
+      here,
+      each_both (EndsBy first) (NotBefore is_before first) (EndsBy range) (λ z ends not_before same.
+          let more = not_before_parts first z not_before in
+          let row : range.row ≡ first.row = omega arith in
+          let next_row : first.row ≡ z.row = omega arith in
+          let one : range.end_col ≤ first.start_col = here row in
+          let two : first.end_col ≤ z.start_col = ends next_row in
+          omega arith) rest below order.1.0,
+    )
+
+disjoint-suit : (rows : List (List ℕ)) (last : Option AtomicRange) (ranges : List AtomicRange) → AllSuit rows last ranges → EachLater (NotBefore is_before) ranges → EachLater AreDisjoint ranges
+disjoint-suit rows last [] suit order = tt
+disjoint-suit rows last (range ∷ rest) suit order = (
+  each_weaker (EndsBy range) (AreDisjoint range) (λ z ends same. inl (ends same)) rest (ends_by_all rows range rest suit.1 order),
+  disjoint-suit rows (Some range) rest suit.1 order.1,
+)
+
+parts-suit : (rows : List (List ℕ)) (last : Option AtomicRange) (ranges : List AtomicRange) → AllSuit rows last ranges → AllByRecursion (IsPart rows) ranges
+parts-suit rows last [] suit = tt
+parts-suit rows last (range ∷ rest) suit = (suit.0.part, parts-suit rows (Some range) rest suit.1)
+
+free_behind : (rows : List (List ℕ)) (range z : AtomicRange) → AreDisjoint range z × NotBefore is_before range z → IsPart rows z → free_from (Some range) z.row ≤ z.start_col
+free_behind rows range z apart part =
+    let up = not_before_parts range z apart.1 in
+    elim (cases_Bool (range.row == z.row)) [
+      | inl equal ↦
+          let same : range.row ≡ z.row = eqb-true range.row z.row equal in
+          let free = free_from-same range z.row same in
+          elim (apart.0 same) [ inl before ↦ omega arith | inr behind ↦ absurd (let starts : range.start_col ≤ z.start_col = up.1 same in omega arith) ]
+      | inr unequal ↦
+          let free = free_from-other range z.row (eqb-false range.row z.row unequal) in
+          omega arith
+    ]
+
+suit-valid : (rows : List (List ℕ)) (last : Option AtomicRange) (ranges : List AtomicRange) → AllByRecursion (λ z. free_from last z.row ≤ z.start_col) ranges → AllByRecursion (IsPart rows) ranges → EachLater AreDisjoint ranges → EachLater (NotBefore is_before) ranges → AllSuit rows last ranges
+suit-valid rows last [] free parts disjoint order = tt
+suit-valid rows last (range ∷ rest) free parts disjoint order = (
+  record { part = parts.0; behind = free.0 },
+  suit-valid rows (Some range) rest
+      (each_both (λ z. AreDisjoint range z × NotBefore is_before range z) (IsPart rows) (λ z. free_from (Some range) z.row ≤ z.start_col) (free_behind rows range) rest
+      (each_both (AreDisjoint range) (NotBefore is_before range) (λ z. AreDisjoint range z × NotBefore is_before range z) (λ z p q. (p, q)) rest disjoint.0 order.0) parts.1)
+      parts.1 disjoint.1 order.1,
+)
+
+-- ---- a whole list
+
+AreDisjoint-flip : (one other : AtomicRange) → AreDisjoint one other → AreDisjoint other one
+AreDisjoint-flip one other h same = elim (h (sym same)) [ inl before ↦ inr before | inr behind ↦ inl behind ]
+
+pub valid-in_order : (rows : List (List ℕ)) (ranges : List AtomicRange) → AreValid rows ranges → AreValid rows (in_order ranges)
+valid-in_order rows ranges valid = record {
+  parts = All-from_recursion (IsPart rows) (in_order ranges) (each-in_order (IsPart rows) ranges (recursion_from_All (IsPart rows) ranges valid.parts));
+  disjoint = AllPairs-later AreDisjoint (in_order ranges) (later-in_order AreDisjoint AreDisjoint-flip ranges (later-AllPairs AreDisjoint ranges valid.disjoint));
+}
+
+pub valid_from_in_order : (rows : List (List ℕ)) (ranges : List AtomicRange) → AreValid rows (in_order ranges) → AreValid rows ranges
+valid_from_in_order rows ranges valid = record {
+  parts = All-from_recursion (IsPart rows) ranges (each_from_in_order (IsPart rows) ranges (recursion_from_All (IsPart rows) (in_order ranges) valid.parts));
+  disjoint = AllPairs-later AreDisjoint ranges (later_from_in_order AreDisjoint AreDisjoint-flip ranges (later-AllPairs AreDisjoint (in_order ranges) valid.disjoint));
+}
+
+pub valid-none_rejected : (rows : List (List ℕ)) (ranges : List AtomicRange) → rejected_of rows (in_order ranges) ≡ [] → AreValid rows (in_order ranges)
+valid-none_rejected rows ranges h =
+    let suit = suit-none_rejected rows None (in_order ranges) h in
+    record {
+      parts = All-from_recursion (IsPart rows) (in_order ranges) (parts-suit rows None (in_order ranges) suit);
+      disjoint = AllPairs-later AreDisjoint (in_order ranges) (disjoint-suit rows None (in_order ranges) suit (sorted-in_order ranges));
+    }
+
+none_rejected-valid : (rows : List (List ℕ)) (ranges : List AtomicRange) → AreValid rows (in_order ranges) → rejected_of rows (in_order ranges) ≡ []
+none_rejected-valid rows ranges valid =
+    none_rejected-suit rows None (in_order ranges)
+    (suit-valid rows None (in_order ranges) (each_weaker (IsPart rows) (λ z. 0 ≤ z.start_col) (λ z part. zero-le) (in_order ranges) parts) parts (later-AllPairs AreDisjoint (in_order ranges) valid.disjoint) (sorted-in_order ranges))
+  where
+    parts : AllByRecursion (IsPart rows) (in_order ranges)
+    parts = recursion_from_All (IsPart rows) (in_order ranges) valid.parts
+
+pub accepted_if_valid : (rows : List (List ℕ)) (ranges : List AtomicRange) → (rejected_of rows (in_order ranges) ≡ []) ↔ AreValid rows ranges
+accepted_if_valid rows ranges = (λ h. valid_from_in_order rows ranges (valid-none_rejected rows ranges h), λ valid. none_rejected-valid rows ranges (valid-in_order rows ranges valid))
+
+-- ---- the outcomes
+
+pub AreAccepted-in_order : (rows : List (List ℕ)) (given held : List AtomicRange) (rejected : List RejectedAtomicRange) → held ≡ in_order given → rejected ≡ rejected_of rows held → rejected ≡ [] → AreAccepted rows given held
+AreAccepted-in_order rows given held rejected order listed none =
+    let nothing : rejected_of rows held ≡ [] = sym listed ∙ none in
+    record { order = order; valid = subst (AreValid rows) (sym order) (valid-none_rejected rows given (ap (rejected_of rows) (sym order) ∙ nothing)); none = nothing }
+
+pub AreRefused-in_order : (rows : List (List ℕ)) (given held : List AtomicRange) (rejected : List RejectedAtomicRange) → held ≡ in_order given → rejected ≡ rejected_of rows held → rejected ≢ [] → AreRefused rows given rejected
+AreRefused-in_order rows given held rejected order listed some =
+    let all : rejected ≡ rejected_of rows (in_order given) = listed ∙ ap (rejected_of rows) order in
+    record { listed = all; some = some; invalid = λ valid. some (all ∙ (accepted_if_valid rows given).1 valid) }
+
+pub none_from_length : (rejected : List RejectedAtomicRange) → length rejected ≡ 0 → rejected ≡ []
+none_from_length [] h = refl
+none_from_length (one ∷ rest) h = absurd (omega arith)

@@ -1,0 +1,9 @@
+use Rattle.std.proofs.Common.{◌≡◌, ◌++◌, drop}
+use Rattle.textarea_text.specs.Text.{lines_of}
+use Rattle.textarea_ranges.specs.Rejected.{rejected_behind, rejected_of}
+use Rattle.textarea_ranges.proofs.validate.rejected_of.Given as goal
+
+-- those listed so far, and those that the rest gives behind the last valid range, are all
+abbrev pub invariant-loop-range : goal.invariant-loop-range
+invariant-loop-range l =
+    l.rejected.items ++ rejected_behind (lines_of l.lines) l.last (drop l.range-index l.ranges) ≡ rejected_of (lines_of l.lines) l.ranges

@@ -1,0 +1,4 @@
+pub mod Held
+pub mod Order
+pub mod Rejected
+pub mod Valid

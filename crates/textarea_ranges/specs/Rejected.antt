@@ -1,0 +1,55 @@
+-- Which ranges of a list are rejected, and why.
+use Rattle.std.specs.Prelude.{◌≡◌, ◌≢◌, ℕ, ◌==◌, nat_lt, nat_le, ◌||◌, List, [], ◌∷◌, ◌++◌, length, Option, Some, None, if◌then◌else◌}
+use Rattle.textarea_atomic.specs.declared.atomic.AtomicRange.{AtomicRange}
+use Rattle.textarea_atomic.specs.declared.atomic.RejectedAtomicRange.{RejectedAtomicRange}
+use Rattle.textarea_atomic.specs.declared.atomic.AtomicRangeRejectReason.{AtomicRangeRejectReason}
+use Rattle.textarea_atomic.specs.declared.atomic.AtomicRangeRejectReason.TheVariants.{Empty, RowOutOfBounds, ColumnOutOfBounds, OverlapsPrevious}
+use Rattle.textarea_ranges.specs.Order.{in_order}
+use Rattle.textarea_ranges.specs.Valid.{AreValid, line_of}
+
+-- the first column of the row behind the last valid range: its end where it is of that row, else 0
+abbrev pub free_from : Option AtomicRange → ℕ → ℕ
+free_from None row = 0
+free_from (Some last) row = if last.row == row then last.end_col else 0
+
+-- why the range is rejected behind the last valid range: none where it is valid too. The first test that speaks gives
+-- the reason
+abbrev pub reason : List (List ℕ) → Option AtomicRange → AtomicRange → Option AtomicRangeRejectReason
+reason rows last range =
+    if range.start_col == range.end_col then Some Empty
+    else (if nat_le (length rows) range.row then Some RowOutOfBounds
+    else (if nat_lt range.end_col range.start_col || nat_lt (length (line_of rows range.row)) range.end_col then Some ColumnOutOfBounds
+    else (if nat_lt range.start_col (free_from last range.row) then Some OverlapsPrevious
+    else None)))
+
+-- the range with its reason, where there is one
+abbrev pub with_reason : AtomicRange → Option AtomicRangeRejectReason → List RejectedAtomicRange
+with_reason range None = []
+with_reason range (Some reason) = record { range = range; reason = reason } ∷ []
+
+-- the last valid range with this range behind it: this one, where it has no reason to be rejected
+abbrev pub last_valid : Option AtomicRange → AtomicRange → Option AtomicRangeRejectReason → Option AtomicRange
+last_valid last range None = Some range
+last_valid last range (Some reason) = last
+
+-- the rejected ranges of a list that is in order, behind the last valid range
+abbrev pub rejected_behind : List (List ℕ) → Option AtomicRange → List AtomicRange → List RejectedAtomicRange
+rejected_behind rows last [] = []
+rejected_behind rows last (range ∷ rest) =
+    with_reason range (reason rows last range) ++ rejected_behind rows (last_valid last range (reason rows last range)) rest
+
+-- the rejected ranges of a list that is in order, in that order, each with its reason
+abbrev pub rejected_of : List (List ℕ) → List AtomicRange → List RejectedAtomicRange
+rejected_of rows ranges = rejected_behind rows None ranges
+
+-- the given ranges are accepted: they are held in order, they are valid, and none is rejected
+pub record AreAccepted (rows : List (List ℕ)) (given held : List AtomicRange) : Type 0 where
+  pub order : held ≡ in_order given
+  pub valid : AreValid rows held
+  pub none : rejected_of rows held ≡ []
+
+-- the given ranges are refused: all that are rejected are listed, which is one at least, and the given ones aren't valid
+pub record AreRefused (rows : List (List ℕ)) (given : List AtomicRange) (rejected : List RejectedAtomicRange) : Type 0 where
+  pub listed : rejected ≡ rejected_of rows (in_order given)
+  pub some : rejected ≢ []
+  pub invalid : ¬ AreValid rows given

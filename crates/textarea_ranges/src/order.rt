@@ -1,0 +1,14 @@
+//! The order of ranges.
+ghost use Rattle.std.specs.Prelude.{◌≡◌, IfOk};
+ghost use Rattle.textarea_ranges.specs.Order.{in_order};
+
+use std::alloc::AllocError;
+use textarea_atomic::atomic::AtomicRange;
+
+/// The ranges by row and start. Those that start at one place keep their order. Only want of memory fails.
+pub fn in_order(mut ranges: Vec<AtomicRange>) -> Result<Vec<AtomicRange>, AllocError>
+    ensures { IfOk result (λ ordered. ordered.items ≡ in_order ranges.items) }
+{
+    ranges.sort_by_key(|range| (range.row, range.start_col))?;
+    Ok(ranges)
+}

@@ -1,0 +1,100 @@
+//! The test of a list of ranges against some lines.
+ghost use Rattle.std.specs.Prelude.{◌≡◌, ◌++◌, None, IfOk, MatchResult, OnOk};
+ghost use Rattle.textarea_text.specs.Text.{lines_of};
+ghost use Rattle.textarea_ranges.specs.Rejected.{AreAccepted, AreRefused, free_from, last_valid, reason, rejected_of, with_reason};
+
+use crate::order::in_order;
+use std::alloc::{AllocError, Global};
+use textarea_atomic::atomic::{
+    AtomicRange, AtomicRangeError, AtomicRangeRejectReason, RejectedAtomicRange,
+};
+use textarea_text::rows::column_count;
+
+/// The ranges by row and start, where they are valid for the lines: each holds a character at least, its row exists, it
+/// ends by its line's end, and no two of them share a character. Else the rejected ones by row and start, each with the
+/// first reason that there is; a range overlaps the last valid one of its row where it starts before that one's end.
+pub fn validated(
+    alloc: Global,
+    ranges: Vec<AtomicRange>,
+    lines: &[String],
+) -> Result<Result<Vec<AtomicRange>, AtomicRangeError>, AllocError>
+    ensures { IfOk result (λ outcome. MatchResult outcome
+        (λ held. AreAccepted (lines_of lines.now) ranges.items held.items)
+        (λ error. AreRefused (lines_of lines.now) ranges.items error.rejected.items)) }
+{
+    let ordered = in_order(ranges)?;
+    let rejected = rejected_of(alloc, ordered.as_slice(), lines)?;
+    if rejected.is_empty() {
+        Ok(Ok(ordered))
+    } else {
+        Ok(Err(AtomicRangeError { rejected }))
+    }
+}
+
+// The rejected ranges of those that are in order.
+fn rejected_of(
+    alloc: Global,
+    ranges: &[AtomicRange],
+    lines: &[String],
+) -> Result<Vec<RejectedAtomicRange>, AllocError>
+    ensures { IfOk result (λ rejected. rejected.items ≡ rejected_of (lines_of lines.now) ranges.now) }
+{
+    let mut rejected = Vec::new(alloc);
+    let mut last = None;
+    for range in ranges {
+        last = judge(&mut rejected, last, *range, lines)?;
+    }
+    Ok(rejected)
+}
+
+// Lists the range where it is rejected. Gives the last valid range after it: this one, where it is not.
+fn judge(
+    rejected: &mut Vec<RejectedAtomicRange>,
+    last: Option<AtomicRange>,
+    range: AtomicRange,
+    lines: &[String],
+) -> Result<Option<AtomicRange>, AllocError>
+    ensures last { IfOk result (λ after. after ≡ last_valid last range (reason (lines_of lines.now) last range)) }
+    ensures listed { OnOk result (rejected.new.items ≡ rejected.old.items ++ with_reason range (reason (lines_of lines.now) last range)) }
+{
+    match reason(lines, last, range) {
+        Some(reason) => {
+            rejected.push(RejectedAtomicRange { range, reason })?;
+            Ok(last)
+        }
+        None => Ok(Some(range)),
+    }
+}
+
+// Why the range is rejected behind the last valid one.
+fn reason(
+    lines: &[String],
+    last: Option<AtomicRange>,
+    range: AtomicRange,
+) -> Option<AtomicRangeRejectReason>
+    ensures { result ≡ reason (lines_of lines.now) last range }
+{
+    if range.start_col == range.end_col {
+        return Some(AtomicRangeRejectReason::Empty);
+    }
+    if lines.len() <= range.row {
+        return Some(AtomicRangeRejectReason::RowOutOfBounds);
+    }
+    if range.end_col < range.start_col || column_count(lines[range.row].as_str()) < range.end_col {
+        return Some(AtomicRangeRejectReason::ColumnOutOfBounds);
+    }
+    if range.start_col < free_from(last, range.row) {
+        return Some(AtomicRangeRejectReason::OverlapsPrevious);
+    }
+    None
+}
+
+// The first column of the row behind the last valid range: 0 where that is of another row, or there is none.
+fn free_from(last: Option<AtomicRange>, row: usize) -> usize
+    ensures { result ≡ free_from last row }
+{
+    match last {
+        Some(range) if range.row == row => range.end_col,
+        _ => 0,
+    }
+}

@@ -1,0 +1,156 @@
+// The arguments of commands: numbers, truth values, names of moves, and texts with escapes.
+ghost use Rattle.std.specs.Prelude.{◌<◌, ◌≤◌, length, vec_len, IfOk, IfSome};
+
+use std::alloc::{AllocError, AllocFailed, Global};
+use textarea_move::cursor_move::CursorMove;
+
+// Why a command was not read.
+#[derive(Clone, Copy, Debug, PartialEq, Eq)]
+pub enum Unread {
+    // It is none.
+    NoCommand,
+    // Out of memory.
+    Memory,
+}
+
+impl From<AllocError> for Unread {
+    fn from(_refused: AllocError) -> Unread {
+        Unread::Memory
+    }
+}
+
+impl<T: Drop> From<AllocFailed<T>> for Unread {
+    fn from(_refused: AllocFailed<T>) -> Unread {
+        Unread::Memory
+    }
+}
+
+// The decimal number that the text is: digits alone, leading zeros allowed.
+pub fn number(text: &str) -> Option<u64> {
+    if !text.bytes().all(|byte| byte.is_ascii_digit()) {
+        return None;
+    }
+    text.parse().ok()
+}
+
+// Two numbers with one space between them.
+pub fn two_numbers(text: &str) -> Option<(u64, u64)> {
+    let (first, second) = text.split_once(' ')?;
+    Some((number(first)?, number(second)?))
+}
+
+// The truth value that the text names.
+pub fn truth(text: &str) -> Option<bool> {
+    match text {
+        "true" => Some(true),
+        "false" => Some(false),
+        _ => None,
+    }
+}
+
+// The move that the text names. `Jump` has a command of its own, and `Up`, `Down` and `InViewport` have
+// none yet.
+pub fn move_named(name: &str) -> Option<CursorMove> {
+    Some(match name {
+        "Forward" => CursorMove::Forward,
+        "Back" => CursorMove::Back,
+        "Head" => CursorMove::Head,
+        "End" => CursorMove::End,
+        "Top" => CursorMove::Top,
+        "Bottom" => CursorMove::Bottom,
+        "WordForward" => CursorMove::WordForward,
+        "WordEnd" => CursorMove::WordEnd,
+        "WordBack" => CursorMove::WordBack,
+        "ParagraphForward" => CursorMove::ParagraphForward,
+        "ParagraphBack" => CursorMove::ParagraphBack,
+        _ => return None,
+    })
+}
+
+// The character that the whole text stands for, as itself or by an escape.
+pub fn one_character(text: &str) -> Option<char> {
+    let (c, rest) = first_character(text)?;
+    rest.is_empty().then_some(c)
+}
+
+// The text that a text with escapes stands for.
+pub fn unescaped(alloc: Global, text: &str) -> Result<String, Unread> {
+    let mut plain = String::new(alloc);
+    let mut rest = text;
+    while !rest.is_empty() {
+        let (c, behind) = first_character(rest).ok_or(Unread::NoCommand)?;
+        plain.push(c)?;
+        rest = behind;
+    }
+    Ok(plain)
+}
+
+// The lines that a text with escapes stands for: it is cut at each escape `\n`, so there is one line more
+// than these. A line feed by its number stays a character of its line.
+pub fn unescaped_lines(alloc: Global, text: &str) -> Result<Vec<String>, Unread>
+    ensures { IfOk result (λ lines. 0 < vec_len lines) }
+{
+    let (line, mut rest) = first_line(alloc, text)?;
+    let mut lines = Vec::new(alloc);
+    lines.push(line)?;
+    while let Some(behind) = rest.strip_prefix("\\n") {
+        let (next_line, next_rest) = first_line(alloc, behind)?;
+        lines.push(next_line)?;
+        rest = next_rest;
+    }
+    Ok(lines)
+}
+
+// The first line that a text with escapes stands for, and the text from the escape `\n` on that ends it.
+fn first_line(alloc: Global, text: &str) -> Result<(String, &str), Unread>
+    ensures { IfOk result (λ x. length x.1.now ≤ length text.now) }
+{
+    let mut line = String::new(alloc);
+    let mut rest = text;
+    while !rest.is_empty() && !rest.starts_with("\\n") {
+        let (c, behind) = first_character(rest).ok_or(Unread::NoCommand)?;
+        line.push(c)?;
+        rest = behind;
+    }
+    Ok((line, rest))
+}
+
+// The first character that a text with escapes stands for, and the text behind it.
+fn first_character(text: &str) -> Option<(char, &str)>
+    ensures { IfSome result (λ x. length x.1.now < length text.now) }
+{
+    let mut rest = text.chars();
+    let c = match rest.next()? {
+        '\\' => return escaped(rest.as_str()),
+        c => c,
+    };
+    Some((c, rest.as_str()))
+}
+
+// The character of an escape, whose text is given behind its backslash, and the text behind it.
+fn escaped(text: &str) -> Option<(char, &str)>
+    ensures { IfSome result (λ x. length x.1.now < length text.now) }
+{
+    let mut rest = text.chars();
+    let c = match rest.next()? {
+        'n' => '\n',
+        'r' => '\r',
+        't' => '\t',
+        '\\' => '\\',
+        'u' => return numbered(rest.as_str()),
+        _ => return None,
+    };
+    Some((c, rest.as_str()))
+}
+
+// The character of a number in braces, of 1 to 6 hexadecimal digits, and the text behind it.
+fn numbered(text: &str) -> Option<(char, &str)>
+    ensures { IfSome result (λ x. length x.1.now < length text.now) }
+{
+    let (digits, rest) = text.strip_prefix('{')?.split_once('}')?;
+    if 6 < digits.len() || !digits.bytes().all(|byte| byte.is_ascii_hexdigit()) {
+        return None;
+    }
+    let number = u32::from_str_radix(digits, 16).ok()?;
+    Some((char::from_u32(number)?, rest))
+}

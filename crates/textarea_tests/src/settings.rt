@@ -1,0 +1,29 @@
+// What is set is read back.
+use crate::table::{compare_lines, strings};
+use std::test::Fail;
+use std::time::Duration;
+use tui_textarea::TextArea;
+
+#[test]
+fn settings(rt: HostRuntime) -> Result<(), Fail> {
+    let mut area = TextArea::new(rt.alloc(), strings(&rt, &["a", "b"])?)?;
+    compare_lines(&rt, &area, &["a", "b"]);
+    assert_eq!(rt; area.tab_length(), 4);
+    assert_eq!(rt; area.indent(), "    ");
+    assert!(rt; !area.hard_tab_indent());
+    assert!(rt; !area.undo_coalescing());
+    assert_eq!(rt; area.max_histories(), 50);
+    area.set_tab_length(2);
+    assert_eq!(rt; area.tab_length(), 2);
+    assert_eq!(rt; area.indent(), "  ");
+    area.set_hard_tab_indent(true);
+    assert!(rt; area.hard_tab_indent());
+    assert_eq!(rt; area.indent(), "\t");
+    area.set_undo_coalescing(true);
+    assert!(rt; area.undo_coalescing());
+    area.set_max_histories(7);
+    assert_eq!(rt; area.max_histories(), 7);
+    area.set_now(Duration::from_millis(1));
+    assert_eq!(rt; area.into_lines().len(), 2);
+    Ok(())
+}

@@ -1,0 +1,50 @@
+use Rattle.std.proofs.Common.{◌≡◌, ◌∙◌, ◌++◌, [], ap, arith, take, drop, string_bytes}
+use Rattle.std.proofs.lemmas.Result.{on_err_weaker}
+use Rattle.std.proofs.lemmas.Str.{IsUtf8-nil, IsUtf8-string_bytes, chars-nil}
+use Rattle.textarea_text.specs.Text.{characters_of}
+use Rattle.textarea_text.proofs.Columns.{offset_in, offsets_ordered}
+use Rattle.textarea_text.proofs.StringRows.{offset_of_line}
+use Rattle.textarea_text.proofs.Insides.{always_ok, chars_between, line_changed, split_point}
+use Rattle.textarea_text.proofs.inside.remove_inside.Goals as goal
+
+from : (c : goal.After-replace_range-arg-2-1) → c.earlier_offset-from.result ≡ offset_in (characters_of c.index_mut-line.result.now) c.args.start.1
+from c = offset_of_line c.index_mut-line.result.now c.as_str-2.result.now c.args.start.1 c.earlier_offset-from.result c.as_str-2.ensures.value c.earlier_offset-from.ensures
+
+to : (c : goal.After-replace_range-arg-2-1) → c.byte_offset-to.result ≡ offset_in (characters_of c.index_mut-line.result.now) c.args.end_column
+to c = offset_of_line c.index_mut-line.result.now c.as_str.result.now c.args.end_column c.byte_offset-to.result c.as_str.ensures.value c.byte_offset-to.ensures
+
+pub replace_range-requires-clause-start_le_end : goal.replace_range-requires-clause-start_le_end
+replace_range-requires-clause-start_le_end c =
+    omega (arith, from c, to c, offsets_ordered (characters_of c.index_mut-line.result.now) c.args.start.1 c.args.end_column c.requires.ordered)
+
+pub replace_range-requires-clause-in_bounds : goal.replace_range-requires-clause-in_bounds
+replace_range-requires-clause-in_bounds c =
+    let line = c.index_mut-line.result.now in
+    let within = split_point (string_bytes line) c.args.end_column c.byte_offset-to.result (IsUtf8-string_bytes line) (to c) in
+    omega (arith, within.0, line.bytes.ok.0)
+
+pub replace_range-requires-clause-start_boundary : goal.replace_range-requires-clause-start_boundary
+replace_range-requires-clause-start_boundary c =
+    let line = c.index_mut-line.result.now in
+    let at = split_point (string_bytes line) c.args.start.1 c.earlier_offset-from.result (IsUtf8-string_bytes line) (from c) in
+    (at.0, λ _ below lead. at.1 below lead)
+
+pub replace_range-requires-clause-end_boundary : goal.replace_range-requires-clause-end_boundary
+replace_range-requires-clause-end_boundary c =
+    let line = c.index_mut-line.result.now in
+    let at = split_point (string_bytes line) c.args.end_column c.byte_offset-to.result (IsUtf8-string_bytes line) (to c) in
+    (at.0, λ _ below lead. at.1 below lead)
+
+pub returns-clause-text : goal.returns-clause-text
+returns-clause-text c =
+    let line = c.index_mut-line.result.now in
+    let new = c.replace_range.new.self in
+    let column = c.args.start.1 in
+    let later = c.args.end_column in
+    let cs = characters_of line in
+    let at = offset_of_line line c.as_str-2.result.now column c.earlier_offset-from.result c.as_str-2.ensures.value c.earlier_offset-from.ensures in
+    let behind = offset_of_line line c.as_str.result.now later c.byte_offset-to.result c.as_str.ensures.value c.byte_offset-to.ensures in
+    let bytes = always_ok c.replace_range.result _ c.replace_range.ensures.bytes (on_err_weaker c.replace_range.result (λ full. omega (arith, full, line.bytes.ok.1)) c.replace_range.ensures.full) in
+    line_changed c.args.lines.now.items line new c.args.start later [] c.requires.start c.requires.end c.index_mut-line.ensures.value
+    (chars_between (string_bytes line) [] (string_bytes new) column later c.earlier_offset-from.result c.byte_offset-to.result (IsUtf8-string_bytes line) IsUtf8-nil (IsUtf8-string_bytes new) at behind bytes
+    ∙ ap (λ t. take column cs ++ (t ++ drop later cs)) chars-nil)

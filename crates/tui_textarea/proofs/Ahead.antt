@@ -1,0 +1,45 @@
+-- The end of the next symbols of a text.
+use Rattle.std.proofs.Common.{◌≡◌, ℕ, ◌+◌, ◌<◌, nat_lt, min, Bool, true, false, List, length, arith, sym, ap, refl, ◌∙◌, subst}
+use Rattle.std.proofs.lemmas.Bool.Decides.{nat_tests}
+use Rattle.textarea_text.specs.Text.{Symbol, lines}
+use Rattle.textarea_text.specs.Place.{Place, IsPlace, IsPlaceOf, index_of, place_of}
+use Rattle.textarea_document.specs.State.{DocumentState}
+use Rattle.textarea_document.proofs.Parts.{index_within, place_of-index}
+
+same_place : (first second : Place) → first.0 ≡ second.0 → first.1 ≡ second.1 → first ≡ second
+same_place first second rows columns = ap (λ (n : ℕ). (n, first.1)) rows ∙ ap (λ (n : ℕ). (second.0, n)) columns
+
+-- at the cursor: there are none
+pub none_ahead : (text : List Symbol) (cursor stop : Place) (count : ℕ) → index_of text stop ≡ min (index_of text cursor + count) (length text) → stop.0 ≡ cursor.0 → stop.1 ≡ cursor.1 → nat_lt (index_of text cursor) (min (index_of text cursor + count) (length text)) ≡ false
+none_ahead text cursor stop count e rows columns =
+    let same : index_of text stop ≡ index_of text cursor = ap (index_of text) (same_place stop cursor rows columns) in
+    grind (arith, nat_tests)
+
+-- anywhere else: there are some
+pub some_ahead : (text : List Symbol) (cursor stop : Place) (count : ℕ) → IsPlace text cursor → IsPlace text stop → index_of text stop ≡ min (index_of text cursor + count) (length text) → (stop.0 ≡ cursor.0 → stop.1 ≡ cursor.1 → ⊥) → nat_lt (index_of text cursor) (min (index_of text cursor + count) (length text)) ≡ true
+some_ahead text cursor stop count h h' e apart = by (nat_lt (index_of text cursor) (min (index_of text cursor + count) (length text))) refl
+  where
+    by : (b : Bool) → nat_lt (index_of text cursor) (min (index_of text cursor + count) (length text)) ≡ b → b ≡ true
+    by true less = refl
+    by false less =
+        let within = index_within text cursor h in
+        let same : index_of text stop ≡ index_of text cursor = grind (arith, nat_tests) in
+        let places : stop ≡ cursor = sym (place_of-index text stop h') ∙ ap (place_of text) same ∙ place_of-index text cursor h in
+        absurd (apart (ap (λ (p : Place). p.0) places) (ap (λ (p : Place). p.1) places))
+
+pub lesser_ahead : (text : List Symbol) (cursor stop : Place) (count : ℕ) → index_of text stop ≡ min (index_of text cursor + count) (length text) → nat_lt (index_of text cursor) (min (index_of text cursor + count) (length text)) ≡ true → index_of text cursor < index_of text stop
+lesser_ahead text cursor stop count e less = grind (arith, nat_tests)
+
+-- where the end was counted from a place given otherwise, and is not that place
+pub record IsAhead (document : DocumentState) (stop : Place) (count : ℕ) : Type 0 where
+  pub some : nat_lt (index_of document.text document.cursor) (min (index_of document.text document.cursor + count) (length document.text)) ≡ true
+  pub less : index_of document.text document.cursor < index_of document.text stop
+
+pub is_ahead : (document : DocumentState) (text : List Symbol) (rows : List (List ℕ)) (cursor stop : Place) (count : ℕ) → text ≡ document.text → rows ≡ lines document.text → cursor ≡ document.cursor → IsPlace document.text cursor → IsPlaceOf rows stop → index_of text stop ≡ min (index_of text cursor + count) (length text) → (stop.0 ≡ cursor.0 → stop.1 ≡ cursor.1 → ⊥) → IsAhead document stop count
+is_ahead document text rows cursor stop count e rows_are at h h' index apart =
+    let known : index_of document.text stop ≡ min (index_of document.text document.cursor + count) (length document.text) =
+    subst (λ (p : Place). index_of document.text stop ≡ min (index_of document.text p + count) (length document.text)) at
+    (subst (λ t. index_of t stop ≡ min (index_of t cursor + count) (length t)) e index) in
+    let some = some_ahead document.text document.cursor stop count (subst (IsPlace document.text) at h) (subst (λ r. IsPlaceOf r stop) rows_are h') known
+    (λ same_rows same_columns. apart (same_rows ∙ ap (λ (p : Place). p.0) (sym at)) (same_columns ∙ ap (λ (p : Place). p.1) (sym at))) in
+    record { some = some; less = lesser_ahead document.text document.cursor stop count known some }

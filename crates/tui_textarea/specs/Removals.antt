@@ -1,0 +1,107 @@
+-- What the removals make of the state: where a symbol is selected, that goes alone and nothing is yanked.
+use Rattle.std.specs.Prelude.{ℕ, ◌+◌, ◌==◌, ◌||◌, nat_lt, Bool, not, List, [], length, min, slice_index_or, if◌then◌else◌}
+use Rattle.textarea_text.specs.Text.{lines}
+use Rattle.textarea_text.specs.Place.{Place, place_of}
+use Rattle.textarea_document.specs.State.{DocumentState}
+use Rattle.textarea_document.specs.Edits.{cursor_index, is_at_end, is_at_start, is_filled, without_before, without_behind, without_break, without_part}
+use Rattle.textarea_document.specs.Selection.{is_selected}
+use Rattle.textarea_pieces.specs.Part.{part}
+use Rattle.textarea_target.specs.Target.{word_end_after, word_start_before}
+use Rattle.tui_textarea.specs.State.{State, with_document}
+use Rattle.tui_textarea.specs.Selection.{dropped, unselected}
+
+-- ---- where nothing is selected
+
+-- what stands between the two places is taken out and yanked
+abbrev pub yanked : State → Place → Place → State
+yanked state from to = record state { document = without_part state.document from to state.moment; yank = part state.document.text from to }
+
+-- the symbol before the cursor, or the one behind it, is taken out as a typed edit, if there is one
+abbrev pub symbol_before_out : State → State
+symbol_before_out state = with_document state (without_before state.document state.settings.undo_coalescing state.moment)
+
+abbrev pub symbol_behind_out : State → State
+symbol_behind_out state = with_document state (without_behind state.document state.settings.undo_coalescing state.moment)
+
+-- the break before the cursor's line is taken out, if there is one
+abbrev pub break_before_out : State → State
+break_before_out state = with_document state (without_break state.document state.moment)
+
+-- the characters of the cursor's line
+abbrev pub cursor_line : DocumentState → List ℕ
+cursor_line document = slice_index_or (lines document.text) document.cursor.0 []
+
+-- whether the cursor stands at its line's end
+abbrev pub is_at_line_end : DocumentState → Bool
+is_at_line_end document = document.cursor.1 == length (cursor_line document)
+
+-- the place of this column in the cursor's line
+abbrev pub in_line : DocumentState → ℕ → Place
+in_line document column = (document.cursor.0, column)
+
+-- the index that lies this many symbols behind the cursor, or at the text's end
+abbrev pub index_ahead : DocumentState → ℕ → ℕ
+index_ahead document count = min (cursor_index document + count) (length document.text)
+
+-- the symbols behind the cursor, this many or all that there are, are taken out and yanked, if there are any
+abbrev pub symbols_ahead_out : State → ℕ → State
+symbols_ahead_out state count =
+    if nat_lt (cursor_index state.document) (index_ahead state.document count)
+    then yanked state state.document.cursor (place_of state.document.text (index_ahead state.document count)) else dropped state
+
+-- from the cursor to the line's end; at the line's end as the symbol behind
+abbrev pub line_end_out : State → State
+line_end_out state =
+    if is_at_line_end state.document then symbol_behind_out state
+    else yanked state state.document.cursor (in_line state.document (length (cursor_line state.document)))
+
+-- from the line's start to the cursor; at the line's start as the break before
+abbrev pub line_head_out : State → State
+line_head_out state =
+    if state.document.cursor.1 == 0 then break_before_out state else yanked state (in_line state.document 0) state.document.cursor
+
+-- from the start of the word before the cursor, or the line's start, to the cursor; at the line's start as the break before
+abbrev pub word_before_out : State → State
+word_before_out state =
+    if state.document.cursor.1 == 0 then break_before_out state
+    else yanked state (in_line state.document (word_start_before (cursor_line state.document) state.document.cursor.1)) state.document.cursor
+
+-- from the cursor to behind the word, or to the line's end; at the line's end as the symbol behind
+abbrev pub word_behind_out : State → State
+word_behind_out state =
+    if is_at_line_end state.document then symbol_behind_out state
+    else yanked state state.document.cursor (in_line state.document (word_end_after (cursor_line state.document) state.document.cursor.1))
+
+-- whether there is a symbol for each
+abbrev pub has_before : State → Bool
+has_before state = not (is_at_start state.document)
+
+abbrev pub has_behind : State → Bool
+has_behind state = not (is_at_end state.document)
+
+abbrev pub has_break_before : State → Bool
+has_break_before state = not (state.document.cursor.0 == 0)
+
+abbrev pub has_ahead : State → ℕ → Bool
+has_ahead state count = nat_lt (cursor_index state.document) (index_ahead state.document count)
+
+-- something behind the cursor: a character of its line, or what the symbol behind is; and before it
+abbrev pub has_line_behind : State → Bool
+has_line_behind state = not (is_at_line_end state.document) || has_behind state
+
+abbrev pub has_line_before : State → Bool
+has_line_before state = not (state.document.cursor.1 == 0) || has_break_before state
+
+-- ---- the calls
+
+-- where a symbol is selected, that is taken out, and else it is the other state
+abbrev pub unselected_or : State → State → State
+unselected_or state other = if is_selected state.document then unselected state else other
+
+abbrev pub removes_or : State → Bool → Bool
+removes_or state other = is_selected state.document || other
+
+-- all the text is taken out and yanked, as one removal from its start; of an empty text nothing changes
+abbrev pub cleared : State → State
+cleared state =
+    if is_filled state.document.text then yanked state (0, 0) (place_of state.document.text (length state.document.text)) else state

@@ -1,0 +1,34 @@
+-- What the calls for the selection, and those over a selection, make of the state.
+use Rattle.std.specs.Prelude.{◌≡◌, ◌⊎◌, Some, length, if◌then◌else◌}
+use Rattle.textarea_text.specs.Place.{place_of}
+use Rattle.textarea_document.specs.Outcomes.{moved, unanchored}
+use Rattle.textarea_document.specs.Selection.{is_selected, selected, without_selected}
+use Rattle.tui_textarea.specs.State.{State, with_document}
+
+-- what is selected is taken out, if a symbol is: an edit of its own, which yanks nothing
+abbrev pub unselected : State → State
+unselected state = with_document state (without_selected state.document state.moment)
+
+-- nothing is selected any more, not even an empty selection
+abbrev pub dropped : State → State
+dropped state = with_document state (unanchored state.document)
+
+-- a selection begins at the cursor
+abbrev pub selection_started : State → State
+selection_started state = with_document state (record state.document { anchor = Some state.document.cursor })
+
+-- the whole text is selected: from its start to the cursor, which goes to its end
+abbrev pub all_selected : State → State
+all_selected state = with_document state (moved state.document (place_of state.document.text (length state.document.text)) (Some (0, 0)))
+
+-- what is selected is yanked, if a symbol is; nothing is selected any more
+abbrev pub copied : State → State
+copied state = if is_selected state.document then record (dropped state) { yank = selected state.document } else dropped state
+
+-- what is selected is yanked and taken out, if a symbol is; nothing is selected any more
+abbrev pub cut_out : State → State
+cut_out state = if is_selected state.document then record (unselected state) { yank = selected state.document } else dropped state
+
+-- what an insertion that answered out of memory leaves: the state as it was, or the one without what was selected
+abbrev pub IsLeft : State → State → Type 0
+IsLeft old new = (new ≡ old) ⊎ (new ≡ unselected old)

@@ -1,0 +1,69 @@
+//! Text areas of lines that an iterator gives.
+ghost use Rattle.std.specs.Prelude.{◌≡◌, IfOk, List, ℕ, String};
+ghost use Rattle.std.specs.Borrow.{Bor};
+ghost use Rattle.std.specs.Iterator.{IsFinite, Drains};
+ghost use Rattle.textarea_text.specs.Text.{text_of};
+ghost use Rattle.tui_textarea.specs.State.{new_state, text_of_each};
+
+use crate::textarea::TextArea;
+use std::alloc::{AllocError, Global};
+
+impl TextArea {
+    /// A text area of the lines that the iterator gives, the cursor at the start; no line at all becomes one empty line. A
+    /// line feed inside a line stays a character of that line.
+    pub fn from_strings<I: Iterator<Item = String> + Drop>(
+        alloc: Global,
+        lines: I,
+    ) -> Result<Self, AllocError>
+        requires can { I.can_next lines }
+        requires ends { IsFinite (I.remaining lines) }
+        ensures { IfOk result (λ area. (strings : List (String Global)) × Drains I.next_gives lines strings × (area ≡ new_state (text_of strings))) }
+    {
+        TextArea::new(alloc, collected(alloc, lines)?)
+    }
+
+    /// A text area of copies of the lines that the iterator gives, the cursor at the start; no line at all becomes one empty
+    /// line. A line feed inside a line stays a character of that line.
+    pub fn from_strs<'a, I: Iterator<Item = &'a str> + Drop>(
+        alloc: Global,
+        lines: I,
+    ) -> Result<Self, AllocError>
+        requires can { I.can_next lines }
+        requires ends { IsFinite (I.remaining lines) }
+        ensures { IfOk result (λ area. (texts : List (Bor (List ℕ))) × Drains I.next_gives lines texts × (area ≡ new_state (text_of_each texts))) }
+    {
+        TextArea::new(alloc, copied_each(alloc, lines)?)
+    }
+}
+
+// The strings that the iterator gives.
+fn collected<I: Iterator<Item = String> + Drop>(
+    alloc: Global,
+    lines: I,
+) -> Result<Vec<String>, AllocError>
+    requires can { I.can_next lines }
+    requires ends { IsFinite (I.remaining lines) }
+    ensures { IfOk result (λ all. (strings : List (String Global)) × Drains I.next_gives lines strings × (all.items ≡ strings)) }
+{
+    let mut all = Vec::new(alloc);
+    for line in lines {
+        all.push(line)?;
+    }
+    Ok(all)
+}
+
+// Copies of the texts that the iterator gives.
+fn copied_each<'a, I: Iterator<Item = &'a str> + Drop>(
+    alloc: Global,
+    lines: I,
+) -> Result<Vec<String>, AllocError>
+    requires can { I.can_next lines }
+    requires ends { IsFinite (I.remaining lines) }
+    ensures { IfOk result (λ all. (texts : List (Bor (List ℕ))) × Drains I.next_gives lines texts × (text_of all.items ≡ text_of_each texts)) }
+{
+    let mut all = Vec::new(alloc);
+    for line in lines {
+        all.push(String::from_str(alloc, line)?)?;
+    }
+    Ok(all)
+}

@@ -1,0 +1,138 @@
+//! Insertions: what is selected goes first, as an edit of its own.
+ghost use Rattle.std.specs.Prelude.{◌≡◌, ◌<◌, OnOk, OnErr, IsOk, IfOk, false, replicate, vec_len};
+ghost use Rattle.std.specs.Str.{chars};
+ghost use Rattle.textarea_text.specs.Text.{Character, text_of};
+ghost use Rattle.textarea_document.specs.Edits.{is_filled};
+ghost use Rattle.textarea_document.specs.Selection.{is_selected};
+ghost use Rattle.textarea_pieces.specs.Given.{given};
+ghost use Rattle.tui_textarea.specs.Edits.{inserts_tab, inserts_text, put_symbols, spaces_to_stop, with_char, with_newline, with_tab, with_text};
+ghost use Rattle.tui_textarea.specs.Selection.{IsLeft, dropped, unselected};
+
+use crate::textarea::TextArea;
+use std::alloc::{AllocError, Global};
+use textarea_document::document::insertions::has_symbol;
+use textarea_pieces::given::{copied, pieces_of};
+use textarea_pieces::tab::spaces_to_stop;
+use textarea_text::util::spaces;
+
+impl TextArea {
+    /// Puts the character in at the cursor, as typed; `\n` and `\r` break the line.
+    pub fn insert_char(&mut self, c: char) -> Result<(), AllocError>
+        ensures ok { OnOk result (self.new ≡ with_char self.old c) }
+        ensures err { OnErr result (IsLeft self.old self.new) }
+    {
+        self.document.remove_selection(self.moment)?;
+        if c == '\n' || c == '\r' {
+            return self.document.insert_break(self.moment);
+        }
+        self.document
+            .insert_character(c, self.settings.undo_coalescing, self.moment)
+    }
+
+    /// Breaks the line at the cursor.
+    pub fn insert_newline(&mut self) -> Result<(), AllocError>
+        ensures ok { OnOk result (self.new ≡ with_newline self.old) }
+        ensures err { OnErr result (IsLeft self.old self.new) }
+    {
+        self.document.remove_selection(self.moment)?;
+        self.document.insert_break(self.moment)
+    }
+
+    /// Puts the text in at the cursor, and says whether there was any or a selection went. The text is cut at each line feed;
+    /// a carriage return directly before a line feed goes with it. Where there is nothing to do, it takes no memory.
+    pub fn insert_str(&mut self, text: &str) -> Result<bool, AllocError>
+        ensures inserted { IfOk result (λ inserted. inserted ≡ inserts_text self.old (given (chars text.now))) }
+        ensures ok { OnOk result (self.new ≡ with_text self.old (given (chars text.now))) }
+        ensures err { OnErr result (IsLeft self.old self.new) }
+        ensures nothing { inserts_text self.old (given (chars text.now)) ≡ false → IsOk result }
+    {
+        if !has_text(text) {
+            return self.drop_selection();
+        }
+        let pieces = pieces_of(self.allocator(), text)?;
+        self.document.remove_selection(self.moment)?;
+        self.document.insert(pieces, self.moment)?;
+        Ok(true)
+    }
+
+    /// Puts in what was yanked last, and says whether there was any. Where there is nothing to do, it takes no memory.
+    pub fn paste(&mut self) -> Result<bool, AllocError>
+        ensures inserted { IfOk result (λ inserted. inserted ≡ is_filled self.old.yank) }
+        ensures ok { OnOk result (self.new ≡ with_text self.old self.old.yank) }
+        ensures err { OnErr result (IsLeft self.old self.new) }
+        ensures nothing { inserts_text self.old self.old.yank ≡ false → IsOk result }
+    {
+        if !has_symbol(self.yank.as_slice()) {
+            self.drop_selection()?;
+            return Ok(false);
+        }
+        let pieces = copied(self.allocator(), self.yank.as_slice())?;
+        self.document.remove_selection(self.moment)?;
+        self.document.insert(pieces, self.moment)
+    }
+
+    /// Puts a tab in at the cursor, and says whether it did or a selection went: a tab character where hard tabs are on, as
+    /// typed, and else as many spaces as reach to the next tab stop. At tab length 0 it puts nothing in. Where there is
+    /// nothing to do, it takes no memory.
+    pub fn insert_tab(&mut self) -> Result<bool, AllocError>
+        ensures inserted { IfOk result (λ inserted. inserted ≡ inserts_tab self.old) }
+        ensures ok { OnOk result (self.new ≡ with_tab self.old) }
+        ensures err { OnErr result (IsLeft self.old self.new) }
+        ensures nothing { inserts_tab self.old ≡ false → IsOk result }
+    {
+        if self.settings.tab_length == 0 {
+            return self.drop_selection();
+        }
+        self.document.remove_selection(self.moment)?;
+        if self.settings.hard_tab_indent {
+            self.document
+                .insert_character('\t', self.settings.undo_coalescing, self.moment)?;
+        } else {
+            self.insert_spaces()?;
+        }
+        Ok(true)
+    }
+
+    // Puts in the spaces that reach from the cursor to the next tab stop.
+    fn insert_spaces(&mut self) -> Result<(), AllocError>
+        requires some { 0 < self.old.settings.tab_length }
+        ensures ok { OnOk result (self.new ≡ put_symbols self.old (replicate (spaces_to_stop self.old) (Character 32))) }
+        ensures err { OnErr result (self.new ≡ self.old) }
+    {
+        let (row, column) = self.document.cursor();
+        let line = self.document.lines()[row].as_str();
+        let count = spaces_to_stop(line, column, self.settings.tab_length);
+        let pieces = spaces_as_piece(self.allocator(), count)?;
+        self.document.insert(pieces, self.moment)?;
+        Ok(())
+    }
+
+    // Takes out what is selected, says whether a symbol was, and drops the selection.
+    fn drop_selection(&mut self) -> Result<bool, AllocError>
+        ensures removed { IfOk result (λ removed. removed ≡ is_selected self.old.document) }
+        ensures ok { OnOk result (self.new ≡ dropped (unselected self.old)) }
+        ensures err { OnErr result (self.new ≡ self.old) }
+        ensures nothing { is_selected self.old.document ≡ false → IsOk result }
+    {
+        let removed = self.document.remove_selection(self.moment)?;
+        self.document.set_anchor(None);
+        Ok(removed)
+    }
+}
+
+// Whether a given text holds a symbol.
+fn has_text(text: &str) -> bool
+    ensures { result ≡ is_filled (given (chars text.now)) }
+{
+    !text.is_empty()
+}
+
+// One piece of that many spaces.
+fn spaces_as_piece(alloc: Global, count: u8) -> Result<Vec<String>, AllocError>
+    ensures some { IfOk result (λ pieces. 0 < vec_len pieces) }
+    ensures text { IfOk result (λ pieces. text_of pieces.items ≡ replicate count (Character 32)) }
+{
+    let mut pieces = Vec::new(alloc);
+    pieces.push(String::from_str(alloc, spaces(count))?)?;
+    Ok(pieces)
+}

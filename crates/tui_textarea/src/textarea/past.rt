@@ -1,0 +1,32 @@
+//! Undo and redo.
+ghost use Rattle.std.specs.Prelude.{◌≡◌, OnOk, OnErr, IsOk, IfOk, None, is_some};
+ghost use Rattle.textarea_history.specs.Log.{newest, next};
+ghost use Rattle.textarea_document.specs.Outcomes.{redone, undone};
+ghost use Rattle.tui_textarea.specs.State.{with_document};
+
+use crate::textarea::TextArea;
+use std::alloc::AllocError;
+
+impl TextArea {
+    /// Takes back the newest edit, and says whether there was one. The cursor then stands behind the text that came
+    /// back, or where the text that went began, and nothing is selected.
+    pub fn undo(&mut self) -> Result<bool, AllocError>
+        ensures undone { IfOk result (λ found. found ≡ is_some (newest self.old.document.log)) }
+        ensures ok { OnOk result (self.new ≡ with_document self.old (undone self.old.document)) }
+        ensures err { OnErr result (self.new ≡ self.old) }
+        ensures nothing { newest self.old.document.log ≡ None → IsOk result }
+    {
+        self.document.undo()
+    }
+
+    /// Makes again the edit that was undone last, and says whether there was one. The cursor then stands where that edit
+    /// had left it, and nothing is selected.
+    pub fn redo(&mut self) -> Result<bool, AllocError>
+        ensures redone { IfOk result (λ found. found ≡ is_some (next self.old.document.log)) }
+        ensures ok { OnOk result (self.new ≡ with_document self.old (redone self.old.document)) }
+        ensures err { OnErr result (self.new ≡ self.old) }
+        ensures nothing { next self.old.document.log ≡ None → IsOk result }
+    {
+        self.document.redo()
+    }
+}

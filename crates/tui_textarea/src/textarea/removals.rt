@@ -1,0 +1,205 @@
+//! Removals: where a symbol is selected, that goes alone.
+ghost use Rattle.std.specs.Prelude.{◌≡◌, ◌<◌, OnOk, OnErr, IsOk, IfOk, IfSome, MatchOption, false, true};
+ghost use Rattle.textarea_text.specs.Place.{IsPlace, index_of, place_of};
+ghost use Rattle.textarea_document.specs.Edits.{is_filled};
+ghost use Rattle.textarea_document.specs.Selection.{is_selected};
+ghost use Rattle.tui_textarea.specs.Removals.{break_before_out, cleared, has_ahead, has_before, has_behind, has_break_before, has_line_before, has_line_behind, index_ahead, line_end_out, line_head_out, removes_or, symbol_before_out, symbol_behind_out, symbols_ahead_out, unselected_or, word_before_out, word_behind_out, yanked};
+
+use crate::textarea::TextArea;
+use std::alloc::AllocError;
+use textarea_pieces::places::{ahead, line_end, text_end};
+use textarea_target::ends::{word_end_after, word_start_before};
+
+impl TextArea {
+    /// Removes the character before the cursor, or at column 0 the line break there, and says whether something was
+    /// removed. Where nothing is, it takes no memory.
+    pub fn delete_char(&mut self) -> Result<bool, AllocError>
+        ensures removed { IfOk result (λ removed. removed ≡ removes_or self.old (has_before self.old)) }
+        ensures ok { OnOk result (self.new ≡ unselected_or self.old (symbol_before_out self.old)) }
+        ensures err { OnErr result (self.new ≡ self.old) }
+        ensures nothing { removes_or self.old (has_before self.old) ≡ false → IsOk result }
+    {
+        if self.document.remove_selection(self.moment)? {
+            return Ok(true);
+        }
+        self.document
+            .remove_before(self.settings.undo_coalescing, self.moment)
+    }
+
+    /// Removes the character behind the cursor, or at a line's end the line break there, and says whether something was
+    /// removed. Where nothing is, it takes no memory.
+    pub fn delete_next_char(&mut self) -> Result<bool, AllocError>
+        ensures removed { IfOk result (λ removed. removed ≡ removes_or self.old (has_behind self.old)) }
+        ensures ok { OnOk result (self.new ≡ unselected_or self.old (symbol_behind_out self.old)) }
+        ensures err { OnErr result (self.new ≡ self.old) }
+        ensures nothing { removes_or self.old (has_behind self.old) ≡ false → IsOk result }
+    {
+        if self.document.remove_selection(self.moment)? {
+            return Ok(true);
+        }
+        self.document
+            .remove_behind(self.settings.undo_coalescing, self.moment) // yanks nothing
+    }
+
+    /// Removes the line break before the cursor's line, and says whether something was removed. Where nothing is, it takes no
+    /// memory.
+    pub fn delete_newline(&mut self) -> Result<bool, AllocError>
+        ensures removed { IfOk result (λ removed. removed ≡ removes_or self.old (has_break_before self.old)) }
+        ensures ok { OnOk result (self.new ≡ unselected_or self.old (break_before_out self.old)) }
+        ensures err { OnErr result (self.new ≡ self.old) }
+        ensures nothing { removes_or self.old (has_break_before self.old) ≡ false → IsOk result }
+    {
+        if self.document.remove_selection(self.moment)? {
+            return Ok(true);
+        }
+        self.document.remove_break(self.moment)
+    }
+
+    /// Removes that many characters behind the cursor, each line break counting one, or all that there are, yanks them, and
+    /// says whether something was removed. Where nothing is, it takes no memory.
+    pub fn delete_str(&mut self, count: usize) -> Result<bool, AllocError>
+        ensures removed { IfOk result (λ removed. removed ≡ removes_or self.old (has_ahead self.old count)) }
+        ensures ok { OnOk result (self.new ≡ unselected_or self.old (symbols_ahead_out self.old count)) }
+        ensures err { OnErr result (self.new ≡ self.old) }
+        ensures nothing { removes_or self.old (has_ahead self.old count) ≡ false → IsOk result }
+    {
+        if self.document.remove_selection(self.moment)? {
+            return Ok(true);
+        }
+        let Some(end) = self.place_ahead(count) else {
+            self.document.set_anchor(None);
+            return Ok(false);
+        };
+        let cursor = self.document.cursor();
+        self.take_out(cursor, end)?;
+        Ok(true)
+    }
+
+    /// Removes and yanks what stands from the cursor to its line's end; there it does as `delete_next_char`. It says
+    /// whether something was removed. Where nothing is, it takes no memory.
+    pub fn delete_line_by_end(&mut self) -> Result<bool, AllocError>
+        ensures removed { IfOk result (λ removed. removed ≡ removes_or self.old (has_line_behind self.old)) }
+        ensures ok { OnOk result (self.new ≡ unselected_or self.old (line_end_out self.old)) }
+        ensures err { OnErr result (self.new ≡ self.old) }
+        ensures nothing { removes_or self.old (has_line_behind self.old) ≡ false → IsOk result }
+    {
+        if self.document.remove_selection(self.moment)? {
+            return Ok(true); // and yanks nothing
+        }
+        let cursor = self.document.cursor();
+        let end = line_end(self.document.lines(), cursor.0);
+        if cursor.1 == end.1 {
+            return self
+                .document
+                .remove_behind(self.settings.undo_coalescing, self.moment);
+        }
+        self.take_out(cursor, end)?;
+        Ok(true)
+    }
+
+    /// Removes and yanks what stands from the line's start to the cursor; there it does as `delete_newline`. It says
+    /// whether something was removed. Where nothing is, it takes no memory.
+    pub fn delete_line_by_head(&mut self) -> Result<bool, AllocError>
+        ensures removed { IfOk result (λ removed. removed ≡ removes_or self.old (has_line_before self.old)) }
+        ensures ok { OnOk result (self.new ≡ unselected_or self.old (line_head_out self.old)) }
+        ensures err { OnErr result (self.new ≡ self.old) }
+        ensures nothing { removes_or self.old (has_line_before self.old) ≡ false → IsOk result }
+    {
+        if self.document.remove_selection(self.moment)? {
+            return Ok(true);
+        }
+        let cursor = self.document.cursor();
+        if cursor.1 == 0 {
+            return self.document.remove_break(self.moment);
+        }
+        self.take_out((cursor.0, 0), cursor)?;
+        Ok(true)
+    }
+
+    /// Removes and yanks what stands from the start of the word before the cursor, or from the line's start, to the cursor;
+    /// at column 0 it does as `delete_newline`. It says whether something was removed. Where nothing is, it takes no memory.
+    pub fn delete_word(&mut self) -> Result<bool, AllocError>
+        ensures removed { IfOk result (λ removed. removed ≡ removes_or self.old (has_line_before self.old)) }
+        ensures ok { OnOk result (self.new ≡ unselected_or self.old (word_before_out self.old)) }
+        ensures err { OnErr result (self.new ≡ self.old) }
+        ensures nothing { removes_or self.old (has_line_before self.old) ≡ false → IsOk result }
+    {
+        if self.document.remove_selection(self.moment)? {
+            return Ok(true);
+        }
+        let cursor = self.document.cursor();
+        if cursor.1 == 0 {
+            return self.document.remove_break(self.moment);
+        }
+        let start = word_start_before(self.document.lines()[cursor.0].as_str(), cursor.1);
+        self.take_out((cursor.0, start), cursor)?;
+        Ok(true)
+    }
+
+    /// Removes and yanks what stands from the cursor to behind the word there, or to the line's end; at the line's end it
+    /// does as `delete_next_char`. It says whether something was removed. Where nothing is, it takes no memory.
+    pub fn delete_next_word(&mut self) -> Result<bool, AllocError>
+        ensures removed { IfOk result (λ removed. removed ≡ removes_or self.old (has_line_behind self.old)) }
+        ensures ok { OnOk result (self.new ≡ unselected_or self.old (word_behind_out self.old)) }
+        ensures err { OnErr result (self.new ≡ self.old) }
+        ensures nothing { removes_or self.old (has_line_behind self.old) ≡ false → IsOk result }
+    {
+        if self.document.remove_selection(self.moment)? {
+            return Ok(true);
+        }
+        let cursor = self.document.cursor();
+        let line = self.document.lines()[cursor.0].as_str();
+        if cursor.1 == line_end(self.document.lines(), cursor.0).1 {
+            return self
+                .document
+                .remove_behind(self.settings.undo_coalescing, self.moment);
+        }
+        let end = word_end_after(line, cursor.1);
+        self.take_out(cursor, (cursor.0, end))?;
+        Ok(true)
+    }
+
+    /// Removes and yanks the whole text, as one removal from its start, and says whether there was any. Of an empty text
+    /// nothing changes, and it takes no memory.
+    pub fn clear(&mut self) -> Result<bool, AllocError>
+        ensures removed { IfOk result (λ removed. removed ≡ is_filled self.old.document.text) }
+        ensures ok { OnOk result (self.new ≡ cleared self.old) }
+        ensures err { OnErr result (self.new ≡ self.old) }
+        ensures nothing { is_filled self.old.document.text ≡ false → IsOk result }
+    {
+        if self.document.is_empty() {
+            return Ok(false);
+        }
+        let end = text_end(self.document.lines());
+        self.take_out((0, 0), end)?;
+        Ok(true)
+    }
+
+    // Where the next symbols end, this many or all that there are; none where there are none.
+    fn place_ahead(&self, count: usize) -> Option<(usize, usize)>
+        ensures found { MatchOption result (has_ahead self.now count ≡ false) (λ end. has_ahead self.now count ≡ true) }
+        ensures end { IfSome result (λ end. end ≡ place_of self.now.document.text (index_ahead self.now.document count)) }
+        ensures place { IfSome result (IsPlace self.now.document.text) }
+        ensures ordered { IfSome result (λ end. index_of self.now.document.text self.now.document.cursor < index_of self.now.document.text end) }
+    {
+        let cursor = self.document.cursor();
+        let end = ahead(self.document.lines(), cursor, count);
+        if end.0 == cursor.0 && end.1 == cursor.1 {
+            None
+        } else {
+            Some(end)
+        }
+    }
+
+    // Removes and yanks what stands between two places.
+    fn take_out(&mut self, from: (usize, usize), to: (usize, usize)) -> Result<(), AllocError>
+        requires from { IsPlace self.old.document.text from }
+        requires to { IsPlace self.old.document.text to }
+        requires ordered { index_of self.old.document.text from < index_of self.old.document.text to }
+        ensures ok { OnOk result (self.new ≡ yanked self.old from to) }
+        ensures err { OnErr result (self.new ≡ self.old) }
+    {
+        self.yank = self.document.take(from, to, self.moment)?;
+        Ok(())
+    }
+}

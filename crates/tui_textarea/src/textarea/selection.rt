@@ -1,0 +1,96 @@
+//! The selection, and what is yanked by it.
+ghost use Rattle.std.specs.Prelude.{◌≡◌, OnOk, OnErr, IsOk, IfOk, false, is_some, string_bytes};
+ghost use Rattle.std.specs.Str.{chars};
+ghost use Rattle.textarea_document.specs.Selection.{is_selected, selection};
+ghost use Rattle.textarea_pieces.specs.Given.{given, written};
+ghost use Rattle.tui_textarea.specs.Selection.{all_selected, copied, cut_out, dropped, selection_started, unselected};
+
+use crate::textarea::TextArea;
+use std::alloc::AllocError;
+use textarea_pieces::given::{joined_with_line_feeds, pieces_of};
+use textarea_pieces::part::between;
+use textarea_pieces::places::text_end;
+
+impl TextArea {
+    /// Begins a selection at the cursor, an empty one at first.
+    pub fn start_selection(&mut self)
+        ensures { self.new ≡ selection_started self.old }
+    {
+        let cursor = self.document.cursor();
+        self.document.set_anchor(Some(cursor));
+    }
+
+    /// Drops the selection, if there is one; the text stays.
+    pub fn cancel_selection(&mut self)
+        ensures { self.new ≡ dropped self.old }
+    {
+        self.document.set_anchor(None); // a run of typing goes on
+    }
+
+    /// Selects the whole text, and moves the cursor to its end.
+    pub fn select_all(&mut self)
+        ensures { self.new ≡ all_selected self.old }
+    {
+        let end = text_end(self.document.lines());
+        self.document.move_to(end, Some((0, 0)));
+    }
+
+    /// Whether a selection is open, an empty one too.
+    pub fn is_selecting(&self) -> bool
+        ensures { result ≡ is_some self.now.document.anchor }
+    {
+        self.document.anchor().is_some()
+    }
+
+    /// The two ends of the selection, the first one first; of an empty one too.
+    pub fn selection_range(&self) -> Option<((usize, usize), (usize, usize))>
+        ensures { result ≡ selection self.now.document }
+    {
+        self.document.selection()
+    }
+
+    /// Yanks what is selected, if a symbol is, and drops the selection.
+    pub fn copy(&mut self) -> Result<(), AllocError>
+        ensures ok { OnOk result (self.new ≡ copied self.old) }
+        ensures err { OnErr result (self.new ≡ self.old) }
+        ensures nothing { is_selected self.old.document ≡ false → IsOk result }
+    {
+        if let Some((start, end)) = self.document.selected() {
+            self.yank = between(self.allocator(), self.document.lines(), start, end)?;
+        }
+        self.document.set_anchor(None); // an empty selection too
+        Ok(())
+    }
+
+    /// Yanks what is selected and takes it out, if a symbol is, and says whether one was; drops the selection.
+    pub fn cut(&mut self) -> Result<bool, AllocError>
+        ensures removed { IfOk result (λ removed. removed ≡ is_selected self.old.document) }
+        ensures ok { OnOk result (self.new ≡ cut_out self.old) }
+        ensures err { OnErr result (self.new ≡ self.old) }
+        ensures nothing { is_selected self.old.document ≡ false → IsOk result }
+    {
+        let Some((start, end)) = self.document.selected() else {
+            self.document.set_anchor(None);
+            return Ok(false);
+        };
+        self.yank = self.document.take(start, end, self.moment)?;
+        Ok(true)
+    }
+
+    /// The text that was yanked last, with a line feed for each line break; empty at first.
+    pub fn yank_text(&self) -> Result<String, AllocError>
+        ensures { IfOk result (λ text. chars (string_bytes text) ≡ written self.now.yank) }
+    {
+        joined_with_line_feeds(self.allocator(), self.yank.as_slice())
+    }
+
+    /// Sets what `paste` puts in. The text is cut at each line feed; a carriage return directly before a line feed goes with
+    /// it.
+    pub fn set_yank_text(&mut self, text: &str) -> Result<(), AllocError>
+        ensures ok { OnOk result (self.new ≡ record self.old { yank = given (chars text.now) }) }
+        ensures err { OnErr result (self.new ≡ self.old) }
+    {
+        self.yank = pieces_of(self.allocator(), text)?;
+        Ok(())
+    }
+}

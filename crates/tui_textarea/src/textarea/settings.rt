@@ -1,0 +1,116 @@
+//! What can be set.
+ghost use Rattle.std.specs.Prelude.{◌≡◌, ◌<◌, ◌≤◌, ◌+◌, length, replicate, cond, [], ◌∷◌};
+ghost use Rattle.std.specs.Duration.{as_nanos};
+ghost use Rattle.textarea_history.specs.Log.{empty_log};
+ghost use Rattle.textarea_document.specs.Outcomes.{run_ended};
+ghost use Rattle.tui_textarea.specs.State.{default_settings, with_document};
+
+use crate::textarea::TextArea;
+use std::time::Duration;
+use textarea_text::util::spaces;
+
+/// What a text area is told once and keeps to.
+#[derive(Clone, Copy, Debug, PartialEq, Eq)]
+pub struct Settings {
+    /// The columns between two tab stops; at 0 a tab inserts nothing.
+    pub tab_length: u8,
+    /// Whether a tab is inserted as a tab character, and not as spaces.
+    pub hard_tab_indent: bool,
+    /// Whether typed edits join into one that is undone at once.
+    pub undo_coalescing: bool,
+}
+
+impl Default for Settings {
+    /// A tab of four columns, made of spaces, and no joining.
+    fn default() -> Settings
+        ensures { result ≡ default_settings }
+    {
+        Settings {
+            tab_length: 4,
+            hard_tab_indent: false,
+            undo_coalescing: false,
+        }
+    }
+}
+
+impl TextArea {
+    /// Sets the columns between two tab stops; at 0 a tab inserts nothing.
+    pub fn set_tab_length(&mut self, tab_length: u8)
+        ensures { self.new ≡ record self.old { settings = record self.old.settings { tab_length = tab_length } } }
+    {
+        self.settings.tab_length = tab_length; // the text stays as it is
+    }
+
+    /// The columns between two tab stops.
+    pub fn tab_length(&self) -> u8
+        ensures { result ≡ self.now.settings.tab_length }
+    {
+        self.settings.tab_length // as it was set
+    }
+
+    /// Sets whether a tab is inserted as a tab character, and not as spaces.
+    pub fn set_hard_tab_indent(&mut self, hard_tab_indent: bool)
+        ensures { self.new ≡ record self.old { settings = record self.old.settings { hard_tab_indent = hard_tab_indent } } }
+    {
+        self.settings.hard_tab_indent = hard_tab_indent; // the text stays as it is
+    }
+
+    /// Whether a tab is inserted as a tab character.
+    pub fn hard_tab_indent(&self) -> bool
+        ensures { result ≡ self.now.settings.hard_tab_indent }
+    {
+        self.settings.hard_tab_indent // as it was set
+    }
+
+    /// What a tab at a line's start is: a tab character, or as many spaces as the tab length.
+    pub fn indent(&self) -> &'static str
+        ensures { result.now ≡ cond self.now.settings.hard_tab_indent (9 ∷ []) (replicate self.now.settings.tab_length 32) }
+    {
+        if self.settings.hard_tab_indent {
+            "\t"
+        } else {
+            spaces(self.settings.tab_length)
+        }
+    }
+
+    /// Sets whether typed edits join into one that is undone at once; a run of typing ends.
+    pub fn set_undo_coalescing(&mut self, undo_coalescing: bool)
+        ensures { self.new ≡ record self.old {
+          document = record self.old.document { log = run_ended self.old.document.log };
+          settings = record self.old.settings { undo_coalescing = undo_coalescing };
+        } }
+    {
+        self.settings.undo_coalescing = undo_coalescing;
+        self.document.break_run();
+    }
+
+    /// Whether typed edits join into one.
+    pub fn undo_coalescing(&self) -> bool
+        ensures { result ≡ self.now.settings.undo_coalescing }
+    {
+        self.settings.undo_coalescing // as it was set
+    }
+
+    /// Forgets all edits, and remembers so many from now on, done and undone together; at 0 none.
+    pub fn set_max_histories(&mut self, max_histories: usize)
+        ensures { self.new ≡ with_document self.old (record self.old.document { log = empty_log max_histories }) }
+    {
+        self.document.set_max_histories(max_histories);
+    }
+
+    /// How many edits are remembered at most, done and undone together.
+    pub fn max_histories(&self) -> usize
+        ensures value { result ≡ self.now.document.log.maximum }
+        ensures bound { length self.now.document.log.done + length self.now.document.log.undone ≤ result }
+    {
+        self.document.max_histories()
+    }
+
+    /// Hands in the moment of the edits that follow, counted from any fixed one. A moment earlier than the last edit's counts
+    /// as no pause between the two.
+    pub fn set_now(&mut self, now: Duration)
+        ensures { self.new ≡ record self.old { moment = as_nanos now } }
+    {
+        self.moment = now; // no edit by itself
+    }
+}
