@@ -4,7 +4,7 @@ use Rattle.std.proofs.lemmas.List.{length-append}
 use Rattle.std.proofs.lemmas.Str.{encodes-chars, IsUtf8-string_bytes}
 use Rattle.std.specs.List.{concat, AllByRecursion}
 use Rattle.std.specs.Str.{chars}
-use Rattle.textarea_text.specs.Text.{characters_of, lines_of}
+use Rattle.textarea_text.specs.Text.{lines_of}
 use Rattle.textarea_text.proofs.StringRows.{line_at}
 use Rattle.textarea_text.proofs.Columns.{length_cut}
 use Rattle.textarea_wrap.specs.Columns.{display_end_column}
@@ -22,7 +22,9 @@ next_range : (at : ℕ) (texts : List (List ℕ)) (k : ℕ) → k + 1 < length (
 next_range at [] k within = absurd (omega arith)
 next_range at (t ∷ []) k within = absurd (omega arith)
 next_range at (t ∷ u ∷ rest) zero within = refl
-next_range at (t ∷ u ∷ rest) (suc k) within = next_range (at + length t) (u ∷ rest) k (omega arith)
+next_range at (t ∷ u ∷ rest) (suc k) within =
+    let step : suc k + 1 ≡ suc (k + 1) = omega arith in
+    ap (λ n. (range_at (ranges_from at (t ∷ u ∷ rest)) n).0) step ∙ next_range (at + length t) (u ∷ rest) k (omega arith)
 
 -- the last row ends where the line does
 last_range : (at : ℕ) (texts : List (List ℕ)) (k : ℕ) → k + 1 ≡ length (ranges_from at texts) → (range_at (ranges_from at texts) k).1 ≡ at + length (concat texts)

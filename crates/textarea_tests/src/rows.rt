@@ -74,12 +74,6 @@ fn short_rows(rt: HostRuntime) -> Result<(), Fail> {
             lines: &["犬", ""],
             cursor: (1, 0),
         },
-        Row {
-            calls: &[],
-            answers: &[],
-            lines: &[""],
-            cursor: (0, 0),
-        },
     ];
     for row in &rows {
         check(&rt, row)?;

@@ -1,8 +1,9 @@
-use Rattle.std.proofs.Common.{◌≡◌, ◌<◌, ◌-◌, ℕ, List, [], ◌∙◌, ap, arith, sym, subst, length, take, drop, get_or, encode_utf8_all}
+use Rattle.std.proofs.Common.{◌<◌, ◌-◌, ℕ, List, [], ◌∙◌, ap, arith, sym, subst, length, take, drop, get_or}
 use Rattle.std.proofs.lemmas.List.{length-map, length-take, length-drop}
-use Rattle.std.specs.Str.{IsCharBoundary}
+use Rattle.std.specs.Str.{IsCharBoundary, chars}
 use Rattle.textarea_text.specs.Text.{characters_of, lines_of}
 use Rattle.textarea_text.proofs.StringRows.{boundary_at}
+use Rattle.textarea_wrap.specs.Columns.{display_end_column}
 use Rattle.textarea_map.specs.Map.{MapView, ranges_at, row_total}
 use Rattle.textarea_map.specs.Seen.{HoldsOffset, offset_of, range_at}
 use Rattle.textarea_map.proofs.Layouts.{length-AreRowsOf}
@@ -31,7 +32,7 @@ range-requires-clause-start_boundary c =
     let within : c.args.place.0 < length c.args.lines.now = omega (arith, c.requires.place.0, length-map c.args.lines.now characters_of) in
     let bytes = bytes_of_line c.args.lines.now c.args.place.0 c.index-lines-place.result c.as_str-line.result.now within c.index-lines-place.is c.as_str-line.ensures.value in
     let found = range_is _ _ _ _ c.rows_of-ranges.result.now row cut c.row_holding-row.ensures.within in
-    subst (λ (t : List ℕ). IsCharBoundary t (range_at c.rows_of-ranges.result.now row).0) (sym bytes) found.start
+    λ _. subst (λ (t : List ℕ). IsCharBoundary t (range_at c.rows_of-ranges.result.now row).0) (sym bytes) found.start
 
 pub range-requires-clause-end_boundary : goal.range-requires-clause-end_boundary
 range-requires-clause-end_boundary c =
@@ -43,7 +44,7 @@ display_column_behind_text-column-requires c =
     let text = c.as_str-line.result.now in
     let within : c.args.place.0 < length c.args.lines.now = omega (arith, c.requires.place.0, length-map c.args.lines.now characters_of) in
     let bytes = bytes_of_line c.args.lines.now c.args.place.0 c.index-lines-place.result text within c.index-lines-place.is c.as_str-line.ensures.value in
-    omega (arith, c.requires.short, ap length bytes, length-take (c.byte_offset-offset.result - start) (drop start text), length-drop start text)
+    omega (arith, c.requires.short, ap length bytes, ap length c.range.ensures.value, length-take (c.byte_offset-offset.result - start) (drop start text), length-drop start text)
 
 pub index-requires : goal.index-requires
 index-requires c =
@@ -77,5 +78,5 @@ returns c =
       row = row;
       holds = subst (λ (t : List (ℕ × ℕ)). HoldsOffset t row (offset_of (get_or (lines_of c.args.lines.now) line []) c.args.place.1)) c.rows_of-ranges.ensures (subst (HoldsOffset ranges row) same held);
       row_is = omega (arith, number, ap (λ (v : MapView). row_total (take line v.rows)) c.self.view_is);
-      column_is = c.display_column_behind_text-column.ensures.value ∙ column_same c.args.wrapping.tab_len _ _ offset _ text _ (ap (λ (t : List (ℕ × ℕ)). (range_at t row).0) c.rows_of-ranges.ensures) same bytes;
+      column_is = c.display_column_behind_text-column.ensures.value ∙ ap (λ (t : List ℕ). display_end_column c.args.wrapping.tab_len 0 (chars t)) c.range.ensures.value ∙ column_same c.args.wrapping.tab_len _ _ offset _ text _ (ap (λ (t : List (ℕ × ℕ)). (range_at t row).0) c.rows_of-ranges.ensures) same bytes;
     }
