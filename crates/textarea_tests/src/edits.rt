@@ -3,7 +3,20 @@ use crate::table::Step::{Cursor, Do, Lines, Says, Type, Yank};
 use crate::table::{Row, check};
 use std::test::Fail;
 
-static INSERTIONS: [Row<'static>; 4] = [
+static INSERTIONS: [Row<'static>; 5] = [
+    // A chunk of four pieces inside a text, and its undo.
+    Row {
+        lines: &["ab", "cd", "ef"],
+        steps: &[
+            Do("jump 1 1"),
+            Says("insert_str x\\ny\\nz\\nw", true),
+            Lines(&["ab", "cx", "y", "z", "wd", "ef"]),
+            Cursor(4, 1),
+            Says("undo", true),
+            Lines(&["ab", "cd", "ef"]),
+            Cursor(1, 1),
+        ],
+    },
     Row {
         lines: &[],
         steps: &[

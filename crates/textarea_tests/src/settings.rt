@@ -27,3 +27,22 @@ fn settings(rt: HostRuntime) -> Result<(), Fail> {
     assert_eq!(rt; area.into_lines().len(), 2);
     Ok(())
 }
+
+#[test]
+fn text_areas_of_iterators(rt: HostRuntime) -> Result<(), Fail> {
+    let alloc = rt.alloc();
+    let mut area = TextArea::from_strs(alloc, ["a", "b"].into_iter())?;
+    compare_lines(&rt, &area, &["a", "b"]);
+    area.insert_char('c')?;
+    let copy = area.clone()?;
+    area.undo()?;
+    compare_lines(&rt, &area, &["a", "b"]);
+    compare_lines(&rt, &copy, &["ca", "b"]);
+    let given = strings(&rt, &["x"])?;
+    let owned = TextArea::from_strings(alloc, given.into_iter())?;
+    compare_lines(&rt, &owned, &["x"]);
+    let none = strings(&rt, &[])?;
+    let empty = TextArea::from_strings(alloc, none.into_iter())?;
+    compare_lines(&rt, &empty, &[""]);
+    Ok(())
+}
