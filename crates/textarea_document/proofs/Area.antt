@@ -8,15 +8,11 @@ use Rattle.textarea_text.specs.Text.{characters, following, characters_of, lines
 use Rattle.textarea_text.specs.Place.{Place, IsPlace}
 use Rattle.textarea_text.specs.Size.{size_of}
 use Rattle.textarea_text.proofs.Sizes.{length-le-size_of}
-use Rattle.textarea_text.proofs.StringRows.{row_within, rows_place}
+use Rattle.textarea_text.proofs.StringRows.{characters_bound, row_within, rows_place}
 use Rattle.textarea_document.specs.Sound.{IsStored}
 use Rattle.textarea_text.proofs.Splices.{length-characters}
 
--- a line has at most as many characters as bytes
-pub characters_bound : {Z : Type 0} (s : String Z) → length (characters_of s) < 2 ^ 63
-characters_bound s =
-    omega (arith, length-le-encodes (characters_of s), ap length (encodes-chars (string_bytes s) (IsUtf8-string_bytes s)), s.bytes.ok.0, s.bytes.ok.1, s.bytes.small)
-
+-- a column is less than any sum of columns that the machine has
 pub column_bound : {Z : Type 0} (items : List (String Z)) (row : ℕ) → length (get_or (lines_of items) row []) < 2 ^ 63
 column_bound [] row = omega arith
 column_bound (s ∷ items) zero = characters_bound s
@@ -48,9 +44,6 @@ pub text_of-many : {Z : Type 0} (items : List (String Z)) → length items ≢ 1
 text_of-many [] apart some = absurd (omega arith)
 text_of-many (a ∷ []) apart some = absurd (apart refl)
 text_of-many (a ∷ b ∷ rest) apart some = λ e. omega (arith, ap length e, length-append (characters (characters_of a)) (following (lines_of (b ∷ rest))))
-
-pub pair_is : (place : Place) (row column : ℕ) → place.0 ≡ row → place.1 ≡ column → place ≡ (row, column)
-pair_is place row column e e' = ap (λ (n : ℕ). (n, place.1)) e ∙ ap (λ (n : ℕ). (row, n)) e'
 
 -- a line's bytes are part of the size
 line_in_size : {Z : Type 0} (items : List (String Z)) (row : ℕ) → row < length items → length (get_or (lines_of items) row []) + 1 ≤ size_of items

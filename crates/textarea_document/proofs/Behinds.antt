@@ -14,11 +14,10 @@ use Rattle.textarea_text.proofs.StringRows.{line_at}
 use Rattle.textarea_text.specs.Splice.{Fits}
 use Rattle.textarea_history.specs.Edit.{inserts_of, splice_of, symbols_of}
 use Rattle.textarea_history.specs.declared.edit.EditKind.{EditKind}
-use Rattle.textarea_text.proofs.Places.{part_rows, index_parted}
 use Rattle.textarea_document.specs.State.{DocumentState}
 use Rattle.textarea_document.specs.Outcomes.{edited, unanchored}
 use Rattle.textarea_document.specs.Edits.{IsSymbolBehind, break_removal, symbol_removal, without_behind, without_break_before}
-use Rattle.textarea_document.proofs.Parts.{place_of-index}
+use Rattle.textarea_text.proofs.Places.{place_of-index}
 use Rattle.std.proofs.lemmas.Bool.Decides.{nat_tests}
 
 -- an index at which a symbol stands is not the text's end
@@ -35,15 +34,6 @@ break_is_behind rows row column within e =
     let stands : take 1 (drop (index_of (joined rows) (row, column)) (joined rows)) ≡ Break ∷ [] =
     ap (λ (n : ℕ). take 1 (drop (index_of (joined rows) (row, n)) (joined rows))) e ∙ break_stands rows row within in
     record { index = not_end (joined rows) (index_of (joined rows) (row, column)) Break stands; symbol_is = stands; ends = refl }
-
-pub none_is_behind : (rows : List (List ℕ)) (row column : ℕ) → (h : IsPlaceOf rows (row, column)) → length rows ≤ row + 1 → length (get_or rows row []) ≤ column → index_of (joined rows) (row, column) ≡ length (joined rows)
-unfolding part_rows
-none_is_behind rows row column h last e =
-    let parts = part_rows rows row column h in
-    let line = get_or rows row [] in
-    let back : parts.back ≡ [] = ap (λ t. characters t ++ following (drop (row + 1) rows)) (drop_all column line e) ∙ ap following (drop_all (row + 1) rows last) in
-    let whole : joined rows ≡ parts.front = parts.is ∙ ap (λ t. parts.front ++ t) back ∙ append-nil parts.front in
-    ap (λ t. index_of t (row, column)) parts.is ∙ index_parted (row, column) parts.front parts.back parts.ends ∙ ap length (sym whole)
 
 -- ---- of strings
 

@@ -6,26 +6,11 @@ use Rattle.std.proofs.Math.Seq.{take-add}
 use Rattle.textarea_text.specs.Text.{Symbol, text_of}
 use Rattle.textarea_text.specs.Place.{Place, IsPlace, StandsAt, end, index_of, place_of}
 use Rattle.textarea_text.specs.Splice.{Splice, Fits}
-use Rattle.textarea_text.proofs.Places.{parted, index_parted}
+use Rattle.textarea_text.proofs.Places.{index_within, place_of-index}
 use Rattle.textarea_text.proofs.Splices.{end-append}
 use Rattle.textarea_history.specs.Edit.{Stored, IsWellFormed}
 use Rattle.textarea_pieces.specs.Part.{part}
 use Rattle.textarea_document.specs.Edits.{removal}
-
-pub index_within : (text : List Symbol) (place : Place) → IsPlace text place → index_of text place ≤ length text
-index_within text place h =
-    let parts = parted text place h in
-    omega (arith, ap (λ t. index_of t place) parts.is, index_parted place parts.front parts.back parts.ends, ap length parts.is, length-append parts.front parts.back)
-
--- a place is that of its index
-pub place_of-index : (text : List Symbol) (place : Place) → IsPlace text place → place_of text (index_of text place) ≡ place
-place_of-index text place h =
-    let parts = parted text place h in
-    let index : index_of text place ≡ length parts.front = ap (λ t. index_of t place) parts.is ∙ index_parted place parts.front parts.back parts.ends in
-    ap (λ n. end (0, 0) (take n text)) index
-    ∙ ap (λ t. end (0, 0) (take (length parts.front) t)) parts.is
-    ∙ ap (end (0, 0)) (take_at parts.front parts.back (length parts.front) refl)
-    ∙ parts.ends
 
 length-part : (text : List Symbol) (from to : Place) → IsPlace text to → index_of text from ≤ index_of text to → length (part text from to) ≡ index_of text to - index_of text from
 length-part text from to h ordered =

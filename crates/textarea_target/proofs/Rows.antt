@@ -20,12 +20,6 @@ pub leads : {Z : Type 0} (items : List (String Z)) (cursor : Place) (cursor_move
 leads items cursor cursor_move meant found of_rows h is told same =
     told ∙ ap of_rows (rows_of_text items cursor h) ∙ same ∙ ap (target (text_of items) cursor) (sym is)
 
--- ---- how long a line can be
-
-pub small_line : {Z : Type 0} (line : String Z) → length (characters_of line) < 2 ^ 63
-small_line line =
-    omega (arith, length-le-encodes (characters_of line), ap length (encodes-chars (string_bytes line) (IsUtf8-string_bytes line)), line.bytes.ok, line.bytes.small)
-
 -- ---- empty lines
 
 encoded_empty : (cs : List ℕ) → (length (encode_utf8_all cs) == 0) ≡ is_empty_line cs

@@ -5,32 +5,10 @@ use Rattle.std.proofs.lemmas.List.{take_at, length-append, drop_all, drop_more}
 use Rattle.textarea_text.specs.Text.{Symbol, Character, Break, characters, following, joined}
 use Rattle.textarea_text.specs.Place.{Place, IsPlace, IsPlaceOf, StandsAt, end, index_of, place_of}
 use Rattle.textarea_text.proofs.Splices.{lines-joined}
-use Rattle.textarea_text.proofs.Places.{parted, index_parted, part_rows}
+use Rattle.textarea_text.proofs.Places.{index_parted, index_within, part_rows, place_of-index}
 use Rattle.textarea_text.proofs.StringRows.{stands_until}
 use Rattle.textarea_text.proofs.Befores.{character_stands, break_stands}
 use Rattle.textarea_target.specs.Target.{next_place, previous_place, row_end}
-
--- ---- places and their indices
-
-index-front : (text : List Symbol) (place : Place) (h : IsPlace text place) → index_of text place ≡ length (parted text place h).front
-index-front text place h =
-    let parts = parted text place h in
-    ap (λ t. index_of t place) parts.is ∙ index_parted place parts.front parts.back parts.ends
-
--- a place is the one at its index
-pub place_of-index_of : (text : List Symbol) (place : Place) → IsPlace text place → place_of text (index_of text place) ≡ place
-place_of-index_of text place h =
-    let parts = parted text place h in
-    ap (λ n. end (0, 0) (take n text)) (index-front text place h)
-    ∙ ap (λ t. end (0, 0) (take (length parts.front) t)) parts.is
-    ∙ ap (end (0, 0)) (take_at parts.front parts.back (length parts.front) refl)
-    ∙ parts.ends
-
--- its index is at most the text's length
-pub index_of-within : (text : List Symbol) (place : Place) → IsPlace text place → index_of text place ≤ length text
-index_of-within text place h =
-    let parts = parted text place h in
-    omega (arith, index-front text place h, ap length parts.is, length-append parts.front parts.back)
 
 -- ---- neighbours
 
@@ -46,10 +24,10 @@ next_behind : (text : List Symbol) (place : Place) (symbol : Symbol) → IsPlace
 next_behind text place symbol h stands =
     let until = stands_until text place (symbol ∷ []) h stands in
     record {
-      place_is = place_of-index_of text place h;
-      next_is = place_of-index_of text (end place (symbol ∷ [])) until.0;
+      place_is = place_of-index text place h;
+      next_is = place_of-index text (end place (symbol ∷ [])) until.0;
       index = until.1;
-      within = index_of-within text (end place (symbol ∷ [])) until.0;
+      within = index_within text (end place (symbol ∷ [])) until.0;
     }
 
 pub next_place-is : (text : List Symbol) (place next : Place) → IsNext text place next → Some next ≡ next_place text place

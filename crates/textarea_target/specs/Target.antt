@@ -5,6 +5,7 @@ use Rattle.textarea_text.specs.Place.{Place, index_of, place_of}
 use Rattle.textarea_word.specs.Nearest.{least_below}
 use Rattle.textarea_word.specs.Words.{next_word_start, next_word_last, previous_word_start, next_behind_word}
 use Rattle.textarea_word.specs.Paragraphs.{next_paragraph_start, previous_paragraph_start}
+use Rattle.textarea_pieces.specs.Part.{clip}
 use Rattle.textarea_move.specs.declared.cursor_move.CursorMove.{CursorMove}
 use Rattle.textarea_move.specs.declared.cursor_move.CursorMove.TheVariants.{Forward, Back, Up, Down, Head, End, Top, Bottom, WordForward, WordEnd, WordBack, ParagraphForward, ParagraphBack, Jump, InViewport}
 
@@ -25,10 +26,6 @@ row_end rows row = (row, length (line_of rows row))
 -- the column in a row, or the row's end where the row is shorter
 abbrev pub clipped : List (List ℕ) → ℕ → ℕ → Place
 clipped rows row column = (row, min column (length (line_of rows row)))
-
--- a place, clipped to the lines: a row past the last one counts as the last one, a column past the row's end as that end
-abbrev pub clipped_place : List (List ℕ) → Place → Place
-clipped_place rows place = clipped rows (min place.0 (last_row rows)) place.1
 
 -- ---- the neighbours of a place
 
@@ -112,7 +109,7 @@ target text cursor WordEnd = Some (word_end (lines text) cursor)
 target text cursor WordBack = Some (word_back (lines text) cursor)
 target text cursor ParagraphForward = Some (paragraph_forward (lines text) cursor)
 target text cursor ParagraphBack = paragraph_back (lines text) cursor
-target text cursor (Jump row column) = Some (clipped_place (lines text) (row, column))
+target text cursor (Jump row column) = Some (clip (lines text) (row, column))
 target text cursor InViewport = None
 
 -- ---- the ends of what a removal of a word takes

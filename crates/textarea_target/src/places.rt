@@ -3,7 +3,7 @@ ghost use Rattle.std.specs.Prelude.{◌≡◌, ◌^◌, ◌<◌, length};
 ghost use Rattle.std.specs.Str.{chars};
 ghost use Rattle.textarea_text.specs.Text.{lines_of};
 ghost use Rattle.textarea_text.specs.Place.{IsPlaceOf};
-ghost use Rattle.textarea_target.specs.Target.{clipped, clipped_place, last_row, line_of, row_end};
+ghost use Rattle.textarea_target.specs.Target.{clipped, last_row, line_of, row_end};
 
 use textarea_text::rows::column_count;
 
@@ -49,13 +49,4 @@ pub fn clipped(lines: &[String], row: usize, column: usize) -> (usize, usize)
     ensures place { IsPlaceOf (lines_of lines.now) result }
 {
     (row, column.min(row_length(lines, row)))
-}
-
-/// The place, or the nearest one of the text where it lies past the last row or past its row's end.
-pub fn clipped_place(lines: &[String], place: (usize, usize)) -> (usize, usize)
-    requires { 0 < length lines.now }
-    ensures value { result ≡ clipped_place (lines_of lines.now) place }
-    ensures place { IsPlaceOf (lines_of lines.now) result }
-{
-    clipped(lines, place.0.min(last_row(lines)), place.1)
 }

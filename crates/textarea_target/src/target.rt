@@ -6,9 +6,10 @@ ghost use Rattle.textarea_target.specs.Target.{target};
 
 use crate::ends::{next_place, previous_place};
 use crate::paragraphs::{paragraph_back, paragraph_forward};
-use crate::places::{clipped, clipped_place, last_row, row_end};
+use crate::places::{clipped, last_row, row_end};
 use crate::words::{word_back, word_end, word_forward};
 use textarea_move::cursor_move::CursorMove;
+use textarea_pieces::places;
 
 /// Where the move leads from the cursor, a place of the lines: row and column, both from 0, the column in characters.
 /// None where it leads nowhere: Forward from the text's end, Back from its start, ParagraphBack from the first row, and
@@ -35,7 +36,7 @@ pub fn target(
         CursorMove::WordBack => Some(word_back(lines, cursor)),
         CursorMove::ParagraphForward => Some(paragraph_forward(lines, cursor)),
         CursorMove::ParagraphBack => paragraph_back(lines, cursor),
-        CursorMove::Jump(row, column) => Some(clipped_place(
+        CursorMove::Jump(row, column) => Some(places::clipped(
             lines,
             (usize::from(row), usize::from(column)),
         )),

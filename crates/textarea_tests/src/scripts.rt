@@ -97,7 +97,7 @@ fn commands(rt: HostRuntime) -> Result<(), Fail> {
     Ok(())
 }
 
-// Each move by its name, from row 1 and column 1.
+// Each move by its name, from the place (1, 1).
 #[test]
 fn moves_by_name(rt: HostRuntime) -> Result<(), Fail> {
     for (name, cursor) in [

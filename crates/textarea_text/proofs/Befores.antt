@@ -64,12 +64,7 @@ break_before items place line column h none some read e =
     is_before (text_of items) (place.0 - 1, column) Break place (text_place items (place.0 - 1, column) (omega (arith, h.0), omega (arith, at))) stands
     (pair_is place (place.0 - 1 + 1) 0 (omega arith) none)
 
--- a call of `next`, where a character is left
-pub next_some : (Same : Type 0) (cs was rest : List ℕ) (column : ℕ) (found : Option ℕ) → column < length cs → was ≡ encode_utf8_all (drop column cs) → MatchOption found ((length was ≡ 0) × Same) (λ c. was ≡ encode_utf8 c ++ rest) → IsSome found
-next_some Same cs was rest column None within e h =
-    absurd (omega (arith, h.0, ap length e, length-le-encodes (drop column cs), length-drop column cs))
-next_some Same cs was rest column (Some c) within e h = refl
-
+-- a call of `next`
 pub next_is : (Same : Type 0) (cs was rest : List ℕ) (column c : ℕ) (found : Option ℕ) → was ≡ encode_utf8_all (drop column cs) → MatchOption found ((length was ≡ 0) × Same) (λ d. was ≡ encode_utf8 d ++ rest) → found ≡ Some c → drop column cs ≡ c ∷ drop (column + 1) cs
 next_is Same cs was rest column c found e h is =
     let read : was ≡ encode_utf8 c ++ rest = subst (λ (o : Option ℕ). MatchOption o ((length was ≡ 0) × Same) (λ d. was ≡ encode_utf8 d ++ rest)) is h in

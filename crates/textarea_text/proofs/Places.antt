@@ -2,7 +2,7 @@
 use Rattle.std.proofs.Common.{◌≤◌, ◌≡◌, ℕ, ◌+◌, ◌-◌, ◌<◌, Bool, true, false, List, [], ◌∷◌, ◌++◌, length, take, drop, sym, ap, refl, ◌∙◌, arith, get_or, subst}
 use Rattle.std.proofs.lemmas.List.{append_assoc, length-append, length-drop, take-append-drop, length-take-le, take_at, drop_at, get_or_at}
 use Rattle.textarea_text.specs.Text.{Symbol, Character, Break, characters, following, leading, joined, lines, on_first}
-use Rattle.textarea_text.specs.Place.{Place, end, index_of, inserted, removed, StandsAt, IsPlaceOf, IsPlace, IsSymbolBefore}
+use Rattle.textarea_text.specs.Place.{Place, end, index_of, place_of, inserted, removed, StandsAt, IsPlaceOf, IsPlace, IsSymbolBefore}
 use Rattle.textarea_text.specs.Splice.{Splice, Fits, Allows, applied, inverse, place_after}
 use Rattle.textarea_text.proofs.Splices.{whole, index_of_part, end_of_front, end-append, inserted_at, removed_at, stands_at}
 use Rattle.textarea_text.proofs.RowEdits.{rows_around, cut_line, row_inserted, rows_removed}
@@ -115,6 +115,25 @@ index_parted place front back e = ap (λ (p : Place). index_of (front ++ back) p
 
 pub place_parted : (place : Place) (front back : List Symbol) → end (0, 0) front ≡ place → IsPlace (front ++ back) place
 place_parted place front back e = subst (IsPlace (front ++ back)) e (IsPlace-end front back)
+
+-- a place is the one at its index, which is at most the text's length
+index_front : (text : List Symbol) (place : Place) (h : IsPlace text place) → index_of text place ≡ length (parted text place h).front
+index_front text place h =
+    let parts = parted text place h in
+    ap (λ t. index_of t place) parts.is ∙ index_parted place parts.front parts.back parts.ends
+
+pub place_of-index : (text : List Symbol) (place : Place) → IsPlace text place → place_of text (index_of text place) ≡ place
+place_of-index text place h =
+    let parts = parted text place h in
+    ap (λ n. end (0, 0) (take n text)) (index_front text place h)
+    ∙ ap (λ t. end (0, 0) (take (length parts.front) t)) parts.is
+    ∙ ap (end (0, 0)) (take_at parts.front parts.back (length parts.front) refl)
+    ∙ parts.ends
+
+pub index_within : (text : List Symbol) (place : Place) → IsPlace text place → index_of text place ≤ length text
+index_within text place h =
+    let parts = parted text place h in
+    omega (arith, index_front text place h, ap length parts.is, length-append parts.front parts.back)
 
 -- ---- what stands at a place
 

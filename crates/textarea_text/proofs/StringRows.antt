@@ -1,9 +1,9 @@
 -- Lines of `String`s that are read, cut and put together again.
-use Rattle.std.proofs.Common.{subst, encode_utf8_all, ◌≡◌, ℕ, ◌+◌, ◌<◌, ◌≤◌, List, [], ◌∷◌, ◌++◌, length, take, drop, sym, ap, refl, ◌∙◌, arith, get_or, String, string_bytes}
+use Rattle.std.proofs.Common.{subst, encode_utf8_all, ◌≡◌, ℕ, ◌+◌, ◌<◌, ◌≤◌, List, [], ◌∷◌, ◌++◌, length, take, drop, sym, ap, refl, ◌∙◌, arith, get_or, String, string_bytes, ◌^◌}
 use Rattle.std.specs.Str.{chars, IsCharBoundary}
 use Rattle.textarea_text.specs.Replaced.{replaced}
 use Rattle.std.proofs.lemmas.List.{append-nil, append_assoc, length-append, take-append-drop, map-append, get_or-map, take_more, take_at, drop_at, take-map, drop-map, length-map}
-use Rattle.std.proofs.lemmas.Str.{IsUtf8-string_bytes}
+use Rattle.std.proofs.lemmas.Str.{IsUtf8-string_bytes, encodes-chars, length-le-encodes}
 use Rattle.textarea_text.specs.Text.{Symbol, Character, Break, characters, following, leading, joined, characters_of, lines_of, text_of}
 use Rattle.textarea_text.specs.Place.{Place, IsPlaceOf, IsPlace, StandsAt, end, index_of, changed, removed, ReplacesRows}
 use Rattle.textarea_text.proofs.Columns.{IsCharBoundary-column, offset_in}
@@ -138,3 +138,8 @@ changed_by_none text place stop symbols first h stands e none =
 
 pub row_within : {Z : Type 0} (items : List (String Z)) (place : Place) → IsPlaceOf (lines_of items) place → place.0 < length items
 row_within items place h = omega (arith, h.0, length-map items characters_of)
+
+-- a line has at most as many characters as bytes
+pub characters_bound : {Z : Type 0} (line : String Z) → length (characters_of line) < 2 ^ 63
+characters_bound line =
+    omega (arith, length-le-encodes (characters_of line), ap length (encodes-chars (string_bytes line) (IsUtf8-string_bytes line)), line.bytes.ok, line.bytes.small)

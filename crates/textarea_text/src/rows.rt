@@ -33,18 +33,6 @@ pub fn column_count(line: &str) -> usize
     line.chars().count()
 }
 
-/// The character at the column of a line.
-pub fn character_at(line: &str, column: usize) -> char
-    requires { column < length (chars line.now) }
-    ensures { drop column (chars line.now) ≡ result ∷ drop (column + 1) (chars line.now) }
-{
-    let mut rest = line.chars();
-    for _index in 0..column {
-        rest.next();
-    }
-    rest.next().unwrap()
-}
-
 // The character that ends at the column of a line.
 fn character_before(line: &str, column: usize) -> char
     requires some { 0 < column }

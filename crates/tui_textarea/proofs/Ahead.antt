@@ -4,15 +4,13 @@ use Rattle.std.proofs.lemmas.Bool.Decides.{nat_tests}
 use Rattle.textarea_text.specs.Text.{Symbol, lines}
 use Rattle.textarea_text.specs.Place.{Place, IsPlace, IsPlaceOf, index_of, place_of}
 use Rattle.textarea_document.specs.State.{DocumentState}
-use Rattle.textarea_document.proofs.Parts.{index_within, place_of-index}
-
-same_place : (first second : Place) → first.0 ≡ second.0 → first.1 ≡ second.1 → first ≡ second
-same_place first second rows columns = ap (λ (n : ℕ). (n, first.1)) rows ∙ ap (λ (n : ℕ). (second.0, n)) columns
+use Rattle.textarea_text.proofs.Befores.{pair_is}
+use Rattle.textarea_text.proofs.Places.{index_within, place_of-index}
 
 -- at the cursor: there are none
 pub none_ahead : (text : List Symbol) (cursor stop : Place) (count : ℕ) → index_of text stop ≡ min (index_of text cursor + count) (length text) → stop.0 ≡ cursor.0 → stop.1 ≡ cursor.1 → nat_lt (index_of text cursor) (min (index_of text cursor + count) (length text)) ≡ false
 none_ahead text cursor stop count e rows columns =
-    let same : index_of text stop ≡ index_of text cursor = ap (index_of text) (same_place stop cursor rows columns) in
+    let same : index_of text stop ≡ index_of text cursor = ap (index_of text) (pair_is stop cursor.0 cursor.1 rows columns) in
     grind (arith, nat_tests)
 
 -- anywhere else: there are some

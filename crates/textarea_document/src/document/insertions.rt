@@ -48,7 +48,6 @@ impl Document {
     /// Puts the pieces, with a line break between each two, in at the cursor, and says whether there was a symbol to put
     /// in. Without one only the selection is dropped, and no memory is taken.
     pub fn insert(&mut self, pieces: Vec<String>, now: Duration) -> Result<bool, AllocError>
-        requires some { 0 < vec_len pieces }
         ensures inserted { IfOk result (λ inserted. inserted ≡ is_filled (text_of pieces.items)) }
         ensures ok { OnOk result (self.new ≡ with_symbols self.old (text_of pieces.items) (as_nanos now)) }
         ensures err { OnErr result (self.new ≡ self.old) }

@@ -1,7 +1,8 @@
 use Rattle.std.proofs.Common.{◌≡◌, ◌∙◌, ap, refl, ℕ, Some}
 use Rattle.textarea_text.specs.Text.{lines_of}
 use Rattle.textarea_move.specs.declared.cursor_move.CursorMove.TheVariants.{End, Top, Bottom, WordForward, WordEnd, WordBack, ParagraphForward, ParagraphBack, Jump}
-use Rattle.textarea_target.specs.Target.{clipped, clipped_place, last_row, paragraph_back, paragraph_forward, row_end, word_back, word_end, word_forward}
+use Rattle.textarea_target.specs.Target.{clipped, last_row, paragraph_back, paragraph_forward, row_end, word_back, word_end, word_forward}
+use Rattle.textarea_pieces.specs.Part.{clip}
 use Rattle.textarea_target.proofs.Rows.{leads}
 use Rattle.textarea_target.proofs.target.target.Goals as goal
 
@@ -47,9 +48,9 @@ returns-in-ParagraphBack-clause-value c =
 
 pub returns-in-Jump-clause-value : goal.returns-in-Jump-clause-value
 returns-in-Jump-clause-value c =
-    let read : c.clipped_place.result ≡ clipped_place (lines_of c.args.lines.now) (c.in-Jump.row, c.in-Jump.column) =
-    c.clipped_place.ensures.value
-    ∙ ap (λ (row : ℕ). clipped_place (lines_of c.args.lines.now) (row, c.from-in-Jump.result)) c.from.ensures
-    ∙ ap (λ (column : ℕ). clipped_place (lines_of c.args.lines.now) (c.in-Jump.row, column)) c.from-in-Jump.ensures in
-    leads c.args.lines.now c.args.cursor c.args.cursor_move (Jump c.in-Jump.row c.in-Jump.column) (Some c.clipped_place.result) (λ rows. Some (clipped_place rows (c.in-Jump.row, c.in-Jump.column))) c.requires c.in-Jump.is
+    let read : c.clipped-in-Jump.result ≡ clip (lines_of c.args.lines.now) (c.in-Jump.row, c.in-Jump.column) =
+    c.clipped-in-Jump.ensures.value
+    ∙ ap (λ (row : ℕ). clip (lines_of c.args.lines.now) (row, c.from-in-Jump.result)) c.from.ensures
+    ∙ ap (λ (column : ℕ). clip (lines_of c.args.lines.now) (c.in-Jump.row, column)) c.from-in-Jump.ensures in
+    leads c.args.lines.now c.args.cursor c.args.cursor_move (Jump c.in-Jump.row c.in-Jump.column) (Some c.clipped-in-Jump.result) (λ rows. Some (clip rows (c.in-Jump.row, c.in-Jump.column))) c.requires c.in-Jump.is
     (ap Some read) refl

@@ -1,9 +1,10 @@
-use Rattle.std.proofs.Common.{◌≡◌, ◌+◌, ◌∷◌, ◌∙◌, ap, drop, length, subst, sym, arith}
+use Rattle.std.proofs.Common.{◌≡◌, ◌+◌, ◌∷◌, ◌∙◌, ap, drop, length, subst, sym, arith, get_or, []}
 use Rattle.std.specs.Str.{chars}
 use Rattle.std.proofs.lemmas.List.{length-map}
 use Rattle.textarea_text.specs.Text.{characters_of, lines_of}
 use Rattle.textarea_text.proofs.StringRows.{line_at, row_within}
-use Rattle.textarea_document.proofs.Behinds.{break_is_behind, character_is_behind, column_in_string, none_is_behind}
+use Rattle.textarea_pieces.proofs.PlaceLemmas.{is_at_end}
+use Rattle.textarea_document.proofs.Behinds.{break_is_behind, character_is_behind, column_in_string}
 use Rattle.textarea_document.proofs.document.removals.symbol_behind.Goals as goal
 
 pub overflow_add-result : goal.overflow_add-result
@@ -20,7 +21,8 @@ pub returns-then-row-lines : goal.returns-then-row-lines
 returns-then-row-lines c =
     let rows = lines_of c.args.lines.now in
     let line = ap chars c.as_str.ensures.value ∙ sym (line_at c.args.lines.now c.args.place.0 c.index-lines-row.result (row_within c.args.lines.now c.args.place c.requires) c.index-lines-row.is) in
-    none_is_behind rows c.args.place.0 c.args.place.1 c.requires (omega (arith, c.if-row-lines.true, length-map c.args.lines.now characters_of)) (omega (arith, c.in_default.ensures, ap length line))
+    let column : c.args.place.1 ≡ length (get_or rows c.args.place.0 []) = c.in_default.ensures ∙ ap length line in
+    (is_at_end rows c.args.place.0 c.args.place.1 (omega (arith, c.if-row-lines.true, length-map c.args.lines.now characters_of)) column).index_is
 
 pub returns : goal.returns
 returns c =
