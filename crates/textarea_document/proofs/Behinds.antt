@@ -16,7 +16,7 @@ use Rattle.textarea_history.specs.Edit.{inserts_of, splice_of, symbols_of}
 use Rattle.textarea_history.specs.declared.edit.EditKind.{EditKind}
 use Rattle.textarea_document.specs.State.{DocumentState}
 use Rattle.textarea_document.specs.Outcomes.{edited, unanchored}
-use Rattle.textarea_document.specs.Edits.{IsSymbolBehind, break_removal, symbol_removal, without_behind, without_break_before}
+use Rattle.textarea_document.specs.Edits.{IsSymbolBehind, break_removal, symbol_removal, without_symbol_behind, without_break_before}
 use Rattle.textarea_text.proofs.Places.{place_of-index}
 use Rattle.std.proofs.lemmas.Bool.Decides.{nat_tests}
 
@@ -80,8 +80,8 @@ without_break_in document (suc row) now apart = ap (λ n. edited document (break
 pub behind_removal_fits : (text : List Symbol) (place stop : Place) (symbol : Symbol) → IsPlace text place → IsSymbolBehind text place stop symbol → Fits text (record { place = place; symbols = symbol ∷ []; inserts = false })
 behind_removal_fits text place stop symbol h behind = record { some = omega arith; is_place = h; allowed = behind.symbol_is }
 
-pub without_behind_is : (document : DocumentState) (stop : Place) (symbol : Symbol) (typed : Bool) (now : ℕ) → IsPlace document.text document.cursor → IsSymbolBehind document.text document.cursor stop symbol → edited document (record { place = document.cursor; symbols = symbol ∷ []; inserts = false }) typed now ≡ without_behind document typed now
-without_behind_is document stop symbol typed now h behind =
+pub without_symbol_behind_is : (document : DocumentState) (stop : Place) (symbol : Symbol) (typed : Bool) (now : ℕ) → IsPlace document.text document.cursor → IsSymbolBehind document.text document.cursor stop symbol → edited document (record { place = document.cursor; symbols = symbol ∷ []; inserts = false }) typed now ≡ without_symbol_behind document typed now
+without_symbol_behind_is document stop symbol typed now h behind =
     let index = index_of document.text document.cursor in
     ap (λ (s : List Symbol). edited document (record { place = document.cursor; symbols = s; inserts = false }) typed now) (sym behind.symbol_is)
     ∙ ap (λ (p : Place). edited document (record { place = p; symbols = take 1 (drop index document.text); inserts = false }) typed now) (sym (place_of-index document.text document.cursor h))

@@ -8,7 +8,7 @@ use Rattle.textarea_text.specs.Place.{Place, IsPlace}
 use Rattle.textarea_text.specs.Splice.{Fits}
 use Rattle.textarea_document.specs.State.{DocumentState}
 use Rattle.textarea_document.specs.Outcomes.{edited, unanchored}
-use Rattle.textarea_document.specs.Edits.{insertion, is_filled, with_symbols}
+use Rattle.textarea_document.specs.Edits.{insertion, insertion_place, is_filled, with_nothing, with_symbols}
 
 pub some_filled : (symbols : List Symbol) → is_filled symbols ≡ true → 0 < length symbols
 some_filled [] e = cc
@@ -27,11 +27,11 @@ nothing_filled [] e none = cc
 nothing_filled (symbol ∷ symbols) e none = cc
 
 -- some symbols are an edit, and none only drop the selection
-pub with_filled : (document : DocumentState) (symbols : List Symbol) (now : ℕ) → is_filled symbols ≡ true → edited document (insertion document.cursor symbols) false now ≡ with_symbols document symbols now
+pub with_filled : (document : DocumentState) (symbols : List Symbol) (now : ℕ) → is_filled symbols ≡ true → edited document (insertion (insertion_place document) symbols) false now ≡ with_symbols document symbols now
 with_filled document [] now e = cc
 with_filled document (symbol ∷ symbols) now e = refl
 
-pub with_none : (document : DocumentState) (symbols : List Symbol) (now : ℕ) → is_filled symbols ≡ false → unanchored document ≡ with_symbols document symbols now
+pub with_none : (document : DocumentState) (symbols : List Symbol) (now : ℕ) → is_filled symbols ≡ false → with_nothing document ≡ with_symbols document symbols now
 with_none document [] now e = refl
 with_none document (symbol ∷ symbols) now e = cc
 

@@ -4,4 +4,5 @@ pub mod Inserts
 pub mod UndoLaw
 pub mod Orders
 pub mod Parts
+pub mod Ranges
 pub mod Sounds

@@ -5,7 +5,7 @@ use Rattle.std.proofs.lemmas.List.{reverse-append, length-append, length-map, le
 use Rattle.std.specs.Str.{chars}
 use Rattle.std.proofs.lemmas.Str.{chars-nil}
 use Rattle.std.proofs.lemmas.Option.{get_or_from_slice_get, slice_get_within}
-use Rattle.textarea_text.specs.Text.{Symbol, characters, characters_of, joined, lines_of, text_of}
+use Rattle.textarea_text.specs.Text.{Symbol, characters, characters_of, joined, lines, lines_of, text_of}
 use Rattle.textarea_text.specs.Place.{Place, IsPlace, inserted, removed}
 use Rattle.textarea_text.specs.Splice.{Splice, Allows, Fits, applied, inverse, place_before, place_after, CanApply, CanTakeBack}
 use Rattle.textarea_history.specs.Log.{Log, done_after, grown, is_typed, joins, kept, made_again, merged, newest, next, recorded, taken_back, with_done}
@@ -14,6 +14,8 @@ use Rattle.textarea_history.proofs.UndoLaws.{CanTakeBack-merged, inverse-inverse
 use Rattle.textarea_text.proofs.Places.{IsPlace-end, takes_back}
 use Rattle.textarea_text.specs.Size.{size_of, weight}
 use Rattle.textarea_text.proofs.Sizes.{size_of_text, weight_inserted, weight_removed}
+use Rattle.textarea_atomic.specs.declared.atomic.AtomicRange.{AtomicRange}
+use Rattle.textarea_document.proofs.Ranges.{valid_none}
 use Rattle.textarea_document.specs.State.{DocumentState, fresh_document}
 use Rattle.textarea_document.specs.Outcomes.{edited, redone_by, undone, undone_by}
 use Rattle.textarea_document.specs.Sound.{IsSound, IsStored}
@@ -88,7 +90,7 @@ sound_edited document splice typed now h fits = by (document.log.maximum == 0) r
     log : Log
     log = document.log
 
-    by : (none : Bool) → (log.maximum == 0) ≡ none → IsSound (record { text = applied document.text splice; cursor = place_after splice; anchor = None; log = cond none log (with_done log (done_after log splice (joins log splice typed now)) (is_typed splice typed) now) })
+    by : (none : Bool) → (log.maximum == 0) ≡ none → IsSound (record { text = applied document.text splice; cursor = place_after splice; anchor = None; ranges = []; log = cond none log (with_done log (done_after log splice (joins log splice typed now)) (is_typed splice typed) now) })
     by true e =
         let zero_maximum : log.maximum ≡ 0 = eqb-true log.maximum 0 e in
         let no_done : log.done ≡ [] = nil_from_length log.done (omega (arith, h.bounded)) in
@@ -96,6 +98,7 @@ sound_edited document splice typed now h fits = by (document.log.maximum == 0) r
         record {
           cursor = (takes_back document.text splice fits).is_place;
           anchor = tt;
+          ranges = valid_none (lines (applied document.text splice));
           undo = subst (λ d. CanTakeBack (applied document.text splice) (reverse d)) (sym no_done) tt;
           redo = subst (CanApply (applied document.text splice)) (sym no_undone) tt;
           bounded = h.bounded;
@@ -103,15 +106,16 @@ sound_edited document splice typed now h fits = by (document.log.maximum == 0) r
     by false e =
         let some : log.maximum ≢ 0 = λ same. cc (e, eq-eqb log.maximum 0 same) in
         let done = changed_done document splice typed now h fits (omega arith) (joins log splice typed now) refl in
-        record { cursor = (takes_back document.text splice fits).is_place; anchor = tt; undo = done.0; redo = tt; bounded = omega (arith, done.1) }
+        record { cursor = (takes_back document.text splice fits).is_place; anchor = tt; ranges = valid_none (lines (applied document.text splice)); undo = done.0; redo = tt; bounded = omega (arith, done.1) }
 
 -- the same, of what an edit left
-pub sound_after : (document : DocumentState) (new : List Symbol) (place : Place) (now : Log) (splice : Splice) (typed : Bool) (moment : ℕ) → IsSound document → Fits document.text splice → new ≡ applied document.text splice → place ≡ place_after splice → now ≡ recorded document.log splice typed moment → IsSound (record { text = new; cursor = place; anchor = None; log = now })
-sound_after document new place now splice typed moment h fits text_is place_is log_is =
-    subst (λ t. IsSound (record { text = t; cursor = place; anchor = None; log = now })) (sym text_is)
-    (subst (λ (p : Place). IsSound (record { text = applied document.text splice; cursor = p; anchor = None; log = now })) (sym place_is)
-    (subst (λ l. IsSound (record { text = applied document.text splice; cursor = place_after splice; anchor = None; log = l })) (sym log_is)
-    (sound_edited document splice typed moment h fits)))
+pub sound_after : (document : DocumentState) (new : List Symbol) (place : Place) (held : List AtomicRange) (now : Log) (splice : Splice) (typed : Bool) (moment : ℕ) → IsSound document → Fits document.text splice → new ≡ applied document.text splice → place ≡ place_after splice → now ≡ recorded document.log splice typed moment → held ≡ [] → IsSound (record { text = new; cursor = place; anchor = None; ranges = held; log = now })
+sound_after document new place held now splice typed moment h fits text_is place_is log_is held_is =
+    subst (λ (r : List AtomicRange). IsSound (record { text = new; cursor = place; anchor = None; ranges = r; log = now })) (sym held_is)
+    (subst (λ t. IsSound (record { text = t; cursor = place; anchor = None; ranges = []; log = now })) (sym text_is)
+    (subst (λ (p : Place). IsSound (record { text = applied document.text splice; cursor = p; anchor = None; ranges = []; log = now })) (sym place_is)
+    (subst (λ l. IsSound (record { text = applied document.text splice; cursor = place_after splice; anchor = None; ranges = []; log = l })) (sym log_is)
+    (sound_edited document splice typed moment h fits))))
 
 -- ---- undo and redo
 
@@ -137,6 +141,7 @@ sound_undone document splice h e =
     record {
       cursor = taken.is_place;
       anchor = tt;
+      ranges = valid_none (lines text);
       undo = back.1;
       redo = (fits, subst (λ t. CanApply t document.log.undone) (sym again) h.redo);
       bounded = omega (arith, h.bounded, length-take-le (length document.log.done - 1) document.log.done (omega arith));
@@ -150,25 +155,28 @@ sound_redone document splice h e =
     record {
       cursor = taken.is_place;
       anchor = tt;
+      ranges = valid_none (lines (applied document.text splice));
       undo = subst (CanTakeBack (applied document.text splice)) (sym (reverse-append document.log.done (splice ∷ []))) (taken.fits, subst (λ t. CanTakeBack t (reverse document.log.done)) (sym taken.back) h.undo);
       redo = ahead.1;
       bounded = omega (arith, h.bounded, length-append document.log.done (splice ∷ []), ap length split);
     }
 
 -- the same, of what an undo and a redo left
-pub sound_after_undo : (document : DocumentState) (new : List Symbol) (place : Place) (now : Log) (splice : Splice) → IsSound document → newest document.log ≡ Some splice → new ≡ applied document.text (inverse splice) → place ≡ place_before splice → now ≡ taken_back document.log splice → IsSound (record { text = new; cursor = place; anchor = None; log = now })
-sound_after_undo document new place now splice h e text_is place_is log_is =
-    subst (λ t. IsSound (record { text = t; cursor = place; anchor = None; log = now })) (sym text_is)
-    (subst (λ (p : Place). IsSound (record { text = applied document.text (inverse splice); cursor = p; anchor = None; log = now })) (sym place_is)
-    (subst (λ l. IsSound (record { text = applied document.text (inverse splice); cursor = place_before splice; anchor = None; log = l })) (sym log_is)
-    (sound_undone document splice h e)))
+pub sound_after_undo : (document : DocumentState) (new : List Symbol) (place : Place) (held : List AtomicRange) (now : Log) (splice : Splice) → IsSound document → newest document.log ≡ Some splice → new ≡ applied document.text (inverse splice) → place ≡ place_before splice → now ≡ taken_back document.log splice → held ≡ [] → IsSound (record { text = new; cursor = place; anchor = None; ranges = held; log = now })
+sound_after_undo document new place held now splice h e text_is place_is log_is held_is =
+    subst (λ (r : List AtomicRange). IsSound (record { text = new; cursor = place; anchor = None; ranges = r; log = now })) (sym held_is)
+    (subst (λ t. IsSound (record { text = t; cursor = place; anchor = None; ranges = []; log = now })) (sym text_is)
+    (subst (λ (p : Place). IsSound (record { text = applied document.text (inverse splice); cursor = p; anchor = None; ranges = []; log = now })) (sym place_is)
+    (subst (λ l. IsSound (record { text = applied document.text (inverse splice); cursor = place_before splice; anchor = None; ranges = []; log = l })) (sym log_is)
+    (sound_undone document splice h e))))
 
-pub sound_after_redo : (document : DocumentState) (new : List Symbol) (place : Place) (now : Log) (splice : Splice) → IsSound document → next document.log ≡ Some splice → new ≡ applied document.text splice → place ≡ place_after splice → now ≡ made_again document.log splice → IsSound (record { text = new; cursor = place; anchor = None; log = now })
-sound_after_redo document new place now splice h e text_is place_is log_is =
-    subst (λ t. IsSound (record { text = t; cursor = place; anchor = None; log = now })) (sym text_is)
-    (subst (λ (p : Place). IsSound (record { text = applied document.text splice; cursor = p; anchor = None; log = now })) (sym place_is)
-    (subst (λ l. IsSound (record { text = applied document.text splice; cursor = place_after splice; anchor = None; log = l })) (sym log_is)
-    (sound_redone document splice h e)))
+pub sound_after_redo : (document : DocumentState) (new : List Symbol) (place : Place) (held : List AtomicRange) (now : Log) (splice : Splice) → IsSound document → next document.log ≡ Some splice → new ≡ applied document.text splice → place ≡ place_after splice → now ≡ made_again document.log splice → held ≡ [] → IsSound (record { text = new; cursor = place; anchor = None; ranges = held; log = now })
+sound_after_redo document new place held now splice h e text_is place_is log_is held_is =
+    subst (λ (r : List AtomicRange). IsSound (record { text = new; cursor = place; anchor = None; ranges = r; log = now })) (sym held_is)
+    (subst (λ t. IsSound (record { text = t; cursor = place; anchor = None; ranges = []; log = now })) (sym text_is)
+    (subst (λ (p : Place). IsSound (record { text = applied document.text splice; cursor = p; anchor = None; ranges = []; log = now })) (sym place_is)
+    (subst (λ l. IsSound (record { text = applied document.text splice; cursor = place_after splice; anchor = None; ranges = []; log = l })) (sym log_is)
+    (sound_redone document splice h e))))
 
 -- the lines after an edit of them: there is one, and their size is known
 pub stored_edited : {Z : Type 0} (old new : List (String Z)) (size after : ℕ) (splice : Splice) → IsStored old size → 0 < length new → text_of new ≡ applied (text_of old) splice → Fits (text_of old) splice → after ≡ cond splice.inserts (size + min (weight splice.symbols) (2 ^ 64 - 1)) (size - min (weight splice.symbols) (2 ^ 64 - 1)) → after ≤ 2 ^ 48 → IsStored new after
@@ -187,7 +195,7 @@ stored_edited old new size after splice stored some is fits after_is limit =
 
 -- a document without a past
 pub sound_fresh : (text : List Symbol) (cursor : Place) (maximum : ℕ) → IsPlace text cursor → IsSound (fresh_document text cursor maximum)
-sound_fresh text cursor maximum h = record { cursor = h; anchor = tt; undo = tt; redo = tt; bounded = omega arith }
+sound_fresh text cursor maximum h = record { cursor = h; anchor = tt; ranges = valid_none (lines text); undo = tt; redo = tt; bounded = omega arith }
 
 pub start_is_place : (text : List Symbol) → IsPlace text (0, 0)
 start_is_place text = IsPlace-end [] text

@@ -1,9 +1,13 @@
 -- What the edits make of a document that has nothing selected.
-use Rattle.std.specs.Prelude.{◌≡◌, ◌≢◌, Bool, true, false, ℕ, zero, suc, ◌-◌, ◌==◌, List, [], ◌∷◌, length, take, drop, slice_index_or, if◌then◌else◌}
+use Rattle.std.specs.Prelude.{◌≡◌, ◌≢◌, Bool, true, false, ℕ, zero, suc, ◌-◌, ◌==◌, List, [], ◌∷◌, length, take, drop, slice_index_or, if◌then◌else◌, Option, None, Some}
 use Rattle.textarea_text.specs.Text.{Symbol, Character, Break, lines}
 use Rattle.textarea_text.specs.Place.{Place, end, index_of, place_of}
 use Rattle.textarea_text.specs.Splice.{Splice}
 use Rattle.textarea_pieces.specs.Part.{part}
+use Rattle.textarea_atomic.specs.declared.atomic.AtomicRange.{AtomicRange}
+use Rattle.textarea_atomic.specs.declared.atomic.AtomicCursorBias.TheVariants.{Forward}
+use Rattle.textarea_atomic.specs.declared.atomic.AtomicDeleteDirection.TheVariants.{Backward as DeleteBackward, Forward as DeleteForward}
+use Rattle.textarea_ranges.specs.Held.{hit, moved_out, start, stop, widened}
 use Rattle.textarea_document.specs.State.{DocumentState}
 use Rattle.textarea_document.specs.Outcomes.{edited, unanchored}
 
@@ -13,24 +17,31 @@ use Rattle.textarea_document.specs.Outcomes.{edited, unanchored}
 abbrev pub insertion : Place → List Symbol → Splice
 insertion place symbols = record { place = place; symbols = symbols; inserts = true }
 
--- the character is put in at the cursor, as a typed one or not
-abbrev pub with_character : DocumentState → ℕ → Bool → ℕ → DocumentState
-with_character document c typed now = edited document (insertion document.cursor (Character c ∷ [])) typed now
+-- where an insertion goes: to the cursor, or to the end of the range that strictly holds the cursor
+abbrev pub insertion_place : DocumentState → Place
+insertion_place document = moved_out document.ranges document.cursor Forward
 
--- the line is broken at the cursor
+-- the character is put in there, as a typed one or not
+abbrev pub with_character : DocumentState → ℕ → Bool → ℕ → DocumentState
+with_character document c typed now = edited document (insertion (insertion_place document) (Character c ∷ [])) typed now
+
+-- the line is broken there
 abbrev pub with_break : DocumentState → ℕ → DocumentState
-with_break document now = edited document (insertion document.cursor (Break ∷ [])) false now
+with_break document now = edited document (insertion (insertion_place document) (Break ∷ [])) false now
 
 -- whether there is a symbol
 abbrev pub is_filled : List Symbol → Bool
 is_filled [] = false
 is_filled (symbol ∷ symbols) = true
 
--- the symbols are put in at the cursor, and not as typed ones; where there are none, nothing is put in and nothing
--- recorded, and nothing is selected any more
+-- nothing is put in, and nothing recorded: the cursor goes to where an insertion goes, and nothing is selected any more
+abbrev pub with_nothing : DocumentState → DocumentState
+with_nothing document = unanchored (record document { cursor = insertion_place document })
+
+-- the symbols are put in there, and not as typed ones; where there are none, nothing is
 abbrev pub with_symbols : DocumentState → List Symbol → ℕ → DocumentState
-with_symbols document [] now = unanchored document
-with_symbols document (symbol ∷ symbols) now = edited document (insertion document.cursor (symbol ∷ symbols)) false now
+with_symbols document [] now = with_nothing document
+with_symbols document (symbol ∷ symbols) now = edited document (insertion (insertion_place document) (symbol ∷ symbols)) false now
 
 -- ---- removals
 
@@ -38,9 +49,29 @@ with_symbols document (symbol ∷ symbols) now = edited document (insertion docu
 abbrev pub removal : List Symbol → Place → Place → Splice
 removal text from to = record { place = from; symbols = part text from to; inserts = false }
 
--- what stands between the two places is taken out, and not as typed
-abbrev pub without_part : DocumentState → Place → Place → ℕ → DocumentState
-without_part document from to now = edited document (removal document.text from to) false now
+-- the same, widened over each atomic range that it overlaps
+abbrev pub widened_removal : DocumentState → Place → Place → Splice
+widened_removal document from to = removal document.text (widened document.ranges from to).0 (widened document.ranges from to).1
+
+-- what stands between the two places, and the ranges that it overlaps, is taken out, and not as typed
+unfoldable pub without_part : DocumentState → Place → Place → ℕ → DocumentState
+without_part document from to now = edited document (widened_removal document from to) false now
+
+-- the symbols that are then taken out
+abbrev pub taken : DocumentState → Place → Place → List Symbol
+taken document from to = (widened_removal document from to).symbols
+
+-- the range is taken out, where one was hit; else it is the other document
+abbrev pub without_hit_or : Option AtomicRange → DocumentState → ℕ → DocumentState → DocumentState
+without_hit_or None document now other = other
+without_hit_or (Some range) document now other = without_part document (start range) (stop range) now
+
+-- the range that is hit before the cursor, or behind it
+abbrev pub hit_before : DocumentState → Option AtomicRange
+hit_before document = hit document.ranges document.cursor DeleteBackward
+
+abbrev pub hit_behind : DocumentState → Option AtomicRange
+hit_behind document = hit document.ranges document.cursor DeleteForward
 
 -- how many symbols stand before the cursor
 abbrev pub cursor_index : DocumentState → ℕ
@@ -58,14 +89,22 @@ abbrev pub symbol_removal : List Symbol → ℕ → Splice
 symbol_removal text index = record { place = place_of text index; symbols = take 1 (drop index text); inserts = false }
 
 -- the symbol before the cursor is taken out, if there is one, as a typed edit or not
-abbrev pub without_before : DocumentState → Bool → ℕ → DocumentState
-without_before document typed now =
+abbrev pub without_symbol_before : DocumentState → Bool → ℕ → DocumentState
+without_symbol_before document typed now =
     if is_at_start document then unanchored document else edited document (symbol_removal document.text (cursor_index document - 1)) typed now
 
 -- the symbol behind the cursor is taken out, if there is one, as a typed edit or not
-abbrev pub without_behind : DocumentState → Bool → ℕ → DocumentState
-without_behind document typed now =
+abbrev pub without_symbol_behind : DocumentState → Bool → ℕ → DocumentState
+without_symbol_behind document typed now =
     if is_at_end document then unanchored document else edited document (symbol_removal document.text (cursor_index document)) typed now
+
+-- the range that is hit before the cursor is taken out, or else the symbol there
+unfoldable pub without_before : DocumentState → Bool → ℕ → DocumentState
+without_before document typed now = without_hit_or (hit_before document) document now (without_symbol_before document typed now)
+
+-- the range that is hit behind the cursor is taken out, or else the symbol there
+unfoldable pub without_behind : DocumentState → Bool → ℕ → DocumentState
+without_behind document typed now = without_hit_or (hit_behind document) document now (without_symbol_behind document typed now)
 
 -- the symbol stands directly behind the place, and ends at the stop: the place is not the text's end
 pub record IsSymbolBehind (text : List Symbol) (place stop : Place) (symbol : Symbol) : Type 0 where

@@ -2,5 +2,6 @@ pub mod State
 pub mod Outcomes
 pub mod Edits
 pub mod Selection
+pub mod Ranges
 pub mod Law
 pub mod Sound

@@ -1,9 +1,14 @@
 -- What an edit, an undo, a redo and a move make of a document.
-use Rattle.std.specs.Prelude.{Bool, false, ℕ, Option, Some, None}
+use Rattle.std.specs.Prelude.{Bool, false, ℕ, List, [], Option, Some, None}
 use Rattle.textarea_text.specs.Place.{Place}
 use Rattle.textarea_text.specs.Splice.{Splice, applied, inverse, place_before, place_after}
 use Rattle.textarea_history.specs.Log.{Log, recorded, newest, next, taken_back, made_again}
+use Rattle.textarea_atomic.specs.declared.atomic.AtomicRange.{AtomicRange}
 use Rattle.textarea_document.specs.State.{DocumentState}
+
+-- what a change of the text leaves of the atomic ranges: none of them
+abbrev pub ranges_after : List AtomicRange → Splice → List AtomicRange
+ranges_after ranges splice = []
 
 -- a change is made and recorded, as a typed one or not, at the moment: the cursor stands behind what was put in, or
 -- where what was taken out began, and nothing is selected
@@ -12,6 +17,7 @@ edited document splice typed now = record {
   text = applied document.text splice;
   cursor = place_after splice;
   anchor = None;
+  ranges = ranges_after document.ranges splice;
   log = recorded document.log splice typed now;
 }
 
@@ -23,6 +29,7 @@ undone_by (Some splice) document = record {
   text = applied document.text (inverse splice);
   cursor = place_before splice;
   anchor = None;
+  ranges = ranges_after document.ranges (inverse splice);
   log = taken_back document.log splice;
 }
 
@@ -36,6 +43,7 @@ redone_by (Some splice) document = record {
   text = applied document.text splice;
   cursor = place_after splice;
   anchor = None;
+  ranges = ranges_after document.ranges splice;
   log = made_again document.log splice;
 }
 

@@ -1,6 +1,7 @@
-//! The document: lines, a cursor, an anchor and a history.
+//! The document: lines, a cursor, an anchor, atomic ranges and a history.
 pub mod insertions;
 mod laws;
+mod ranges;
 mod removals;
 mod selection;
 
@@ -9,16 +10,19 @@ ghost use Rattle.std.specs.Duration.{as_nanos};
 ghost use Rattle.textarea_text.specs.Text.{lines, lines_of, text_of};
 ghost use Rattle.textarea_text.specs.Place.{IsPlace};
 ghost use Rattle.textarea_text.specs.Size.{size_of};
-ghost use Rattle.textarea_text.specs.Splice.{Fits};
+ghost use Rattle.textarea_text.specs.Splice.{Fits, Splice};
 ghost use Rattle.textarea_history.specs.Edit.{IsWellFormed};
 ghost use Rattle.textarea_history.specs.Log.{empty_log, newest, next};
 ghost use Rattle.textarea_pieces.specs.Part.{clip};
 ghost use Rattle.textarea_document.specs.State.{new_document, fresh_document};
-ghost use Rattle.textarea_document.specs.Outcomes.{edited, moved, redone, run_ended, undone};
+ghost use Rattle.textarea_document.specs.Outcomes.{edited, moved, ranges_after, redone, run_ended, undone};
+ghost use Rattle.textarea_ranges.specs.Valid.{AreValid};
+ghost use Rattle.textarea_document.specs.Ranges.{CutsNone};
 
 use std::alloc::{AllocError, Global};
 use std::marker::Model;
 use std::time::Duration;
+use textarea_atomic::atomic::AtomicRange;
 use textarea_history::history::{Edit, History};
 use textarea_pieces::places::clipped;
 use textarea_text::rows;
@@ -26,7 +30,7 @@ use textarea_text::rows;
 /// The most bytes and lines together that a document holds; what would grow past that is answered as out of memory.
 const MAX_SIZE: usize = 0x1_0000_0000_0000;
 
-/// Lines of text, a cursor, the place where a selection began, and a history of edits.
+/// Lines of text, a cursor, the place where a selection began, atomic ranges, and a history of edits.
 ///
 /// Rows and columns count from 0, columns in characters. A call that runs out of memory leaves the document as it was.
 #[derive(Drop)]
@@ -35,6 +39,7 @@ pub struct Document {
     size: usize,
     cursor: (usize, usize),
     anchor: Option<(usize, usize)>,
+    ranges: Vec<AtomicRange>,
     history: History,
 }
 
@@ -46,9 +51,9 @@ impl Model for Document {
 
     ghost use Rattle.textarea_document.specs.Sound.{IsSound, IsStored};
 
-    ghost view = { λ document. record { text = text_of document.lines.items; cursor = document.cursor; anchor = document.anchor; log = document.history.log } };
+    ghost view = { λ document. record { text = text_of document.lines.items; cursor = document.cursor; anchor = document.anchor; ranges = document.ranges.items; log = document.history.log } };
 
-    ghost invariant = { λ document. IsStored document.lines.items document.size × IsSound (record { text = text_of document.lines.items; cursor = document.cursor; anchor = document.anchor; log = document.history.log }) };
+    ghost invariant = { λ document. IsStored document.lines.items document.size × IsSound (record { text = text_of document.lines.items; cursor = document.cursor; anchor = document.anchor; ranges = document.ranges.items; log = document.history.log }) };
 }
 
 impl Clone for Document {
@@ -61,6 +66,7 @@ impl Clone for Document {
             size: self.size,
             cursor: self.cursor,
             anchor: self.anchor,
+            ranges: self.ranges.clone()?,
             history: self.history.clone()?,
         })
     }
@@ -88,16 +94,18 @@ impl Document {
             size,
             cursor: (0, 0),
             anchor: None,
+            ranges: Vec::new(alloc),
             history: History::new(alloc, max_histories),
         })
     }
 
-    /// The lines, one at least. Their bytes and their number together are at most 2^48.
+    /// The lines, one at least, in which the atomic ranges lie. Their bytes and their number together are at most 2^48.
     pub fn lines(&self) -> &[String]
         ensures value { text_of result.now ≡ self.now.text }
         ensures lines { lines_of result.now ≡ lines self.now.text }
         ensures some { 0 < length result.now }
         ensures limit { size_of result.now ≤ 2 ^ 48 }
+        ensures ranges { AreValid (lines self.now.text) self.now.ranges }
     {
         self.lines.as_slice() // one line at least, by the invariant
     }
@@ -149,6 +157,7 @@ impl Document {
         self.size = size;
         self.cursor = back;
         self.anchor = None; // as behind every undo
+        change_ranges(&mut self.ranges);
         Ok(true)
     }
 
@@ -170,14 +179,16 @@ impl Document {
         self.size = size;
         self.cursor = ahead;
         self.anchor = None;
+        change_ranges(&mut self.ranges);
         Ok(true)
     }
 
-    /// Makes an edit that fits the text, and records it, as typed with coalescing on or not. All memory is taken before
-    /// the first change.
+    /// Makes an edit that fits the text and cuts no range, and records it, as typed with coalescing on or not. All memory is
+    /// taken before the first change.
     pub fn edit(&mut self, edit: Edit, typed: bool, now: Duration) -> Result<(), AllocError>
         requires well_formed { IsWellFormed edit }
         requires fits { Fits self.old.text edit.splice }
+        requires cuts_none { CutsNone self.old.ranges edit.splice }
         ensures ok { OnOk result (self.new ≡ edited self.old edit.splice typed (as_nanos now)) }
         ensures err { OnErr result (self.new ≡ self.old) }
     {
@@ -188,6 +199,7 @@ impl Document {
         self.history.put(edit, typed, now);
         self.size = size;
         self.anchor = None; // as behind every edit
+        change_ranges(&mut self.ranges);
         Ok(())
     }
 
@@ -242,6 +254,7 @@ impl Document {
         }
         self.cursor = clipped(lines.as_slice(), cursor);
         self.anchor = None;
+        self.ranges.clear();
         self.size = size;
         self.history = History::new(*lines.allocator(), self.history.max_items());
         self.lines = lines;
@@ -263,6 +276,14 @@ impl Document {
     {
         self.history = History::new(*self.lines.allocator(), max_histories);
     }
+}
+
+// What a change of the text leaves of the ranges: none.
+fn change_ranges(ranges: &mut Vec<AtomicRange>)
+    ensures after { (change : Splice) → ranges.new.items ≡ ranges_after ranges.old.items change }
+    ensures none { ranges.new.items ≡ [] }
+{
+    ranges.clear();
 }
 
 // How large the lines are after an edit of that weight that puts in, or takes out; more than the limit is out of memory.

@@ -97,7 +97,7 @@ between place range behind before =
     (same, behind.1 same, before.1 (sym same))
 
 -- ends that are strictly inside no range leave none in half
-taken : (from to : Place) (range : AtomicRange) → ¬ IsInside from range → ¬ IsInside to range → IsWithin from to range ⊎ IsBeside from to range
+pub taken : (from to : Place) (range : AtomicRange) → ¬ IsInside from range → ¬ IsInside to range → IsWithin from to range ⊎ IsBeside from to range
 taken from to range from_out to_out =
     elim (order from (start range)) [
       | inl starts ↦ elim (order (stop range) to) [

@@ -1,28 +1,51 @@
 -- What each call answers and makes of the state of a text area, and where it may answer out of memory.
-use Rattle.std.specs.Prelude.{◌≡◌, ◌≢◌, ◌<◌, false, List, length, is_some, None, String}
+use Rattle.std.specs.Prelude.{◌≡◌, ◌≢◌, ◌<◌, false, List, [], ◌∷◌, length, is_some, None, String}
 use Rattle.std.specs.Coded.{le_prop, Unit-prop}
 use Rattle.std.specs.Duration.{as_nanos}
 use Rattle.std.specs.Str.{chars}
 use Rattle.textarea_text.specs.Place.{Place}
-use Rattle.textarea_text.specs.Text.{lines_of, text_of}
+use Rattle.textarea_text.specs.Text.{lines, lines_of, text_of}
+use Rattle.textarea_atomic.specs.declared.atomic.AtomicRange.{AtomicRange}
+use Rattle.textarea_atomic.specs.declared.atomic.RejectedAtomicRange.{RejectedAtomicRange}
+use Rattle.textarea_ranges.specs.Held.{inside}
+use Rattle.textarea_ranges.specs.Order.{in_order}
+use Rattle.textarea_ranges.specs.Rejected.{rejected_of}
 use Rattle.textarea_history.specs.Log.{empty_log, newest, next}
 use Rattle.textarea_pieces.specs.Given.{given, written}
 use Rattle.textarea_pieces.specs.Part.{clip}
 use Rattle.textarea_document.specs.State.{fresh_document}
 use Rattle.textarea_document.specs.Edits.{is_filled}
 use Rattle.textarea_document.specs.Outcomes.{redone, run_ended, undone}
+use Rattle.textarea_document.specs.Ranges.{hit_at_cursor}
 use Rattle.textarea_document.specs.Selection.{is_selected}
 use Rattle.tui_textarea.specs.State.{State, with_document}
 use Rattle.tui_textarea.specs.Edits.{inserts_tab, inserts_text, with_char, with_newline, with_tab, with_text}
-use Rattle.tui_textarea.specs.Removals.{break_before_out, cleared, has_ahead, has_before, has_behind, has_break_before, has_line_before, has_line_behind, line_end_out, line_head_out, removes_or, symbol_before_out, symbol_behind_out, symbols_ahead_out, unselected_or, word_before_out, word_behind_out}
+use Rattle.tui_textarea.specs.Removals.{break_before_out, cleared, has_ahead, has_before, has_behind, has_break_before, has_line_before, has_line_behind, has_word_before, has_word_behind, line_end_out, line_head_out, removes_or, symbol_before_out, symbol_behind_out, symbols_ahead_out, unselected_or, word_before_out, word_behind_out}
 use Rattle.tui_textarea.specs.Selection.{all_selected, copied, cut_out, dropped, selection_started, unselected}
 use Rattle.tui_textarea.specs.Selection as selection
 use Rattle.tui_textarea.specs.Moves.{after_move}
-use Rattle.textarea_script.specs.Said.{Said, Done, Flag, Text}
+use Rattle.tui_textarea.specs.Search.{next_match, previous_match, searched, with_pattern}
+use Rattle.textarea_script.specs.Patterns.{IsNewPattern}
+use Rattle.tui_textarea.specs.Ranges.{cursor_normalized, range_out, ranges_accepted, ranges_cleared}
+use Rattle.textarea_script.specs.Said.{Said, Done, Flag, Range, Rejected, Text}
 use Rattle.textarea_script.specs.declared.call.Call.{Call}
-use Rattle.textarea_script.specs.declared.call.Call.TheVariants.{InsertChar, InsertStr, InsertTab, InsertNewline, DeleteStr, DeleteNewline, DeleteChar, DeleteNextChar, DeleteLineByEnd, DeleteLineByHead, DeleteWord, DeleteNextWord, Clear, Cut, Copy, Paste, Undo, Redo, StartSelection, CancelSelection, SelectAll, SetYankText, YankText, SetTabLength, SetHardTabIndent, SetMaxHistories, SetUndoCoalescing, SetNow, Move, SetLines}
+use Rattle.textarea_script.specs.declared.call.Call.TheVariants.{InsertChar, InsertStr, InsertTab, InsertNewline, DeleteStr, DeleteNewline, DeleteChar, DeleteNextChar, DeleteLineByEnd, DeleteLineByHead, DeleteWord, DeleteNextWord, Clear, Cut, Copy, Paste, Undo, Redo, StartSelection, CancelSelection, SelectAll, SetYankText, YankText, SetTabLength, SetHardTabIndent, SetMaxHistories, SetUndoCoalescing, SetNow, Move, SetLines, TrySetAtomicRanges, ClearAtomicRanges, NormalizeCursorAroundAtomicRanges, AtomicRangeAtCursor, DeleteAtomicRangeAtCursor, SetSearchPattern, SearchForward, SearchBack}
 
--- what the call answers
+-- the given ranges that are rejected, in their order, each with its reason
+abbrev pub rejected_ranges : State → List AtomicRange → List RejectedAtomicRange
+rejected_ranges state ranges = rejected_of (lines state.document.text) (in_order ranges)
+
+-- the rejected ranges are named; where there are none, the ranges were set
+abbrev pub ranges_answer : List RejectedAtomicRange → Said
+ranges_answer [] = Done
+ranges_answer (range ∷ rejected) = Rejected (range ∷ rejected)
+
+-- the ranges are set where none is rejected, and else nothing changes
+abbrev pub with_ranges_if : List RejectedAtomicRange → State → List AtomicRange → State
+with_ranges_if [] state ranges = ranges_accepted state ranges
+with_ranges_if (range ∷ rejected) state ranges = state
+
+-- what the call answers; a pattern that is set, where it isn't refused
 abbrev pub answer_of : State → Call → Said
 answer_of state (InsertStr text) = Flag (inserts_text state (given (chars text.now)))
 answer_of state InsertTab = Flag (inserts_tab state)
@@ -32,14 +55,20 @@ answer_of state DeleteChar = Flag (removes_or state (has_before state))
 answer_of state DeleteNextChar = Flag (removes_or state (has_behind state))
 answer_of state DeleteLineByEnd = Flag (removes_or state (has_line_behind state))
 answer_of state DeleteLineByHead = Flag (removes_or state (has_line_before state))
-answer_of state DeleteWord = Flag (removes_or state (has_line_before state))
-answer_of state DeleteNextWord = Flag (removes_or state (has_line_behind state))
+answer_of state DeleteWord = Flag (removes_or state (has_word_before state))
+answer_of state DeleteNextWord = Flag (removes_or state (has_word_behind state))
 answer_of state Clear = Flag (is_filled state.document.text)
 answer_of state Cut = Flag (is_selected state.document)
 answer_of state Paste = Flag (is_filled state.yank)
 answer_of state Undo = Flag (is_some (newest state.document.log))
 answer_of state Redo = Flag (is_some (next state.document.log))
 answer_of state YankText = Text (written state.yank)
+answer_of state (TrySetAtomicRanges ranges) = ranges_answer (rejected_ranges state ranges.now)
+answer_of state (NormalizeCursorAroundAtomicRanges bias) = Flag (is_some (inside state.document.ranges state.document.cursor))
+answer_of state (AtomicRangeAtCursor direction) = Range (hit_at_cursor state.document direction)
+answer_of state (DeleteAtomicRangeAtCursor direction) = Range (hit_at_cursor state.document direction)
+answer_of state (SearchForward at_cursor) = Flag (is_some (next_match state at_cursor))
+answer_of state (SearchBack at_cursor) = Flag (is_some (previous_match state at_cursor))
 answer_of state call = Done
 
 -- the lines take the place of the old ones, and all edits are forgotten: the cursor goes to the nearest place of theirs,
@@ -48,8 +77,8 @@ abbrev pub with_lines : {Z : Type 0} → State → List (String Z) → Place →
 with_lines state lines cursor =
     with_document state (fresh_document (text_of lines) (clip (lines_of lines) cursor) state.document.log.maximum)
 
--- the state after a call that takes no memory in any state: a move, a setting, or a begun, dropped or whole selection; any
--- other call leaves it here
+-- the state after a call that takes no memory in any state and answers nothing: a move, a setting, a begun, dropped or whole
+-- selection, or ranges that are forgotten; any other call leaves it here
 abbrev pub after_setting : State → Call → State
 after_setting state StartSelection = selection_started state
 after_setting state CancelSelection = dropped state
@@ -62,9 +91,10 @@ after_setting state (SetUndoCoalescing joins) =
     record state { document = record state.document { log = run_ended state.document.log }; settings = record state.settings { undo_coalescing = joins } }
 after_setting state (SetNow moment) = record state { moment = as_nanos moment }
 after_setting state (Move cursor_move) = after_move state cursor_move
+after_setting state ClearAtomicRanges = ranges_cleared state
 after_setting state call = state
 
--- the state after the call
+-- the state after the call; after a pattern that is set, where it isn't refused
 abbrev pub state_after : State → Call → State
 state_after state (InsertChar c) = with_char state c
 state_after state (InsertStr text) = with_text state (given (chars text.now))
@@ -86,11 +116,18 @@ state_after state Undo = with_document state (undone state.document)
 state_after state Redo = with_document state (redone state.document)
 state_after state (SetYankText text) = record state { yank = given (chars text.now) }
 state_after state YankText = state
+state_after state (TrySetAtomicRanges ranges) = with_ranges_if (rejected_ranges state ranges.now) state ranges.now
+state_after state (NormalizeCursorAroundAtomicRanges bias) = cursor_normalized state bias
+state_after state (AtomicRangeAtCursor direction) = state
+state_after state (DeleteAtomicRangeAtCursor direction) = range_out state direction
 state_after state (SetLines lines cursor) = with_lines state lines.now cursor
+state_after state (SetSearchPattern text) = with_pattern state text.now
+state_after state (SearchForward at_cursor) = searched state (next_match state at_cursor)
+state_after state (SearchBack at_cursor) = searched state (previous_match state at_cursor)
 state_after state call = after_setting state call
 
--- the call may answer out of memory: not where it has nothing to do, and a move, a setting and a begun, dropped or whole
--- selection never
+-- the call may answer out of memory: not where it has nothing to do, and a move, a setting, a begun, dropped or whole
+-- selection, and ranges that are forgotten or looked up never
 abbrev pub MayRefuse : State → Call → Type 0
 MayRefuse state (InsertChar c) = Unit {0}
 MayRefuse state (InsertStr text) = inserts_text state (given (chars text.now)) ≢ false
@@ -102,8 +139,8 @@ MayRefuse state DeleteChar = removes_or state (has_before state) ≢ false
 MayRefuse state DeleteNextChar = removes_or state (has_behind state) ≢ false
 MayRefuse state DeleteLineByEnd = removes_or state (has_line_behind state) ≢ false
 MayRefuse state DeleteLineByHead = removes_or state (has_line_before state) ≢ false
-MayRefuse state DeleteWord = removes_or state (has_line_before state) ≢ false
-MayRefuse state DeleteNextWord = removes_or state (has_line_behind state) ≢ false
+MayRefuse state DeleteWord = removes_or state (has_word_before state) ≢ false
+MayRefuse state DeleteNextWord = removes_or state (has_word_behind state) ≢ false
 MayRefuse state Clear = is_filled state.document.text ≢ false
 MayRefuse state Cut = is_selected state.document ≢ false
 MayRefuse state Copy = is_selected state.document ≢ false
@@ -112,7 +149,12 @@ MayRefuse state Undo = newest state.document.log ≢ None
 MayRefuse state Redo = next state.document.log ≢ None
 MayRefuse state (SetYankText text) = Unit {0}
 MayRefuse state YankText = Unit {0}
+MayRefuse state (TrySetAtomicRanges ranges) = Unit {0}
+MayRefuse state (DeleteAtomicRangeAtCursor direction) = hit_at_cursor state.document direction ≢ None
 MayRefuse state (SetLines lines cursor) = Unit {0}
+MayRefuse state (SetSearchPattern text) = IsNewPattern state text.now
+MayRefuse state (SearchForward at_cursor) = state.pattern ≢ None
+MayRefuse state (SearchBack at_cursor) = state.pattern ≢ None
 MayRefuse state call = ⊥
 
 -- what a call that answered out of memory leaves: the state as it was, or, of an insertion, the one without what was selected

@@ -1,4 +1,6 @@
 pub mod Calls
+pub mod Outcomes
+pub mod Patterns
 pub mod Run
 pub mod Said
 pub mod Script

@@ -4,29 +4,32 @@ use Rattle.tui_textarea.specs.State.{State}
 use Rattle.textarea_script.specs.declared.call.Call.{Call}
 use Rattle.textarea_script.specs.declared.call.Answer.{Answer}
 use Rattle.textarea_script.specs.Said.{Said, said}
-use Rattle.textarea_script.specs.Calls.{answer_of, state_after, Refused}
+use Rattle.textarea_script.specs.Calls.{Refused}
+use Rattle.textarea_script.specs.Outcomes.{IsAnswer, state_behind}
 
--- what the calls answer, each in the state that those before it left
-abbrev pub answers_of : State → List Call → List Said
-answers_of state [] = []
-answers_of state (call ∷ calls) = answer_of state call ∷ answers_of (state_after state call) calls
+-- the calls may answer so, one answer a call, each in the state that those before it left
+abbrev pub AreAnswers : State → List Call → List Said → Type 0
+AreAnswers state [] [] = Unit {0}
+AreAnswers state (call ∷ calls) (answer ∷ answers) =
+    IsAnswer state call answer × AreAnswers (state_behind state call answer) calls answers
+AreAnswers state calls answers = ⊥
 
--- the state that the calls lead to
-abbrev pub state_at : State → List Call → State
-state_at state [] = state
-state_at state (call ∷ calls) = state_at (state_after state call) calls
+-- the state that the calls lead to, where they answer so
+abbrev pub state_at : State → List Call → List Said → State
+state_at state (call ∷ calls) (answer ∷ answers) = state_at (state_behind state call answer) calls answers
+state_at state calls answers = state
 
 -- all calls were made
 pub record Completes (old : State) (calls : List Call) (answers : List Answer) (new : State) : Type 0 where
-  pub answered : map said answers ≡ answers_of old calls
-  pub state : new ≡ state_at old calls
+  pub answered : AreAnswers old calls (map said answers)
+  pub state : new ≡ state_at old calls (map said answers)
 
 -- the calls before the one of this index were made, and that one was refused
 pub record StopsAt (old : State) (calls : List Call) (answers : List Answer) (index : ℕ) (new : State) : Type 0 where
   pub call : Call
   pub here : slice_get calls index ≡ Some call
-  pub answered : map said answers ≡ answers_of old (take index calls)
-  pub refused : Refused (state_at old (take index calls)) call new
+  pub answered : AreAnswers old (take index calls) (map said answers)
+  pub refused : Refused (state_at old (take index calls) (map said answers)) call new
 
 -- there is a call and no room for its answer, so none was made
 pub record NeverBegins (old : State) (calls : List Call) (answers : List Answer) (index : ℕ) (new : State) : Type 0 where

@@ -4,7 +4,7 @@ use Rattle.std.specs.Coded.{le_prop, Unit-prop}
 use Rattle.std.specs.List.{slice_split}
 use Rattle.textarea_script.specs.Calls.{CanBeMade, CanBeMade-prop}
 use Rattle.textarea_script.specs.declared.commands.Content.{Content}
-use Rattle.textarea_script.specs.declared.commands.Content.TheVariants.{Plain, InsertStr, SetYankText, SetLines}
+use Rattle.textarea_script.specs.declared.commands.Content.TheVariants.{Plain, InsertStr, SetYankText, TrySetAtomicRanges, SetLines, SetSearchPattern}
 use Rattle.textarea_script.specs.declared.commands.ReadError.{ReadError}
 use Rattle.textarea_script.specs.declared.commands.ReadError.TheVariants.{Line, Memory}
 
@@ -37,10 +37,14 @@ abbrev pub IsReady : Content → Type 0
 IsReady (Plain call) = CanBeMade call
 IsReady (InsertStr text) = Unit {0}
 IsReady (SetYankText text) = Unit {0}
+IsReady (TrySetAtomicRanges ranges) = Unit {0}
+IsReady (SetSearchPattern text) = Unit {0}
 IsReady (SetLines lines cursor) = 0 < vec_len lines
 
 pub IsReady-prop : (content : Content) → IsProp (IsReady content)
 IsReady-prop (Plain call) = CanBeMade-prop call
 IsReady-prop (InsertStr text) = Unit-prop
 IsReady-prop (SetYankText text) = Unit-prop
+IsReady-prop (TrySetAtomicRanges ranges) = Unit-prop
+IsReady-prop (SetSearchPattern text) = Unit-prop
 IsReady-prop (SetLines lines cursor) = le_prop

@@ -2,6 +2,7 @@
 ghost use Rattle.std.specs.Prelude.{◌<◌, ◌≤◌, length, vec_len, IfOk, IfSome};
 
 use std::alloc::{AllocError, AllocFailed, Global};
+use textarea_atomic::atomic::AtomicRange;
 use textarea_move::cursor_move::CursorMove;
 
 // Why a command was not read.
@@ -37,6 +38,38 @@ pub fn number(text: &str) -> Option<u64> {
 pub fn two_numbers(text: &str) -> Option<(u64, u64)> {
     let (first, second) = text.split_once(' ')?;
     Some((number(first)?, number(second)?))
+}
+
+// The atomic ranges that the text names, each by its row, its first column and the column behind its last one, with one
+// space between each two numbers; none where there is no text.
+pub fn ranges(alloc: Global, text: Option<&str>) -> Result<Vec<AtomicRange>, Unread> {
+    let mut ranges = Vec::new(alloc);
+    let Some(text) = text else {
+        return Ok(ranges);
+    };
+    let (range, mut rest) = first_range(text).ok_or(Unread::NoCommand)?;
+    ranges.push(range)?;
+    while let Some(behind) = rest.strip_prefix(' ') {
+        let (next_range, next_rest) = first_range(behind).ok_or(Unread::NoCommand)?;
+        ranges.push(next_range)?;
+        rest = next_rest;
+    }
+    Ok(ranges)
+}
+
+// The first of the ranges that the text names, and the text from the space on that ends it.
+fn first_range(text: &str) -> Option<(AtomicRange, &str)>
+    ensures { IfSome result (λ x. length x.1.now ≤ length text.now) }
+{
+    let (row, rest) = text.split_once(' ')?;
+    let (start, rest) = rest.split_once(' ')?;
+    let end = rest.find(' ').unwrap_or(rest.len());
+    let range = AtomicRange {
+        row: number(row)? as usize,
+        start_col: number(start)? as usize,
+        end_col: number(&rest[..end])? as usize,
+    };
+    Some((range, &rest[end..]))
 }
 
 // The truth value that the text names.

@@ -3,6 +3,9 @@ ghost use Rattle.std.specs.Prelude.{◌↔◌, IsTrue};
 ghost use Rattle.textarea_script.specs.Calls.{CanBeMade};
 
 use std::time::Duration;
+use textarea_atomic::atomic::{
+    AtomicCursorBias, AtomicDeleteDirection, AtomicRange, RejectedAtomicRange,
+};
 use textarea_move::cursor_move::CursorMove;
 
 /// One call on a text area, with its arguments.
@@ -66,6 +69,16 @@ pub enum Call<'a> {
     SetNow(Duration),
     /// `TextArea::move_cursor`
     Move(CursorMove),
+    /// `TextArea::try_set_atomic_ranges`, with a copy of these ranges
+    TrySetAtomicRanges(&'a [AtomicRange]),
+    /// `TextArea::clear_atomic_ranges`
+    ClearAtomicRanges,
+    /// `TextArea::normalize_cursor_around_atomic_ranges`
+    NormalizeCursorAroundAtomicRanges(AtomicCursorBias),
+    /// `TextArea::atomic_range_at_cursor`
+    AtomicRangeAtCursor(AtomicDeleteDirection),
+    /// `TextArea::delete_atomic_range_at_cursor`
+    DeleteAtomicRangeAtCursor(AtomicDeleteDirection),
     /// `TextArea::set_lines`, with a copy of these lines, of which there is one at least
     SetLines {
         /// The lines that are copied.
@@ -73,6 +86,12 @@ pub enum Call<'a> {
         /// The place whose nearest place of the lines the cursor takes: (row, column).
         cursor: (usize, usize),
     },
+    /// `TextArea::set_search_pattern`
+    SetSearchPattern(&'a str),
+    /// `TextArea::search_forward`
+    SearchForward(bool),
+    /// `TextArea::search_back`
+    SearchBack(bool),
 }
 
 impl Call<'_> {
@@ -96,4 +115,10 @@ pub enum Answer {
     Flag(bool),
     /// What was yanked last.
     Text(String),
+    /// The range that was hit or removed, if there was one.
+    Range(Option<AtomicRange>),
+    /// The ranges that were rejected, so that none was set.
+    Rejected(Vec<RejectedAtomicRange>),
+    /// The pattern isn't taken, and nothing changed.
+    PatternRefused,
 }

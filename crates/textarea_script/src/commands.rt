@@ -4,12 +4,14 @@ ghost use Rattle.textarea_script.specs.Calls.{CanBeMade};
 ghost use Rattle.textarea_script.specs.Script.{lines_of, filled_lines, IsAtLine, IsReady, IsReady-prop, NamesLine};
 
 use crate::arguments::{
-    Unread, move_named, number, one_character, truth, two_numbers, unescaped, unescaped_lines,
+    Unread, move_named, number, one_character, ranges, truth, two_numbers, unescaped,
+    unescaped_lines,
 };
 use crate::call::Call;
 use std::alloc::{AllocError, AllocFailed, Global};
 use std::str::from_utf8;
 use std::time::Duration;
+use textarea_atomic::atomic::AtomicRange;
 use textarea_move::cursor_move::CursorMove;
 
 /// Why a script was not read.
@@ -45,6 +47,8 @@ enum Content {
     Plain(Call<'static>),
     InsertStr(String),
     SetYankText(String),
+    TrySetAtomicRanges(Vec<AtomicRange>),
+    SetSearchPattern(String),
     SetLines {
         lines: Vec<String>,
         cursor: (usize, usize),
@@ -60,6 +64,8 @@ impl Command {
             Content::Plain(call) => *call,
             Content::InsertStr(text) => Call::InsertStr(text.as_str()),
             Content::SetYankText(text) => Call::SetYankText(text.as_str()),
+            Content::TrySetAtomicRanges(ranges) => Call::TrySetAtomicRanges(ranges.as_slice()),
+            Content::SetSearchPattern(text) => Call::SetSearchPattern(text.as_str()),
             Content::SetLines { lines, cursor } => Call::SetLines {
                 lines: lines.as_slice(),
                 cursor: *cursor,
@@ -128,6 +134,11 @@ fn content_of(alloc: Global, line: &str) -> Result<Content, Unread>
             let text = unescaped(alloc, arguments.unwrap_or(""))?;
             Ok(Content::SetYankText(text))
         }
+        "ranges" => Ok(Content::TrySetAtomicRanges(ranges(alloc, arguments)?)),
+        "set_search_pattern" => {
+            let text = unescaped(alloc, arguments.unwrap_or(""))?;
+            Ok(Content::SetSearchPattern(text))
+        }
         "set_lines" => set_lines(alloc, arguments.unwrap_or("")),
         _ => {
             let call = match arguments {
@@ -195,6 +206,8 @@ fn call_with(name: &str, arguments: &str) -> Option<Call<'static>>
         "move" => Call::Move(move_named(arguments)?),
         "jump" => Call::Move(jump(arguments)?),
         "now" => Call::SetNow(Duration::from_millis(number(arguments)?)),
+        "search_forward" => Call::SearchForward(truth(arguments)?),
+        "search_back" => Call::SearchBack(truth(arguments)?),
         _ => return None,
     })
 }

@@ -1,6 +1,7 @@
 // The text that `tascript` prints of a run that came to its end.
 use crate::call::Answer;
 use std::fmt;
+use textarea_atomic::atomic::{AtomicRange, AtomicRangeRejectReason};
 use tui_textarea::TextArea;
 
 /// The end of a run, printed as a line for each answer, counted from 1, and then the text area: its
@@ -40,7 +41,41 @@ impl fmt::Display for Answer {
             Answer::Done => write!(f, "ok"),
             Answer::Flag(flag) => write!(f, "{flag}"),
             Answer::Text(text) => write!(f, "text {}", Escaped(text.as_str())),
+            Answer::Range(None) => write!(f, "none"),
+            Answer::Range(Some(range)) => write!(f, "{}", Printed(*range)),
+            Answer::Rejected(rejected) => {
+                write!(f, "rejected")?;
+                for item in rejected {
+                    write!(f, " {} {}", Printed(item.range), reason_name(item.reason))?;
+                }
+                Ok(())
+            }
+            Answer::PatternRefused => write!(f, "pattern"),
         }
+    }
+}
+
+// A range, printed as its row, its first column and the column behind its last one.
+#[derive(Clone, Copy)]
+struct Printed(AtomicRange);
+
+impl fmt::Display for Printed {
+    fn fmt<W: fmt::Write>(&self, f: &mut fmt::Formatter<W>) -> fmt::Result {
+        let AtomicRange {
+            row,
+            start_col,
+            end_col,
+        } = self.0;
+        write!(f, "{row}:{start_col}..{end_col}")
+    }
+}
+
+fn reason_name(reason: AtomicRangeRejectReason) -> &'static str {
+    match reason {
+        AtomicRangeRejectReason::Empty => "Empty",
+        AtomicRangeRejectReason::RowOutOfBounds => "RowOutOfBounds",
+        AtomicRangeRejectReason::ColumnOutOfBounds => "ColumnOutOfBounds",
+        AtomicRangeRejectReason::OverlapsPrevious => "OverlapsPrevious",
     }
 }
 

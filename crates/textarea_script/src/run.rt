@@ -23,8 +23,8 @@ pub struct RunEnd {
 /// visual rows, measured height, drawn cells, caret and hit tests are those of a layout computed
 /// anew from text, cursor, highlights, settings, viewport and last area.
 ///
-/// For the calls so far the first half holds, of text, cursor, selection, yank and both history lists,
-/// edit by edit.
+/// For the calls so far the first half holds, of text, cursor, selection, yank, ranges and both history
+/// lists, edit by edit.
 ///
 /// It asks that each `Call::SetLines` holds a line. Room for the answers is reserved first. Where that
 /// is refused, no call is made and the refused index is 0.

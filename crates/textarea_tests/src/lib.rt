@@ -5,9 +5,13 @@
 #[cfg(test)]
 mod edits;
 #[cfg(test)]
+mod ranges;
+#[cfg(test)]
 mod rows;
 #[cfg(test)]
 mod scripts;
+#[cfg(test)]
+mod searches;
 #[cfg(test)]
 mod selection;
 #[cfg(test)]

@@ -73,6 +73,16 @@ fn commands(rt: HostRuntime) -> Result<(), Fail> {
             "set_tab_length 2\ninsert_tab\nset_hard_tab_indent true\ninsert_tab\nset_hard_tab_indent false\nset_max_histories 1\nset_undo_coalescing true\nnow 0\ninsert_char a\nnow 499\ninsert_char b\nundo\nundo\nset_max_histories 18446744073709551615\nnow 18446744073709551615\ndelete_str 18446744073709551615\n",
             "1 ok\n2 true\n3 ok\n4 true\n5 ok\n6 ok\n7 ok\n8 ok\n9 ok\n10 ok\n11 ok\n12 true\n13 false\n14 ok\n15 ok\n16 false\nlines 1\n|  \\t\ncursor 0 3\nselection none\n",
         ),
+        // Searches, a pattern that is refused, and one with an escape.
+        (
+            "set_lines 0 0 foo f1o\nset_search_pattern foo\nmove End\nsearch_back true\nset_search_pattern (hello\nsearch_forward false\nset_search_pattern \\\\d\nsearch_forward false\nset_search_pattern \nsearch_forward true\nset_search_pattern\n",
+            "1 ok\n2 ok\n3 ok\n4 true\n5 pattern\n6 true\n7 ok\n8 true\n9 ok\n10 false\n11 ok\nlines 1\n|foo f1o\ncursor 0 5\nselection none\n",
+        ),
+        // Ranges, and those that are rejected.
+        (
+            "insert_str abc\nranges 0 0 2\nmove Back\nmove Back\ndelete_next_char\nranges 0 0 1 0 1 1\nranges 0 2 1 0 0 1\nranges\n",
+            "1 true\n2 ok\n3 ok\n4 ok\n5 true\n6 rejected 0:1..1 Empty\n7 rejected 0:2..1 ColumnOutOfBounds\n8 ok\nlines 1\n|c\ncursor 0 0\nselection none\n",
+        ),
         // Texts that are empty, and an empty yank.
         (
             "insert_str\ninsert_str \nset_yank_text\nset_yank_text \nyank_text\nset_lines 7 7\nset_lines 0 0 \nselect_all\n",
@@ -157,6 +167,12 @@ fn lines_that_are_not_read(rt: HostRuntime) -> Result<(), Fail> {
         (b"insert_char \\u{d800}", "line 1: not read\n"),
         (b"insert_char \\u{110000}", "line 1: not read\n"),
         (b"insert_char \\u{61}a", "line 1: not read\n"),
+        // Ranges are three numbers each.
+        (b"ranges ", "line 1: not read\n"),
+        (b"ranges 0 1", "line 1: not read\n"),
+        (b"ranges 0 0 1 ", "line 1: not read\n"),
+        (b"ranges 0 0 1 0", "line 1: not read\n"),
+        (b"ranges 0 0 -1", "line 1: not read\n"),
     ] {
         check(&rt, script, 2, "", errors)?;
     }
@@ -202,10 +218,15 @@ fn arguments_that_are_not_read(rt: HostRuntime) -> Result<(), Fail> {
         "set_hard_tab_indent",
         "set_hard_tab_indent True",
         "set_undo_coalescing 1",
+        "search_forward",
+        "search_forward ",
+        "search_back TRUE",
+        "search_back true ",
         // Escapes in texts.
         "insert_str a\\q",
         "insert_str a\\",
         "set_yank_text \\u{}",
+        "set_search_pattern \\d",
         "set_lines",
         "set_lines 1",
         "set_lines 1 ",

@@ -1,6 +1,7 @@
 // Rows of a table: lines, and steps over a text area that holds them.
 use std::process::Abort;
 use std::test::Fail;
+use textarea_atomic::atomic::{AtomicRange, AtomicRangeRejectReason, RejectedAtomicRange};
 use textarea_script::Answer;
 use textarea_script::commands::read;
 use textarea_script::perform::perform;
@@ -8,6 +9,9 @@ use tui_textarea::TextArea;
 
 // Two ends of a selection, the first one first.
 type Ends = ((usize, usize), (usize, usize));
+
+// A range: its row, its first column, and the column behind its last one.
+pub type Triple = (usize, usize, usize);
 
 // What is done, or what must hold then.
 #[derive(Clone, Copy)]
@@ -26,6 +30,14 @@ pub enum Step<'a> {
     Yank(&'a str),
     // The ends of the selection.
     Selected(Option<Ends>),
+    // The call of this command, which answers that the pattern is refused.
+    Refuses(&'a str),
+    // The pattern that is searched for.
+    Pattern(Option<&'a str>),
+    // The call of this command, which answers that these ranges are rejected.
+    Rejects(&'a str, &'a [(Triple, AtomicRangeRejectReason)]),
+    // The ranges that are held.
+    Ranges(&'a [Triple]),
 }
 
 // The lines at first, with the cursor at their start, and the steps.
@@ -49,6 +61,8 @@ fn take(rt: &(impl Abort + AllocGlobal), area: &mut TextArea, step: &Step<'_>) -
     match step {
         Step::Do(command) => make(rt, area, command, &Answer::Done),
         Step::Says(command, flag) => make(rt, area, command, &Answer::Flag(*flag)),
+        Step::Refuses(command) => make(rt, area, command, &Answer::PatternRefused),
+        Step::Rejects(command, rejected) => make_rejected(rt, area, command, rejected),
         Step::Type(text) => type_in(area, text),
         wanted => compare(rt, area, wanted),
     }
@@ -68,6 +82,8 @@ fn compare(
             assert_eq!(rt; area.selection_range(), *ends);
             assert_eq!(rt; area.is_selecting(), ends.is_some());
         }
+        Step::Ranges(ranges) => compare_ranges(rt, area, ranges),
+        Step::Pattern(pattern) => assert!(rt; area.search_pattern() == *pattern),
         _ => {}
     }
     Ok(())
@@ -79,6 +95,13 @@ pub fn compare_lines(rt: &impl Abort, area: &TextArea, lines: &[&str]) {
         assert_eq!(rt; line.as_str(), *wanted);
     }
     assert_eq!(rt; area.is_empty(), lines == [""].as_slice());
+}
+
+fn compare_ranges(rt: &impl Abort, area: &TextArea, ranges: &[Triple]) {
+    assert_eq!(rt; area.atomic_ranges().len(), ranges.len());
+    for (range, wanted) in area.atomic_ranges().iter().zip(ranges) {
+        assert_eq!(rt; *range, part(*wanted));
+    }
 }
 
 fn make(
@@ -94,6 +117,30 @@ fn make(
         assert_eq!(rt; answer, *wanted);
     }
     Ok(())
+}
+
+fn make_rejected(
+    rt: &(impl Abort + AllocGlobal),
+    area: &mut TextArea,
+    command: &str,
+    wanted: &[(Triple, AtomicRangeRejectReason)],
+) -> Result<(), Fail> {
+    let mut rejected = Vec::new(rt.alloc());
+    for (range, reason) in wanted {
+        rejected.push(RejectedAtomicRange {
+            range: part(*range),
+            reason: *reason,
+        })?;
+    }
+    make(rt, area, command, &Answer::Rejected(rejected))
+}
+
+pub fn part((row, start_col, end_col): Triple) -> AtomicRange {
+    AtomicRange {
+        row,
+        start_col,
+        end_col,
+    }
 }
 
 fn type_in(area: &mut TextArea, text: &str) -> Result<(), Fail> {

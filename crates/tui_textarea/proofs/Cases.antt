@@ -5,6 +5,7 @@ use Rattle.textarea_text.specs.Place.{Place, end, index_of, place_of, inserted, 
 use Rattle.textarea_text.specs.Splice.{Splice}
 use Rattle.textarea_history.specs.Log.{empty_log, recorded}
 use Rattle.tui_textarea.specs.State.{State, new_state, with_document}
+use Rattle.textarea_document.specs.Edits.{without_before, without_part}
 use Rattle.textarea_document.specs.Outcomes.{redone, undone}
 use Rattle.tui_textarea.specs.Edits.{with_char, with_newline}
 use Rattle.tui_textarea.specs.Selection.{cut_out}
@@ -70,9 +71,11 @@ abbrev pub first_run : State
 first_run = undo_of (deleted_char (with_char (with_newline (with_char (new_state []) 97)) 98))
 
 pub first_run_case : first_run.document.text ≡ Character 97 ∷ Break ∷ Character 98 ∷ []
+unfolding without_before
 first_run_case = refl
 
 pub first_run_cursor_case : first_run.document.cursor ≡ (1, 1)
+unfolding without_before
 first_run_cursor_case = refl
 
 -- a change after an undo: there is nothing left to make again
@@ -85,11 +88,14 @@ carriage_return_case = refl
 
 -- an insertion over a selection is two changes: the removal and the insertion
 pub over_selection_case : (with_char (selected_first (new_state (Character 97 ∷ Character 98 ∷ []))) 120).document.log.done ≡ (record { place = (0, 0); symbols = Character 97 ∷ []; inserts = false }) ∷ (record { place = (0, 0); symbols = Character 120 ∷ []; inserts = true }) ∷ []
+unfolding without_part
 over_selection_case = refl
 
 -- a selection's removal yanks nothing, and a cut yanks
 pub selection_out_case : (deleted_char (selected_first (new_state (Character 97 ∷ Character 98 ∷ [])))).yank ≡ []
+unfolding without_part
 selection_out_case = refl
 
 pub cut_case : (cut_out (selected_first (new_state (Character 97 ∷ Character 98 ∷ [])))).yank ≡ Character 97 ∷ []
+unfolding without_part
 cut_case = refl

@@ -1,4 +1,5 @@
 pub mod Ahead
 pub mod Copying
 pub mod Given
+pub mod Searches
 mod Cases

@@ -2,7 +2,7 @@
 use Rattle.std.specs.Prelude.{ℕ, ◌-◌, ◌%◌, ◌==◌, ◌||◌, Bool, not, List, [], take, replicate, slice_index_or, if◌then◌else◌}
 use Rattle.textarea_text.specs.Text.{Symbol, Character, lines}
 use Rattle.textarea_document.specs.State.{DocumentState}
-use Rattle.textarea_document.specs.Edits.{is_filled, with_break, with_character, with_symbols}
+use Rattle.textarea_document.specs.Edits.{insertion_place, is_filled, with_break, with_character, with_symbols}
 use Rattle.textarea_document.specs.Selection.{is_selected}
 use Rattle.textarea_pieces.specs.Tab.{width_of}
 use Rattle.tui_textarea.specs.State.{State, with_document}
@@ -12,11 +12,11 @@ use Rattle.tui_textarea.specs.Selection.{dropped, unselected}
 abbrev pub breaks_line : ℕ → Bool
 breaks_line c = (c == 10) || (c == 13)
 
--- the character is put in at the cursor as a typed one
+-- the character is put in where an insertion goes, as a typed one
 abbrev pub put_character : State → ℕ → State
 put_character state c = with_document state (with_character state.document c state.settings.undo_coalescing state.moment)
 
--- the line is broken at the cursor
+-- the line is broken there
 abbrev pub put_break : State → State
 put_break state = with_document state (with_break state.document state.moment)
 
@@ -24,18 +24,19 @@ put_break state = with_document state (with_break state.document state.moment)
 abbrev pub put_char : State → ℕ → State
 put_char state c = if breaks_line c then put_break state else put_character state c
 
--- the symbols are put in at the cursor
+-- the symbols are put in there; where there are none, the cursor goes there and nothing is selected any more
 abbrev pub put_symbols : State → List Symbol → State
 put_symbols state symbols = with_document state (with_symbols state.document symbols state.moment)
 
--- the characters before the cursor in its line
-abbrev pub before_cursor : DocumentState → List ℕ
-before_cursor document = take document.cursor.1 (slice_index_or (lines document.text) document.cursor.0 [])
+-- the characters of its line before the place where an insertion goes: before the cursor, or before the end of the atomic
+-- range that strictly holds it
+abbrev pub before_insertion : DocumentState → List ℕ
+before_insertion document = take (insertion_place document).1 (slice_index_or (lines document.text) (insertion_place document).0 [])
 
--- how many spaces reach from the cursor to the next tab stop: the tab length less the remainder of the width of what stands
--- before the cursor in its line
+-- how many spaces reach from there to the next tab stop: the tab length less the remainder of the width of what stands
+-- before it in its line
 abbrev pub spaces_to_stop : State → ℕ
-spaces_to_stop state = state.settings.tab_length - width_of (before_cursor state.document) % state.settings.tab_length
+spaces_to_stop state = state.settings.tab_length - width_of (before_insertion state.document) % state.settings.tab_length
 
 -- a tab is put in: at tab length 0 nothing, else a tab character, typed, or the spaces to the next tab stop
 abbrev pub put_tab : State → State

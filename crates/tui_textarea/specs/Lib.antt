@@ -3,3 +3,5 @@ pub mod Edits
 pub mod Removals
 pub mod Selection
 pub mod Moves
+pub mod Ranges
+pub mod Search

@@ -1,7 +1,12 @@
 -- What the moves make of the state.
-use Rattle.std.specs.Prelude.{Option, Some, None}
+use Rattle.std.specs.Prelude.{List, Option, Some, None, option_map}
 use Rattle.textarea_text.specs.Place.{Place}
 use Rattle.textarea_move.specs.declared.cursor_move.CursorMove.{CursorMove}
+use Rattle.textarea_move.specs.declared.cursor_move.CursorMove.TheVariants as move
+use Rattle.textarea_atomic.specs.declared.atomic.AtomicRange.{AtomicRange}
+use Rattle.textarea_atomic.specs.declared.atomic.AtomicCursorBias.{AtomicCursorBias}
+use Rattle.textarea_atomic.specs.declared.atomic.AtomicCursorBias.TheVariants.{Backward, Forward}
+use Rattle.textarea_ranges.specs.Held.{moved_out}
 use Rattle.textarea_document.specs.Outcomes.{moved}
 use Rattle.textarea_target.specs.Target.{target}
 use Rattle.tui_textarea.specs.State.{State, with_document}
@@ -11,5 +16,19 @@ abbrev pub moved_by : State → Option Place → State
 moved_by state None = state
 moved_by state (Some place) = with_document state (moved state.document place state.document.anchor)
 
+-- the moves that lead to a range's start where they would end strictly inside it; the others lead to its end
+abbrev pub bias_of : CursorMove → AtomicCursorBias
+bias_of move.Back = Backward
+bias_of move.Up = Backward
+bias_of move.Head = Backward
+bias_of move.Top = Backward
+bias_of move.WordBack = Backward
+bias_of move.ParagraphBack = Backward
+bias_of other = Forward
+
+-- the target, moved out of the atomic range that strictly holds it
+abbrev pub pushed : List AtomicRange → CursorMove → Option Place → Option Place
+pushed ranges cursor_move found = option_map (λ place. moved_out ranges place (bias_of cursor_move)) found
+
 abbrev pub after_move : State → CursorMove → State
-after_move state cursor_move = moved_by state (target state.document.text state.document.cursor cursor_move)
+after_move state cursor_move = moved_by state (pushed state.document.ranges cursor_move (target state.document.text state.document.cursor cursor_move))

@@ -1,22 +1,24 @@
 -- What the removals make of the state: where a symbol is selected, that goes alone and nothing is yanked.
-use Rattle.std.specs.Prelude.{ℕ, ◌+◌, ◌==◌, ◌||◌, nat_lt, Bool, not, List, [], length, min, slice_index_or, if◌then◌else◌}
+use Rattle.std.specs.Prelude.{ℕ, ◌+◌, ◌==◌, ◌||◌, nat_lt, Bool, not, List, [], length, min, slice_index_or, if◌then◌else◌, Option, None, Some, is_some}
 use Rattle.textarea_text.specs.Text.{lines}
 use Rattle.textarea_text.specs.Place.{Place, place_of}
 use Rattle.textarea_document.specs.State.{DocumentState}
-use Rattle.textarea_document.specs.Edits.{cursor_index, is_at_end, is_at_start, is_filled, without_before, without_behind, without_break, without_part}
+use Rattle.textarea_document.specs.Edits.{cursor_index, hit_before, hit_behind, is_at_end, is_at_start, is_filled, taken, without_before, without_behind, without_break, without_part}
 use Rattle.textarea_document.specs.Selection.{is_selected}
-use Rattle.textarea_pieces.specs.Part.{part}
+use Rattle.textarea_atomic.specs.declared.atomic.AtomicRange.{AtomicRange}
+use Rattle.textarea_ranges.specs.Held.{start, stop}
 use Rattle.textarea_target.specs.Target.{word_end_after, word_start_before}
 use Rattle.tui_textarea.specs.State.{State, with_document}
 use Rattle.tui_textarea.specs.Selection.{dropped, unselected}
 
 -- ---- where nothing is selected
 
--- what stands between the two places is taken out and yanked
-abbrev pub yanked : State → Place → Place → State
-yanked state from to = record state { document = without_part state.document from to state.moment; yank = part state.document.text from to }
+-- what stands between the two places is taken out, with the atomic ranges that it overlaps, and what went is yanked
+unfoldable pub yanked : State → Place → Place → State
+yanked state from to = record state { document = without_part state.document from to state.moment; yank = taken state.document from to }
 
--- the symbol before the cursor, or the one behind it, is taken out as a typed edit, if there is one
+-- the atomic range that is hit before the cursor is taken out, or else the symbol there as a typed edit, if there is one;
+-- and so for the one behind it
 abbrev pub symbol_before_out : State → State
 symbol_before_out state = with_document state (without_before state.document state.settings.undo_coalescing state.moment)
 
@@ -60,17 +62,30 @@ abbrev pub line_head_out : State → State
 line_head_out state =
     if state.document.cursor.1 == 0 then break_before_out state else yanked state (in_line state.document 0) state.document.cursor
 
+-- the atomic range is taken out and not yanked, where one was hit; else it is the other state
+abbrev pub hit_out_or : Option AtomicRange → State → State → State
+hit_out_or None state other = other
+hit_out_or (Some range) state other = with_document state (without_part state.document (start range) (stop range) state.moment)
+
 -- from the start of the word before the cursor, or the line's start, to the cursor; at the line's start as the break before
-abbrev pub word_before_out : State → State
-word_before_out state =
+unfoldable pub back_to_word_out : State → State
+back_to_word_out state =
     if state.document.cursor.1 == 0 then break_before_out state
     else yanked state (in_line state.document (word_start_before (cursor_line state.document) state.document.cursor.1)) state.document.cursor
 
+-- the range that is hit before the cursor, or else back to the word's start
+abbrev pub word_before_out : State → State
+word_before_out state = hit_out_or (hit_before state.document) state (back_to_word_out state)
+
 -- from the cursor to behind the word, or to the line's end; at the line's end as the symbol behind
-abbrev pub word_behind_out : State → State
-word_behind_out state =
+unfoldable pub on_to_word_end_out : State → State
+on_to_word_end_out state =
     if is_at_line_end state.document then symbol_behind_out state
     else yanked state state.document.cursor (in_line state.document (word_end_after (cursor_line state.document) state.document.cursor.1))
+
+-- the range that is hit behind the cursor, or else on to the word's end
+abbrev pub word_behind_out : State → State
+word_behind_out state = hit_out_or (hit_behind state.document) state (on_to_word_end_out state)
 
 -- whether there is a symbol for each
 abbrev pub has_before : State → Bool
@@ -91,6 +106,13 @@ has_line_behind state = not (is_at_line_end state.document) || has_behind state
 
 abbrev pub has_line_before : State → Bool
 has_line_before state = not (state.document.cursor.1 == 0) || has_break_before state
+
+-- a range that is hit, or something in the line
+abbrev pub has_word_before : State → Bool
+has_word_before state = is_some (hit_before state.document) || has_line_before state
+
+abbrev pub has_word_behind : State → Bool
+has_word_behind state = is_some (hit_behind state.document) || has_line_behind state
 
 -- ---- the calls
 

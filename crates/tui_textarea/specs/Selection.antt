@@ -1,8 +1,9 @@
 -- What the calls for the selection, and those over a selection, make of the state.
 use Rattle.std.specs.Prelude.{◌≡◌, ◌⊎◌, Some, length, if◌then◌else◌}
 use Rattle.textarea_text.specs.Place.{place_of}
+use Rattle.textarea_document.specs.Edits.{taken}
 use Rattle.textarea_document.specs.Outcomes.{moved, unanchored}
-use Rattle.textarea_document.specs.Selection.{is_selected, selected, without_selected}
+use Rattle.textarea_document.specs.Selection.{is_selected, selected, selection_end, selection_start, without_selected}
 use Rattle.tui_textarea.specs.State.{State, with_document}
 
 -- what is selected is taken out, if a symbol is: an edit of its own, which yanks nothing
@@ -25,9 +26,12 @@ all_selected state = with_document state (moved state.document (place_of state.d
 abbrev pub copied : State → State
 copied state = if is_selected state.document then record (dropped state) { yank = selected state.document } else dropped state
 
--- what is selected is yanked and taken out, if a symbol is; nothing is selected any more
+-- what is selected is taken out, if a symbol is, with the atomic ranges that it overlaps, and what went is yanked; nothing is
+-- selected any more
 abbrev pub cut_out : State → State
-cut_out state = if is_selected state.document then record (unselected state) { yank = selected state.document } else dropped state
+cut_out state =
+    if is_selected state.document then record (unselected state) { yank = taken state.document (selection_start state.document) (selection_end state.document) }
+    else dropped state
 
 -- what an insertion that answered out of memory leaves: the state as it was, or the one without what was selected
 abbrev pub IsLeft : State → State → Type 0

@@ -1,5 +1,5 @@
 -- The state of a text area, by parts.
-use Rattle.std.specs.Prelude.{ℕ, List, [], false, map}
+use Rattle.std.specs.Prelude.{ℕ, List, [], false, map, Option, None}
 use Rattle.std.specs.Borrow.{Bor}
 use Rattle.std.specs.Str.{chars}
 use Rattle.textarea_text.specs.Text.{Symbol, joined}
@@ -8,21 +8,23 @@ use Rattle.textarea_document.specs.State.{DocumentState, new_document}
 use Rattle.textarea_document.specs.Outcomes.{edited}
 use Rattle.tui_textarea.specs.declared.textarea.settings.Settings.{Settings}
 
--- a text area as its callers see it: the document; what was yanked last; the settings; and the moment that was handed in
--- last, in nanoseconds
+-- a text area as its callers see it: the document; what was yanked last; the settings; the moment that was handed in last,
+-- in nanoseconds; and the pattern that is searched for, by its bytes, if there is one
 pub record State : Type 0 where
   pub document : DocumentState
   pub yank : List Symbol
   pub settings : Settings
   pub moment : ℕ
+  pub pattern : Option (List ℕ)
 
 -- the settings at first: a tab of four columns made of spaces, and no joining of typed edits
 abbrev pub default_settings : Settings
 default_settings = record { tab_length = 4; hard_tab_indent = false; undo_coalescing = false }
 
--- a new text area: the cursor at the start, nothing selected, at most 50 edits remembered and none yet, nothing yanked
+-- a new text area: the cursor at the start, nothing selected, at most 50 edits remembered and none yet, nothing yanked,
+-- no pattern
 abbrev pub new_state : List Symbol → State
-new_state text = record { document = new_document text 50; yank = []; settings = default_settings; moment = 0 }
+new_state text = record { document = new_document text 50; yank = []; settings = default_settings; moment = 0; pattern = None }
 
 -- the document changes, and all else stays
 abbrev pub with_document : State → DocumentState → State

@@ -5,3 +5,4 @@ pub mod textarea;
 
 pub use textarea::TextArea;
 pub use textarea_atomic::atomic;
+pub use textarea_search::search;

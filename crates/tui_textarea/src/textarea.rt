@@ -4,7 +4,9 @@ mod edits;
 mod laws;
 mod moves;
 mod past;
+mod ranges;
 mod removals;
+mod search;
 mod selection;
 pub mod settings;
 
@@ -22,11 +24,13 @@ use std::alloc::{AllocError, Global};
 use std::marker::Model;
 use std::time::Duration;
 use textarea_document::Document;
+use textarea_search::search::Search;
 
 /// How many edits a new text area remembers.
 const DEFAULT_MAX_HISTORIES: usize = 50;
 
-/// A multi-line text editor: lines of text, a cursor, a selection, a yanked text, settings, and a history of edits.
+/// A multi-line text editor: lines of text, a cursor, a selection, a yanked text, settings, a pattern to search for, and a
+/// history of edits.
 ///
 /// Rows and columns count from 0, columns in characters. A call that runs out of memory leaves the text area as it was, or,
 /// where it inserts over a selection, as it is after what was selected was taken out.
@@ -36,6 +40,7 @@ pub struct TextArea {
     yank: Vec<String>,
     settings: Settings,
     moment: Duration,
+    search: Search,
 }
 
 impl Model for TextArea {
@@ -45,7 +50,7 @@ impl Model for TextArea {
 
     ghost Value = { State };
 
-    ghost view = { λ area. record { document = area.document; yank = text_of area.yank.items; settings = area.settings; moment = as_nanos area.moment } };
+    ghost view = { λ area. record { document = area.document; yank = text_of area.yank.items; settings = area.settings; moment = as_nanos area.moment; pattern = area.search } };
 }
 
 impl Clone for TextArea {
@@ -58,6 +63,7 @@ impl Clone for TextArea {
             yank: self.yank.clone()?,
             settings: self.settings,
             moment: self.moment,
+            search: self.search.clone()?,
         })
     }
 }
@@ -73,6 +79,7 @@ impl TextArea {
             yank: Vec::new(alloc),
             settings: Settings::default(),
             moment: Duration::ZERO,
+            search: Search::default(),
         })
     }
 
@@ -84,7 +91,7 @@ impl TextArea {
     }
 
     /// Holds these lines in place of the old ones, the cursor at the nearest place of theirs. All edits are forgotten, and
-    /// nothing is selected; the settings and what was yanked stay. A line feed inside a line stays a character of that line.
+    /// nothing is selected; the settings, the pattern and what was yanked stay. A line feed inside a line stays a character of that line.
     pub fn set_lines(
         &mut self,
         lines: Vec<String>,

@@ -1,18 +1,44 @@
-//! Insertions at the cursor of a document.
-ghost use Rattle.std.specs.Prelude.{◌≡◌, ◌<◌, ◌≤◌, OnOk, OnErr, IsOk, IfOk, IfSome, [], length, vec_len};
+//! Insertions at the cursor of a document, or at the end of the atomic range that strictly holds it.
+ghost use Rattle.std.specs.Prelude.{◌≡◌, ◌<◌, ◌≤◌, ◌^◌, OnOk, OnErr, IsOk, IfOk, IfSome, All, [], length, vec_len};
 ghost use Rattle.std.specs.Duration.{as_nanos};
 ghost use Rattle.textarea_text.specs.Text.{text_of};
-ghost use Rattle.textarea_document.specs.Edits.{insertion, is_filled, with_break, with_character, with_symbols};
+ghost use Rattle.textarea_text.specs.Place.{IsPlace};
+ghost use Rattle.textarea_ranges.specs.Held.{IsInside};
+ghost use Rattle.textarea_document.specs.Edits.{insertion, insertion_place, is_filled, with_break, with_character, with_nothing, with_symbols};
 
 use crate::document::{Document, MAX_SIZE};
 use std::alloc::AllocError;
 use std::time::Duration;
+use textarea_atomic::atomic::AtomicCursorBias;
 use textarea_history::history::{Edit, EditKind};
 use textarea_pieces::places::end_of;
+use textarea_ranges::held::moved_out;
 use textarea_text::rows;
 
 impl Document {
-    /// Puts the character in at the cursor, as a typed one or not. A line feed stays a character of the line.
+    /// Where an insertion goes: to the cursor, or to the end of the atomic range that strictly holds it.
+    pub fn insertion_place(&self) -> (usize, usize)
+        ensures value { result ≡ insertion_place self.now }
+        ensures place { IsPlace self.now.text result }
+        ensures small { (result.0 < 2 ^ 48) × (result.1 ≤ 2 ^ 48) }
+        ensures outside { All (λ range. ¬ IsInside result range) self.now.ranges }
+    {
+        moved_out(
+            self.ranges.as_slice(),
+            self.cursor,
+            AtomicCursorBias::Forward,
+        )
+    }
+
+    /// Puts the cursor where an insertion goes, and drops the selection; nothing is recorded.
+    pub fn insert_nothing(&mut self)
+        ensures { self.new ≡ with_nothing self.old }
+    {
+        self.cursor = self.insertion_place();
+        self.anchor = None;
+    }
+
+    /// Puts the character in where an insertion goes, as a typed one or not. A line feed stays a character of the line.
     pub fn insert_character(
         &mut self,
         c: char,
@@ -22,7 +48,7 @@ impl Document {
         ensures ok { OnOk result (self.new ≡ with_character self.old c typed (as_nanos now)) }
         ensures err { OnErr result (self.new ≡ self.old) }
     {
-        let (row, column) = self.cursor();
+        let (row, column) = self.insertion_place();
         let after = (row, column + 1);
         self.edit(
             Edit::between(EditKind::InsertChar(c), (row, column), after),
@@ -31,12 +57,12 @@ impl Document {
         )
     }
 
-    /// Breaks the line at the cursor.
+    /// Breaks the line where an insertion goes.
     pub fn insert_break(&mut self, now: Duration) -> Result<(), AllocError>
         ensures ok { OnOk result (self.new ≡ with_break self.old (as_nanos now)) }
         ensures err { OnErr result (self.new ≡ self.old) }
     {
-        let (row, column) = self.cursor();
+        let (row, column) = self.insertion_place();
         let after = (row + 1, 0);
         self.edit(
             Edit::between(EditKind::InsertNewline, (row, column), after),
@@ -45,8 +71,8 @@ impl Document {
         )
     }
 
-    /// Puts the pieces, with a line break between each two, in at the cursor, and says whether there was a symbol to put
-    /// in. Without one only the selection is dropped, and no memory is taken.
+    /// Puts the pieces, with a line break between each two, in where an insertion goes, and says whether there was a symbol
+    /// to put in. Without one the cursor goes there and the selection is dropped, and no memory is taken.
     pub fn insert(&mut self, pieces: Vec<String>, now: Duration) -> Result<bool, AllocError>
         ensures inserted { IfOk result (λ inserted. inserted ≡ is_filled (text_of pieces.items)) }
         ensures ok { OnOk result (self.new ≡ with_symbols self.old (text_of pieces.items) (as_nanos now)) }
@@ -54,13 +80,13 @@ impl Document {
         ensures nothing { text_of pieces.items ≡ [] → IsOk result }
     {
         if !has_symbol(pieces.as_slice()) {
-            self.set_anchor(None);
+            self.insert_nothing();
             return Ok(false);
         }
         if MAX_SIZE < rows::size_of(pieces.as_slice()) {
             return Err(AllocError);
         }
-        let start = self.cursor();
+        let start = self.insertion_place();
         let stop = end_of(start, pieces.as_slice());
         self.edit(insertion_of(pieces, start, stop), false, now)?;
         Ok(true)

@@ -5,18 +5,22 @@ ghost use Rattle.std.specs.Duration.{as_nanos};
 ghost use Rattle.textarea_text.specs.Text.{lines_of, symbol_in, text_of};
 ghost use Rattle.textarea_text.specs.Place.{IsPlace, IsPlaceOf, index_of};
 ghost use Rattle.textarea_history.specs.Edit.{inserts_of, pieces_of, symbols_of};
-ghost use Rattle.textarea_pieces.specs.Part.{part};
-ghost use Rattle.textarea_document.specs.Edits.{IsSymbolBehind, is_at_end, is_at_start, without_before, without_behind, without_break, without_part};
+ghost use Rattle.textarea_ranges.specs.Held.{TakesWhole, start, stop, widened};
+ghost use Rattle.textarea_document.specs.Edits.{IsSymbolBehind, hit_before, hit_behind, is_at_end, is_at_start, removal, taken, without_before, without_behind, without_break, without_part, without_symbol_before, without_symbol_behind};
+ghost use Rattle.textarea_document.specs.Outcomes.{edited};
 
 use crate::document::Document;
 use std::alloc::AllocError;
 use std::time::Duration;
+use textarea_atomic::atomic::{AtomicDeleteDirection, AtomicRange};
 use textarea_history::history::{Edit, EditKind};
 use textarea_pieces::part::between;
+use textarea_ranges::held;
 use textarea_text::rows;
 
 impl Document {
-    /// Takes out what stands between two places of the text.
+    /// Takes out what stands between two places of the text, and each range that it overlaps.
+    #[tactic(auto, unfolding(crate::specs::Edits::without_part))]
     pub fn remove(
         &mut self,
         from: (usize, usize),
@@ -29,12 +33,13 @@ impl Document {
         ensures ok { OnOk result (self.new ≡ without_part self.old from to (as_nanos now)) }
         ensures err { OnErr result (self.new ≡ self.old) }
     {
-        let pieces = between(self.allocator(), self.lines(), from, to)?;
-        self.edit(removal_of(pieces, from, to), false, now)
+        let (start, end) = self.widened(from, to);
+        self.remove_whole(start, end, now)
     }
 
-    /// Takes out what stands between two places of the text, and hands it out as pieces with a line break between each
-    /// two.
+    /// Takes out what stands between two places of the text, and each range that it overlaps, and hands that out as pieces
+    /// with a line break between each two.
+    #[tactic(auto, unfolding(crate::specs::Edits::without_part))]
     pub fn take(
         &mut self,
         from: (usize, usize),
@@ -44,20 +49,98 @@ impl Document {
         requires from { IsPlace self.old.text from }
         requires to { IsPlace self.old.text to }
         requires ordered { index_of self.old.text from < index_of self.old.text to }
-        ensures taken { IfOk result (λ pieces. text_of pieces.items ≡ part self.old.text from to) }
+        ensures taken { IfOk result (λ pieces. text_of pieces.items ≡ taken self.old from to) }
         ensures ok { OnOk result (self.new ≡ without_part self.old from to (as_nanos now)) }
         ensures err { OnErr result (self.new ≡ self.old) }
     {
-        let pieces = between(self.allocator(), self.lines(), from, to)?;
-        self.remove(from, to, now)?;
+        let (start, end) = self.widened(from, to);
+        let pieces = between(self.allocator(), self.lines(), start, end)?;
+        self.remove_whole(start, end, now)?;
         Ok(pieces)
     }
 
-    /// Takes out the character before the cursor, or at column 0 the line break there, as a typed edit or not, and says
-    /// whether there was one. At the start of the text it takes no memory.
+    // Takes out what stands between two places of the text, which takes each range whole or not at all.
+    fn remove_whole(
+        &mut self,
+        from: (usize, usize),
+        to: (usize, usize),
+        now: Duration,
+    ) -> Result<(), AllocError>
+        requires from { IsPlace self.old.text from }
+        requires to { IsPlace self.old.text to }
+        requires ordered { index_of self.old.text from < index_of self.old.text to }
+        requires whole { TakesWhole self.old.ranges from to }
+        ensures ok { OnOk result (self.new ≡ edited self.old (removal self.old.text from to) false (as_nanos now)) }
+        ensures err { OnErr result (self.new ≡ self.old) }
+    {
+        let pieces = between(self.allocator(), self.lines(), from, to)?;
+        self.edit(removal_of(pieces, from, to), false, now)
+    }
+
+    // The two ends of a removal, widened over each range that it overlaps.
+    fn widened(&self, from: (usize, usize), to: (usize, usize)) -> ((usize, usize), (usize, usize))
+        requires from { IsPlace self.now.text from }
+        requires to { IsPlace self.now.text to }
+        requires ordered { index_of self.now.text from < index_of self.now.text to }
+        ensures value { result ≡ widened self.now.ranges from to }
+        ensures start { IsPlace self.now.text result.0 }
+        ensures end { IsPlace self.now.text result.1 }
+        ensures ordered { index_of self.now.text result.0 < index_of self.now.text result.1 }
+        ensures whole { TakesWhole self.now.ranges result.0 result.1 }
+    {
+        held::widened(self.ranges(), from, to)
+    }
+
+    /// Takes out the atomic range, whose ends are places of the text, with each other range that it overlaps.
+    pub fn remove_range(&mut self, range: AtomicRange, now: Duration) -> Result<(), AllocError>
+        requires start { IsPlace self.old.text (start range) }
+        requires stop { IsPlace self.old.text (stop range) }
+        requires ordered { index_of self.old.text (start range) < index_of self.old.text (stop range) }
+        ensures ok { OnOk result (self.new ≡ without_part self.old (start range) (stop range) (as_nanos now)) }
+        ensures err { OnErr result (self.new ≡ self.old) }
+    {
+        let start = (range.row, range.start_col);
+        self.remove(start, (range.row, range.end_col), now)
+    }
+
+    /// Takes out the range before the cursor that is hit, or else the character there, or at column 0 the line break, as a
+    /// typed edit or not, and says whether there was one. At the start of the text it takes no memory.
+    #[tactic(auto, unfolding(crate::specs::Edits::without_before))]
     pub fn remove_before(&mut self, typed: bool, now: Duration) -> Result<bool, AllocError>
         ensures removed { IfOk result (λ removed. removed ≡ not (is_at_start self.old)) }
         ensures ok { OnOk result (self.new ≡ without_before self.old typed (as_nanos now)) }
+        ensures err { OnErr result (self.new ≡ self.old) }
+        ensures nothing { is_at_start self.old ≡ true → IsOk result }
+    {
+        let Some(range) = self.range_at_cursor(AtomicDeleteDirection::Backward) else {
+            return self.remove_symbol_before(typed, now);
+        };
+        self.remove_range(range, now)?;
+        Ok(true)
+    }
+
+    /// Takes out the range behind the cursor that is hit, or else the character there, or at a line's end the line break,
+    /// as a typed edit or not, and says whether there was one. At the end of the text it takes no memory.
+    #[tactic(auto, unfolding(crate::specs::Edits::without_behind))]
+    pub fn remove_behind(&mut self, typed: bool, now: Duration) -> Result<bool, AllocError>
+        ensures removed { IfOk result (λ removed. removed ≡ not (is_at_end self.old)) }
+        ensures ok { OnOk result (self.new ≡ without_behind self.old typed (as_nanos now)) }
+        ensures err { OnErr result (self.new ≡ self.old) }
+        ensures nothing { is_at_end self.old ≡ true → IsOk result }
+    {
+        let Some(range) = self.range_at_cursor(AtomicDeleteDirection::Forward) else {
+            return self.remove_symbol_behind(typed, now);
+        };
+        self.remove_range(range, now)?;
+        Ok(true)
+    }
+
+    // Takes out the character before the cursor, or at column 0 the line break there, as a typed edit or not, and says
+    // whether there was one. At the start of the text it takes no memory.
+    fn remove_symbol_before(&mut self, typed: bool, now: Duration) -> Result<bool, AllocError>
+        requires none_hit { hit_before self.old ≡ None }
+        ensures removed { IfOk result (λ removed. removed ≡ not (is_at_start self.old)) }
+        ensures ok { OnOk result (self.new ≡ without_symbol_before self.old typed (as_nanos now)) }
         ensures err { OnErr result (self.new ≡ self.old) }
         ensures nothing { is_at_start self.old ≡ true → IsOk result }
     {
@@ -71,11 +154,12 @@ impl Document {
         Ok(true)
     }
 
-    /// Takes out the character behind the cursor, or at a line's end the line break there, as a typed edit or not, and
-    /// says whether there was one. At the end of the text it takes no memory.
-    pub fn remove_behind(&mut self, typed: bool, now: Duration) -> Result<bool, AllocError>
+    // Takes out the character behind the cursor, or at a line's end the line break there, as a typed edit or not, and
+    // says whether there was one. At the end of the text it takes no memory.
+    fn remove_symbol_behind(&mut self, typed: bool, now: Duration) -> Result<bool, AllocError>
+        requires none_hit { hit_behind self.old ≡ None }
         ensures removed { IfOk result (λ removed. removed ≡ not (is_at_end self.old)) }
-        ensures ok { OnOk result (self.new ≡ without_behind self.old typed (as_nanos now)) }
+        ensures ok { OnOk result (self.new ≡ without_symbol_behind self.old typed (as_nanos now)) }
         ensures err { OnErr result (self.new ≡ self.old) }
         ensures nothing { is_at_end self.old ≡ true → IsOk result }
     {

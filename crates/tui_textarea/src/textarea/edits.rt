@@ -1,5 +1,6 @@
-//! Insertions: what is selected goes first, as an edit of its own.
-ghost use Rattle.std.specs.Prelude.{◌≡◌, ◌<◌, OnOk, OnErr, IsOk, IfOk, false, replicate, vec_len};
+//! Insertions: what is selected goes first, as an edit of its own; then the cursor goes out of the atomic range that strictly
+//! holds it, to its end.
+ghost use Rattle.std.specs.Prelude.{◌≡◌, ◌<◌, OnOk, OnErr, IsOk, IfOk, false, [], replicate, vec_len};
 ghost use Rattle.std.specs.Str.{chars};
 ghost use Rattle.textarea_text.specs.Text.{Character, text_of};
 ghost use Rattle.textarea_document.specs.Edits.{is_filled};
@@ -16,7 +17,7 @@ use textarea_pieces::tab::spaces_to_stop;
 use textarea_text::util::spaces;
 
 impl TextArea {
-    /// Puts the character in at the cursor, as typed; `\n` and `\r` break the line.
+    /// Puts the character in at the cursor, or at the end of the atomic range that strictly holds it, as typed; `\n` and `\r` break the line.
     pub fn insert_char(&mut self, c: char) -> Result<(), AllocError>
         ensures ok { OnOk result (self.new ≡ with_char self.old c) }
         ensures err { OnErr result (IsLeft self.old self.new) }
@@ -29,7 +30,7 @@ impl TextArea {
             .insert_character(c, self.settings.undo_coalescing, self.moment)
     }
 
-    /// Breaks the line at the cursor.
+    /// Breaks the line at the cursor, or at the end of the atomic range that strictly holds it.
     pub fn insert_newline(&mut self) -> Result<(), AllocError>
         ensures ok { OnOk result (self.new ≡ with_newline self.old) }
         ensures err { OnErr result (IsLeft self.old self.new) }
@@ -38,7 +39,7 @@ impl TextArea {
         self.document.insert_break(self.moment)
     }
 
-    /// Puts the text in at the cursor, and says whether there was any or a selection went. The text is cut at each line feed;
+    /// Puts the text in at the cursor, or at the end of the atomic range that strictly holds it, and says whether there was any or a selection went. The text is cut at each line feed;
     /// a carriage return directly before a line feed goes with it. Where there is nothing to do, it takes no memory.
     pub fn insert_str(&mut self, text: &str) -> Result<bool, AllocError>
         ensures inserted { IfOk result (λ inserted. inserted ≡ inserts_text self.old (given (chars text.now))) }
@@ -47,7 +48,7 @@ impl TextArea {
         ensures nothing { inserts_text self.old (given (chars text.now)) ≡ false → IsOk result }
     {
         if !has_text(text) {
-            return self.drop_selection();
+            return self.insert_nothing();
         }
         let pieces = pieces_of(self.allocator(), text)?;
         self.document.remove_selection(self.moment)?;
@@ -55,7 +56,7 @@ impl TextArea {
         Ok(true)
     }
 
-    /// Puts in what was yanked last, and says whether there was any. Where there is nothing to do, it takes no memory.
+    /// Puts in what was yanked last, where `insert_str` does, and says whether there was any. Where there is nothing to do, it takes no memory.
     pub fn paste(&mut self) -> Result<bool, AllocError>
         ensures inserted { IfOk result (λ inserted. inserted ≡ is_filled self.old.yank) }
         ensures ok { OnOk result (self.new ≡ with_text self.old self.old.yank) }
@@ -63,7 +64,7 @@ impl TextArea {
         ensures nothing { inserts_text self.old self.old.yank ≡ false → IsOk result }
     {
         if !has_symbol(self.yank.as_slice()) {
-            self.drop_selection()?;
+            self.insert_nothing()?;
             return Ok(false);
         }
         let pieces = copied(self.allocator(), self.yank.as_slice())?;
@@ -71,7 +72,7 @@ impl TextArea {
         self.document.insert(pieces, self.moment)
     }
 
-    /// Puts a tab in at the cursor, and says whether it did or a selection went: a tab character where hard tabs are on, as
+    /// Puts a tab in at the cursor, or at the end of the atomic range that strictly holds it, and says whether it did or a selection went: a tab character where hard tabs are on, as
     /// typed, and else as many spaces as reach to the next tab stop. At tab length 0 it puts nothing in. Where there is
     /// nothing to do, it takes no memory.
     pub fn insert_tab(&mut self) -> Result<bool, AllocError>
@@ -93,18 +94,31 @@ impl TextArea {
         Ok(true)
     }
 
-    // Puts in the spaces that reach from the cursor to the next tab stop.
+    // Puts in the spaces that reach from where they go to the next tab stop.
     fn insert_spaces(&mut self) -> Result<(), AllocError>
         requires some { 0 < self.old.settings.tab_length }
         ensures ok { OnOk result (self.new ≡ put_symbols self.old (replicate (spaces_to_stop self.old) (Character 32))) }
         ensures err { OnErr result (self.new ≡ self.old) }
     {
-        let (row, column) = self.document.cursor();
+        let (row, column) = self.document.insertion_place();
         let line = self.document.lines()[row].as_str();
         let count = spaces_to_stop(line, column, self.settings.tab_length);
         let pieces = spaces_as_piece(self.allocator(), count)?;
         self.document.insert(pieces, self.moment)?;
         Ok(())
+    }
+
+    // Takes out what is selected, says whether a symbol was, drops the selection, and puts the cursor where an insertion
+    // goes.
+    fn insert_nothing(&mut self) -> Result<bool, AllocError>
+        ensures removed { IfOk result (λ removed. removed ≡ is_selected self.old.document) }
+        ensures ok { OnOk result (self.new ≡ with_text self.old []) }
+        ensures err { OnErr result (self.new ≡ self.old) }
+        ensures nothing { is_selected self.old.document ≡ false → IsOk result }
+    {
+        let removed = self.document.remove_selection(self.moment)?;
+        self.document.insert_nothing();
+        Ok(removed)
     }
 
     // Takes out what is selected, says whether a symbol was, and drops the selection.

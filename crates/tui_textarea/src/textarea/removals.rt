@@ -3,15 +3,17 @@ ghost use Rattle.std.specs.Prelude.{◌≡◌, ◌<◌, OnOk, OnErr, IsOk, IfOk,
 ghost use Rattle.textarea_text.specs.Place.{IsPlace, index_of, place_of};
 ghost use Rattle.textarea_document.specs.Edits.{is_filled};
 ghost use Rattle.textarea_document.specs.Selection.{is_selected};
-ghost use Rattle.tui_textarea.specs.Removals.{break_before_out, cleared, has_ahead, has_before, has_behind, has_break_before, has_line_before, has_line_behind, index_ahead, line_end_out, line_head_out, removes_or, symbol_before_out, symbol_behind_out, symbols_ahead_out, unselected_or, word_before_out, word_behind_out, yanked};
+ghost use Rattle.tui_textarea.specs.Removals.{break_before_out, cleared, has_ahead, has_before, has_behind, has_break_before, has_line_before, has_line_behind, has_word_before, has_word_behind, index_ahead, back_to_word_out, on_to_word_end_out, line_end_out, line_head_out, removes_or, symbol_before_out, symbol_behind_out, symbols_ahead_out, unselected_or, word_before_out, word_behind_out, yanked};
 
 use crate::textarea::TextArea;
 use std::alloc::AllocError;
+use textarea_atomic::atomic::AtomicDeleteDirection;
 use textarea_pieces::places::{ahead, line_end, text_end};
 use textarea_target::ends::{word_end_after, word_start_before};
 
 impl TextArea {
-    /// Removes the character before the cursor, or at column 0 the line break there, and says whether something was
+    /// Removes the atomic range that ends at the cursor or strictly holds it, or else the character before the cursor, or at
+    /// column 0 the line break there, and says whether something was
     /// removed. Where nothing is, it takes no memory.
     pub fn delete_char(&mut self) -> Result<bool, AllocError>
         ensures removed { IfOk result (λ removed. removed ≡ removes_or self.old (has_before self.old)) }
@@ -26,7 +28,8 @@ impl TextArea {
             .remove_before(self.settings.undo_coalescing, self.moment)
     }
 
-    /// Removes the character behind the cursor, or at a line's end the line break there, and says whether something was
+    /// Removes the atomic range that starts at the cursor or strictly holds it, or else the character behind the cursor, or
+    /// at a line's end the line break there, and says whether something was
     /// removed. Where nothing is, it takes no memory.
     pub fn delete_next_char(&mut self) -> Result<bool, AllocError>
         ensures removed { IfOk result (λ removed. removed ≡ removes_or self.old (has_behind self.old)) }
@@ -116,46 +119,45 @@ impl TextArea {
         Ok(true)
     }
 
-    /// Removes and yanks what stands from the start of the word before the cursor, or from the line's start, to the cursor;
-    /// at column 0 it does as `delete_newline`. It says whether something was removed. Where nothing is, it takes no memory.
+    /// Removes the atomic range that ends at the cursor or strictly holds it; else removes and yanks what stands from the
+    /// start of the word before the cursor, or from the line's start, to the cursor; at column 0 it does as `delete_newline`. It says whether something was removed. Where nothing is, it takes no memory.
     pub fn delete_word(&mut self) -> Result<bool, AllocError>
-        ensures removed { IfOk result (λ removed. removed ≡ removes_or self.old (has_line_before self.old)) }
+        ensures removed { IfOk result (λ removed. removed ≡ removes_or self.old (has_word_before self.old)) }
         ensures ok { OnOk result (self.new ≡ unselected_or self.old (word_before_out self.old)) }
         ensures err { OnErr result (self.new ≡ self.old) }
-        ensures nothing { removes_or self.old (has_line_before self.old) ≡ false → IsOk result }
+        ensures nothing { removes_or self.old (has_word_before self.old) ≡ false → IsOk result }
     {
         if self.document.remove_selection(self.moment)? {
             return Ok(true);
         }
-        let cursor = self.document.cursor();
-        if cursor.1 == 0 {
-            return self.document.remove_break(self.moment);
-        }
-        let start = word_start_before(self.document.lines()[cursor.0].as_str(), cursor.1);
-        self.take_out((cursor.0, start), cursor)?;
+        let Some(range) = self
+            .document
+            .range_at_cursor(AtomicDeleteDirection::Backward)
+        else {
+            return self.remove_to_word_start();
+        };
+        self.document.remove_range(range, self.moment)?;
         Ok(true)
     }
 
-    /// Removes and yanks what stands from the cursor to behind the word there, or to the line's end; at the line's end it
-    /// does as `delete_next_char`. It says whether something was removed. Where nothing is, it takes no memory.
+    /// Removes the atomic range that starts at the cursor or strictly holds it; else removes and yanks what stands from the
+    /// cursor to behind the word there, or to the line's end; at the line's end it does as `delete_next_char`. It says whether something was removed. Where nothing is, it takes no memory.
     pub fn delete_next_word(&mut self) -> Result<bool, AllocError>
-        ensures removed { IfOk result (λ removed. removed ≡ removes_or self.old (has_line_behind self.old)) }
+        ensures removed { IfOk result (λ removed. removed ≡ removes_or self.old (has_word_behind self.old)) }
         ensures ok { OnOk result (self.new ≡ unselected_or self.old (word_behind_out self.old)) }
         ensures err { OnErr result (self.new ≡ self.old) }
-        ensures nothing { removes_or self.old (has_line_behind self.old) ≡ false → IsOk result }
+        ensures nothing { removes_or self.old (has_word_behind self.old) ≡ false → IsOk result }
     {
         if self.document.remove_selection(self.moment)? {
             return Ok(true);
         }
-        let cursor = self.document.cursor();
-        let line = self.document.lines()[cursor.0].as_str();
-        if cursor.1 == line_end(self.document.lines(), cursor.0).1 {
-            return self
-                .document
-                .remove_behind(self.settings.undo_coalescing, self.moment);
-        }
-        let end = word_end_after(line, cursor.1);
-        self.take_out(cursor, (cursor.0, end))?;
+        let Some(range) = self
+            .document
+            .range_at_cursor(AtomicDeleteDirection::Forward)
+        else {
+            return self.remove_to_word_end();
+        };
+        self.document.remove_range(range, self.moment)?;
         Ok(true)
     }
 
@@ -191,7 +193,45 @@ impl TextArea {
         }
     }
 
-    // Removes and yanks what stands between two places.
+    // Removes back to the word's start, or the break before the line, and says whether something was removed.
+    #[tactic(auto, unfolding(crate::specs::Removals::back_to_word_out))]
+    fn remove_to_word_start(&mut self) -> Result<bool, AllocError>
+        ensures removed { IfOk result (λ removed. removed ≡ has_line_before self.old) }
+        ensures ok { OnOk result (self.new ≡ back_to_word_out self.old) }
+        ensures err { OnErr result (self.new ≡ self.old) }
+        ensures nothing { has_line_before self.old ≡ false → IsOk result }
+    {
+        let cursor = self.document.cursor();
+        if cursor.1 == 0 {
+            return self.document.remove_break(self.moment);
+        }
+        let start = word_start_before(self.document.lines()[cursor.0].as_str(), cursor.1);
+        self.take_out((cursor.0, start), cursor)?;
+        Ok(true)
+    }
+
+    // Removes on to the word's end, or the symbol behind the line, and says whether something was removed.
+    #[tactic(auto, unfolding(crate::specs::Removals::on_to_word_end_out))]
+    fn remove_to_word_end(&mut self) -> Result<bool, AllocError>
+        ensures removed { IfOk result (λ removed. removed ≡ has_line_behind self.old) }
+        ensures ok { OnOk result (self.new ≡ on_to_word_end_out self.old) }
+        ensures err { OnErr result (self.new ≡ self.old) }
+        ensures nothing { has_line_behind self.old ≡ false → IsOk result }
+    {
+        let cursor = self.document.cursor();
+        let line = self.document.lines()[cursor.0].as_str();
+        if cursor.1 == line_end(self.document.lines(), cursor.0).1 {
+            return self
+                .document
+                .remove_behind(self.settings.undo_coalescing, self.moment);
+        }
+        let end = word_end_after(line, cursor.1);
+        self.take_out(cursor, (cursor.0, end))?;
+        Ok(true)
+    }
+
+    // Removes and yanks what stands between two places, with the ranges that it overlaps.
+    #[tactic(auto, unfolding(crate::specs::Removals::yanked))]
     fn take_out(&mut self, from: (usize, usize), to: (usize, usize)) -> Result<(), AllocError>
         requires from { IsPlace self.old.document.text from }
         requires to { IsPlace self.old.document.text to }

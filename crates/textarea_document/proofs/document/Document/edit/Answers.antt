@@ -14,7 +14,7 @@ invariant_of-self-2 c =
     let fits = subst (λ (s : DocumentState). Fits s.text splice) (sym c.self.view_is) c.requires.fits in (
       stored_edited old c.redo.new.lines.items c.self.inside.size c.in_ok-size.size splice c.self.invariant.0 (omega (arith, c.redo.ensures.nonempty, c.redo.new.lines.ok.0)) c.in_ok-redo.ensures.ok fits
           (size_told c.self.inside.size c.in_ok-size.size c.weight.result c.inserts.result splice.inserts splice.symbols c.in_ok-size.ensures.size c.inserts.ensures c.weight.ensures) c.in_ok-size.ensures.limit,
-      sound_after (record { text = text_of c.self.inside.lines.items; cursor = c.self.inside.cursor; anchor = c.self.inside.anchor; log = c.self.inside.history.log }) (text_of c.redo.new.lines.items) c.cursor_after-self-inside.result c.put.new.self.log splice c.args.typed (as_nanos c.args.now) c.self.invariant.1 fits c.in_ok-redo.ensures.ok
+      sound_after (record { text = text_of c.self.inside.lines.items; cursor = c.self.inside.cursor; anchor = c.self.inside.anchor; ranges = c.self.inside.ranges.items; log = c.self.inside.history.log }) (text_of c.redo.new.lines.items) c.cursor_after-self-inside.result c.change_ranges.new.ranges.items c.put.new.self.log splice c.args.typed (as_nanos c.args.now) c.self.invariant.1 fits c.in_ok-redo.ensures.ok
           (c.cursor_after-self-inside.ensures.end c.requires.well_formed)
-          (c.put.ensures ∙ ap (λ l. recorded l splice c.args.typed (as_nanos c.args.now)) c.in_ok-reserve.ensures.same),
+          (c.put.ensures ∙ ap (λ l. recorded l splice c.args.typed (as_nanos c.args.now)) c.in_ok-reserve.ensures.same) c.change_ranges.ensures.none,
     )

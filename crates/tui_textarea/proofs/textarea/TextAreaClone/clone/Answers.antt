@@ -1,4 +1,4 @@
-use Rattle.std.proofs.Common.{◌∙◌, ap, List}
+use Rattle.std.proofs.Common.{◌∙◌, ℕ, ap, List, Option}
 use Rattle.std.specs.Duration.{as_nanos}
 use Rattle.textarea_text.specs.Text.{Symbol, joined, text_of}
 use Rattle.textarea_history.proofs.Copies.{lines_copied}
@@ -8,8 +8,10 @@ use Rattle.tui_textarea.proofs.textarea.TextAreaClone.clone.Goals as goal
 pub returns : goal.returns
 returns c =
     let area = c.self.inside in
+    let yank = text_of c.in_ok-clone-2.field-0.items in
     record {
-      cases = ap (λ (d : DocumentState). record { document = d; yank = text_of c.in_ok-clone-2.field-0.items; settings = area.settings; moment = as_nanos area.moment }) c.in_ok-clone.ensures.cases
-          ∙ ap (λ (y : List Symbol). record { document = area.document; yank = y; settings = area.settings; moment = as_nanos area.moment }) (ap joined (lines_copied area.yank.items c.in_ok-clone-2.field-0.items c.in_ok-clone-2.ensures.cases.0))
+      cases = ap (λ (p : Option (List ℕ)). record { document = c.in_ok-clone.field-0; yank = yank; settings = area.settings; moment = as_nanos area.moment; pattern = p }) c.in_ok-clone-3.ensures.same
+          ∙ ap (λ (d : DocumentState). record { document = d; yank = yank; settings = area.settings; moment = as_nanos area.moment; pattern = area.search }) c.in_ok-clone.ensures.cases
+          ∙ ap (λ (y : List Symbol). record { document = area.document; yank = y; settings = area.settings; moment = as_nanos area.moment; pattern = area.search }) (ap joined (lines_copied area.yank.items c.in_ok-clone-2.field-0.items c.in_ok-clone-2.ensures.cases.0))
           ∙ c.self.view_is;
     }

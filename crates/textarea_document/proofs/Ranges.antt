@@ -1,0 +1,192 @@
+-- Ranges of a text, and what an edit keeps of them.
+use Rattle.std.proofs.Common.{◌≡◌, ◌≢◌, ℕ, ◌+◌, ◌-◌, ◌<◌, ◌≤◌, ◌==◌, ◌⊎◌, inl, inr, nat_lt, Bool, true, false, cond, List, [], ◌∷◌, length, drop, take, get_or, Option, Some, None, All, Contains, MatchOption, refl, sym, ap, subst, ◌∙◌, arith}
+use Rattle.std.specs.Option.{IfSome}
+use Rattle.std.proofs.lemmas.Bool.{cases_lt}
+use Rattle.std.proofs.lemmas.Bool.Decides.{nat_tests}
+use Rattle.std.proofs.lemmas.List.{drop_more, map-id}
+use Rattle.std.proofs.lemmas.List.Elements.{All-contains}
+use Rattle.std.specs.List.{AllZip}
+use Rattle.std.proofs.lemmas.Slice.Zip.{AllZip-map}
+use Rattle.textarea_text.specs.Text.{Symbol, Character, Break, joined, lines}
+use Rattle.textarea_text.specs.Place.{Place, IsPlace, IsPlaceOf, IsSymbolBefore, StandsAt, end, index_of}
+use Rattle.textarea_text.specs.Splice.{Fits}
+use Rattle.textarea_text.proofs.Befores.{character_stands}
+use Rattle.textarea_text.proofs.Places.{index_within, joined-lines}
+use Rattle.textarea_pieces.proofs.PartLemmas.{IsBefore, before_from_index}
+use Rattle.textarea_atomic.specs.declared.atomic.AtomicRange.{AtomicRange}
+use Rattle.textarea_atomic.specs.declared.atomic.AtomicCursorBias.TheVariants.{Backward}
+use Rattle.textarea_atomic.specs.declared.atomic.AtomicDeleteDirection.{AtomicDeleteDirection}
+use Rattle.textarea_document.specs.Ranges.{CutsNone, anchor_out, is_same, unless_empty}
+use Rattle.textarea_atomic.specs.declared.atomic.AtomicDeleteDirection.TheVariants.{Backward as DeleteBackward, Forward as DeleteForward}
+use Rattle.textarea_ranges.specs.Held.{IsHit, IsInside, IsUpTo, TakesWhole, hit, moved_out, start, stop}
+use Rattle.textarea_ranges.specs.Valid.{AreValid, IsPart}
+use Rattle.textarea_ranges.proofs.HeldLemmas.{IsPlaceOf-moved_out, MatchOption-hit, taken}
+
+-- no range is valid for all lines
+pub valid_none : (rows : List (List ℕ)) → AreValid rows []
+valid_none rows = record { parts = λ k d within. absurd (omega arith); disjoint = λ j k d before within. absurd (omega arith) }
+
+-- ---- the order of places and of indices
+
+-- a place of no greater index comes before, or is the same
+pub up_to_from_index : (text : List Symbol) (from to : Place) → IsPlace text from → IsPlace text to → index_of text from ≤ index_of text to → IsUpTo from to
+up_to_from_index text from to h h' ordered =
+    let whole = joined-lines text in
+    by (before_from_index (lines text) from to h h' (subst (λ t. index_of t from ≤ index_of t to) (sym whole) ordered))
+  where
+    by : IsBefore from to → IsUpTo from to
+    by (inl above) = (omega arith, λ same. omega arith)
+    by (inr same) = (omega arith, λ _. same.1)
+
+-- and the other way round
+pub index_from_up_to : (text : List Symbol) (from to : Place) → IsPlace text from → IsPlace text to → IsUpTo from to → index_of text from ≤ index_of text to
+index_from_up_to text from to h h' up =
+    elim (cases_lt (index_of text to) (index_of text from)) [
+      | inl less ↦
+          let back = up_to_from_index text to from h' h (omega arith) in
+          let row : from.0 ≡ to.0 = omega arith in
+          let column : from.1 ≡ to.1 = omega (arith, up.1 row, back.1 (sym row)) in
+          let same : index_of text from ≡ index_of text to = ap (λ n. index_of text (n, from.1)) row ∙ ap (λ n. index_of text (to.0, n)) column in
+          absurd (omega arith)
+      | inr up_to ↦ up_to
+    ]
+
+-- a removal that is widened still has a symbol
+pub widened_ordered : (text : List Symbol) (from to : Place) (wide : Place × Place) → IsPlace text from → IsPlace text to → IsPlace text wide.0 → IsPlace text wide.1 → IsUpTo wide.0 from → IsUpTo to wide.1 → index_of text from < index_of text to → index_of text wide.0 < index_of text wide.1
+widened_ordered text from to wide h h' w w' starts ends ordered =
+    omega (arith, index_from_up_to text wide.0 from w h starts, index_from_up_to text to wide.1 h' w' ends)
+
+-- ---- the range that is hit
+
+-- its ends are places of the text, the first one first
+pub record IsHeld (text : List Symbol) (range : AtomicRange) : Type 0 where
+  pub start_is : IsPlace text (start range)
+  pub stop_is : IsPlace text (stop range)
+  pub ordered : index_of text (start range) < index_of text (stop range)
+
+hit_some : (text : List Symbol) (ranges : List AtomicRange) (place : Place) (direction : AtomicDeleteDirection) (found : Option AtomicRange) → AreValid (lines text) ranges → MatchOption found (All (λ range. ¬ IsHit place direction range) ranges) (λ range. Contains ranges range × IsHit place direction range) → IfSome found (IsHeld text)
+hit_some text ranges place direction None valid h = tt
+hit_some text ranges place direction (Some range) valid h =
+    let part : IsPart (lines text) range = All-contains (IsPart (lines text)) ranges range valid.parts h.0 in
+    record { start_is = (part.0, omega arith); stop_is = (part.0, part.2); ordered = omega arith }
+
+pub hit_is_held : (text : List Symbol) (ranges : List AtomicRange) (place : Place) (direction : AtomicDeleteDirection) → AreValid (lines text) ranges → IfSome (hit ranges place direction) (IsHeld text)
+hit_is_held text ranges place direction valid = hit_some text ranges place direction (hit ranges place direction) valid (MatchOption-hit ranges place direction)
+
+pub held_start : (text : List Symbol) (found : Option AtomicRange) → IfSome found (IsHeld text) → IfSome found (λ range. IsPlace text (start range))
+held_start text None h = tt
+held_start text (Some range) h = h.start_is
+
+pub held_stop : (text : List Symbol) (found : Option AtomicRange) → IfSome found (IsHeld text) → IfSome found (λ range. IsPlace text (stop range))
+held_stop text None h = tt
+held_stop text (Some range) h = h.stop_is
+
+pub held_ordered : (text : List Symbol) (found : Option AtomicRange) → IfSome found (IsHeld text) → IfSome found (λ range. index_of text (start range) < index_of text (stop range))
+held_ordered text None h = tt
+held_ordered text (Some range) h = h.ordered
+
+not_equal : (m n : ℕ) → m < n → (m == n) ≡ false
+not_equal m n less = grind (arith, nat_tests)
+
+-- where a range is hit before the place, the place isn't the text's start
+pub hit_before_start : (text : List Symbol) (ranges : List AtomicRange) (place : Place) (found : Option AtomicRange) → hit ranges place DeleteBackward ≡ found → IfSome found (λ _. (index_of text place == 0) ≡ false)
+hit_before_start text ranges place None e = tt
+hit_before_start text ranges place (Some range) e =
+    let h : Contains ranges range × IsHit place DeleteBackward range = subst (λ o. MatchOption o (All (λ range. ¬ IsHit place DeleteBackward range) ranges) (λ range. Contains ranges range × IsHit place DeleteBackward range)) e (MatchOption-hit ranges place DeleteBackward) in
+    positive (index_of text place) (omega (arith, h.1.1))
+  where
+    positive : (n : ℕ) → 0 < n → (n == 0) ≡ false
+    positive n some = grind (arith, nat_tests)
+
+-- where one is hit behind it, it isn't the text's end
+pub hit_behind_end : (text : List Symbol) (ranges : List AtomicRange) (place : Place) (found : Option AtomicRange) → AreValid (lines text) ranges → hit ranges place DeleteForward ≡ found → IfSome found (λ _. (index_of text place == length text) ≡ false)
+hit_behind_end text ranges place None valid e = tt
+hit_behind_end text ranges place (Some range) valid e =
+    let h : Contains ranges range × IsHit place DeleteForward range = subst (λ o. MatchOption o (All (λ range. ¬ IsHit place DeleteForward range) ranges) (λ range. Contains ranges range × IsHit place DeleteForward range)) e (MatchOption-hit ranges place DeleteForward) in
+    let held : IsHeld text range = subst (λ o. IfSome o (IsHeld text)) e (hit_is_held text ranges place DeleteForward valid) in
+    let row : index_of text place ≡ index_of text (range.row, place.1) = ap (λ n. index_of text (n, place.1)) (sym h.1.0) in
+    let before : index_of text place < length text = omega (arith, index_within text (stop range) held.stop_is, h.1.2, row) in
+    not_equal (index_of text place) (length text) before
+
+-- ---- ends of a removal that are strictly inside no range
+
+pub whole_from_ends : (ranges : List AtomicRange) (from to : Place) → All (λ range. ¬ IsInside from range) ranges → All (λ range. ¬ IsInside to range) ranges → TakesWhole ranges from to
+whole_from_ends ranges from to from_out to_out k d within = taken from to (get_or ranges k d) (from_out k d within) (to_out k d within)
+
+none_hit : (ranges : List AtomicRange) (place : Place) (direction : AtomicDeleteDirection) → hit ranges place direction ≡ None → All (λ range. ¬ IsHit place direction range) ranges
+none_hit ranges place direction e = subst (λ o. MatchOption o (All (λ range. ¬ IsHit place direction range) ranges) (λ range. Contains ranges range × IsHit place direction range)) e (MatchOption-hit ranges place direction)
+
+-- the start of a line and its end are
+pub outside_start : (ranges : List AtomicRange) (place : Place) → place.1 ≡ 0 → All (λ range. ¬ IsInside place range) ranges
+outside_start ranges place e k d within h = omega (arith, h.1)
+
+pub outside_end : (rows : List (List ℕ)) (ranges : List AtomicRange) (place : Place) → AreValid rows ranges → length (get_or rows place.0 []) ≤ place.1 → All (λ range. ¬ IsInside place range) ranges
+outside_end rows ranges place valid e k d within h =
+    let part = valid.parts k d within in
+    omega (arith, h.2, part.2, e, ap (λ n. length (get_or rows n [])) h.0)
+
+-- where a break stands, its line ends
+break_at_end : (text : List Symbol) (place : Place) → IsPlace text place → StandsAt text place (Break ∷ []) → length (get_or (lines text) place.0 []) ≤ place.1
+break_at_end text place h stands =
+    elim (cases_lt place.1 (length (get_or (lines text) place.0 []))) [
+      | inl inside ↦
+          let line = get_or (lines text) place.0 [] in
+          let character = character_stands (lines text) place.0 place.1 (get_or line place.1 0) h.0 h.1 (drop_more line place.1 0 inside) in
+          let here : StandsAt text place (Character (get_or line place.1 0) ∷ []) = subst (λ t. StandsAt t place (Character (get_or line place.1 0) ∷ [])) (joined-lines text) character in
+          absurd (not_both (take 1 (drop (index_of text place) text)) (get_or line place.1 0) stands here)
+      | inr up ↦ up
+    ]
+  where
+    not_both : (symbols : List Symbol) (c : ℕ) → symbols ≡ Break ∷ [] → symbols ≡ Character c ∷ [] → ⊥
+    not_both symbols c e e' = cc
+
+-- the symbol before a place, where no range is hit before it, takes each range whole or not at all
+before_by : (text : List Symbol) (ranges : List AtomicRange) (place from : Place) (symbol : Symbol) → AreValid (lines text) ranges → hit ranges place DeleteBackward ≡ None → IsPlace text from → StandsAt text from (symbol ∷ []) → place ≡ end from (symbol ∷ []) → TakesWhole ranges from place
+before_by text ranges place from (Character c) valid none h stands ends =
+    let free = none_hit ranges place DeleteBackward none in
+    let row : place.0 ≡ from.0 = ap (λ (p : Place). p.0) ends in
+    let column : place.1 ≡ from.1 + 1 = ap (λ (p : Place). p.1) ends in
+    whole_from_ends ranges from place
+    (λ k d within inside. free k d within (inside.0 ∙ sym row, omega (arith, inside.1, column), omega (arith, inside.2, column)))
+    (λ k d within inside. free k d within (inside.0, inside.1, omega (arith, inside.2)))
+before_by text ranges place from Break valid none h stands ends =
+    whole_from_ends ranges from place (outside_end (lines text) ranges from valid (break_at_end text from h stands)) (outside_start ranges place (ap (λ (p : Place). p.1) ends))
+
+pub whole_before : (text : List Symbol) (ranges : List AtomicRange) (place from : Place) (symbol : Symbol) → AreValid (lines text) ranges → hit ranges place DeleteBackward ≡ None → IsSymbolBefore text place from symbol → TakesWhole ranges from place
+whole_before text ranges place from symbol valid none before = before_by text ranges place from symbol valid none before.is_place before.stands before.ends
+
+-- and so does the symbol behind it
+pub whole_behind : (ranges : List AtomicRange) (place to : Place) (symbol : Symbol) → hit ranges place DeleteForward ≡ None → to ≡ end place (symbol ∷ []) → TakesWhole ranges place to
+whole_behind ranges place to (Character c) none ends =
+    let free = none_hit ranges place DeleteForward none in
+    let row : to.0 ≡ place.0 = ap (λ (p : Place). p.0) ends in
+    let column : to.1 ≡ place.1 + 1 = ap (λ (p : Place). p.1) ends in
+    whole_from_ends ranges place to
+    (λ k d within inside. free k d within (inside.0, omega (arith, inside.1), inside.2))
+    (λ k d within inside. free k d within (inside.0 ∙ row, omega (arith, inside.1, column), omega (arith, inside.2, column)))
+whole_behind ranges place to Break none ends =
+    let free = none_hit ranges place DeleteForward none in
+    whole_from_ends ranges place to (λ k d within inside. free k d within (inside.0, omega (arith, inside.1), inside.2)) (outside_start ranges to (ap (λ (p : Place). p.1) ends))
+
+-- where a selection began, moved out of a range, is a place still
+unless_empty_place : (text : List Symbol) (anchor : Option Place) (cursor : Place) → IfSome anchor (IsPlace text) → IfSome (unless_empty anchor cursor) (IsPlace text)
+unless_empty_place text None cursor h = tt
+unless_empty_place text (Some place) cursor h = by (is_same place cursor)
+  where
+    by : (same : Bool) → IfSome (cond same None (Some place)) (IsPlace text)
+    by true = tt
+    by false = h
+
+pub anchor_place : (text : List Symbol) (ranges : List AtomicRange) (anchor : Option Place) (cursor : Place) → AreValid (lines text) ranges → IfSome anchor (IsPlace text) → IfSome (unless_empty (anchor_out ranges anchor) cursor) (IsPlace text)
+anchor_place text ranges None cursor valid h = tt
+anchor_place text ranges (Some place) cursor valid h =
+    unless_empty_place text (Some (moved_out ranges place Backward)) cursor (IsPlaceOf-moved_out (lines text) ranges place Backward valid h)
+
+-- a break that is taken out cuts no range
+pub whole_break : (text : List Symbol) (ranges : List AtomicRange) (place : Place) → AreValid (lines text) ranges → Fits text (record { place = place; symbols = Break ∷ []; inserts = false }) → CutsNone ranges (record { place = place; symbols = Break ∷ []; inserts = false })
+whole_break text ranges place valid fits =
+    whole_from_ends ranges place (place.0 + 1, 0) (outside_end (lines text) ranges place valid (break_at_end text place fits.is_place fits.allowed)) (outside_start ranges (place.0 + 1, 0) refl)
+
+-- copies of ranges are the same ranges
+pub ranges_copied : (ranges copies : List AtomicRange) → AllZip (λ range copy. copy ≡ range) ranges copies → copies ≡ ranges
+ranges_copied ranges copies h = AllZip-map (λ range. range) ranges copies h ∙ map-id ranges

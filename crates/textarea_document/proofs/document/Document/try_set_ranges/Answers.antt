@@ -1,0 +1,12 @@
+use Rattle.std.proofs.Common.{◌≡◌, ap, subst}
+use Rattle.std.specs.Result.{MatchResult}
+use Rattle.textarea_text.specs.Text.{lines, lines_of}
+use Rattle.textarea_ranges.specs.Rejected.{AreAccepted, AreRefused}
+use Rattle.textarea_ranges.specs.Valid.{AreValid}
+use Rattle.textarea_ranges.proofs.RejectedLemmas.{valid_from_in_order}
+use Rattle.textarea_document.proofs.document.Document.try_set_ranges.Goals as goal
+
+pub returns-in-Ok-clause-judged : goal.returns-in-Ok-clause-judged
+returns-in-Ok-clause-judged c =
+    let held : AreAccepted (lines_of c.lines.result.now) c.args.ranges.items c.in-Ok.held.items = subst (λ outcome. MatchResult outcome (λ held. AreAccepted (lines_of c.lines.result.now) c.args.ranges.items held.items) (λ error. AreRefused (lines_of c.lines.result.now) c.args.ranges.items error.rejected.items)) c.in-Ok.is c.in_ok-held.ensures in
+    valid_from_in_order (lines c.args.self.now.text) c.args.ranges.items (subst (AreValid (lines c.args.self.now.text)) held.order (subst (λ rows. AreValid rows c.in-Ok.held.items) c.lines.ensures.lines held.valid))

@@ -1,0 +1,69 @@
+-- What the calls for atomic ranges make of a document, and what each edit keeps of them.
+use Rattle.std.specs.Prelude.{ℕ, ◌==◌, ◌&&◌, Bool, true, false, List, [], All, Option, None, Some, option_map, if◌then◌else◌}
+use Rattle.textarea_text.specs.Text.{lines}
+use Rattle.textarea_text.specs.Place.{Place, end}
+use Rattle.textarea_text.specs.Splice.{Splice}
+use Rattle.textarea_pieces.specs.Part.{clip}
+use Rattle.textarea_atomic.specs.declared.atomic.AtomicRange.{AtomicRange}
+use Rattle.textarea_atomic.specs.declared.atomic.AtomicCursorBias.{AtomicCursorBias}
+use Rattle.textarea_atomic.specs.declared.atomic.AtomicCursorBias.TheVariants.{Backward, Forward}
+use Rattle.textarea_atomic.specs.declared.atomic.AtomicDeleteDirection.{AtomicDeleteDirection}
+use Rattle.textarea_ranges.specs.Held.{IsInside, TakesWhole, hit, moved_out, start, stop}
+use Rattle.textarea_ranges.specs.Order.{in_order}
+use Rattle.textarea_document.specs.State.{DocumentState}
+use Rattle.textarea_document.specs.Edits.{without_part}
+
+-- a change cuts no range: what is put in goes strictly inside none, and what is taken out takes each whole or not at all
+abbrev pub CutsNoneBy : Bool → List AtomicRange → Place → Place → Type 0
+CutsNoneBy true ranges place stop = All (λ range. ¬ IsInside place range) ranges
+CutsNoneBy false ranges place stop = TakesWhole ranges place stop
+
+abbrev pub CutsNone : List AtomicRange → Splice → Type 0
+CutsNone ranges splice = CutsNoneBy splice.inserts ranges splice.place (end splice.place splice.symbols)
+
+-- whether two places are the same
+abbrev pub is_same : Place → Place → Bool
+is_same first second = (first.0 == second.0) && (first.1 == second.1)
+
+-- a selection that began at the cursor is dropped
+abbrev pub unless_empty : Option Place → Place → Option Place
+unless_empty None cursor = None
+unless_empty (Some anchor) cursor = if is_same anchor cursor then None else Some anchor
+
+-- the place where the selection began, moved out of the range that strictly holds it, to its start
+abbrev pub anchor_out : List AtomicRange → Option Place → Option Place
+anchor_out ranges anchor = option_map (λ place. moved_out ranges place Backward) anchor
+
+-- the ranges are held: the cursor goes out of the range that strictly holds it, to its end, the anchor to its start,
+-- and a selection that is empty then is dropped
+abbrev pub holding : DocumentState → List AtomicRange → DocumentState
+holding document ranges = record document {
+  ranges = ranges;
+  cursor = moved_out ranges document.cursor Forward;
+  anchor = unless_empty (anchor_out ranges document.anchor) (moved_out ranges document.cursor Forward);
+}
+
+-- the ranges are accepted: by row and start, those that start at one place as they stood
+abbrev pub accepted : DocumentState → List AtomicRange → DocumentState
+accepted document ranges = holding document (in_order ranges)
+
+-- no range is held any more
+abbrev pub without_ranges : DocumentState → DocumentState
+without_ranges document = record document { ranges = [] }
+
+-- the cursor goes out of the range that strictly holds it, and all else stays
+abbrev pub normalized : DocumentState → AtomicCursorBias → DocumentState
+normalized document bias = record document { cursor = moved_out document.ranges document.cursor bias }
+
+-- the range that the direction hits from the cursor
+abbrev pub hit_at_cursor : DocumentState → AtomicDeleteDirection → Option AtomicRange
+hit_at_cursor document direction = hit document.ranges document.cursor direction
+
+-- the document has this anchor, in its row or at that row's end where the row is shorter
+abbrev pub anchored : DocumentState → Option Place → DocumentState
+anchored document anchor = record document { anchor = option_map (clip (lines document.text)) anchor }
+
+-- the range is taken out, where one was hit, and the selection kept
+abbrev pub without_range : Option AtomicRange → DocumentState → ℕ → DocumentState
+without_range None document now = document
+without_range (Some range) document now = anchored (without_part document (start range) (stop range) now) document.anchor

@@ -1,0 +1,148 @@
+//! Atomic ranges: parts of a line that are edited as a whole.
+ghost use Rattle.std.specs.Prelude.{◌≡◌, ◌<◌, IfOk, IfSome, IsOk, MatchResult, None, OnErr, OnOk, false, is_some};
+ghost use Rattle.std.specs.Duration.{as_nanos};
+ghost use Rattle.textarea_text.specs.Text.{lines};
+ghost use Rattle.textarea_text.specs.Place.{IsPlace, index_of};
+ghost use Rattle.textarea_ranges.specs.Held.{inside, start, stop};
+ghost use Rattle.textarea_ranges.specs.Rejected.{AreRefused};
+ghost use Rattle.textarea_ranges.specs.Valid.{AreValid};
+ghost use Rattle.textarea_atomic.specs.declared.atomic.AtomicDeleteDirection.TheVariants.{Backward, Forward};
+ghost use Rattle.textarea_document.specs.Edits.{is_at_end, is_at_start};
+ghost use Rattle.textarea_document.specs.Ranges.{accepted, anchor_out, anchored, hit_at_cursor, holding, normalized, unless_empty, without_range, without_ranges};
+
+use crate::document::Document;
+use std::alloc::AllocError;
+use std::time::Duration;
+use textarea_atomic::atomic::{
+    AtomicCursorBias, AtomicDeleteDirection, AtomicRange, AtomicRangeError,
+};
+use textarea_pieces::places::clipped;
+use textarea_ranges::held;
+use textarea_ranges::validate::validated;
+
+impl Document {
+    /// The atomic ranges, by row and start: each has a character at least and lies in one line, and no two share one.
+    pub fn ranges(&self) -> &[AtomicRange]
+        ensures value { result.now ≡ self.now.ranges }
+        ensures valid { AreValid (lines self.now.text) result.now }
+    {
+        self.ranges.as_slice() // valid for the text, by the invariant
+    }
+
+    /// Holds these ranges in place of the old ones, where they are valid for the text; else names the rejected ones, and
+    /// changes nothing. The cursor goes to the end of the range that strictly holds it, the place where the selection began
+    /// to such a range's start, and a selection that is empty then is dropped.
+    pub fn try_set_ranges(
+        &mut self,
+        ranges: Vec<AtomicRange>,
+    ) -> Result<Result<(), AtomicRangeError>, AllocError>
+        ensures judged { IfOk result (λ outcome. MatchResult outcome
+            (λ _. AreValid (lines self.old.text) ranges.items)
+            (λ error. AreRefused (lines self.old.text) ranges.items error.rejected.items)) }
+        ensures set { IfOk result (λ outcome. OnOk outcome (self.new ≡ accepted self.old ranges.items)) }
+        ensures refused { IfOk result (λ outcome. OnErr outcome (self.new ≡ self.old)) }
+        ensures err { OnErr result (self.new ≡ self.old) }
+    {
+        match validated(self.allocator(), ranges, self.lines())? {
+            Ok(held) => {
+                self.hold(held);
+                Ok(Ok(()))
+            }
+            Err(error) => Ok(Err(error)),
+        }
+    }
+
+    // Holds these ranges, which are in order.
+    fn hold(&mut self, ranges: Vec<AtomicRange>)
+        requires { AreValid (lines self.old.text) ranges.items }
+        ensures { self.new ≡ holding self.old ranges.items }
+    {
+        let cursor = held::moved_out(ranges.as_slice(), self.cursor, AtomicCursorBias::Forward);
+        let anchor = anchor_out(ranges.as_slice(), self.anchor);
+        self.cursor = cursor;
+        self.anchor = unless_empty(anchor, cursor);
+        self.ranges = ranges;
+    }
+
+    /// Holds no range any more; all else stays.
+    pub fn clear_ranges(&mut self)
+        ensures { self.new ≡ without_ranges self.old }
+    {
+        self.ranges.clear();
+    }
+
+    /// Moves the cursor out of the range that strictly holds it, to its start for Backward, to its end for Forward, and says
+    /// whether there was one. The selection stays, and so does a run of typing.
+    pub fn normalize_cursor(&mut self, bias: AtomicCursorBias) -> bool
+        ensures moved { result ≡ is_some (inside self.old.ranges self.old.cursor) }
+        ensures new { self.new ≡ normalized self.old bias }
+    {
+        let found = held::inside(self.ranges.as_slice(), self.cursor).is_some();
+        self.cursor = held::moved_out(self.ranges.as_slice(), self.cursor, bias);
+        found
+    }
+
+    /// The range that the direction hits from the cursor; its two ends are places of the text, the first one first. Where one
+    /// is hit before the cursor that isn't the text's start, and where one is hit behind it, not the text's end.
+    pub fn range_at_cursor(&self, direction: AtomicDeleteDirection) -> Option<AtomicRange>
+        ensures value { result ≡ hit_at_cursor self.now direction }
+        ensures start { IfSome result (λ range. IsPlace self.now.text (start range)) }
+        ensures stop { IfSome result (λ range. IsPlace self.now.text (stop range)) }
+        ensures ordered { IfSome result (λ range. index_of self.now.text (start range) < index_of self.now.text (stop range)) }
+        ensures before { direction ≡ Backward → IfSome result (λ _. is_at_start self.now ≡ false) }
+        ensures behind { direction ≡ Forward → IfSome result (λ _. is_at_end self.now ≡ false) }
+    {
+        held::hit(self.ranges.as_slice(), self.cursor, direction)
+    }
+
+    /// Takes out the range that the direction hits from the cursor, and hands it out; the selection stays open, and where it
+    /// began behind the end of its shorter line, it begins at that end. None where no range is hit, and then nothing changes
+    /// and no memory is taken.
+    pub fn remove_range_at_cursor(
+        &mut self,
+        direction: AtomicDeleteDirection,
+        now: Duration,
+    ) -> Result<Option<AtomicRange>, AllocError>
+        ensures removed { IfOk result (λ range. range ≡ hit_at_cursor self.old direction) }
+        ensures ok { OnOk result (self.new ≡ without_range (hit_at_cursor self.old direction) self.old (as_nanos now)) }
+        ensures err { OnErr result (self.new ≡ self.old) }
+        ensures nothing { hit_at_cursor self.old direction ≡ None → IsOk result }
+    {
+        let anchor = self.anchor();
+        let Some(range) = self.range_at_cursor(direction) else {
+            return Ok(None);
+        };
+        self.remove_range(range, now)?;
+        self.set_clipped_anchor(anchor);
+        Ok(Some(range))
+    }
+
+    // Begins the selection at the nearest place of the text.
+    fn set_clipped_anchor(&mut self, anchor: Option<(usize, usize)>)
+        ensures { self.new ≡ anchored self.old anchor }
+    {
+        if let Some(place) = anchor {
+            self.anchor = Some(clipped(self.lines(), place));
+        } else {
+            self.anchor = None;
+        }
+    }
+}
+
+// The place where a selection began, moved out of the range that strictly holds it, to its start.
+fn anchor_out(ranges: &[AtomicRange], anchor: Option<(usize, usize)>) -> Option<(usize, usize)>
+    ensures { result ≡ anchor_out ranges.now anchor }
+{
+    let place = anchor?;
+    Some(held::moved_out(ranges, place, AtomicCursorBias::Backward))
+}
+
+// Where a selection began, or none where it began at the cursor.
+fn unless_empty(anchor: Option<(usize, usize)>, cursor: (usize, usize)) -> Option<(usize, usize)>
+    ensures { result ≡ unless_empty anchor cursor }
+{
+    match anchor {
+        Some(place) if place.0 == cursor.0 && place.1 == cursor.1 => None,
+        other => other,
+    }
+}

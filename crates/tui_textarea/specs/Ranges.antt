@@ -1,0 +1,23 @@
+-- What the calls for atomic ranges make of the state.
+use Rattle.std.specs.Prelude.{List}
+use Rattle.textarea_atomic.specs.declared.atomic.AtomicRange.{AtomicRange}
+use Rattle.textarea_atomic.specs.declared.atomic.AtomicCursorBias.{AtomicCursorBias}
+use Rattle.textarea_atomic.specs.declared.atomic.AtomicDeleteDirection.{AtomicDeleteDirection}
+use Rattle.textarea_document.specs.Ranges.{accepted, hit_at_cursor, normalized, without_range, without_ranges}
+use Rattle.tui_textarea.specs.State.{State, with_document}
+
+-- the ranges are accepted
+abbrev pub ranges_accepted : State → List AtomicRange → State
+ranges_accepted state ranges = with_document state (accepted state.document ranges)
+
+-- no range is held any more
+abbrev pub ranges_cleared : State → State
+ranges_cleared state = with_document state (without_ranges state.document)
+
+-- the cursor goes out of the range that strictly holds it
+abbrev pub cursor_normalized : State → AtomicCursorBias → State
+cursor_normalized state bias = with_document state (normalized state.document bias)
+
+-- the range that is hit is taken out, and the selection kept
+abbrev pub range_out : State → AtomicDeleteDirection → State
+range_out state direction = with_document state (without_range (hit_at_cursor state.document direction) state.document state.moment)

@@ -1,0 +1,41 @@
+-- Where the searches lead, and what they make of the state.
+use Rattle.std.specs.Prelude.{ℕ, Bool, List, [], ◌∷◌, map, Option, Some, None}
+use Rattle.std.specs.Str.{encode_utf8_all}
+use Rattle.textarea_text.specs.Text.{Symbol, lines}
+use Rattle.textarea_text.specs.Place.{Place}
+use Rattle.textarea_search.specs.Matches.{match_columns}
+use Rattle.textarea_search.specs.Starts.{next_start, previous_start, starts_from}
+use Rattle.textarea_document.specs.Outcomes.{moved}
+use Rattle.tui_textarea.specs.State.{State, with_document}
+
+-- the pattern that a text sets: none where it is empty
+abbrev pub pattern_in : List ℕ → Option (List ℕ)
+pattern_in [] = None
+pattern_in (byte ∷ bytes) = Some (byte ∷ bytes)
+
+-- the text is the pattern from now on, and all else stays
+abbrev pub with_pattern : State → List ℕ → State
+with_pattern state text = record state { pattern = pattern_in text }
+
+-- the places at which the matches of a pattern start in a text, in the order of the text: those of each line's listed
+-- matches, and none without a pattern
+abbrev pub starts_in : Option (List ℕ) → List Symbol → List Place
+starts_in None text = []
+starts_in (Some pattern) text = starts_from (match_columns pattern) 0 (map encode_utf8_all (lines text))
+
+-- where a search leads: to the next start behind the cursor or, where that counts, at it, and past the end of the text to
+-- its first start
+abbrev pub next_match : State → Bool → Option Place
+next_match state at_cursor =
+    next_start (starts_in state.pattern state.document.text) state.document.cursor at_cursor
+
+-- where a search back leads: to the last start before the cursor or, where that counts, at it, and past the beginning of
+-- the text to its last start
+abbrev pub previous_match : State → Bool → Option Place
+previous_match state at_cursor =
+    previous_start (starts_in state.pattern state.document.text) state.document.cursor at_cursor
+
+-- the cursor goes to the place that was found, if one was; the anchor stays, and a run of typing ends
+abbrev pub searched : State → Option Place → State
+searched state None = state
+searched state (Some place) = with_document state (moved state.document place state.document.anchor)

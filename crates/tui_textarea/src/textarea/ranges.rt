@@ -1,0 +1,93 @@
+//! Atomic ranges: parts of a line that are edited as a whole.
+ghost use Rattle.std.specs.Prelude.{◌≡◌, IfOk, IsOk, MatchResult, None, OnErr, OnOk, is_some};
+ghost use Rattle.textarea_text.specs.Text.{lines};
+ghost use Rattle.textarea_ranges.specs.Held.{inside};
+ghost use Rattle.textarea_ranges.specs.Rejected.{AreRefused};
+ghost use Rattle.textarea_ranges.specs.Valid.{AreValid};
+ghost use Rattle.textarea_document.specs.Ranges.{hit_at_cursor};
+ghost use Rattle.tui_textarea.specs.Ranges.{cursor_normalized, range_out, ranges_accepted, ranges_cleared};
+
+use crate::textarea::TextArea;
+use std::alloc::AllocError;
+use textarea_atomic::atomic::{
+    AtomicCursorBias, AtomicDeleteDirection, AtomicRange, AtomicRangeError,
+};
+
+impl TextArea {
+    /// Holds these ranges, in order of row and start, in place of the old ones. Each has a character at least and lies in
+    /// one line, and no two share a character. A cursor strictly inside one goes to its end, the place where a selection
+    /// began to its start, and a selection that is empty then is dropped. An edit, an undo and a redo forget all ranges.
+    pub fn set_atomic_ranges(&mut self, ranges: Vec<AtomicRange>) -> Result<(), AllocError>
+        requires valid { AreValid (lines self.old.document.text) ranges.items }
+        ensures ok { OnOk result (self.new ≡ ranges_accepted self.old ranges.items) }
+        ensures err { OnErr result (self.new ≡ self.old) }
+    {
+        match self.document.try_set_ranges(ranges)? {
+            Ok(()) => Ok(()),
+            Err(_) => Err(AllocError), // valid ranges are not refused
+        }
+    }
+
+    /// Holds these ranges as `set_atomic_ranges` does, where they are valid for the text. Else it changes nothing, and lists
+    /// the rejected ones in order of row and start, each with the first reason that there is: it is empty, its row isn't
+    /// there, its columns aren't, or it starts before the last valid range of its row ends.
+    pub fn try_set_atomic_ranges(
+        &mut self,
+        ranges: Vec<AtomicRange>,
+    ) -> Result<Result<(), AtomicRangeError>, AllocError>
+        ensures judged { IfOk result (λ outcome. MatchResult outcome
+            (λ _. AreValid (lines self.old.document.text) ranges.items)
+            (λ error. AreRefused (lines self.old.document.text) ranges.items error.rejected.items)) }
+        ensures set { IfOk result (λ outcome. OnOk outcome (self.new ≡ ranges_accepted self.old ranges.items)) }
+        ensures refused { IfOk result (λ outcome. OnErr outcome (self.new ≡ self.old)) }
+        ensures err { OnErr result (self.new ≡ self.old) }
+    {
+        self.document.try_set_ranges(ranges)
+    }
+
+    /// Forgets all ranges.
+    pub fn clear_atomic_ranges(&mut self)
+        ensures { self.new ≡ ranges_cleared self.old }
+    {
+        self.document.clear_ranges();
+    }
+
+    /// The ranges, in order of row and start.
+    pub fn atomic_ranges(&self) -> &[AtomicRange]
+        ensures { result.now ≡ self.now.document.ranges }
+    {
+        self.document.ranges()
+    }
+
+    /// Moves a cursor strictly inside a range to its start for Backward, to its end for Forward, and says whether it moved.
+    /// The selection stays, and a run of typing goes on.
+    pub fn normalize_cursor_around_atomic_ranges(&mut self, bias: AtomicCursorBias) -> bool
+        ensures moved { result ≡ is_some (inside self.old.document.ranges self.old.document.cursor) }
+        ensures new { self.new ≡ cursor_normalized self.old bias }
+    {
+        self.document.normalize_cursor(bias)
+    }
+
+    /// The range that is hit from the cursor: Backward one that starts before it and ends at it or behind it, Forward one
+    /// that starts at it or before it and ends behind it.
+    pub fn atomic_range_at_cursor(&self, direction: AtomicDeleteDirection) -> Option<AtomicRange>
+        ensures { result ≡ hit_at_cursor self.now.document direction }
+    {
+        self.document.range_at_cursor(direction)
+    }
+
+    /// Removes the range that is hit from the cursor, yanks nothing, and hands the range out. The selection stays open, and
+    /// where it began behind its line's end then, it begins at that end. Where no range is hit nothing changes, and it takes
+    /// no memory.
+    pub fn delete_atomic_range_at_cursor(
+        &mut self,
+        direction: AtomicDeleteDirection,
+    ) -> Result<Option<AtomicRange>, AllocError>
+        ensures removed { IfOk result (λ range. range ≡ hit_at_cursor self.old.document direction) }
+        ensures ok { OnOk result (self.new ≡ range_out self.old direction) }
+        ensures err { OnErr result (self.new ≡ self.old) }
+        ensures nothing { hit_at_cursor self.old.document direction ≡ None → IsOk result }
+    {
+        self.document.remove_range_at_cursor(direction, self.moment)
+    }
+}

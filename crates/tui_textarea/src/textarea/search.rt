@@ -1,0 +1,97 @@
+//! The pattern, and the searches for it.
+ghost use Rattle.std.specs.Prelude.{◌≡◌, [], Some, None, OnOk, OnErr, IsOk, IfOk, IfErr, IfSome, is_some};
+ghost use Rattle.std.specs.Option.{option_copied};
+ghost use Rattle.textarea_text.specs.Place.{IsPlace};
+ghost use Rattle.textarea_search.specs.Failures.{IsCarried, IsPatternFailure};
+ghost use Rattle.tui_textarea.specs.Search.{next_match, previous_match, searched, with_pattern};
+
+use crate::textarea::TextArea;
+use std::alloc::AllocError;
+use textarea_search::search::SearchError;
+
+impl TextArea {
+    /// Searches for this pattern from now on, in the syntax of `regex`, and for none if it is empty. The empty text and that
+    /// of the present pattern are always taken, and take no memory.
+    pub fn set_search_pattern(&mut self, pattern: &str) -> Result<(), SearchError>
+        ensures ok { OnOk result (self.new ≡ with_pattern self.old pattern.now) }
+        ensures err { OnErr result (self.new ≡ self.old) }
+        ensures empty { pattern.now ≡ [] → IsOk result }
+        ensures present { self.old.pattern ≡ Some pattern.now → IsOk result }
+        ensures refused { IfErr result (IsPatternFailure pattern.now) }
+        ensures carried { IfErr result (IsCarried pattern.now) }
+    {
+        let alloc = self.allocator();
+        self.search.set_pattern(alloc, pattern)
+    }
+
+    /// The text of the pattern that is searched for, if there is one.
+    pub fn search_pattern(&self) -> Option<&str>
+        ensures { option_copied result ≡ self.now.pattern }
+    {
+        self.search.pattern() // as it was set
+    }
+
+    /// Moves the cursor to the next start of a match, and says whether there was one: the first behind the cursor or, with
+    /// `match_cursor`, at it, and past the end of the text the first of all. An open selection stays open, and a run of typing
+    /// ends. Where there is none, nothing changes; without a pattern it takes no memory.
+    pub fn search_forward(&mut self, match_cursor: bool) -> Result<bool, AllocError>
+        ensures found { IfOk result (λ found. found ≡ is_some (next_match self.old match_cursor)) }
+        ensures ok { OnOk result (self.new ≡ searched self.old (next_match self.old match_cursor)) }
+        ensures place { OnOk result (IfSome (next_match self.old match_cursor) (IsPlace self.old.document.text)) }
+        ensures err { OnErr result (self.new ≡ self.old) }
+        ensures no_pattern { self.old.pattern ≡ None → IsOk result }
+    {
+        let found = self.next_match(match_cursor)?;
+        Ok(self.go_to(found))
+    }
+
+    /// Moves the cursor to the last start of a match before it or, with `match_cursor`, at it, and past the beginning of the
+    /// text to the last of all; says whether there was one. An open selection stays open, and a run of typing ends. Where
+    /// there is none, nothing changes; without a pattern it takes no memory.
+    pub fn search_back(&mut self, match_cursor: bool) -> Result<bool, AllocError>
+        ensures found { IfOk result (λ found. found ≡ is_some (previous_match self.old match_cursor)) }
+        ensures ok { OnOk result (self.new ≡ searched self.old (previous_match self.old match_cursor)) }
+        ensures place { OnOk result (IfSome (previous_match self.old match_cursor) (IsPlace self.old.document.text)) }
+        ensures err { OnErr result (self.new ≡ self.old) }
+        ensures no_pattern { self.old.pattern ≡ None → IsOk result }
+    {
+        let found = self.previous_match(match_cursor)?;
+        Ok(self.go_to(found))
+    }
+
+    // Where a search from the cursor leads.
+    fn next_match(&self, match_cursor: bool) -> Result<Option<(usize, usize)>, AllocError>
+        ensures found { IfOk result (λ place. place ≡ next_match self.now match_cursor) }
+        ensures place { OnOk result (IfSome (next_match self.now match_cursor) (IsPlace self.now.document.text)) }
+        ensures no_pattern { self.now.pattern ≡ None → IsOk result }
+    {
+        let cursor = self.document.cursor();
+        self.search
+            .forward(self.document.lines(), cursor, match_cursor)
+    }
+
+    // Where a search back from the cursor leads.
+    fn previous_match(&self, match_cursor: bool) -> Result<Option<(usize, usize)>, AllocError>
+        ensures found { IfOk result (λ place. place ≡ previous_match self.now match_cursor) }
+        ensures place { OnOk result (IfSome (previous_match self.now match_cursor) (IsPlace self.now.document.text)) }
+        ensures no_pattern { self.now.pattern ≡ None → IsOk result }
+    {
+        let cursor = self.document.cursor();
+        self.search
+            .back(self.document.lines(), cursor, match_cursor)
+    }
+
+    // Goes to the place that was found, if one was, and says whether.
+    fn go_to(&mut self, found: Option<(usize, usize)>) -> bool
+        requires { IfSome found (IsPlace self.old.document.text) }
+        ensures went { result ≡ is_some found }
+        ensures state { self.new ≡ searched self.old found }
+    {
+        let Some(place) = found else {
+            return false;
+        };
+        let anchor = self.document.anchor();
+        self.document.move_to(place, anchor);
+        true
+    }
+}
