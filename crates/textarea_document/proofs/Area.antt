@@ -1,15 +1,11 @@
--- The lines of a text area: how far a column can go, and when the text is empty.
+-- The lines of a document: how far a column can go, and when a text is empty.
 use Rattle.std.proofs.Common.{◌≡◌, ◌≢◌, ℕ, zero, suc, ◌+◌, ◌<◌, ◌≤◌, ◌^◌, List, [], ◌∷◌, length, sym, ap, refl, ◌∙◌, arith, get_or, String, string_bytes, encode_utf8_all}
 use Rattle.std.specs.String.{string_len}
 use Rattle.std.specs.Str.{chars}
 use Rattle.std.proofs.lemmas.Str.{IsUtf8-string_bytes, length-le-encodes, encodes-chars, chars-nil}
 use Rattle.std.proofs.lemmas.List.{append-nil, length-append, nil_from_length}
 use Rattle.textarea_text.specs.Text.{characters, following, characters_of, lines_of, text_of}
-use Rattle.textarea_text.specs.Place.{Place, IsPlace}
-use Rattle.textarea_text.specs.Size.{size_of}
-use Rattle.textarea_text.proofs.Sizes.{length-le-size_of}
-use Rattle.textarea_text.proofs.StringRows.{characters_bound, row_within, rows_place}
-use Rattle.textarea_document.specs.Sound.{IsStored}
+use Rattle.textarea_text.proofs.StringRows.{characters_bound}
 use Rattle.textarea_text.proofs.Splices.{length-characters}
 
 -- a column is less than any sum of columns that the machine has
@@ -44,18 +40,3 @@ pub text_of-many : {Z : Type 0} (items : List (String Z)) → length items ≢ 1
 text_of-many [] apart some = absurd (omega arith)
 text_of-many (a ∷ []) apart some = absurd (apart refl)
 text_of-many (a ∷ b ∷ rest) apart some = λ e. omega (arith, ap length e, length-append (characters (characters_of a)) (following (lines_of (b ∷ rest))))
-
--- a line's bytes are part of the size
-line_in_size : {Z : Type 0} (items : List (String Z)) (row : ℕ) → row < length items → length (get_or (lines_of items) row []) + 1 ≤ size_of items
-line_in_size [] row within = absurd (omega arith)
-line_in_size (s ∷ items) zero within = omega (arith, length-le-encodes (characters_of s), ap length (encodes-chars (string_bytes s) (IsUtf8-string_bytes s)), s.bytes.ok.0)
-line_in_size (s ∷ items) (suc row) within = omega (arith, line_in_size items row (omega arith))
-
--- a place's row and column are within the limit
-pub small_place : {Z : Type 0} (items : List (String Z)) (size : ℕ) (place : Place) → IsStored items size → IsPlace (text_of items) place → (place.0 < 2 ^ 48) × (place.1 ≤ 2 ^ 48)
-small_place items size place stored h =
-    let p = rows_place items place stored.some h in
-    let row : place.0 < length items = row_within items place p in (
-      omega (arith, row, length-le-size_of items, stored.size_is, stored.limit),
-      omega (arith, p.1, line_in_size items place.0 row, stored.size_is, stored.limit),
-    )

@@ -8,7 +8,7 @@ use Rattle.std.proofs.lemmas.Option.{get_or_from_slice_get, slice_get_within}
 use Rattle.textarea_text.specs.Text.{Symbol, characters, characters_of, joined, lines, lines_of, text_of}
 use Rattle.textarea_text.specs.Place.{Place, IsPlace, inserted, removed}
 use Rattle.textarea_text.specs.Splice.{Splice, Allows, Fits, applied, inverse, place_before, place_after, CanApply, CanTakeBack}
-use Rattle.textarea_history.specs.Log.{Log, done_after, grown, is_typed, joins, kept, made_again, merged, newest, next, recorded, taken_back, with_done}
+use Rattle.textarea_history.specs.Log.{Log, done_after, empty_log, grown, is_typed, joins, kept, made_again, merged, newest, next, recorded, taken_back, with_done}
 use Rattle.textarea_history.proofs.Joins.{joins_newest}
 use Rattle.textarea_history.proofs.UndoLaws.{CanTakeBack-merged, inverse-inverse}
 use Rattle.textarea_text.proofs.Places.{IsPlace-end, takes_back}
@@ -16,9 +16,11 @@ use Rattle.textarea_text.specs.Size.{size_of, weight}
 use Rattle.textarea_text.proofs.Sizes.{size_of_text, weight_inserted, weight_removed}
 use Rattle.textarea_atomic.specs.declared.atomic.AtomicRange.{AtomicRange}
 use Rattle.textarea_document.proofs.Ranges.{valid_none}
+use Rattle.textarea_lines.specs.declared.view.ViewSettings.{ViewSettings}
+use Rattle.textarea_lines.specs.Screen.{LaidOut, Screen, all_cut, laid_anew}
 use Rattle.textarea_document.specs.State.{DocumentState, fresh_document}
-use Rattle.textarea_document.specs.Outcomes.{edited, redone_by, undone, undone_by}
-use Rattle.textarea_document.specs.Sound.{IsSound, IsStored}
+use Rattle.textarea_document.specs.Outcomes.{edited, redone_by, screen_after, undone, undone_by}
+use Rattle.textarea_document.specs.Sound.{IsSound}
 
 -- ---- lists of changes
 
@@ -90,7 +92,7 @@ sound_edited document splice typed now h fits = by (document.log.maximum == 0) r
     log : Log
     log = document.log
 
-    by : (none : Bool) → (log.maximum == 0) ≡ none → IsSound (record { text = applied document.text splice; cursor = place_after splice; anchor = None; ranges = []; log = cond none log (with_done log (done_after log splice (joins log splice typed now)) (is_typed splice typed) now) })
+    by : (none : Bool) → (log.maximum == 0) ≡ none → IsSound (record { text = applied document.text splice; screen = screen_after document splice; cursor = place_after splice; anchor = None; ranges = []; log = cond none log (with_done log (done_after log splice (joins log splice typed now)) (is_typed splice typed) now) })
     by true e =
         let zero_maximum : log.maximum ≡ 0 = eqb-true log.maximum 0 e in
         let no_done : log.done ≡ [] = nil_from_length log.done (omega (arith, h.bounded)) in
@@ -108,14 +110,18 @@ sound_edited document splice typed now h fits = by (document.log.maximum == 0) r
         let done = changed_done document splice typed now h fits (omega arith) (joins log splice typed now) refl in
         record { cursor = (takes_back document.text splice fits).is_place; anchor = tt; ranges = valid_none (lines (applied document.text splice)); undo = done.0; redo = tt; bounded = omega (arith, done.1) }
 
+-- what is seen of the text changes nothing of this
+pub resound : (document : DocumentState) (screen : Screen) → IsSound document → IsSound (record document { screen = screen })
+resound document screen h = record { cursor = h.cursor; anchor = h.anchor; ranges = h.ranges; undo = h.undo; redo = h.redo; bounded = h.bounded }
+
 -- the same, of what an edit left
-pub sound_after : (document : DocumentState) (new : List Symbol) (place : Place) (held : List AtomicRange) (now : Log) (splice : Splice) (typed : Bool) (moment : ℕ) → IsSound document → Fits document.text splice → new ≡ applied document.text splice → place ≡ place_after splice → now ≡ recorded document.log splice typed moment → held ≡ [] → IsSound (record { text = new; cursor = place; anchor = None; ranges = held; log = now })
-sound_after document new place held now splice typed moment h fits text_is place_is log_is held_is =
-    subst (λ (r : List AtomicRange). IsSound (record { text = new; cursor = place; anchor = None; ranges = r; log = now })) (sym held_is)
-    (subst (λ t. IsSound (record { text = t; cursor = place; anchor = None; ranges = []; log = now })) (sym text_is)
-    (subst (λ (p : Place). IsSound (record { text = applied document.text splice; cursor = p; anchor = None; ranges = []; log = now })) (sym place_is)
-    (subst (λ l. IsSound (record { text = applied document.text splice; cursor = place_after splice; anchor = None; ranges = []; log = l })) (sym log_is)
-    (sound_edited document splice typed moment h fits))))
+pub sound_after : (document : DocumentState) (new : List Symbol) (screen : Screen) (place : Place) (held : List AtomicRange) (now : Log) (splice : Splice) (typed : Bool) (moment : ℕ) → IsSound document → Fits document.text splice → new ≡ applied document.text splice → place ≡ place_after splice → now ≡ recorded document.log splice typed moment → held ≡ [] → IsSound (record { text = new; screen = screen; cursor = place; anchor = None; ranges = held; log = now })
+sound_after document new screen place held now splice typed moment h fits text_is place_is log_is held_is =
+    subst (λ (r : List AtomicRange). IsSound (record { text = new; screen = screen; cursor = place; anchor = None; ranges = r; log = now })) (sym held_is)
+    (subst (λ t. IsSound (record { text = t; screen = screen; cursor = place; anchor = None; ranges = []; log = now })) (sym text_is)
+    (subst (λ (p : Place). IsSound (record { text = applied document.text splice; screen = screen; cursor = p; anchor = None; ranges = []; log = now })) (sym place_is)
+    (subst (λ l. IsSound (record { text = applied document.text splice; screen = screen; cursor = place_after splice; anchor = None; ranges = []; log = l })) (sym log_is)
+    (resound (edited document splice typed moment) screen (sound_edited document splice typed moment h fits)))))
 
 -- ---- undo and redo
 
@@ -162,68 +168,45 @@ sound_redone document splice h e =
     }
 
 -- the same, of what an undo and a redo left
-pub sound_after_undo : (document : DocumentState) (new : List Symbol) (place : Place) (held : List AtomicRange) (now : Log) (splice : Splice) → IsSound document → newest document.log ≡ Some splice → new ≡ applied document.text (inverse splice) → place ≡ place_before splice → now ≡ taken_back document.log splice → held ≡ [] → IsSound (record { text = new; cursor = place; anchor = None; ranges = held; log = now })
-sound_after_undo document new place held now splice h e text_is place_is log_is held_is =
-    subst (λ (r : List AtomicRange). IsSound (record { text = new; cursor = place; anchor = None; ranges = r; log = now })) (sym held_is)
-    (subst (λ t. IsSound (record { text = t; cursor = place; anchor = None; ranges = []; log = now })) (sym text_is)
-    (subst (λ (p : Place). IsSound (record { text = applied document.text (inverse splice); cursor = p; anchor = None; ranges = []; log = now })) (sym place_is)
-    (subst (λ l. IsSound (record { text = applied document.text (inverse splice); cursor = place_before splice; anchor = None; ranges = []; log = l })) (sym log_is)
-    (sound_undone document splice h e))))
+pub sound_after_undo : (document : DocumentState) (new : List Symbol) (screen : Screen) (place : Place) (held : List AtomicRange) (now : Log) (splice : Splice) → IsSound document → newest document.log ≡ Some splice → new ≡ applied document.text (inverse splice) → place ≡ place_before splice → now ≡ taken_back document.log splice → held ≡ [] → IsSound (record { text = new; screen = screen; cursor = place; anchor = None; ranges = held; log = now })
+sound_after_undo document new screen place held now splice h e text_is place_is log_is held_is =
+    subst (λ (r : List AtomicRange). IsSound (record { text = new; screen = screen; cursor = place; anchor = None; ranges = r; log = now })) (sym held_is)
+    (subst (λ t. IsSound (record { text = t; screen = screen; cursor = place; anchor = None; ranges = []; log = now })) (sym text_is)
+    (subst (λ (p : Place). IsSound (record { text = applied document.text (inverse splice); screen = screen; cursor = p; anchor = None; ranges = []; log = now })) (sym place_is)
+    (subst (λ l. IsSound (record { text = applied document.text (inverse splice); screen = screen; cursor = place_before splice; anchor = None; ranges = []; log = l })) (sym log_is)
+    (resound (undone_by (Some splice) document) screen (sound_undone document splice h e)))))
 
-pub sound_after_redo : (document : DocumentState) (new : List Symbol) (place : Place) (held : List AtomicRange) (now : Log) (splice : Splice) → IsSound document → next document.log ≡ Some splice → new ≡ applied document.text splice → place ≡ place_after splice → now ≡ made_again document.log splice → held ≡ [] → IsSound (record { text = new; cursor = place; anchor = None; ranges = held; log = now })
-sound_after_redo document new place held now splice h e text_is place_is log_is held_is =
-    subst (λ (r : List AtomicRange). IsSound (record { text = new; cursor = place; anchor = None; ranges = r; log = now })) (sym held_is)
-    (subst (λ t. IsSound (record { text = t; cursor = place; anchor = None; ranges = []; log = now })) (sym text_is)
-    (subst (λ (p : Place). IsSound (record { text = applied document.text splice; cursor = p; anchor = None; ranges = []; log = now })) (sym place_is)
-    (subst (λ l. IsSound (record { text = applied document.text splice; cursor = place_after splice; anchor = None; ranges = []; log = l })) (sym log_is)
-    (sound_redone document splice h e))))
-
--- the lines after an edit of them: there is one, and their size is known
-pub stored_edited : {Z : Type 0} (old new : List (String Z)) (size after : ℕ) (splice : Splice) → IsStored old size → 0 < length new → text_of new ≡ applied (text_of old) splice → Fits (text_of old) splice → after ≡ cond splice.inserts (size + min (weight splice.symbols) (2 ^ 64 - 1)) (size - min (weight splice.symbols) (2 ^ 64 - 1)) → after ≤ 2 ^ 48 → IsStored new after
-stored_edited old new size after splice stored some is fits after_is limit =
-    record { some = some; size_is = by splice.inserts fits.allowed after_is (ap weight is); limit = limit }
-  where
-    was : size ≡ weight (text_of old) + 1
-    was = stored.size_is ∙ size_of_text old stored.some
-
-    now : size_of new ≡ weight (text_of new) + 1
-    now = size_of_text new some
-
-    by : (b : Bool) → Allows b (text_of old) splice.place splice.symbols → after ≡ cond b (size + min (weight splice.symbols) (2 ^ 64 - 1)) (size - min (weight splice.symbols) (2 ^ 64 - 1)) → weight (text_of new) ≡ weight (cond b (inserted (text_of old) splice.place splice.symbols) (removed (text_of old) splice.place splice.symbols)) → after ≡ size_of new
-    by true allowed e w = omega (arith, was, now, e, w, weight_inserted (text_of old) splice.place splice.symbols, limit)
-    by false allowed e w = omega (arith, was, now, e, w, weight_removed (text_of old) splice.place splice.symbols allowed, stored.limit)
+pub sound_after_redo : (document : DocumentState) (new : List Symbol) (screen : Screen) (place : Place) (held : List AtomicRange) (now : Log) (splice : Splice) → IsSound document → next document.log ≡ Some splice → new ≡ applied document.text splice → place ≡ place_after splice → now ≡ made_again document.log splice → held ≡ [] → IsSound (record { text = new; screen = screen; cursor = place; anchor = None; ranges = held; log = now })
+sound_after_redo document new screen place held now splice h e text_is place_is log_is held_is =
+    subst (λ (r : List AtomicRange). IsSound (record { text = new; screen = screen; cursor = place; anchor = None; ranges = r; log = now })) (sym held_is)
+    (subst (λ t. IsSound (record { text = t; screen = screen; cursor = place; anchor = None; ranges = []; log = now })) (sym text_is)
+    (subst (λ (p : Place). IsSound (record { text = applied document.text splice; screen = screen; cursor = p; anchor = None; ranges = []; log = now })) (sym place_is)
+    (subst (λ l. IsSound (record { text = applied document.text splice; screen = screen; cursor = place_after splice; anchor = None; ranges = []; log = l })) (sym log_is)
+    (resound (redone_by (Some splice) document) screen (sound_redone document splice h e)))))
 
 -- a document without a past
-pub sound_fresh : (text : List Symbol) (cursor : Place) (maximum : ℕ) → IsPlace text cursor → IsSound (fresh_document text cursor maximum)
-sound_fresh text cursor maximum h = record { cursor = h; anchor = tt; ranges = valid_none (lines text); undo = tt; redo = tt; bounded = omega arith }
+pub sound_fresh : (text : List Symbol) (view : ViewSettings) (count : ℕ) (cursor : Place) (maximum : ℕ) → IsPlace text cursor → IsSound (fresh_document text view count cursor maximum)
+sound_fresh text view count cursor maximum h = record { cursor = h; anchor = tt; ranges = valid_none (lines text); undo = tt; redo = tt; bounded = omega arith }
+
+pub fresh_is : (text : List Symbol) (view : ViewSettings) (count : ℕ) (cursor : Place) (maximum : ℕ) (laid : LaidOut) (held : List AtomicRange) (log : Log) → laid ≡ laid_anew view count text → held ≡ [] → log ≡ empty_log maximum → record { text = laid.text; screen = laid.screen; cursor = cursor; anchor = None; ranges = held; log = log } ≡ fresh_document text view count cursor maximum
+fresh_is text view count cursor maximum laid held log laid_is held_is log_is =
+    ap (λ (l : LaidOut). record { text = l.text; screen = l.screen; cursor = cursor; anchor = None; ranges = held; log = log }) laid_is
+    ∙ ap (λ (r : List AtomicRange). record { text = text; screen = all_cut view count (length (lines text)); cursor = cursor; anchor = None; ranges = r; log = log }) held_is
+    ∙ ap (λ (l : Log). record { text = text; screen = all_cut view count (length (lines text)); cursor = cursor; anchor = None; ranges = []; log = l }) log_is
+
+pub sound_laid : (text : List Symbol) (view : ViewSettings) (count : ℕ) (cursor : Place) (maximum : ℕ) (laid : LaidOut) (held : List AtomicRange) (log : Log) → laid ≡ laid_anew view count text → held ≡ [] → log ≡ empty_log maximum → IsPlace text cursor → IsSound (record { text = laid.text; screen = laid.screen; cursor = cursor; anchor = None; ranges = held; log = log })
+sound_laid text view count cursor maximum laid held log laid_is held_is log_is h =
+    subst IsSound (sym (fresh_is text view count cursor maximum laid held log laid_is held_is log_is)) (sound_fresh text view count cursor maximum h)
 
 pub start_is_place : (text : List Symbol) → IsPlace text (0, 0)
 start_is_place text = IsPlace-end [] text
 
-pub stored_new : {Z : Type 0} (lines given : List (String Z)) (size : ℕ) → 0 < length lines → given ≡ lines → size ≡ min (size_of given) (2 ^ 64 - 1) → size ≤ 2 ^ 48 → IsStored lines size
-stored_new lines given size some same e limit = record {
-  some = some;
-  size_is = omega (arith, e, ap size_of same);
-  limit = limit;
-}
+-- a document of equal parts
+abbrev pub document_of : LaidOut → Place → Option Place → List AtomicRange → Log → DocumentState
+document_of laid cursor anchor ranges log = record { text = laid.text; screen = laid.screen; cursor = cursor; anchor = anchor; ranges = ranges; log = log }
 
--- one empty line holds what no line holds
-pub text_of_empty : {Z : Type 0} (lines old : List (String Z)) (line : String Z) → lines ≡ old ++ line ∷ [] → length old ≡ 0 → string_bytes line ≡ [] → text_of lines ≡ text_of old
-text_of_empty lines old line is none e =
-    let nil : old ≡ [] = nil_from_length old none in
-    ap text_of (is ∙ ap (λ t. t ++ line ∷ []) nil) ∙ ap (λ t. characters t ++ []) (ap chars e ∙ chars-nil) ∙ ap text_of (sym nil)
-
--- the size after an edit, of what its direction and its weight were told as
-pub size_told : (size after told : ℕ) (grows inserts : Bool) (symbols : List Symbol) → after ≡ cond grows (size + told) (size - told) → grows ≡ inserts → told ≡ min (weight symbols) (2 ^ 64 - 1) → after ≡ cond inserts (size + min (weight symbols) (2 ^ 64 - 1)) (size - min (weight symbols) (2 ^ 64 - 1))
-size_told size after told grows inserts symbols is e w =
-    is ∙ ap (λ (b : Bool). cond b (size + told) (size - told)) e ∙ ap (λ n. cond inserts (size + n) (size - n)) w
-
--- copies of the lines are as large as they are
-pub stored_copied : {Z : Type 0} (old copies : List (String Z)) (size : ℕ) → IsStored old size → lines_of copies ≡ lines_of old → IsStored copies size
-stored_copied old copies size stored e =
-    let some : 0 < length copies = omega (arith, stored.some, length-map copies characters_of, length-map old characters_of, ap length e) in
-    record {
-      some = some;
-      size_is = omega (arith, stored.size_is, size_of_text old stored.some, size_of_text copies some, ap (λ rows. weight (joined rows)) e);
-      limit = stored.limit;
-    }
+pub same_document : (laid other : LaidOut) (cursor : Place) (anchor : Option Place) (ranges copies : List AtomicRange) (log copy : Log) → other ≡ laid → copies ≡ ranges → copy ≡ log → document_of other cursor anchor copies copy ≡ document_of laid cursor anchor ranges log
+same_document laid other cursor anchor ranges copies log copy laid_is ranges_are log_is =
+    ap (λ (l : LaidOut). document_of l cursor anchor copies copy) laid_is
+    ∙ ap (λ (r : List AtomicRange). document_of laid cursor anchor r copy) ranges_are
+    ∙ ap (λ (l : Log). document_of laid cursor anchor ranges l) log_is

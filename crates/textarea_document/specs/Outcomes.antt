@@ -1,5 +1,7 @@
 -- What an edit, an undo, a redo and a move make of a document.
-use Rattle.std.specs.Prelude.{Bool, false, ℕ, List, [], Option, Some, None}
+use Rattle.std.specs.Prelude.{Bool, false, ℕ, List, [], length, Option, Some, None}
+use Rattle.textarea_text.specs.Text.{lines}
+use Rattle.textarea_lines.specs.Screen.{Screen, relaid}
 use Rattle.textarea_text.specs.Place.{Place}
 use Rattle.textarea_text.specs.Splice.{Splice, applied, inverse, place_before, place_after}
 use Rattle.textarea_history.specs.Log.{Log, recorded, newest, next, taken_back, made_again}
@@ -10,11 +12,17 @@ use Rattle.textarea_document.specs.State.{DocumentState}
 abbrev pub ranges_after : List AtomicRange → Splice → List AtomicRange
 ranges_after ranges splice = []
 
+-- what is seen of the text after a change: the lines that it touches are cut, each once, and all others keep their rows; all
+-- lines are cut where their number changes how they are cut
+abbrev pub screen_after : DocumentState → Splice → Screen
+screen_after document splice = relaid document.screen (length (lines document.text)) splice
+
 -- a change is made and recorded, as a typed one or not, at the moment: the cursor stands behind what was put in, or
 -- where what was taken out began, and nothing is selected
 abbrev pub edited : DocumentState → Splice → Bool → ℕ → DocumentState
 edited document splice typed now = record {
   text = applied document.text splice;
+  screen = screen_after document splice;
   cursor = place_after splice;
   anchor = None;
   ranges = ranges_after document.ranges splice;
@@ -27,6 +35,7 @@ abbrev pub undone_by : Option Splice → DocumentState → DocumentState
 undone_by None document = document
 undone_by (Some splice) document = record {
   text = applied document.text (inverse splice);
+  screen = screen_after document (inverse splice);
   cursor = place_before splice;
   anchor = None;
   ranges = ranges_after document.ranges (inverse splice);
@@ -41,6 +50,7 @@ abbrev pub redone_by : Option Splice → DocumentState → DocumentState
 redone_by None document = document
 redone_by (Some splice) document = record {
   text = applied document.text splice;
+  screen = screen_after document splice;
   cursor = place_after splice;
   anchor = None;
   ranges = ranges_after document.ranges splice;

@@ -1,8 +1,7 @@
 -- What holds of every document.
-use Rattle.std.specs.Prelude.{◌≡◌, ℕ, ◌+◌, ◌^◌, ◌<◌, ◌≤◌, List, length, reverse, String, IfSome}
+use Rattle.std.specs.Prelude.{◌+◌, ◌≤◌, length, reverse, IfSome}
 use Rattle.textarea_text.specs.Text.{lines}
 use Rattle.textarea_text.specs.Place.{IsPlace}
-use Rattle.textarea_text.specs.Size.{size_of}
 use Rattle.textarea_text.specs.Splice.{CanApply, CanTakeBack}
 use Rattle.textarea_ranges.specs.Valid.{AreValid}
 use Rattle.textarea_document.specs.State.{DocumentState}
@@ -16,9 +15,3 @@ pub record IsSound (document : DocumentState) : Type 0 where
   pub undo : CanTakeBack document.text (reverse document.log.done)
   pub redo : CanApply document.text document.log.undone
   pub bounded : length document.log.done + length document.log.undone ≤ document.log.maximum
-
--- there is a line; the bytes and the lines, summed, are the size that is kept, and at most 2^48
-pub record IsStored {Z : Type 0} (lines : List (String Z)) (size : ℕ) : Type 0 where
-  pub some : 0 < length lines
-  pub size_is : size ≡ size_of lines
-  pub limit : size ≤ 2 ^ 48

@@ -5,7 +5,7 @@ mod ranges;
 mod removals;
 mod selection;
 
-ghost use Rattle.std.specs.Prelude.{◌≡◌, ◌<◌, ◌≤◌, ◌+◌, ◌^◌, ◌↔◌, length, OnOk, OnErr, IsOk, IfOk, IfSome, None, IsTrue, ◌-◌, if◌then◌else◌, is_some, [], vec_len};
+ghost use Rattle.std.specs.Prelude.{◌≡◌, ◌<◌, ◌≤◌, ◌+◌, ◌^◌, ◌↔◌, length, OnOk, OnErr, IsOk, IfOk, IfSome, None, IsTrue, is_some, [], vec_len};
 ghost use Rattle.std.specs.Duration.{as_nanos};
 ghost use Rattle.textarea_text.specs.Text.{lines, lines_of, text_of};
 ghost use Rattle.textarea_text.specs.Place.{IsPlace};
@@ -24,19 +24,16 @@ use std::marker::Model;
 use std::time::Duration;
 use textarea_atomic::atomic::AtomicRange;
 use textarea_history::history::{Edit, History};
+use textarea_lines::laid_out::LaidOutLines;
+use textarea_lines::view::ViewSettings;
 use textarea_pieces::places::clipped;
-use textarea_text::rows;
-
-/// The most bytes and lines together that a document holds; what would grow past that is answered as out of memory.
-const MAX_SIZE: usize = 0x1_0000_0000_0000;
 
 /// Lines of text, a cursor, the place where a selection began, atomic ranges, and a history of edits.
 ///
 /// Rows and columns count from 0, columns in characters. A call that runs out of memory leaves the document as it was.
 #[derive(Drop)]
 pub struct Document {
-    lines: Vec<String>,
-    size: usize,
+    laid: LaidOutLines,
     cursor: (usize, usize),
     anchor: Option<(usize, usize)>,
     ranges: Vec<AtomicRange>,
@@ -44,16 +41,15 @@ pub struct Document {
 }
 
 impl Model for Document {
-    ghost use Rattle.textarea_text.specs.Text.{text_of};
     ghost use Rattle.textarea_document.specs.State.{DocumentState};
 
     ghost Value = { DocumentState };
 
-    ghost use Rattle.textarea_document.specs.Sound.{IsSound, IsStored};
+    ghost use Rattle.textarea_document.specs.Sound.{IsSound};
 
-    ghost view = { λ document. record { text = text_of document.lines.items; cursor = document.cursor; anchor = document.anchor; ranges = document.ranges.items; log = document.history.log } };
+    ghost view = { λ document. record { text = document.laid.text; screen = document.laid.screen; cursor = document.cursor; anchor = document.anchor; ranges = document.ranges.items; log = document.history.log } };
 
-    ghost invariant = { λ document. IsStored document.lines.items document.size × IsSound (record { text = text_of document.lines.items; cursor = document.cursor; anchor = document.anchor; ranges = document.ranges.items; log = document.history.log }) };
+    ghost invariant = { λ document. IsSound (record { text = document.laid.text; screen = document.laid.screen; cursor = document.cursor; anchor = document.anchor; ranges = document.ranges.items; log = document.history.log }) };
 }
 
 impl Clone for Document {
@@ -62,8 +58,7 @@ impl Clone for Document {
     /// The same document, or an error where there is no memory for its lines and edits.
     fn clone(&self) -> Result<Document, AllocError> {
         Ok(Document {
-            lines: self.lines.clone()?,
-            size: self.size,
+            laid: self.laid.clone()?,
             cursor: self.cursor,
             anchor: self.anchor,
             ranges: self.ranges.clone()?,
@@ -73,25 +68,18 @@ impl Clone for Document {
 }
 
 impl Document {
-    /// A document of these lines, the cursor at the start, which remembers so many edits; no line at all becomes one empty
-    /// line. A line feed inside a line stays a character of that line.
+    /// A document of these lines, the cursor at the start, which remembers so many edits and is seen under these settings; no
+    /// line at all becomes one empty line. A line feed inside a line stays a character of that line.
     pub fn new(
         alloc: Global,
-        mut lines: Vec<String>,
+        lines: Vec<String>,
+        view: ViewSettings,
         max_histories: usize,
     ) -> Result<Self, AllocError>
-        ensures { IfOk result (λ document. document ≡ new_document (text_of lines.items) max_histories) }
+        ensures { IfOk result (λ document. document ≡ new_document (text_of lines.items) view max_histories) }
     {
-        if lines.is_empty() {
-            lines.push(String::new(alloc))?;
-        }
-        let size = rows::size_of(lines.as_slice());
-        if MAX_SIZE < size {
-            return Err(AllocError);
-        }
         Ok(Document {
-            lines,
-            size,
+            laid: LaidOutLines::new(alloc, lines, view)?,
             cursor: (0, 0),
             anchor: None,
             ranges: Vec::new(alloc),
@@ -107,12 +95,12 @@ impl Document {
         ensures limit { size_of result.now ≤ 2 ^ 48 }
         ensures ranges { AreValid (lines self.now.text) self.now.ranges }
     {
-        self.lines.as_slice() // one line at least, by the invariant
+        self.laid.lines()
     }
 
     /// Where all memory of the document comes from.
     pub fn allocator(&self) -> Global {
-        *self.lines.allocator()
+        self.laid.allocator()
     }
 
     /// The cursor's (row, column), which is always a place of the text.
@@ -121,6 +109,7 @@ impl Document {
         ensures place { IsPlace self.now.text result }
         ensures small { (result.0 < 2 ^ 48) × (result.1 ≤ 2 ^ 48) }
     {
+        self.laid.places_are_small();
         self.cursor // a place of the text, by the invariant
     }
 
@@ -136,7 +125,7 @@ impl Document {
     pub fn is_empty(&self) -> bool
         ensures { IsTrue result ↔ (self.now.text ≡ []) }
     {
-        self.lines.len() == 1 && self.lines[0].is_empty()
+        self.laid.is_empty()
     }
 
     /// Takes back the newest edit, and says whether there was one. The cursor then stands behind the text that came
@@ -150,11 +139,9 @@ impl Document {
         let Some(edit) = self.history.newest() else {
             return Ok(false);
         };
-        let size = size_after(self.size, edit.weight(), !edit.inserts())?;
         let back = edit.cursor_before();
-        edit.undo(&mut self.lines)?;
+        self.laid.take_back(edit)?;
         self.history.step_back();
-        self.size = size;
         self.cursor = back;
         self.anchor = None; // as behind every undo
         change_ranges(&mut self.ranges);
@@ -172,11 +159,9 @@ impl Document {
         let Some(edit) = self.history.next() else {
             return Ok(false);
         };
-        let size = size_after(self.size, edit.weight(), edit.inserts())?;
         let ahead = edit.cursor_after();
-        edit.redo(&mut self.lines)?;
+        self.laid.make(edit)?;
         self.history.step_forward();
-        self.size = size;
         self.cursor = ahead;
         self.anchor = None;
         change_ranges(&mut self.ranges);
@@ -192,12 +177,10 @@ impl Document {
         ensures ok { OnOk result (self.new ≡ edited self.old edit.splice typed (as_nanos now)) }
         ensures err { OnErr result (self.new ≡ self.old) }
     {
-        let size = size_after(self.size, edit.weight(), edit.inserts())?;
         self.history.reserve()?;
-        edit.redo(&mut self.lines)?;
+        self.laid.make(&edit)?;
         self.cursor = edit.cursor_after();
         self.history.put(edit, typed, now);
-        self.size = size;
         self.anchor = None; // as behind every edit
         change_ranges(&mut self.ranges);
         Ok(())
@@ -245,19 +228,16 @@ impl Document {
         cursor: (usize, usize),
     ) -> Result<(), AllocError>
         requires some { 0 < vec_len lines }
-        ensures ok { OnOk result (self.new ≡ fresh_document (text_of lines.items) (clip (lines_of lines.items) cursor) self.old.log.maximum) }
+        ensures ok { OnOk result (self.new ≡ fresh_document (text_of lines.items) self.old.screen.view self.old.screen.count (clip (lines_of lines.items) cursor) self.old.log.maximum) }
         ensures err { OnErr result (self.new ≡ self.old) }
     {
-        let size = rows::size_of(lines.as_slice());
-        if MAX_SIZE < size {
-            return Err(AllocError);
-        }
-        self.cursor = clipped(lines.as_slice(), cursor);
+        let place = clipped(lines.as_slice(), cursor);
+        let history = History::new(*lines.allocator(), self.history.max_items());
+        self.laid.set_lines(lines)?;
+        self.cursor = place;
         self.anchor = None;
         self.ranges.clear();
-        self.size = size;
-        self.history = History::new(*lines.allocator(), self.history.max_items());
-        self.lines = lines;
+        self.history = history;
         Ok(())
     }
 
@@ -266,15 +246,15 @@ impl Document {
         ensures text { text_of result.items ≡ self.text }
         ensures some { 0 < vec_len result }
     {
-        let Document { lines, .. } = self;
-        lines
+        let Document { laid, .. } = self;
+        laid.into_lines()
     }
 
     /// Forgets all edits, and remembers so many from now on.
     pub fn set_max_histories(&mut self, max_histories: usize)
         ensures { self.new ≡ record self.old { log = empty_log max_histories } }
     {
-        self.history = History::new(*self.lines.allocator(), max_histories);
+        self.history = History::new(self.laid.allocator(), max_histories);
     }
 }
 
@@ -284,20 +264,4 @@ fn change_ranges(ranges: &mut Vec<AtomicRange>)
     ensures none { ranges.new.items ≡ [] }
 {
     ranges.clear();
-}
-
-// How large the lines are after an edit of that weight that puts in, or takes out; more than the limit is out of memory.
-fn size_after(size: usize, weight: usize, grows: bool) -> Result<usize, AllocError>
-    requires { size ≤ 2 ^ 48 }
-    ensures size { IfOk result (λ after. after ≡ if grows then size + weight else size - weight) }
-    ensures limit { IfOk result (λ after. after ≤ 2 ^ 48) }
-{
-    if !grows {
-        return Ok(size.saturating_sub(weight));
-    }
-    let after = size.saturating_add(weight);
-    if MAX_SIZE < after {
-        return Err(AllocError);
-    }
-    Ok(after)
 }

@@ -6,6 +6,7 @@ ghost use Rattle.textarea_text.specs.Size.{weight};
 ghost use Rattle.textarea_text.specs.Place.{StandsAt, IsPlace, end, inserted, removed};
 ghost use Rattle.textarea_text.specs.Splice.{Fits, applied, inverse, place_after, place_before};
 ghost use Rattle.textarea_text.specs.Replaced.{replaced};
+ghost use Rattle.textarea_text.specs.Touched.{breaks_of, lines_coming, lines_going};
 ghost use Rattle.textarea_history.specs.Log.{character_of, continues, edge_of, merged, typed_character};
 
 use crate::texts::{only_character, reversed};
@@ -283,6 +284,9 @@ impl Edit {
         requires fits { Fits (text_of lines.now) self.now.splice }
         ensures within { IfOk result (λ r. r.row + r.count ≤ length lines.now) }
         ensures some { IfOk result (λ r. 0 < vec_len r.lines) }
+        ensures row { IfOk result (λ r. r.row ≡ self.now.splice.place.0) }
+        ensures count { IfOk result (λ r. r.row + r.count ≡ self.now.splice.place.0 + lines_going self.now.splice) }
+        ensures lines { IfOk result (λ r. vec_len r.lines ≡ lines_coming self.now.splice) }
         ensures text { IfOk result (λ r. text_of (replaced lines.now r.row r.count r.lines.items) ≡ applied (text_of lines.now) self.now.splice) }
     {
         if self.inserts {
@@ -299,6 +303,9 @@ impl Edit {
         requires fits { Fits (text_of lines.now) (inverse self.now.splice) }
         ensures within { IfOk result (λ r. r.row + r.count ≤ length lines.now) }
         ensures some { IfOk result (λ r. 0 < vec_len r.lines) }
+        ensures row { IfOk result (λ r. r.row ≡ self.now.splice.place.0) }
+        ensures count { IfOk result (λ r. r.row + r.count ≡ self.now.splice.place.0 + lines_going (inverse self.now.splice)) }
+        ensures lines { IfOk result (λ r. vec_len r.lines ≡ lines_coming (inverse self.now.splice)) }
         ensures text { IfOk result (λ r. text_of (replaced lines.now r.row r.count r.lines.items) ≡ applied (text_of lines.now) (inverse self.now.splice)) }
     {
         if self.inserts {
@@ -314,6 +321,9 @@ impl Edit {
         requires place { IsPlace (text_of lines.now) self.now.splice.place }
         ensures within { IfOk result (λ r. r.row + r.count ≤ length lines.now) }
         ensures some { IfOk result (λ r. 0 < vec_len r.lines) }
+        ensures row { IfOk result (λ r. r.row ≡ self.now.splice.place.0) }
+        ensures count { IfOk result (λ r. r.row + r.count ≡ self.now.splice.place.0 + 1) }
+        ensures lines { IfOk result (λ r. vec_len r.lines ≡ breaks_of self.now.splice.symbols + 1) }
         ensures text { IfOk result (λ r. text_of (replaced lines.now r.row r.count r.lines.items) ≡ inserted (text_of lines.now) self.now.splice.place self.now.splice.symbols) }
     {
         let place = self.start;
@@ -345,6 +355,9 @@ impl Edit {
         requires stands { StandsAt (text_of lines.now) self.now.splice.place self.now.splice.symbols }
         ensures within { IfOk result (λ r. r.row + r.count ≤ length lines.now) }
         ensures some { IfOk result (λ r. 0 < vec_len r.lines) }
+        ensures row { IfOk result (λ r. r.row ≡ self.now.splice.place.0) }
+        ensures count { IfOk result (λ r. r.row + r.count ≡ self.now.splice.place.0 + (breaks_of self.now.splice.symbols + 1)) }
+        ensures lines { IfOk result (λ r. vec_len r.lines ≡ 1) }
         ensures text { IfOk result (λ r. text_of (replaced lines.now r.row r.count r.lines.items) ≡ removed (text_of lines.now) self.now.splice.place self.now.splice.symbols) }
     {
         prepare_change(alloc, lines, self.start, self.end, "", &[])
@@ -489,6 +502,9 @@ fn prepare_insertion(
     requires place { IsPlace (text_of lines.now) place }
     ensures within { IfOk result (λ r. r.row + r.count ≤ length lines.now) }
     ensures some { IfOk result (λ r. 0 < vec_len r.lines) }
+    ensures row { IfOk result (λ r. r.row ≡ place.0) }
+    ensures count { IfOk result (λ r. r.row + r.count ≡ place.0 + 1) }
+    ensures lines { IfOk result (λ r. vec_len r.lines ≡ length rest.now + 1) }
     ensures text { IfOk result (λ r. text_of (replaced lines.now r.row r.count r.lines.items) ≡ inserted (text_of lines.now) place (characters (chars first.now) ++ following (lines_of rest.now))) }
 {
     prepare_change(alloc, lines, place, place, first, rest)

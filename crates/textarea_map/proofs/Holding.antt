@@ -1,21 +1,20 @@
 -- Rows of one line that follow each other, and the row that holds an offset.
-use Rattle.std.proofs.Common.{◌≡◌, ℕ, zero, suc, ◌+◌, ◌-◌, ◌<◌, ◌≤◌, max, List, [], ◌∷◌, length, take, drop, get_or, sym, ap, refl, ◌∙◌, arith, subst, encode_utf8_all, String, string_bytes}
+use Rattle.std.proofs.Common.{◌≡◌, ℕ, zero, suc, ◌+◌, ◌<◌, ◌≤◌, inl, inr, max, List, [], ◌∷◌, length, take, get_or, sym, ap, refl, ◌∙◌, arith, subst, encode_utf8_all, String, string_bytes}
+use Rattle.std.proofs.lemmas.Bool.{cases_lt}
 use Rattle.std.proofs.lemmas.List.{length-append}
 use Rattle.std.proofs.lemmas.Str.{encodes-chars, IsUtf8-string_bytes}
 use Rattle.std.specs.List.{concat, AllByRecursion}
 use Rattle.std.specs.Str.{chars}
 use Rattle.textarea_text.specs.Text.{lines_of}
-use Rattle.textarea_text.proofs.StringRows.{line_at}
 use Rattle.textarea_text.proofs.Columns.{length_cut}
-use Rattle.textarea_wrap.specs.Columns.{display_end_column}
+use Rattle.textarea_text.proofs.StringRows.{line_at}
 use Rattle.textarea_wrap.specs.RowsView.{RowsView}
 use Rattle.textarea_wrap.specs.Cutting.{ranges_from}
 use Rattle.textarea_wrap.specs.Wrapped.{IsWrapped, IsRowRange, AreRowTexts}
 use Rattle.textarea_wrap.specs.declared.wrap.WrapMode.{WrapMode}
 use Rattle.textarea_map.specs.declared.layout.Wrapping.{Wrapping}
-use Rattle.textarea_map.specs.Layout.{AreRowsOf}
-use Rattle.textarea_map.specs.Map.{ranges_at, row_total}
-use Rattle.textarea_map.specs.Seen.{HoldsOffset, offset_of, range_at}
+use Rattle.textarea_map.specs.Layout.{AreRowsOf, AreRowsOfLine}
+use Rattle.textarea_map.specs.Map.{ranges_at, range_at, row_total}
 
 -- a row begins where the one before it ends
 next_range : (at : ℕ) (texts : List (List ℕ)) (k : ℕ) → k + 1 < length (ranges_from at texts) → (range_at (ranges_from at texts) (k + 1)).0 ≡ (range_at (ranges_from at texts) k).1
@@ -64,6 +63,14 @@ ends zero (suc (suc n)) offset end within before last = omega (arith, before (om
 ends (suc row) (suc n) offset end within before last =
     ends row n offset end (omega arith) (λ h. before (omega (arith, h))) (λ e. last (omega (arith, e)))
 
+-- The row of a line that an offset in bytes belongs to: it lies from the row's first byte on and before its end. In the line's
+-- last row it may lie at the end too.
+pub record HoldsOffset (ranges : List (ℕ × ℕ)) (row offset : ℕ) : Type 0 where
+  pub within : row < length ranges
+  pub from : (range_at ranges row).0 ≤ offset
+  pub to : offset ≤ (range_at ranges row).1
+  pub before_next : row + 1 < length ranges → offset < (range_at ranges row).1
+
 -- the last row that begins at an offset or before it holds it
 pub holds_offset : (mode : WrapMode) (tab_len width : ℕ) (line : List ℕ) (ranges : List (ℕ × ℕ)) (row offset : ℕ) → IsWrapped mode tab_len width line ranges → offset ≤ length line → row < length ranges → (range_at ranges row).0 ≤ offset → (row + 1 < length ranges → offset < (range_at ranges (row + 1)).0) → HoldsOffset ranges row offset
 holds_offset mode tab_len width line ranges row offset h inside within from next =
@@ -79,11 +86,17 @@ holds_offset mode tab_len width line ranges row offset h inside within from next
     }
 
 -- one line of some
-pub rows_at : (w : Wrapping) (lines : List (List ℕ)) (rows : List RowsView) (i : ℕ) → AreRowsOf w lines rows → i < length lines → IsWrapped w.mode w.tab_len (max w.width 1) (encode_utf8_all (get_or lines i [])) (ranges_at rows i)
-rows_at w [] rows i h within = absurd (omega arith)
-rows_at w (line ∷ lines) [] i h within = absurd h
-rows_at w (line ∷ lines) (r ∷ rows) zero h within = h.0
-rows_at w (line ∷ lines) (r ∷ rows) (suc i) h within = rows_at w lines rows i h.1 (omega arith)
+pub rows_at : (w : Wrapping) (lines : List (List ℕ)) (rows : List RowsView) (i : ℕ) (d : RowsView) → AreRowsOf w lines rows → i < length lines → AreRowsOfLine w (get_or lines i []) (get_or rows i d)
+rows_at w [] rows i d h within = absurd (omega arith)
+rows_at w (line ∷ lines) [] i d h within = absurd h
+rows_at w (line ∷ lines) (r ∷ rows) zero d h within = h.0
+rows_at w (line ∷ lines) (r ∷ rows) (suc i) d h within = rows_at w lines rows i d h.1 (omega arith)
+
+pub cut_at : (w : Wrapping) (lines : List (List ℕ)) (rows : List RowsView) (i : ℕ) → AreRowsOf w lines rows → i < length lines → IsWrapped w.mode w.tab_len (max w.width 1) (encode_utf8_all (get_or lines i [])) (ranges_at rows i)
+cut_at w [] rows i h within = absurd (omega arith)
+cut_at w (line ∷ lines) [] i h within = absurd h
+cut_at w (line ∷ lines) (r ∷ rows) zero h within = h.0.cut
+cut_at w (line ∷ lines) (r ∷ rows) (suc i) h within = cut_at w lines rows i h.1 (omega arith)
 
 all_ranges : (line : List ℕ) (ranges : List (ℕ × ℕ)) (row : ℕ) → AllByRecursion (IsRowRange line) ranges → row < length ranges → IsRowRange line (range_at ranges row)
 all_ranges line [] row h within = absurd (omega arith)
@@ -108,19 +121,22 @@ row_total-at (r ∷ rows) (suc i) within = omega (arith, row_total-at rows i (om
 
 pub cut_of : (w : Wrapping) (lines : List (List ℕ)) (rows : List RowsView) (i : ℕ) (ranges : List (ℕ × ℕ)) → ranges ≡ ranges_at rows i → AreRowsOf w lines rows → i < length lines → IsWrapped w.mode w.tab_len (max w.width 1) (encode_utf8_all (get_or lines i [])) ranges
 cut_of w lines rows i ranges e h within =
-    subst (λ (t : List (ℕ × ℕ)). IsWrapped w.mode w.tab_len (max w.width 1) (encode_utf8_all (get_or lines i [])) t) (sym e) (rows_at w lines rows i h within)
-
-pub offset_is : {Z : Type 0} (items : List (String Z)) (i column offset : ℕ) (line : String Z) (text : List ℕ) → i < length items → line ≡ get_or items i line → text ≡ string_bytes line → offset ≡ length (encode_utf8_all (take column (chars text))) → offset ≡ offset_of (get_or (lines_of items) i []) column
-offset_is items i column offset line text within read same e =
-    e ∙ ap (λ (t : List ℕ). length (encode_utf8_all (take column (chars t)))) same
-    ∙ ap (λ (t : List ℕ). length (encode_utf8_all (take column t))) (sym (line_at items i line within read))
+    subst (λ (t : List (ℕ × ℕ)). IsWrapped w.mode w.tab_len (max w.width 1) (encode_utf8_all (get_or lines i [])) t) (sym e) (cut_at w lines rows i h within)
 
 pub offset_within : {Z : Type 0} (line : String Z) (text : List ℕ) (column offset : ℕ) → text ≡ string_bytes line → offset ≡ length (encode_utf8_all (take column (chars text))) → offset ≤ length text
 offset_within line text column offset same e =
     omega (arith, e, ap length same, ap (λ (t : List ℕ). length (encode_utf8_all (take column (chars t)))) same, length_cut (string_bytes line) column (IsUtf8-string_bytes line))
 
-pub column_same : (tab_len start start' offset offset' : ℕ) (text text' : List ℕ) → start ≡ start' → offset ≡ offset' → text ≡ text' → display_end_column tab_len 0 (chars (take (offset - start) (drop start text))) ≡ display_end_column tab_len 0 (chars (take (offset' - start') (drop start' text')))
-column_same tab_len start start' offset offset' text text' a b e =
-    ap (λ (n : ℕ). display_end_column tab_len 0 (chars (take (offset - n) (drop n text)))) a
-    ∙ ap (λ (n : ℕ). display_end_column tab_len 0 (chars (take (n - start') (drop start' text)))) b
-    ∙ ap (λ (t : List ℕ). display_end_column tab_len 0 (chars (take (offset' - start') (drop start' t)))) e
+-- a row that isn't its line's last has a byte
+one_row_of_none : (mode : WrapMode) (tab_len width : ℕ) (line : List ℕ) (texts : List (List ℕ)) → line ≡ [] → AreRowTexts mode tab_len width line texts → length texts ≡ 1
+one_row_of_none mode tab_len width [] texts e cut = ap length cut
+one_row_of_none mode tab_len width (byte ∷ line) texts e cut = absurd (omega (arith, ap length e))
+
+pub some_bytes : (mode : WrapMode) (tab_len width : ℕ) (line : List ℕ) (ranges : List (ℕ × ℕ)) (row : ℕ) → IsWrapped mode tab_len width line ranges → row + 1 < length ranges → (range_at ranges row).0 < (range_at ranges row).1
+some_bytes mode tab_len width line ranges row h more =
+    let range = range_is mode tab_len width line ranges row h (omega arith) in
+    elim (cases_lt (range_at ranges row).0 (range_at ranges row).1) [
+      | inl less ↦ less
+      | inr most ↦
+          absurd (omega (arith, one_row_of_none mode tab_len width line h.texts (range.nonempty (omega (arith, range.ordered, most))) h.cut, length-ranges_from 0 h.texts, ap length h.ranges_are, more))
+    ]

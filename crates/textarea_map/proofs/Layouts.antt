@@ -1,13 +1,14 @@
 -- Rows of lines, taken apart and put together.
-use Rattle.std.proofs.Common.{◌≡◌, ℕ, zero, suc, ◌+◌, ◌<◌, max, List, [], ◌∷◌, ◌++◌, length, take, drop, get_or, sym, ap, refl, ◌∙◌, arith, subst, encode_utf8_all, String, string_bytes}
-use Rattle.std.proofs.lemmas.List.{append_assoc, take_more, length-map}
-use Rattle.std.proofs.lemmas.Str.{encodes-chars, IsUtf8-string_bytes}
+use Rattle.std.proofs.Common.{map, ap₂, ◌≡◌, ℕ, zero, suc, ◌+◌, ◌<◌, ◌^◌, max, List, [], ◌∷◌, ◌++◌, length, take, drop, get_or, sym, ap, refl, ◌∙◌, arith, subst, encode_utf8_all, String, string_bytes}
+use Rattle.std.proofs.lemmas.List.{append_assoc, drop-map, length-map, map-append, take-map, take_more}
+use Rattle.std.proofs.lemmas.Str.{encodes-chars, scalars-chars, IsUtf8-string_bytes}
+use Rattle.std.specs.Str.{all_scalars}
 use Rattle.textarea_text.specs.Text.{characters_of, lines_of}
 use Rattle.textarea_text.proofs.StringRows.{line_at}
 use Rattle.textarea_wrap.specs.RowsView.{RowsView}
 use Rattle.textarea_wrap.specs.Wrapped.{IsWrapped}
 use Rattle.textarea_map.specs.declared.layout.Wrapping.{Wrapping}
-use Rattle.textarea_map.specs.Layout.{AreRowsOf, AreFresh}
+use Rattle.textarea_map.specs.Layout.{AreRowsOf, AreRowsOfLine, AreFresh}
 use Rattle.textarea_text.specs.Replaced.{replaced}
 
 pub AreRowsOf-append : (w : Wrapping) (lines more : List (List ℕ)) (rows others : List RowsView) → AreRowsOf w lines rows → AreRowsOf w more others → AreRowsOf w (lines ++ more) (rows ++ others)
@@ -43,12 +44,16 @@ AreRowsOf-replaced w lines new rows others start count h k =
     (AreRowsOf-append w new (drop (start + count) lines) others (drop (start + count) rows) k (AreRowsOf-drop w (start + count) lines rows h))
 
 -- one line more
-pub AreRowsOf-more : {Z : Type 0} (w : Wrapping) (before : List (List ℕ)) (items : List (String Z)) (i : ℕ) (line : String Z) (text : List ℕ) (rows : List RowsView) (cut : RowsView) → i < length items → line ≡ get_or items i line → text ≡ string_bytes line → AreRowsOf w (before ++ take i (lines_of items)) rows → IsWrapped w.mode w.tab_len (max w.width 1) text cut.ranges → AreRowsOf w (before ++ take (i + 1) (lines_of items)) (rows ++ cut ∷ [])
-AreRowsOf-more w before items i line text rows cut within read same h k =
+pub AreRowsOf-more : {Z : Type 0} (w : Wrapping) (before : List (List ℕ)) (items : List (String Z)) (i : ℕ) (line : String Z) (text : List ℕ) (rows : List RowsView) (cut : RowsView) → i < length items → line ≡ get_or items i line → text ≡ string_bytes line → AreRowsOf w (before ++ take i (lines_of items)) rows → IsWrapped w.mode w.tab_len (max w.width 1) text cut.ranges → length text < 2 ^ 48 → AreRowsOf w (before ++ take (i + 1) (lines_of items)) (rows ++ cut ∷ [])
+AreRowsOf-more w before items i line text rows cut within read same h k short =
     let bytes : text ≡ encode_utf8_all (get_or (lines_of items) i []) =
     same ∙ sym (encodes-chars (string_bytes line) (IsUtf8-string_bytes line)) ∙ ap encode_utf8_all (sym (line_at items i line within read)) in
-    let here : IsWrapped w.mode w.tab_len (max w.width 1) (encode_utf8_all (get_or (lines_of items) i [])) cut.ranges =
-    subst (λ (t : List ℕ). IsWrapped w.mode w.tab_len (max w.width 1) t cut.ranges) bytes k in
+    let here : AreRowsOfLine w (get_or (lines_of items) i []) cut =
+    record {
+      characters = ap all_scalars (line_at items i line within read) ∙ scalars-chars (string_bytes line) (IsUtf8-string_bytes line);
+      short = omega (arith, short, ap length bytes);
+      cut = subst (λ (t : List ℕ). IsWrapped w.mode w.tab_len (max w.width 1) t cut.ranges) bytes k;
+    } in
     subst (λ (t : List (List ℕ)). AreRowsOf w t (rows ++ cut ∷ []))
     (append_assoc before (take i (lines_of items)) (get_or (lines_of items) i [] ∷ []) ∙ ap (λ t. before ++ t) (sym (take_more (lines_of items) i [] (omega (arith, length-map items characters_of)))))
     (AreRowsOf-append w (before ++ take i (lines_of items)) (get_or (lines_of items) i [] ∷ []) rows (cut ∷ []) h (here, tt))
@@ -56,3 +61,26 @@ AreRowsOf-more w before items i line text rows cut within read same h k =
 pub AreFresh-append : (low : ℕ) (rows more : List RowsView) → AreFresh low rows → AreFresh low more → AreFresh low (rows ++ more)
 AreFresh-append low [] more h k = k
 AreFresh-append low (r ∷ rows) more h k = (h.0, AreFresh-append low rows more h.1 k)
+
+-- two maps of the same lines, where a line has one right cutting
+pub ranges_same : (w : Wrapping) (lines : List (List ℕ)) (rows others : List RowsView) → ((line : List ℕ) (ranges more : List (ℕ × ℕ)) → IsWrapped w.mode w.tab_len (max w.width 1) line ranges → IsWrapped w.mode w.tab_len (max w.width 1) line more → ranges ≡ more) → AreRowsOf w lines rows → AreRowsOf w lines others → map (λ (r : RowsView). r.ranges) rows ≡ map (λ (r : RowsView). r.ranges) others
+ranges_same w [] [] [] one h k = refl
+ranges_same w [] (r ∷ rows) others one h k = absurd h
+ranges_same w [] [] (s ∷ others) one h k = absurd k
+ranges_same w (line ∷ lines) [] others one h k = absurd h
+ranges_same w (line ∷ lines) (r ∷ rows) [] one h k = absurd k
+ranges_same w (line ∷ lines) (r ∷ rows) (s ∷ others) one h k =
+    ap₂ (λ (x : List (ℕ × ℕ)) (xs : List (List (ℕ × ℕ))). x ∷ xs) (one (encode_utf8_all line) r.ranges s.ranges h.0.cut k.0.cut) (ranges_same w lines rows others one h.1 k.1)
+
+-- some `String`s and their rows give place to others and theirs
+pub AreRowsOf-put_in : {Z : Type 0} (w : Wrapping) (items new : List (String Z)) (rows others : List RowsView) (start count : ℕ) → AreRowsOf w (lines_of items) rows → AreRowsOf w (lines_of new) others → AreRowsOf w (lines_of (replaced items start count new)) (replaced rows start count others)
+AreRowsOf-put_in w items new rows others start count h k =
+    let same : lines_of (replaced items start count new) ≡ replaced (lines_of items) start count (lines_of new) =
+    map-append characters_of (take start items) (new ++ drop (start + count) items)
+    ∙ ap (λ t. t ++ map characters_of (new ++ drop (start + count) items)) (sym (take-map characters_of start items))
+    ∙ ap (λ t. take start (lines_of items) ++ t) (map-append characters_of new (drop (start + count) items))
+    ∙ ap (λ t. take start (lines_of items) ++ (lines_of new ++ t)) (sym (drop-map characters_of (start + count) items)) in
+    subst (λ (t : List (List ℕ)). AreRowsOf w t (replaced rows start count others)) (sym same) (AreRowsOf-replaced w (lines_of items) (lines_of new) rows others start count h k)
+
+pub one_row_list_a_line : {Z : Type 0} (w : Wrapping) (items : List (String Z)) (rows : List RowsView) → AreRowsOf w (lines_of items) rows → length rows ≡ length items
+one_row_list_a_line w items rows h = length-AreRowsOf w (lines_of items) rows h ∙ length-map items characters_of

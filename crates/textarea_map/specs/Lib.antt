@@ -1,3 +1,4 @@
 pub mod Layout
 pub mod Map
+pub mod Rows
 pub mod Seen

@@ -23,6 +23,10 @@ firsts_from first (rows ∷ rest) = first ∷ firsts_from (first + length rows.r
 abbrev pub ranges_at : List RowsView → ℕ → List (ℕ × ℕ)
 ranges_at rows line = get_or (map (λ (r : RowsView). r.ranges) rows) line []
 
+-- the byte range of a row, given by its number among the rows of its line
+abbrev pub range_at : List (ℕ × ℕ) → ℕ → ℕ × ℕ
+range_at ranges row = get_or ranges row (0, 0)
+
 -- What each map keeps: its lines are numbered by the visual rows before them, and there are so few rows in all that no sum of
 -- rows leaves a machine word.
 pub record IsNumbered (rows : List RowsView) (firsts : List ℕ) (total : ℕ) : Type 0 where

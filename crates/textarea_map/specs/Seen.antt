@@ -1,33 +1,85 @@
--- Where a place of the text is seen: in which visual row, and at which display column.
-use Rattle.std.specs.Prelude.{◌≡◌, ℕ, ◌+◌, ◌-◌, ◌<◌, ◌≤◌, List, [], length, take, drop, get_or, chars, encode_utf8_all}
+-- Where a place of the text is seen, and which place a visual row and a display column lead back to.
+use Rattle.std.specs.Prelude.{◌≡◌, ◌≢◌, ℕ, ◌+◌, ◌-◌, ◌<◌, ◌≤◌, ◌⊎◌, min, false, List, length}
+use Rattle.std.specs.List.{AllByRecursion}
 use Rattle.textarea_text.specs.Place.{Place}
-use Rattle.textarea_wrap.specs.Columns.{display_end_column}
+use Rattle.textarea_wrap.specs.Columns.{plain_width}
 use Rattle.textarea_wrap.specs.RowsView.{RowsView}
-use Rattle.textarea_map.specs.Map.{ranges_at, row_total}
+use Rattle.textarea_map.specs.Rows.{VisualRow, visual_rows, row_at, column_at, greatest_column}
 
--- the byte range of a row, given by its number among the rows of its line
-abbrev pub range_at : List (ℕ × ℕ) → ℕ → ℕ × ℕ
-range_at ranges row = get_or ranges row (0, 0)
+-- The place belongs to the row: it is one of the row's line, from the row's first column on and before its end. In the line's last
+-- row it may be at the end too.
+pub record IsInRow (row : VisualRow) (place : Place) : Type 0 where
+  pub line : place.0 ≡ row.line
+  pub from : row.first ≤ place.1
+  pub to : place.1 ≤ row.first + length row.text
+  pub before_next : row.is_last ≡ false → place.1 < row.first + length row.text
 
--- the byte at which a column of these characters begins
-abbrev pub offset_of : List ℕ → ℕ → ℕ
-offset_of line column = length (encode_utf8_all (take column line))
-
--- The row of a line that an offset in bytes belongs to: it lies from the row's first byte on and before its end. In the line's
--- last row it may lie at the end too.
-pub record HoldsOffset (ranges : List (ℕ × ℕ)) (row offset : ℕ) : Type 0 where
-  pub within : row < length ranges
-  pub from : (range_at ranges row).0 ≤ offset
-  pub to : offset ≤ (range_at ranges row).1
-  pub before_next : row + 1 < length ranges → offset < (range_at ranges row).1
-
--- the display column of an offset of the line, in a row that begins at `start`
-abbrev pub column_in_row : ℕ → List ℕ → ℕ → ℕ → ℕ
-column_in_row tab_len line start offset = display_end_column tab_len 0 (chars (take (offset - start) (drop start (encode_utf8_all line))))
-
--- the place of the lines, whose rows these are, is seen in this visual row at this display column
+-- the place is seen in the visual row that it belongs to, at the display column of the characters before it in that row
 pub record IsSeenAt (tab_len : ℕ) (lines : List (List ℕ)) (rows : List RowsView) (place seen : Place) : Type 0 where
-  pub row : ℕ
-  pub holds : HoldsOffset (ranges_at rows place.0) row (offset_of (get_or lines place.0 []) place.1)
-  pub row_is : seen.0 ≡ row_total (take place.0 rows) + row
-  pub column_is : seen.1 ≡ column_in_row tab_len (get_or lines place.0 []) (range_at (ranges_at rows place.0) row).0 (offset_of (get_or lines place.0 []) place.1)
+  pub row : seen.0 < length (visual_rows lines rows)
+  pub holds : IsInRow (row_at lines rows seen.0) place
+  pub column : seen.1 ≡ column_at tab_len (row_at lines rows seen.0).text (place.1 - (row_at lines rows seen.0).first)
+
+-- ---- and back; a place of a row is given by the number of the row's characters before it
+
+-- the first place of the row at this display column
+abbrev pub IsFirstAt : ℕ → List ℕ → ℕ → ℕ → Type 0
+IsFirstAt tab_len text column index =
+    (index ≤ length text) × (column_at tab_len text index ≡ column) × ((k : ℕ) → k < index → column_at tab_len text k ≢ column)
+
+-- the character at the place covers the column, but doesn't begin there
+abbrev pub IsCovered : ℕ → List ℕ → ℕ → ℕ → Type 0
+IsCovered tab_len text column index =
+    (index < length text) × (column_at tab_len text index < column) × (column < column_at tab_len text (index + 1))
+
+-- the place is the row's end, and the column lies behind it
+abbrev pub IsBeforeColumn : ℕ → List ℕ → ℕ → ℕ → Type 0
+IsBeforeColumn tab_len text column index = (index ≡ length text) × (column_at tab_len text index < column)
+
+-- A display column leads back to the first place of the row at that column, or else to the character that covers it, or else, from
+-- behind the row's width, to the row's end. Columns never fall along a row, so exactly one of these three is there. The end of a
+-- row that isn't its line's last is where the next row begins, and a place there is seen in the next row; so a column that is to
+-- lead to a place of the row itself is one up to the row's greatest cursor column.
+abbrev pub LeadsTo : ℕ → List ℕ → ℕ → ℕ → Type 0
+LeadsTo tab_len text column index =
+    IsFirstAt tab_len text column index ⊎ IsCovered tab_len text column index ⊎ IsBeforeColumn tab_len text column index
+
+-- a visual row and a display column lead back to this place
+pub record IsPlaceAt (tab_len : ℕ) (lines : List (List ℕ)) (rows : List RowsView) (seen place : Place) : Type 0 where
+  pub row : seen.0 < length (visual_rows lines rows)
+  pub line : place.0 ≡ (row_at lines rows seen.0).line
+  pub from : (row_at lines rows seen.0).first ≤ place.1
+  pub leads : LeadsTo tab_len (row_at lines rows seen.0).text seen.1 (place.1 - (row_at lines rows seen.0).first)
+
+-- no character of these has display width 0: a tab has one column at least, another character those that it takes
+abbrev pub HasNoZeroWidth : List ℕ → Type 0
+HasNoZeroWidth text = AllByRecursion (λ c. (c ≡ 9) ⊎ (0 < plain_width c)) text
+
+-- ---- up and down
+
+-- a cursor that is to stand in a visual row at a display column, or before it where the row's greatest cursor column is less,
+-- goes to this place
+abbrev pub IsPlaceNear : ℕ → List (List ℕ) → List RowsView → Place → Place → Type 0
+IsPlaceNear tab_len lines rows seen place =
+    IsPlaceAt tab_len lines rows (seen.0, min seen.1 (greatest_column tab_len (row_at lines rows seen.0))) place
+
+-- one visual row up from a place
+pub record IsAbove (tab_len : ℕ) (lines : List (List ℕ)) (rows : List RowsView) (place target : Place) : Type 0 where
+  pub seen : Place
+  pub seen_at : IsSeenAt tab_len lines rows place seen
+  pub not_first : 0 < seen.0
+  pub near : IsPlaceNear tab_len lines rows (seen.0 - 1, seen.1) target
+
+-- one visual row down from a place
+pub record IsBelow (tab_len : ℕ) (lines : List (List ℕ)) (rows : List RowsView) (place target : Place) : Type 0 where
+  pub seen : Place
+  pub seen_at : IsSeenAt tab_len lines rows place seen
+  pub near : IsPlaceNear tab_len lines rows (seen.0 + 1, seen.1) target
+
+-- the place is seen in the first visual row
+abbrev pub IsInFirstRow : ℕ → List (List ℕ) → List RowsView → Place → Type 0
+IsInFirstRow tab_len lines rows place = (seen : Place) × IsSeenAt tab_len lines rows place seen × (seen.0 ≡ 0)
+
+-- the place is seen in the last visual row
+abbrev pub IsInLastRow : ℕ → List (List ℕ) → List RowsView → Place → Type 0
+IsInLastRow tab_len lines rows place = (seen : Place) × IsSeenAt tab_len lines rows place seen × (seen.0 + 1 ≡ length (visual_rows lines rows))

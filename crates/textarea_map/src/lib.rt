@@ -1,5 +1,9 @@
 //! The visual rows of all lines of a text, kept line by line.
 #![tactic(auto)]
 
+mod columns;
+pub mod laws;
 pub mod layout;
 pub mod screen_map;
+#[cfg(test)]
+mod tests;

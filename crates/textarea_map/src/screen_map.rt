@@ -1,20 +1,18 @@
 //! The rows of each line of a text, kept line by line with the number of the line's first visual row. Visual rows are counted
 //! from 0 over all lines.
-ghost use Rattle.std.specs.Prelude.{◌≡◌, ◌+◌, ◌<◌, ◌≤◌, ◌^◌, [], length, take, drop, get_or, encode_utf8_all, vec_len, vec_capacity, IfOk, OnOk};
+ghost use Rattle.std.specs.Prelude.{◌≡◌, ◌+◌, ◌<◌, ◌≤◌, ◌^◌, length, take, drop, vec_len, vec_capacity, IfOk, OnOk};
 ghost use Rattle.textarea_text.specs.Text.{lines_of};
-ghost use Rattle.textarea_text.specs.Place.{IsPlaceOf};
 ghost use Rattle.textarea_text.specs.Replaced.{replaced};
 ghost use Rattle.textarea_map.specs.Layout.{AreFresh, AreRowsOf};
 ghost use Rattle.textarea_map.specs.Map.{IsReady, firsts_from, ranges_at, row_total};
-ghost use Rattle.textarea_map.specs.Seen.{IsSeenAt, range_at};
 
 use crate::layout::{MAX_ROWS, Wrapping, count_rows, push_rows};
 use std::alloc::{AllocError, Global};
 use std::marker::Model;
 use textarea_text::replace::put_in;
-use textarea_text::rows::byte_offset;
-use textarea_wrap::wrap::columns::display_column_behind_text;
 use textarea_wrap::wrap::{Rows, WrapCount};
+
+mod look_up;
 
 /// The rows of all lines. They change in two steps: `prepare`, which may find no memory and leaves them as they are, and
 /// `put_in`, which takes no memory and wraps nothing.
@@ -47,6 +45,19 @@ pub struct PreparedRows {
     pub count: usize,
     pub rows: Vec<Rows>,
     pub total: usize,
+}
+
+impl Clone for ScreenMap {
+    ghost is_clone = { λ map copy. copy.rows ≡ map.rows };
+
+    /// A map with the same rows, ticks included, or an error where there is no memory for them. No line is cut.
+    fn clone(&self) -> Result<ScreenMap, AllocError> {
+        Ok(ScreenMap {
+            rows: self.rows.clone()?,
+            firsts: self.firsts.clone()?,
+            total: self.total,
+        })
+    }
 }
 
 impl ScreenMap {
@@ -198,49 +209,6 @@ impl ScreenMap {
     {
         self.rows[line].as_slice()
     }
-
-    /// The visual row in which a place of the map's lines is seen, and its display column there. A tab reaches to the next tab
-    /// stop, and takes one column where there are none.
-    pub fn seen_at(
-        &self,
-        lines: &[String],
-        wrapping: Wrapping,
-        place: (usize, usize),
-    ) -> (usize, usize)
-        requires rows { AreRowsOf wrapping (lines_of lines.now) self.now.rows }
-        requires place { IsPlaceOf (lines_of lines.now) place }
-        requires short { length (encode_utf8_all (get_or (lines_of lines.now) place.0 [])) < 2 ^ 48 }
-        ensures { IsSeenAt wrapping.tab_len (lines_of lines.now) self.now.rows place result }
-    {
-        let line = lines[place.0].as_str();
-        let offset = byte_offset(line, place.1);
-        let ranges = self.rows_of(place.0);
-        let row = row_holding(ranges, offset);
-        let start = ranges[row].0;
-        let column = display_column_behind_text(&line[start..offset], 0, wrapping.tab_len);
-        (self.firsts[place.0] + row, column)
-    }
-}
-
-// The last of the rows of a line that begins at the offset or before it.
-fn row_holding(ranges: &[(usize, usize)], offset: usize) -> usize
-    requires some { 0 < length ranges.now }
-    requires first { (range_at ranges.now 0).0 ≤ offset }
-    ensures within { result < length ranges.now }
-    ensures from { (range_at ranges.now result).0 ≤ offset }
-    ensures next { result + 1 < length ranges.now → offset < (range_at ranges.now (result + 1)).0 }
-{
-    let mut low = 0;
-    let mut high = ranges.len();
-    'halving: while 1 < high - low {
-        let middle = low + (high - low) / 2;
-        if ranges[middle].0 <= offset {
-            low = middle;
-        } else {
-            high = middle;
-        }
-    }
-    low
 }
 
 // Numbers all lines from `from` on, however many lines had numbers before. There is room for them.

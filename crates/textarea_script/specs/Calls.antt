@@ -75,7 +75,7 @@ answer_of state call = Done
 -- and nothing is selected
 abbrev pub with_lines : {Z : Type 0} → State → List (String Z) → Place → State
 with_lines state lines cursor =
-    with_document state (fresh_document (text_of lines) (clip (lines_of lines) cursor) state.document.log.maximum)
+    with_document state (fresh_document (text_of lines) state.document.screen.view state.document.screen.count (clip (lines_of lines) cursor) state.document.log.maximum)
 
 -- the state after a call that takes no memory in any state and answers nothing: a move, a setting, a begun, dropped or whole
 -- selection, or ranges that are forgotten; any other call leaves it here

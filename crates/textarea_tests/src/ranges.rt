@@ -141,7 +141,10 @@ fn a_cursor_inside_a_range(rt: HostRuntime) -> Result<(), Fail> {
     let ranges = vec![in rt.alloc(); part((0, 0, 4))]?;
     assert!(rt; area.try_set_atomic_ranges(ranges)?.is_ok());
     assert!(rt; area.set_search_pattern("c").is_ok());
-    for (bias, column) in [(AtomicCursorBias::Backward, 0), (AtomicCursorBias::Forward, 4)] {
+    for (bias, column) in [
+        (AtomicCursorBias::Backward, 0),
+        (AtomicCursorBias::Forward, 4),
+    ] {
         assert!(rt; area.search_forward(true)?);
         assert_eq!(rt; area.cursor(), (0, 2));
         assert!(rt; area.normalize_cursor_around_atomic_ranges(bias));

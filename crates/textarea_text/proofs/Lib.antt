@@ -7,3 +7,4 @@ pub mod Replacing
 pub mod Sizes
 pub mod Befores
 pub mod Insides
+pub mod Touching

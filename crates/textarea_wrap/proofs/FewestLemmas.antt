@@ -19,7 +19,7 @@ fronts (x ∷ a) b (y ∷ c) d h =
     (λ p. inr (p.0, ap (λ t. x ∷ t) p.1 ∙ ap (λ z. z ∷ (c ++ p.0)) heads, p.2)) (fronts a b c d tails)
 
 -- a greedy row `run` before `later` is not a strict front of what a fitting row has from there on
-not_shorter : (t w : ℕ) (run later front rest : Run) (next : List ℕ) (row : Run) → IsGlyphRow t w run later → later ≡ next ∷ rest → (back : Run)
+pub not_shorter : (t w : ℕ) (run later front rest : Run) (next : List ℕ) (row : Run) → IsGlyphRow t w run later → later ≡ next ∷ rest → (back : Run)
     → row ≡ front ++ (run ++ next ∷ back) → (run_width t row ≤ w) ⊎ (length row ≡ 1) → ⊥
 not_shorter t w run later front rest next row greedy later_is back row_is fits =
     let over : w < run_width t (run ++ next ∷ []) = subst (HasNoRoomForNext t w run) later_is greedy.full in

@@ -42,7 +42,7 @@ module _ (t w : ℕ) (row later : Run) (fit : IsFittingRun t w row later) where
       (fronts a b fit.front (fit.last ∷ []) (sym row_is ∙ fit.run_is))
 
   -- a unit that is too wide may only end the row, as whitespace behind other units
-  wide_ends : (front : Run) (unit : List ℕ) (back : Run) → row ≡ front ++ unit ∷ back → w < run_width t (unit ∷ []) → (back ≡ []) × (0 < length front) × (is_blank unit ≡ true)
+  pub wide_ends : (front : Run) (unit : List ℕ) (back : Run) → row ≡ front ++ unit ∷ back → w < run_width t (unit ∷ []) → (back ≡ []) × (0 < length front) × (is_blank unit ≡ true)
   wide_ends front unit [] row_is wide =
       let same = push-injective fit.front front fit.last unit (sym fit.run_is ∙ row_is) in
       let wider = run_width-back t front (unit ∷ []) in
@@ -109,7 +109,7 @@ block_count t w (split unit rows) (split wide others) left rest (f ∷ front) (x
     absurd (omega (arith, ap length other_is, length-append front (x ∷ part)))
 
 -- a greedy block is not a strict front of what a fitting one has from there on
-block_reaches : (t w : ℕ) (block other : Block) (left rest front : Run) (next : List ℕ) (over : Run) → IsBlock t w block (left ++ []) → IsFittingBlock t w other (rest ++ [])
+pub block_reaches : (t w : ℕ) (block other : Block) (left rest front : Run) (next : List ℕ) (over : Run) → IsBlock t w block (left ++ []) → IsFittingBlock t w other (rest ++ [])
     → units_of other ≡ front ++ (units_of block ++ next ∷ over) → left ≡ (next ∷ over) ++ rest → ⊥
 block_reaches t w (shared run) (shared row) left rest front next over is fit other_is left_is =
     let some : 0 < length run = omega (arith, ap length is.0.run_is, length-append is.0.front (is.0.last ∷ [])) in
@@ -162,7 +162,7 @@ blanks_back : (xs ys : Run) → AreBlanksClusters (xs ++ ys) → AreBlanksCluste
 blanks_back [] ys h = h
 blanks_back (x ∷ xs) ys h = blanks_back xs ys h.1
 
-block_some : (t w : ℕ) (block : Block) (left : Run) → IsBlock t w block left → 0 < length (units_of block)
+pub block_some : (t w : ℕ) (block : Block) (left : Run) → IsBlock t w block left → 0 < length (units_of block)
 block_some t w (shared run) left is = omega (arith, ap length is.0.run_is, length-append is.0.front (is.0.last ∷ []))
 block_some t w (split unit rows) left is = omega arith
 

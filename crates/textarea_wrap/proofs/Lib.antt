@@ -5,6 +5,7 @@ pub mod FewestLemmas
 pub mod FewestRowLemmas
 pub mod FewestWordLemmas
 pub mod GlyphLemmas
+pub mod OneCuttingLemmas
 pub mod OneRowLemmas
 pub mod RowLemmas
 pub mod TallyWalks

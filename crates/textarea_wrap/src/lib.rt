@@ -1,6 +1,8 @@
-//! Wrapping of one line: columns, cuttings at a width, a counter of the calls that wrap, and the numbers of a layout.
+//! Wrapping of one line: columns, cuttings at a width and a law of them, a counter of the calls that wrap, and the numbers of a
+//! layout.
 #![tactic(auto)]
 
+pub mod laws;
 pub mod layout;
 #[cfg(test)]
 mod tests;

@@ -6,6 +6,8 @@ use Rattle.textarea_text.specs.Text.{Symbol, joined}
 use Rattle.textarea_text.specs.Splice.{Splice}
 use Rattle.textarea_document.specs.State.{DocumentState, new_document}
 use Rattle.textarea_document.specs.Outcomes.{edited}
+use Rattle.textarea_wrap.specs.declared.wrap.WrapMode.TheVariants as mode
+use Rattle.textarea_lines.specs.declared.view.ViewSettings.{ViewSettings}
 use Rattle.tui_textarea.specs.declared.textarea.settings.Settings.{Settings}
 
 -- a text area as its callers see it: the document; what was yanked last; the settings; the moment that was handed in last,
@@ -21,10 +23,14 @@ pub record State : Type 0 where
 abbrev pub default_settings : Settings
 default_settings = record { tab_length = 4; hard_tab_indent = false; undo_coalescing = false }
 
+-- how the text is seen at first: one row a line, tab stops at each fourth column, no line numbers, and no area drawn yet
+abbrev pub default_view : ViewSettings
+default_view = record { mode = mode.None; tab_len = 4; line_numbers = false; inner_width = 0 }
+
 -- a new text area: the cursor at the start, nothing selected, at most 50 edits remembered and none yet, nothing yanked,
 -- no pattern
 abbrev pub new_state : List Symbol → State
-new_state text = record { document = new_document text 50; yank = []; settings = default_settings; moment = 0; pattern = None }
+new_state text = record { document = new_document text default_view 50; yank = []; settings = default_settings; moment = 0; pattern = None }
 
 -- the document changes, and all else stays
 abbrev pub with_document : State → DocumentState → State

@@ -24,10 +24,20 @@ use std::alloc::{AllocError, Global};
 use std::marker::Model;
 use std::time::Duration;
 use textarea_document::Document;
+use textarea_lines::view::ViewSettings;
 use textarea_search::search::Search;
+use textarea_wrap::wrap::WrapMode;
 
 /// How many edits a new text area remembers.
 const DEFAULT_MAX_HISTORIES: usize = 50;
+
+/// How a new text area's text is cut into rows: one row a line, and no area is drawn yet.
+const DEFAULT_VIEW: ViewSettings = ViewSettings {
+    mode: WrapMode::None,
+    tab_len: 4,
+    line_numbers: false,
+    inner_width: 0,
+};
 
 /// A multi-line text editor: lines of text, a cursor, a selection, a yanked text, settings, a pattern to search for, and a
 /// history of edits.
@@ -75,7 +85,7 @@ impl TextArea {
         ensures { IfOk result (λ area. area ≡ new_state (text_of lines.items)) }
     {
         Ok(TextArea {
-            document: Document::new(alloc, lines, DEFAULT_MAX_HISTORIES)?,
+            document: Document::new(alloc, lines, DEFAULT_VIEW, DEFAULT_MAX_HISTORIES)?,
             yank: Vec::new(alloc),
             settings: Settings::default(),
             moment: Duration::ZERO,
@@ -98,7 +108,7 @@ impl TextArea {
         cursor: (usize, usize),
     ) -> Result<(), AllocError>
         requires some { 0 < vec_len lines }
-        ensures ok { OnOk result (self.new ≡ with_document self.old (fresh_document (text_of lines.items) (clip (lines_of lines.items) cursor) self.old.document.log.maximum)) }
+        ensures ok { OnOk result (self.new ≡ with_document self.old (fresh_document (text_of lines.items) self.old.document.screen.view self.old.document.screen.count (clip (lines_of lines.items) cursor) self.old.document.log.maximum)) }
         ensures err { OnErr result (self.new ≡ self.old) }
     {
         self.document.set_lines(lines, cursor)

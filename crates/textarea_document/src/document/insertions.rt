@@ -6,7 +6,7 @@ ghost use Rattle.textarea_text.specs.Place.{IsPlace};
 ghost use Rattle.textarea_ranges.specs.Held.{IsInside};
 ghost use Rattle.textarea_document.specs.Edits.{insertion, insertion_place, is_filled, with_break, with_character, with_nothing, with_symbols};
 
-use crate::document::{Document, MAX_SIZE};
+use crate::document::Document;
 use std::alloc::AllocError;
 use std::time::Duration;
 use textarea_atomic::atomic::AtomicCursorBias;
@@ -14,6 +14,9 @@ use textarea_history::history::{Edit, EditKind};
 use textarea_pieces::places::end_of;
 use textarea_ranges::held::moved_out;
 use textarea_text::rows;
+
+/// The most bytes and lines together that pieces may have; no document holds more.
+const MAX_SIZE: usize = 0x1_0000_0000_0000;
 
 impl Document {
     /// Where an insertion goes: to the cursor, or to the end of the atomic range that strictly holds it.
@@ -23,6 +26,7 @@ impl Document {
         ensures small { (result.0 < 2 ^ 48) × (result.1 ≤ 2 ^ 48) }
         ensures outside { All (λ range. ¬ IsInside result range) self.now.ranges }
     {
+        self.laid.places_are_small();
         moved_out(
             self.ranges.as_slice(),
             self.cursor,

@@ -11,7 +11,7 @@ loop-i-preserved c =
     let now = c.in_ok-push.ensures.items in (
       omega (arith, c.loop-i.invariant.0, c.line_ranges.ensures.counted),
       λ before h. subst (λ (t : List RowsView). AreRowsOf c.args.wrapping (before ++ take (c.loop-i.i + 1) (lines_of c.args.lines.now)) t) (sym now)
-          (AreRowsOf-more c.args.wrapping before c.args.lines.now c.loop-i.i c.index-lines-i.result c.as_str.result.now c.loop-i.rows.items cut (omega arith) c.index-lines-i.is c.as_str.ensures.value (c.loop-i.invariant.1 before h) c.in_ok-cut.ensures.rows),
+          (AreRowsOf-more c.args.wrapping before c.args.lines.now c.loop-i.i c.index-lines-i.result c.as_str.result.now c.loop-i.rows.items cut (omega arith) c.index-lines-i.is c.as_str.ensures.value (c.loop-i.invariant.1 before h) c.in_ok-cut.ensures.rows c.in_ok-cut.ensures.short),
       λ low above h. subst (AreFresh low) (sym now)
           (AreFresh-append low c.loop-i.rows.items (cut ∷ []) (c.loop-i.invariant.2 low above h) (omega (arith, above, c.loop-i.invariant.0, c.in_ok-cut.ensures.tick, c.line_ranges.ensures.counted), tt)),
     )

@@ -1,7 +1,7 @@
 use Rattle.std.proofs.Common.{◌≡◌, sym, subst, Option}
 use Rattle.std.specs.Option.{IfSome}
 use Rattle.textarea_atomic.specs.declared.atomic.AtomicRange.{AtomicRange}
-use Rattle.textarea_text.specs.Text.{lines, text_of}
+use Rattle.textarea_text.specs.Text.{lines}
 use Rattle.textarea_text.specs.Place.{Place, IsPlace}
 use Rattle.textarea_ranges.specs.Valid.{AreValid}
 use Rattle.textarea_document.specs.Ranges.{anchor_out, unless_empty}
@@ -11,20 +11,18 @@ use Rattle.textarea_document.proofs.document.Document.hold.Goals as goal
 
 pub invariant_of-self : goal.invariant_of-self
 invariant_of-self c =
-    let text = text_of c.self.inside.lines.items in
+    let text = c.self.inside.laid.text in
     let given = c.args.ranges.items in
     let valid : AreValid (lines text) given = subst (λ (s : DocumentState). AreValid (lines s.text) given) (sym c.self.view_is) c.requires in
     let first : AreValid (lines text) c.as_slice.result.now = subst (AreValid (lines text)) (sym c.as_slice.ensures.value) valid in
-    let old = c.self.invariant.1 in (
-      c.self.invariant.0,
-      record {
-        cursor = c.moved_out-cursor.ensures.place (lines text) first old.cursor;
-        anchor = subst (λ o. IfSome o (IsPlace text)) (sym c.unless_empty-self-inside.ensures)
-            (subst (λ o. IfSome (unless_empty o c.moved_out-cursor.result) (IsPlace text)) (sym c.anchor_out-anchor.ensures)
-            (anchor_place text c.as_slice-2.result.now c.self.inside.anchor c.moved_out-cursor.result (subst (AreValid (lines text)) (sym c.as_slice-2.ensures.value) valid) old.anchor));
-        ranges = valid;
-        undo = old.undo;
-        redo = old.redo;
-        bounded = old.bounded;
-      },
-    )
+    let old = c.self.invariant in
+    record {
+      cursor = c.moved_out-cursor.ensures.place (lines text) first old.cursor;
+      anchor = subst (λ o. IfSome o (IsPlace text)) (sym c.unless_empty-self-inside.ensures)
+          (subst (λ o. IfSome (unless_empty o c.moved_out-cursor.result) (IsPlace text)) (sym c.anchor_out-anchor.ensures)
+          (anchor_place text c.as_slice-2.result.now c.self.inside.anchor c.moved_out-cursor.result (subst (AreValid (lines text)) (sym c.as_slice-2.ensures.value) valid) old.anchor));
+      ranges = valid;
+      undo = old.undo;
+      redo = old.redo;
+      bounded = old.bounded;
+    }

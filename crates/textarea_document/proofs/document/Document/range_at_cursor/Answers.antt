@@ -1,6 +1,6 @@
 use Rattle.std.proofs.Common.{◌≡◌, ◌∙◌, ap, sym, subst}
 use Rattle.std.specs.Option.{IfSome}
-use Rattle.textarea_text.specs.Text.{lines, text_of}
+use Rattle.textarea_text.specs.Text.{lines}
 use Rattle.textarea_ranges.specs.Held.{hit}
 use Rattle.textarea_ranges.specs.Valid.{AreValid}
 use Rattle.textarea_document.specs.State.{DocumentState}
@@ -10,7 +10,7 @@ use Rattle.textarea_document.proofs.document.Document.range_at_cursor.Goals as g
 known : (c : goal.After-hit) → IfSome c.hit.result (IsHeld c.args.self.now.text)
 known c =
     subst (λ (s : DocumentState). IfSome c.hit.result (IsHeld s.text)) c.self.view_is
-    (subst (λ o. IfSome o (IsHeld (text_of c.self.inside.lines.items))) (sym c.hit.ensures) (hit_is_held (text_of c.self.inside.lines.items) c.as_slice.result.now c.self.inside.cursor c.args.direction (subst (λ r. AreValid (lines (text_of c.self.inside.lines.items)) r) (sym c.as_slice.ensures.value) c.self.invariant.1.ranges)))
+    (subst (λ o. IfSome o (IsHeld c.self.inside.laid.text)) (sym c.hit.ensures) (hit_is_held c.self.inside.laid.text c.as_slice.result.now c.self.inside.cursor c.args.direction (subst (λ r. AreValid (lines c.self.inside.laid.text) r) (sym c.as_slice.ensures.value) c.self.invariant.ranges)))
 
 pub returns-clause-start : goal.returns-clause-start
 returns-clause-start c = held_start c.args.self.now.text c.hit.result (known c)
@@ -30,4 +30,4 @@ returns-clause-before c = λ backward.
 
 pub returns-clause-behind : goal.returns-clause-behind
 returns-clause-behind c = λ forward.
-    hit_behind_end c.args.self.now.text c.args.self.now.ranges c.args.self.now.cursor c.hit.result (subst (λ (s : DocumentState). AreValid (lines s.text) s.ranges) c.self.view_is c.self.invariant.1.ranges) (sym (found c ∙ ap (hit c.args.self.now.ranges c.args.self.now.cursor) forward))
+    hit_behind_end c.args.self.now.text c.args.self.now.ranges c.args.self.now.cursor c.hit.result (subst (λ (s : DocumentState). AreValid (lines s.text) s.ranges) c.self.view_is c.self.invariant.ranges) (sym (found c ∙ ap (hit c.args.self.now.ranges c.args.self.now.cursor) forward))

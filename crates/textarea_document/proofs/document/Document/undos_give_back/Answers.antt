@@ -4,4 +4,4 @@ use Rattle.textarea_document.proofs.UndoLaw.{gives_back}
 use Rattle.textarea_document.proofs.document.Document.undos_give_back.Goals as goal
 
 pub returns : goal.returns
-returns c = λ count within. gives_back count c.args.self.now (subst IsSound c.self.view_is c.self.invariant.1) within
+returns c = λ count within. gives_back count c.args.self.now (subst IsSound c.self.view_is c.self.invariant) within

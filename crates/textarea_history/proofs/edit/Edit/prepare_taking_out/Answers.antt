@@ -1,10 +1,11 @@
-use Rattle.std.proofs.Common.{◌≡◌, ◌∙◌, ◌≤◌, ◌++◌, [], sym, ap, subst}
+use Rattle.std.proofs.Common.{◌≡◌, ◌∙◌, ◌≤◌, ◌++◌, [], sym, ap, subst, arith}
 use Rattle.std.specs.Str.{chars}
 use Rattle.std.proofs.lemmas.Result.{IfOk-weaker}
 use Rattle.std.proofs.lemmas.Str.{chars-nil}
 use Rattle.textarea_text.specs.Text.{characters, text_of}
 use Rattle.textarea_text.specs.Place.{Place, IsPlace, changed, end}
 use Rattle.textarea_text.proofs.StringRows.{rows_place, rows_ordered, stands_until, changed_by_none}
+use Rattle.textarea_text.proofs.Touching.{end_row}
 use Rattle.textarea_history.specs.Edit.{Stored}
 use Rattle.textarea_history.proofs.edit.Edit.prepare_taking_out.Goals as goal
 
@@ -35,3 +36,11 @@ returns-clause-text c =
     ∙ ap (λ (s : Stored). changed text s.splice.place c.self.inside.end (characters (chars []) ++ [])) c.self.view_is
     ∙ changed_by_none text splice.place c.self.inside.end splice.symbols _ c.requires.place c.requires.stands ends (ap (λ t. characters t ++ []) chars-nil))
     c.prepare_change.ensures.text
+
+pub returns-clause-count : goal.returns-clause-count
+returns-clause-count c =
+    let splice = c.args.self.now.splice in
+    let ends : c.self.inside.end ≡ end splice.place splice.symbols = ap (λ (s : Stored). s.stop) c.self.view_is ∙ c.requires.ends in
+    IfOk-weaker c.prepare_change.result _ _
+    (λ r e. omega (arith, e, ap (λ (p : Place). p.0) ends, end_row splice.place splice.symbols))
+    c.prepare_change.ensures.count

@@ -1,0 +1,140 @@
+-- Lines with their rows, after some of them gave place to others.
+use Rattle.std.proofs.Common.{◌≡◌, ℕ, ◌+◌, ◌-◌, ◌≤◌, ◌<◌, ◌^◌, Bool, true, false, cond, min, List, length, sym, ap, ◌∙◌, arith, subst, String}
+use Rattle.std.proofs.lemmas.List.{length-map}
+use Rattle.textarea_text.specs.Place.{inserted, removed}
+use Rattle.textarea_text.specs.Replaced.{replaced}
+use Rattle.textarea_text.specs.Size.{weight}
+use Rattle.textarea_text.specs.Splice.{Splice, Allows, Fits, applied}
+use Rattle.textarea_text.specs.Text.{Symbol, characters_of, joined, lines, lines_of, text_of}
+use Rattle.textarea_text.specs.Touched.{lines_coming, lines_going}
+use Rattle.textarea_text.proofs.Replacing.{length-replaced}
+use Rattle.textarea_text.proofs.Sizes.{size_of_text, weight_inserted, weight_removed}
+use Rattle.textarea_wrap.specs.RowsView.{RowsView}
+use Rattle.textarea_map.specs.declared.layout.Wrapping.{Wrapping}
+use Rattle.textarea_map.specs.Layout.{AreRowsOf}
+use Rattle.textarea_lines.specs.declared.view.ViewSettings.{ViewSettings}
+use Rattle.textarea_lines.specs.Rows.{ticks_of}
+use Rattle.textarea_lines.specs.Screen.{LaidOut, Screen, changed_by, laid_anew, recut, replaced_in, seen_with, ticks_behind, wrapping_of}
+use Rattle.textarea_lines.specs.Stored.{IsStored, HoldsRows}
+use Rattle.textarea_lines.specs.Wrappings.{is_same, wrapping_for}
+use Rattle.textarea_lines.proofs.Layouts.{lines_of-replaced}
+use Rattle.textarea_lines.proofs.Stores.{count_held, lines_held, seen}
+
+-- the text of the new lines
+pub text_replaced : {Z : Type 0} (items new : List (String Z)) (row count : ℕ) → 0 < length items → text_of (replaced items row count new) ≡ joined (replaced (lines (text_of items)) row count (lines_of new))
+text_replaced items new row count some =
+    ap joined (lines_of-replaced items new row count ∙ ap (λ t. replaced t row count (lines_of new)) (sym (lines_held items some)))
+
+-- as `replace` leaves them
+pub record Replacing {Z : Type 0} (old lent kept now new : List (String Z)) (row count : ℕ) : Type 0 where
+  pub some : 0 < length old
+  pub lent_is : lent ≡ old
+  pub kept_is : kept ≡ old
+  pub now_is : now ≡ replaced kept row count new
+  pub within : row + count ≤ length old
+  pub new_some : 0 < length new
+
+pub now_as : {Z : Type 0} (old lent kept now new : List (String Z)) (row count : ℕ) → Replacing old lent kept now new row count → now ≡ replaced old row count new
+now_as old lent kept now new row count h = h.now_is ∙ ap (λ t. replaced t row count new) h.kept_is
+
+pub text_now : {Z : Type 0} (old lent kept now new : List (String Z)) (row count : ℕ) → Replacing old lent kept now new row count → text_of now ≡ joined (replaced (lines (text_of old)) row count (lines_of new))
+text_now old lent kept now new row count h = ap text_of (now_as old lent kept now new row count h) ∙ text_replaced old new row count h.some
+
+pub holds_replaced : {Z : Type 0} (view : ViewSettings) (old lent kept now new : List (String Z)) (row count size n : ℕ) (was rows : List RowsView) → Replacing old lent kept now new row count → n ≡ length new → AreRowsOf (wrapping_for view (length lent - count + n)) (lines_of (replaced lent row count new)) was → rows ≡ was → size ≡ weight (joined (replaced (lines (text_of old)) row count (lines_of new))) + 1 → size ≤ 2 ^ 48 → HoldsRows view now size rows
+holds_replaced view old lent kept now new row count size n was rows h n_is k rows_is size_is limit =
+    let is = now_as old lent kept now new row count h in
+    let long : length now ≡ length lent - count + n = omega (arith, ap length is, length-replaced old row count new h.within, h.within, n_is, ap length h.lent_is) in
+    let some : 0 < length now = omega (arith, ap length is, length-replaced old row count new h.within, h.within, h.new_some) in
+    record {
+      stored = record { some = some; size_is = omega (arith, size_is, size_of_text now some, ap weight (text_now old lent kept now new row count h)); limit = limit };
+      laid_out = subst (λ (t : List RowsView). AreRowsOf (wrapping_for view (length now)) (lines_of now) t) (sym rows_is)
+          (subst (λ m. AreRowsOf (wrapping_for view m) (lines_of now) was) (sym long)
+          (subst (λ (t : List (String _)). AreRowsOf (wrapping_for view (length lent - count + n)) (lines_of t) was) (ap (λ t. replaced t row count new) h.lent_is ∙ sym is) k));
+    }
+
+pub seen_replaced : {Z : Type 0} (view : ViewSettings) (old lent kept now new : List (String Z)) (row count n before was after : ℕ) (first rows prepared : List RowsView) → Replacing old lent kept now new row count → n ≡ length new → was ≡ before → record { view = view; count = after; ticks = ticks_of prepared } ≡ recut (record { view = view; count = was; ticks = ticks_of first }) (length lent) row count n → rows ≡ prepared → seen view now after rows ≡ replaced_in (seen view old before first) row count (lines_of new)
+seen_replaced view old lent kept now new row count n before was after first rows prepared h n_is was_is screen rows_is =
+    ap (λ (t : List Symbol). record { text = t; screen = record { view = view; count = after; ticks = ticks_of rows } }) (text_now old lent kept now new row count h)
+    ∙ ap (λ (s : Screen). record { text = text; screen = s }) screen_is
+  where
+    text : List Symbol
+    text = joined (replaced (lines (text_of old)) row count (lines_of new))
+
+    long : length lent ≡ length (lines (text_of old))
+    long = ap length h.lent_is ∙ sym (count_held old h.some)
+
+    coming : n ≡ length (lines_of new)
+    coming = n_is ∙ sym (length-map new characters_of)
+
+    screen_is : record { view = view; count = after; ticks = ticks_of rows } ≡ recut (record { view = view; count = before; ticks = ticks_of first }) (length (lines (text_of old))) row count (length (lines_of new))
+    screen_is =
+        ap (λ (t : List RowsView). record { view = view; count = after; ticks = ticks_of t }) rows_is
+        ∙ screen
+        ∙ ap (λ (m : ℕ). recut (record { view = view; count = m; ticks = ticks_of first }) (length lent) row count n) was_is
+        ∙ ap (λ (m : ℕ). recut (record { view = view; count = before; ticks = ticks_of first }) m row count n) long
+        ∙ ap (λ (m : ℕ). recut (record { view = view; count = before; ticks = ticks_of first }) (length (lines (text_of old))) row count m) coming
+
+-- ---- an edit
+
+-- the lines that an edit prepared are its change of the text
+pub made : {Z : Type 0} (laid : LaidOut) (items lent new : List (String Z)) (row count : ℕ) (splice : Splice) → 0 < length items → text_of items ≡ laid.text → lent ≡ items → text_of (replaced lent row count new) ≡ applied (text_of lent) splice → row ≡ splice.place.0 → row + count ≡ splice.place.0 + lines_going splice → length new ≡ lines_coming splice → replaced_in laid row count (lines_of new) ≡ changed_by laid splice
+made laid items lent new row count splice some is lent_is text at going coming =
+    let count_is : count ≡ lines_going splice = omega arith in
+    let coming_is : length (lines_of new) ≡ lines_coming splice = length-map new characters_of ∙ coming in
+    let text_is : joined (replaced (lines laid.text) row count (lines_of new)) ≡ applied laid.text splice =
+    ap (λ t. joined (replaced (lines t) row count (lines_of new))) (sym is)
+    ∙ sym (text_replaced items new row count some)
+    ∙ ap (λ t. text_of (replaced t row count new)) (sym lent_is)
+    ∙ text
+    ∙ ap (λ t. applied (text_of t) splice) lent_is
+    ∙ ap (λ t. applied t splice) is in
+    ap (λ (t : List Symbol). record { text = t; screen = recut laid.screen (length (lines laid.text)) row count (length (lines_of new)) }) text_is
+    ∙ ap (λ (m : ℕ). record { text = applied laid.text splice; screen = recut laid.screen (length (lines laid.text)) m count (length (lines_of new)) }) at
+    ∙ ap (λ (m : ℕ). record { text = applied laid.text splice; screen = recut laid.screen (length (lines laid.text)) splice.place.0 m (length (lines_of new)) }) count_is
+    ∙ ap (λ (m : ℕ). record { text = applied laid.text splice; screen = recut laid.screen (length (lines laid.text)) splice.place.0 (lines_going splice) m }) coming_is
+
+-- the size after an edit, of what its direction and its weight were told as
+pub size_made : {Z : Type 0} (items : List (String Z)) (text : List Symbol) (size after told : ℕ) (grows : Bool) (splice : Splice) → IsStored items size → text_of items ≡ text → Fits text splice → after ≡ cond grows (size + told) (size - told) → grows ≡ splice.inserts → told ≡ min (weight splice.symbols) (2 ^ 64 - 1) → after ≤ 2 ^ 48 → after ≡ weight (applied text splice) + 1
+size_made items text size after told grows splice stored is fits after_is grows_is told_is limit =
+    by splice.inserts fits.allowed (after_is ∙ ap (λ (b : Bool). cond b (size + told) (size - told)) grows_is)
+  where
+    was : size ≡ weight text + 1
+    was = stored.size_is ∙ size_of_text items stored.some ∙ ap (λ t. weight t + 1) is
+
+    by : (b : Bool) → Allows b text splice.place splice.symbols → after ≡ cond b (size + told) (size - told) → after ≡ weight (cond b (inserted text splice.place splice.symbols) (removed text splice.place splice.symbols)) + 1
+    by true allowed e = omega (arith, was, e, told_is, weight_inserted text splice.place splice.symbols, limit)
+    by false allowed e = omega (arith, was, e, told_is, weight_removed text splice.place splice.symbols allowed, stored.limit)
+
+-- ---- all lines
+
+-- some lines, all of which were cut
+pub laid_new : {Z : Type 0} (view : ViewSettings) (items lent : List (String Z)) (old count : ℕ) (rows : List RowsView) → 0 < length items → lent ≡ items → count ≡ old + length lent → ticks_of rows ≡ ticks_behind old (length lent) → seen view items count rows ≡ laid_anew view old (text_of items)
+laid_new view items lent old count rows some lent_is counted ticks =
+    let long : length lent ≡ length (lines (text_of items)) = ap length lent_is ∙ sym (count_held items some) in
+    ap (λ (n : ℕ). record { text = text_of items; screen = record { view = view; count = n; ticks = ticks_of rows } }) (counted ∙ ap (λ n. old + n) long)
+    ∙ ap (λ (t : List ℕ). record { text = text_of items; screen = record { view = view; count = old + length (lines (text_of items)); ticks = t } }) (ticks ∙ ap (ticks_behind old) long)
+
+-- how lines are cut before and after other settings
+pub record Reviewing {Z : Type 0} (old view : ViewSettings) (items : List (String Z)) (count : ℕ) (rows : List RowsView) (laid : LaidOut) (before after : Wrapping) : Type 0 where
+  pub some : 0 < length items
+  pub is : seen old items count rows ≡ laid
+  pub before_is : before ≡ wrapping_for old (length items)
+  pub after_is : after ≡ wrapping_for view (length items)
+
+pub test_is : {Z : Type 0} (old view : ViewSettings) (items : List (String Z)) (count : ℕ) (rows : List RowsView) (laid : LaidOut) (before after : Wrapping) → Reviewing old view items count rows laid before after → is_same (wrapping_for view (length (lines laid.text))) (wrapping_of laid) ≡ is_same after before
+test_is old view items count rows laid before after h =
+    ap (λ (l : LaidOut). is_same (wrapping_for view (length (lines l.text))) (wrapping_of l)) (sym h.is)
+    ∙ ap (λ n. is_same (wrapping_for view n) (wrapping_for old n)) (count_held items h.some)
+    ∙ ap (λ w. is_same w (wrapping_for old (length items))) (sym h.after_is)
+    ∙ ap (is_same after) (sym h.before_is)
+
+pub viewed_same : {Z : Type 0} (old view : ViewSettings) (items : List (String Z)) (count : ℕ) (rows : List RowsView) (laid : LaidOut) (before after : Wrapping) → Reviewing old view items count rows laid before after → is_same after before ≡ true → seen view items count rows ≡ seen_with laid view
+viewed_same old view items count rows laid before after h same =
+    ap (λ (l : LaidOut). record { text = l.text; screen = record { view = view; count = l.screen.count; ticks = l.screen.ticks } }) h.is
+    ∙ ap (λ (b : Bool). cond b (record { text = laid.text; screen = record { view = view; count = laid.screen.count; ticks = laid.screen.ticks } }) (laid_anew view laid.screen.count laid.text)) (sym (test_is old view items count rows laid before after h ∙ same))
+
+pub viewed_anew : {Z : Type 0} (old view : ViewSettings) (items : List (String Z)) (count now : ℕ) (rows new : List RowsView) (laid : LaidOut) (before after : Wrapping) → Reviewing old view items count rows laid before after → is_same after before ≡ false → seen view items now new ≡ laid_anew view count (text_of items) → seen view items now new ≡ seen_with laid view
+viewed_anew old view items count now rows new laid before after h differs e =
+    e
+    ∙ ap (λ (l : LaidOut). laid_anew view l.screen.count l.text) h.is
+    ∙ ap (λ (b : Bool). cond b (record { text = laid.text; screen = record { view = view; count = laid.screen.count; ticks = laid.screen.ticks } }) (laid_anew view laid.screen.count laid.text)) (sym (test_is old view items count rows laid before after h ∙ differs))

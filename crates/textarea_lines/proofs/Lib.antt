@@ -1,0 +1,5 @@
+mod Layouts
+mod Stores
+mod Preparing
+mod Changes
+mod WholeLines

@@ -1,0 +1,94 @@
+-- Rows that are prepared while the old ones stand: of some lines, or of all.
+use Rattle.std.proofs.Common.{◌≡◌, ℕ, ◌+◌, ◌-◌, Bool, true, false, cond, ◌==◌, ◌&&◌, List, length, sym, ap, refl, ◌∙◌, subst, String, Result, Ok, Err}
+use Rattle.std.specs.Result.{IfOk}
+use Rattle.std.proofs.lemmas.Bool.{eqb-true}
+use Rattle.textarea_text.specs.Replaced.{replaced}
+use Rattle.textarea_text.specs.Text.{lines_of}
+use Rattle.textarea_wrap.specs.RowsView.{RowsView}
+use Rattle.textarea_wrap.specs.declared.wrap.WrapMode.{WrapMode}
+use Rattle.textarea_wrap.specs.declared.wrap.WrapMode.TheVariants as mode
+use Rattle.textarea_map.specs.declared.layout.Wrapping.{Wrapping}
+use Rattle.textarea_map.specs.Layout.{AreRowsOf}
+use Rattle.textarea_map.proofs.Layouts.{AreRowsOf-replaced}
+use Rattle.textarea_lines.specs.declared.view.ViewSettings.{ViewSettings}
+use Rattle.textarea_lines.specs.Rows.{ticks_of}
+use Rattle.textarea_lines.specs.Screen.{Screen, all_cut, recut, some_cut, ticks_behind}
+use Rattle.textarea_lines.specs.Wrappings.{is_same, is_same_mode, wrapping_for}
+use Rattle.textarea_lines.proofs.Layouts.{lines_of-replaced, map-replaced, replaced_whole}
+
+-- what three clauses say together of a call that succeeded
+pub IfOk-from_three : {T E : Type 0} (r : Result T E) (P Q R S : T → Type 0) → ((x : T) → P x → Q x → R x → S x) → IfOk r P → IfOk r Q → IfOk r R → IfOk r S
+IfOk-from_three (Ok x) P Q R S f p q h = f x p q h
+IfOk-from_three (Err e) P Q R S f p q h = tt
+
+-- ---- the same wrapping
+
+left_of : (a b : Bool) → (a && b) ≡ true → a ≡ true
+left_of true b e = refl
+left_of false b e = e
+
+right_of : (a b : Bool) → (a && b) ≡ true → b ≡ true
+right_of true b e = e
+right_of false b e = absurd cc
+
+same_mode : (one other : WrapMode) → is_same_mode one other ≡ true → one ≡ other
+same_mode mode.None mode.None e = refl
+same_mode mode.Word mode.Word e = refl
+same_mode mode.Glyph mode.Glyph e = refl
+same_mode mode.WordOrGlyph mode.WordOrGlyph e = refl
+same_mode one other e = absurd cc
+
+pub same_wrapping : (one other : Wrapping) → is_same one other ≡ true → one ≡ other
+same_wrapping one other e =
+    let front = left_of (is_same_mode one.mode other.mode && (one.width == other.width)) (one.tab_len == other.tab_len) e in
+    let mode_is = same_mode one.mode other.mode (left_of (is_same_mode one.mode other.mode) (one.width == other.width) front) in
+    let width_is = eqb-true one.width other.width (right_of (is_same_mode one.mode other.mode) (one.width == other.width) front) in
+    let tab_is = eqb-true one.tab_len other.tab_len (right_of (is_same_mode one.mode other.mode && (one.width == other.width)) (one.tab_len == other.tab_len) e) in
+    ap (λ (m : WrapMode). record one { mode = m }) mode_is
+    ∙ ap (λ (n : ℕ). record one { mode = other.mode; width = n }) width_is
+    ∙ ap (λ (n : ℕ). record other { tab_len = n }) tab_is
+
+-- ---- rows
+
+-- rows that take the place of others, as a preparation has them
+prepared_as : (rows others cut : List RowsView) (at number row count : ℕ) → at ≡ row → number ≡ count → others ≡ cut → replaced rows at number others ≡ replaced rows row count cut
+prepared_as rows others cut at number row count at_is number_is others_is =
+    ap (λ n. replaced rows n number others) at_is ∙ ap (λ n. replaced rows row n others) number_is ∙ ap (replaced rows row count) others_is
+
+pub rows_of_some : {Z : Type 0} (was now after : Wrapping) (items new lent : List (String Z)) (row count at number : ℕ) (rows cut others : List RowsView) → after ≡ was → after ≡ now → AreRowsOf was (lines_of items) rows → lent ≡ new → AreRowsOf after (lines_of lent) cut → at ≡ row → number ≡ count → others ≡ cut → AreRowsOf now (lines_of (replaced items row count new)) (replaced rows at number others)
+rows_of_some was now after items new lent row count at number rows cut others same is h lent_is k at_is number_is others_is =
+    let changed : AreRowsOf after (replaced (lines_of items) row count (lines_of new)) (replaced rows row count cut) =
+    AreRowsOf-replaced after (lines_of items) (lines_of new) rows cut row count (subst (λ (w : Wrapping). AreRowsOf w (lines_of items) rows) (sym same) h) (subst (λ (t : List (String _)). AreRowsOf after (lines_of t) cut) lent_is k) in
+    subst (λ (w : Wrapping). AreRowsOf w (lines_of (replaced items row count new)) (replaced rows at number others)) is
+    (subst (λ (t : List RowsView). AreRowsOf after (lines_of (replaced items row count new)) t) (sym (prepared_as rows others cut at number row count at_is number_is others_is))
+    (subst (λ (t : List (List ℕ)). AreRowsOf after t (replaced rows row count cut)) (sym (lines_of-replaced items new row count)) changed))
+
+pub rows_of_all : (now after : Wrapping) (lines : List (List ℕ)) (n at number : ℕ) (rows cut others : List RowsView) → length rows ≡ n → after ≡ now → AreRowsOf after lines cut → at ≡ 0 → number ≡ n → others ≡ cut → AreRowsOf now lines (replaced rows at number others)
+rows_of_all now after lines n at number rows cut others size is k at_is number_is others_is =
+    subst (λ (w : Wrapping). AreRowsOf w lines (replaced rows at number others)) is
+    (subst (λ (t : List RowsView). AreRowsOf after lines t) (sym (prepared_as rows others cut at number 0 n at_is number_is others_is ∙ replaced_whole rows cut n size)) k)
+
+-- ---- what clauses see of them
+
+abbrev screen_at : ViewSettings → ℕ → List ℕ → Screen
+screen_at view count ticks = record { view = view; count = count; ticks = ticks }
+
+screen_is : (view : ViewSettings) (count count' : ℕ) (ticks ticks' : List ℕ) → count ≡ count' → ticks ≡ ticks' → screen_at view count ticks ≡ screen_at view count' ticks'
+screen_is view count count' ticks ticks' e e' = ap (λ (n : ℕ). screen_at view n ticks) e ∙ ap (λ (t : List ℕ). screen_at view count' t) e'
+
+pub screen_of_some : (view : ViewSettings) (old count n row going coming size at number : ℕ) (rows cut others : List RowsView) → is_same (wrapping_for view (n - going + coming)) (wrapping_for view n) ≡ true → count ≡ old + size → size ≡ coming → ticks_of cut ≡ ticks_behind old size → at ≡ row → number ≡ going → others ≡ cut → screen_at view count (ticks_of (replaced rows at number others)) ≡ recut (screen_at view old (ticks_of rows)) n row going coming
+screen_of_some view old count n row going coming size at number rows cut others same counted size_is ticks at_is number_is others_is =
+    screen_is view count (old + coming) (ticks_of (replaced rows at number others)) (replaced (ticks_of rows) row going (ticks_behind old coming))
+    (counted ∙ ap (λ m. old + m) size_is)
+    (ap ticks_of (prepared_as rows others cut at number row going at_is number_is others_is)
+    ∙ map-replaced (λ (r : RowsView). r.tick) rows cut row going
+    ∙ ap (replaced (ticks_of rows) row going) (ticks ∙ ap (ticks_behind old) size_is))
+    ∙ ap (λ (b : Bool). cond b (some_cut (screen_at view old (ticks_of rows)) row going coming) (all_cut view old (n - going + coming))) (sym same)
+
+pub screen_of_all : (view : ViewSettings) (old count n row going coming size at number : ℕ) (rows cut others : List RowsView) → is_same (wrapping_for view (n - going + coming)) (wrapping_for view n) ≡ false → length rows ≡ n → count ≡ old + size → size ≡ n - going + coming → ticks_of cut ≡ ticks_behind old size → at ≡ 0 → number ≡ n → others ≡ cut → screen_at view count (ticks_of (replaced rows at number others)) ≡ recut (screen_at view old (ticks_of rows)) n row going coming
+screen_of_all view old count n row going coming size at number rows cut others differs long counted size_is ticks at_is number_is others_is =
+    screen_is view count (old + (n - going + coming)) (ticks_of (replaced rows at number others)) (ticks_behind old (n - going + coming))
+    (counted ∙ ap (λ m. old + m) size_is)
+    (ap ticks_of (prepared_as rows others cut at number 0 n at_is number_is others_is ∙ replaced_whole rows cut n long)
+    ∙ ticks ∙ ap (ticks_behind old) size_is)
+    ∙ ap (λ (b : Bool). cond b (some_cut (screen_at view old (ticks_of rows)) row going coming) (all_cut view old (n - going + coming))) (sym differs)

@@ -1,0 +1,129 @@
+-- Lines that are stored: how far a place can be, when the text is empty, and their size after a change.
+use Rattle.std.proofs.Common.{◌≡◌, ◌≢◌, ℕ, zero, suc, ◌+◌, ◌<◌, ◌≤◌, ◌^◌, Bool, true, false, cond, List, [], ◌∷◌, ◌++◌, length, sym, ap, refl, ◌∙◌, arith, get_or, subst, String, string_bytes, encode_utf8_all}
+use Rattle.std.specs.String.{string_len}
+use Rattle.std.specs.Str.{chars}
+use Rattle.std.proofs.lemmas.Str.{IsUtf8-string_bytes, length-le-encodes, encodes-chars, chars-nil}
+use Rattle.std.proofs.lemmas.List.{append-nil, length-append, length-map, nil_from_length}
+use Rattle.textarea_text.specs.Text.{characters, following, characters_of, joined, lines, lines_of, text_of}
+use Rattle.textarea_text.specs.Place.{Place, IsPlace}
+use Rattle.textarea_text.specs.Size.{size_of, weight}
+use Rattle.textarea_text.proofs.Sizes.{length-le-size_of, size_of_text}
+use Rattle.textarea_text.proofs.Splices.{length-characters, lines-joined}
+use Rattle.textarea_text.proofs.StringRows.{row_within, rows_place}
+use Rattle.textarea_wrap.specs.RowsView.{RowsView}
+use Rattle.textarea_map.specs.Layout.{AreRowsOf}
+use Rattle.textarea_map.specs.Seen.{IsSeenAt}
+use Rattle.textarea_lines.specs.declared.view.ViewSettings.{ViewSettings}
+use Rattle.textarea_lines.specs.Wrappings.{cut_at_width, is_wrapped, whole_lines, wrapping_for}
+use Rattle.textarea_lines.specs.Rows.{IsLaidOutAs, ticks_of}
+use Rattle.textarea_lines.specs.Screen.{LaidOut}
+use Rattle.textarea_lines.specs.Stored.{IsStored, HoldsRows}
+
+-- ---- the empty text
+
+characters_of-nil : {Z : Type 0} (s : String Z) → string_bytes s ≡ [] → characters_of s ≡ []
+characters_of-nil s e = ap chars e ∙ chars-nil
+
+string_len-nil : {Z : Type 0} (s : String Z) → characters_of s ≡ [] → string_len s ≡ 0
+string_len-nil s e = omega (arith, s.bytes.ok.0, ap length (sym (encodes-chars (string_bytes s) (IsUtf8-string_bytes s)) ∙ ap encode_utf8_all e))
+
+text_of-one : {Z : Type 0} (s : String Z) → characters_of s ≡ [] → text_of (s ∷ []) ≡ []
+text_of-one s e = append-nil (characters (characters_of s)) ∙ ap characters e
+
+text_of-one_nil : {Z : Type 0} (s : String Z) → text_of (s ∷ []) ≡ [] → characters_of s ≡ []
+text_of-one_nil s e = nil_from_length (characters_of s) (omega (arith, length-characters (characters_of s), ap length (sym (append-nil (characters (characters_of s))) ∙ e)))
+
+-- the text is empty where its one line is
+pub empty_text : {Z : Type 0} (items : List (String Z)) (s : String Z) → length items ≡ 1 → s ≡ get_or items 0 s → (string_len s ≡ 0 → text_of items ≡ []) × (text_of items ≡ [] → string_len s ≡ 0)
+empty_text [] s one e = absurd (omega arith)
+empty_text (a ∷ []) s one e = (
+  (λ none. text_of-one a (ap characters_of (sym e) ∙ characters_of-nil s (nil_from_length (string_bytes s) (omega (arith, s.bytes.ok.0))))),
+  (λ none. string_len-nil s (ap characters_of e ∙ text_of-one_nil a none)),
+)
+empty_text (a ∷ b ∷ rest) s one e = absurd (omega arith)
+
+pub text_of-many : {Z : Type 0} (items : List (String Z)) → length items ≢ 1 → 0 < length items → text_of items ≢ []
+text_of-many [] apart some = absurd (omega arith)
+text_of-many (a ∷ []) apart some = absurd (apart refl)
+text_of-many (a ∷ b ∷ rest) apart some = λ e. omega (arith, ap length e, length-append (characters (characters_of a)) (following (lines_of (b ∷ rest))))
+
+-- one empty line holds what no line holds
+pub text_of_empty : {Z : Type 0} (lines old : List (String Z)) (line : String Z) → lines ≡ old ++ line ∷ [] → length old ≡ 0 → string_bytes line ≡ [] → text_of lines ≡ text_of old
+text_of_empty lines old line is none e =
+    let nil : old ≡ [] = nil_from_length old none in
+    ap text_of (is ∙ ap (λ t. t ++ line ∷ []) nil) ∙ ap (λ t. characters t ++ []) (ap chars e ∙ chars-nil) ∙ ap text_of (sym nil)
+
+-- ---- places
+
+-- a line's bytes are part of the size
+pub bytes_in_size : {Z : Type 0} (items : List (String Z)) (row : ℕ) → row < length items → length (encode_utf8_all (get_or (lines_of items) row [])) + 1 ≤ size_of items
+bytes_in_size [] row within = absurd (omega arith)
+bytes_in_size (s ∷ items) zero within = omega (arith, ap length (encodes-chars (string_bytes s) (IsUtf8-string_bytes s)), s.bytes.ok.0)
+bytes_in_size (s ∷ items) (suc row) within = omega (arith, bytes_in_size items row (omega arith))
+
+pub small_place : {Z : Type 0} (items : List (String Z)) (size : ℕ) (place : Place) → IsStored items size → IsPlace (text_of items) place → (place.0 < 2 ^ 48) × (place.1 ≤ 2 ^ 48)
+small_place items size place stored h =
+    let p = rows_place items place stored.some h in
+    let row : place.0 < length items = row_within items place p in (
+      omega (arith, row, length-le-size_of items, stored.size_is, stored.limit),
+      omega (arith, p.1, length-le-encodes (get_or (lines_of items) place.0 []), bytes_in_size items place.0 row, stored.size_is, stored.limit),
+    )
+
+-- ---- the lines of the text are those that are kept
+
+pub lines_held : {Z : Type 0} (items : List (String Z)) → 0 < length items → lines (text_of items) ≡ lines_of items
+lines_held items some = lines-joined (lines_of items) (omega (arith, length-map items characters_of))
+
+pub count_held : {Z : Type 0} (items : List (String Z)) → 0 < length items → length (lines (text_of items)) ≡ length items
+count_held items some = ap length (lines_held items some) ∙ length-map items characters_of
+
+-- what clauses see of some lines with their rows
+abbrev pub seen : {Z : Type 0} → ViewSettings → List (String Z) → ℕ → List RowsView → LaidOut
+seen view items count rows = record { text = text_of items; screen = record { view = view; count = count; ticks = ticks_of rows } }
+
+-- the rows that are kept are those of the text
+pub laid_out_as : {Z : Type 0} (view : ViewSettings) (items : List (String Z)) (size count : ℕ) (rows : List RowsView) (laid : LaidOut) → HoldsRows view items size rows → seen view items count rows ≡ laid → IsLaidOutAs laid rows
+laid_out_as view items size count rows laid h is =
+    subst (λ (l : LaidOut). IsLaidOutAs l rows) is
+    (record {
+      laid_out = subst (λ (t : List (List ℕ)). AreRowsOf (wrapping_for view (length t)) t rows) (sym (lines_held items h.stored.some))
+          (subst (λ n. AreRowsOf (wrapping_for view n) (lines_of items) rows) (sym (length-map items characters_of)) h.laid_out);
+      ticks = refl;
+    })
+
+-- the columns between tab stops are the view's, wrapped or not
+pub tab_len_of : (view : ViewSettings) (n : ℕ) → (wrapping_for view n).tab_len ≡ view.tab_len
+tab_len_of view n = by (is_wrapped view)
+  where
+    by : (b : Bool) → (cond b (cut_at_width view n) (whole_lines view)).tab_len ≡ view.tab_len
+    by true = refl
+    by false = refl
+
+-- a place is seen in the text where it is seen in the lines
+pub seen_place : {Z : Type 0} (view : ViewSettings) (items lent : List (String Z)) (count : ℕ) (rows : List RowsView) (laid : LaidOut) (place found : Place) (tab_len : ℕ) → 0 < length items → lent ≡ items → tab_len ≡ view.tab_len → seen view items count rows ≡ laid → IsSeenAt tab_len (lines_of lent) rows place found → IsSeenAt laid.screen.view.tab_len (lines laid.text) rows place found
+seen_place view items lent count rows laid place found tab_len some lent_is tab is h =
+    subst (λ (l : LaidOut). IsSeenAt l.screen.view.tab_len (lines l.text) rows place found) is
+    (subst (λ (t : List (List ℕ)). IsSeenAt view.tab_len t rows place found) (ap lines_of lent_is ∙ sym (lines_held items some))
+    (subst (λ n. IsSeenAt n (lines_of lent) rows place found) tab h))
+
+-- copies of the lines, with the same rows
+pub holds_copied : {Z : Type 0} (view : ViewSettings) (old copies : List (String Z)) (size : ℕ) (rows again : List RowsView) → HoldsRows view old size rows → lines_of copies ≡ lines_of old → again ≡ rows → HoldsRows view copies size again
+holds_copied view old copies size rows again h e rows_are =
+    let long : length copies ≡ length old = omega (arith, length-map copies characters_of, length-map old characters_of, ap length e) in
+    let some : 0 < length copies = omega (arith, long, h.stored.some) in
+    record {
+      stored = record {
+        some = some;
+        size_is = omega (arith, h.stored.size_is, size_of_text old h.stored.some, size_of_text copies some, ap (λ t. weight (joined t)) e);
+        limit = h.stored.limit;
+      };
+      laid_out = subst (λ (t : List RowsView). AreRowsOf (wrapping_for view (length copies)) (lines_of copies) t) (sym rows_are)
+          (subst (λ (t : List (List ℕ)). AreRowsOf (wrapping_for view (length copies)) t rows) (sym e)
+          (subst (λ n. AreRowsOf (wrapping_for view n) (lines_of old) rows) (sym long) h.laid_out));
+    }
+
+pub seen_copied : {Z : Type 0} (view : ViewSettings) (old copies : List (String Z)) (count again : ℕ) (rows others : List RowsView) → lines_of copies ≡ lines_of old → again ≡ count → others ≡ rows → seen view copies again others ≡ seen view old count rows
+seen_copied view old copies count again rows others e count_is rows_are =
+    ap (λ (t : List (List ℕ)). record { text = joined t; screen = record { view = view; count = again; ticks = ticks_of others } }) e
+    ∙ ap (λ (n : ℕ). record { text = text_of old; screen = record { view = view; count = n; ticks = ticks_of others } }) count_is
+    ∙ ap (λ (t : List RowsView). record { text = text_of old; screen = record { view = view; count = count; ticks = ticks_of t } }) rows_are

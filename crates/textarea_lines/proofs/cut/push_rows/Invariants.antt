@@ -1,0 +1,12 @@
+use Rattle.std.proofs.Common.{◌≡◌, ◌+◌, ◌++◌, ℕ, List, take}
+use Rattle.textarea_text.specs.Text.{lines_of}
+use Rattle.textarea_map.specs.Layout.{AreRowsOf}
+use Rattle.textarea_lines.specs.Rows.{ticks_of}
+use Rattle.textarea_lines.specs.Screen.{ticks_behind}
+use Rattle.textarea_lines.proofs.cut.push_rows.Given as goal
+
+abbrev pub invariant-loop-i : goal.invariant-loop-i
+invariant-loop-i l =
+    (l.count ≡ l.initial.count + l.i)
+    × ((before : List (List ℕ)) → AreRowsOf l.wrapping before l.initial.rows.items → AreRowsOf l.wrapping (before ++ take l.i (lines_of l.lines)) l.rows.items)
+    × (ticks_of l.rows.items ≡ ticks_of l.initial.rows.items ++ ticks_behind l.initial.count l.i)

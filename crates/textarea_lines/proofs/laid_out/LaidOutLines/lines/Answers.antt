@@ -1,0 +1,16 @@
+use Rattle.std.proofs.Common.{◌∙◌, sym, ap, subst}
+use Rattle.textarea_text.specs.Text.{lines, lines_of}
+use Rattle.textarea_text.specs.Place.{IsPlace}
+use Rattle.textarea_lines.specs.Screen.{LaidOut}
+use Rattle.textarea_lines.proofs.Stores.{lines_held, small_place}
+use Rattle.textarea_lines.proofs.laid_out.LaidOutLines.lines.Goals as goal
+
+pub returns-clause-lines : goal.returns-clause-lines
+returns-clause-lines c =
+    ap lines_of c.as_slice.ensures.value
+    ∙ sym (lines_held c.self.inside.lines.items c.self.invariant.stored.some)
+    ∙ ap (λ (s : LaidOut). lines s.text) c.self.view_is
+
+pub returns-clause-small : goal.returns-clause-small
+returns-clause-small c = λ place h.
+    small_place c.self.inside.lines.items c.self.inside.size place c.self.invariant.stored (subst (λ (s : LaidOut). IsPlace s.text place) (sym c.self.view_is) h)

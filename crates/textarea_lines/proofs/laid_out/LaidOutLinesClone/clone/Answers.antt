@@ -1,0 +1,18 @@
+use Rattle.std.proofs.Common.{◌∙◌}
+use Rattle.textarea_history.proofs.Copies.{lines_copied}
+use Rattle.textarea_lines.proofs.Stores.{holds_copied, seen_copied}
+use Rattle.textarea_lines.proofs.laid_out.LaidOutLinesClone.clone.Goals as goal
+
+pub invariant_of-result : goal.invariant_of-result
+invariant_of-result c =
+    let inside = c.self.inside in
+    let copies = c.in_ok-clone.field-0.items in
+    holds_copied inside.view inside.lines.items copies inside.size inside.map.rows c.in_ok-clone-2.field-0.rows c.self.invariant (lines_copied inside.lines.items copies c.in_ok-clone.ensures.cases.0) c.in_ok-clone-2.ensures.cases
+
+pub returns : goal.returns
+returns c =
+    let inside = c.self.inside in
+    let copies = c.in_ok-clone.field-0.items in
+    record {
+      cases = seen_copied inside.view inside.lines.items copies inside.count c.in_ok-clone-3.field-0 inside.map.rows c.in_ok-clone-2.field-0.rows (lines_copied inside.lines.items copies c.in_ok-clone.ensures.cases.0) c.in_ok-clone-3.ensures.cases c.in_ok-clone-2.ensures.cases ∙ c.self.view_is;
+    }

@@ -1,0 +1,4 @@
+pub mod Wrappings
+pub mod Screen
+pub mod Stored
+pub mod Rows

@@ -1,0 +1,19 @@
+-- What holds of all lines with their rows.
+use Rattle.std.specs.Prelude.{◌≡◌, ℕ, ◌^◌, ◌<◌, ◌≤◌, List, length, String}
+use Rattle.textarea_text.specs.Text.{lines_of}
+use Rattle.textarea_text.specs.Size.{size_of}
+use Rattle.textarea_wrap.specs.RowsView.{RowsView}
+use Rattle.textarea_map.specs.Layout.{AreRowsOf}
+use Rattle.textarea_lines.specs.declared.view.ViewSettings.{ViewSettings}
+use Rattle.textarea_lines.specs.Wrappings.{wrapping_for}
+
+-- there is a line; the bytes and the lines, summed, are the size that is kept, and at most 2^48
+pub record IsStored {Z : Type 0} (lines : List (String Z)) (size : ℕ) : Type 0 where
+  pub some : 0 < length lines
+  pub size_is : size ≡ size_of lines
+  pub limit : size ≤ 2 ^ 48
+
+-- the lines are stored, and the rows are right for them as they stand
+pub record HoldsRows {Z : Type 0} (view : ViewSettings) (lines : List (String Z)) (size : ℕ) (rows : List RowsView) : Type 0 where
+  pub stored : IsStored lines size
+  pub laid_out : AreRowsOf (wrapping_for view (length lines)) (lines_of lines) rows

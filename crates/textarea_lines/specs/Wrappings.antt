@@ -1,0 +1,45 @@
+-- How a text of so many lines is cut into rows.
+use Rattle.std.specs.Prelude.{ℕ, ◌==◌, ◌&&◌, Bool, true, false, not, unwrap_or, if◌then◌else◌}
+use Rattle.textarea_wrap.specs.declared.wrap.WrapMode.{WrapMode}
+use Rattle.textarea_wrap.specs.declared.wrap.WrapMode.TheVariants as mode
+use Rattle.textarea_wrap.specs.Layout.{columns_for_rows, line_number_columns}
+use Rattle.textarea_map.specs.declared.layout.Wrapping.{Wrapping}
+use Rattle.textarea_lines.specs.declared.view.ViewSettings.{ViewSettings}
+
+-- whether a mode wraps: each but `None`
+abbrev pub wraps : WrapMode → Bool
+wraps mode.None = false
+wraps mode.Word = true
+wraps mode.Glyph = true
+wraps mode.WordOrGlyph = true
+
+-- lines are wrapped where the mode wraps and the inner area has a column
+abbrev pub is_wrapped : ViewSettings → Bool
+is_wrapped view = not (view.inner_width == 0) && wraps view.mode
+
+-- One row a line. The width counts for nothing there, and is 1, so that this is one value however many lines there are.
+abbrev pub whole_lines : ViewSettings → Wrapping
+whole_lines view = record { mode = mode.None; width = 1; tab_len = view.tab_len }
+
+-- at the width that is left for rows beside line numbers of so many lines (there is one in each mode that wraps)
+abbrev pub cut_at_width : ViewSettings → ℕ → Wrapping
+cut_at_width view line_count = record {
+  mode = view.mode;
+  width = unwrap_or (columns_for_rows view.mode view.inner_width (line_number_columns view.line_numbers line_count)) 1;
+  tab_len = view.tab_len;
+}
+
+-- how a text of so many lines is cut
+abbrev pub wrapping_for : ViewSettings → ℕ → Wrapping
+wrapping_for view line_count = if is_wrapped view then cut_at_width view line_count else whole_lines view
+
+abbrev pub is_same_mode : WrapMode → WrapMode → Bool
+is_same_mode mode.None mode.None = true
+is_same_mode mode.Word mode.Word = true
+is_same_mode mode.Glyph mode.Glyph = true
+is_same_mode mode.WordOrGlyph mode.WordOrGlyph = true
+is_same_mode one other = false
+
+-- lines are cut in the same way: all three parts are equal
+abbrev pub is_same : Wrapping → Wrapping → Bool
+is_same one other = is_same_mode one.mode other.mode && (one.width == other.width) && (one.tab_len == other.tab_len)

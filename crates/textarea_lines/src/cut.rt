@@ -1,0 +1,168 @@
+//! Rows of some lines, cut one after the other.
+ghost use Rattle.std.specs.Prelude.{◌≡◌, ◌+◌, ◌-◌, ◌^◌, ◌<◌, ◌≤◌, ◌++◌, List, ℕ, [], encode_utf8_all, get_or, length, vec_capacity, vec_len, IfOk, OnOk};
+ghost use Rattle.textarea_text.specs.Replaced.{replaced};
+ghost use Rattle.textarea_text.specs.Text.{lines_of};
+ghost use Rattle.textarea_map.specs.Layout.{AreRowsOf};
+ghost use Rattle.textarea_map.specs.Map.{IsReady, ranges_at, row_total};
+ghost use Rattle.textarea_lines.specs.Rows.{HasWholeLine, ticks_of};
+ghost use Rattle.textarea_lines.specs.Screen.{recut, ticks_behind};
+ghost use Rattle.textarea_lines.specs.Wrappings.{wrapping_for};
+
+use crate::view::{ViewSettings, is_same, wrapping_for};
+use std::alloc::{AllocError, Global};
+use textarea_map::layout::Wrapping;
+use textarea_map::screen_map::{PreparedRows, ScreenMap};
+use textarea_text::rows::Replacement;
+use textarea_wrap::wrap::{Rows, WrapCount, WrapMode, line_ranges};
+
+// Cuts the lines, and puts their rows behind those of the lines before them. Each line adds one to `count`.
+pub(crate) fn push_rows(
+    alloc: Global,
+    rows: &mut Vec<Rows>,
+    lines: &[String],
+    wrapping: Wrapping,
+    count: &mut WrapCount,
+) -> Result<(), AllocError>
+    ensures counted { OnOk result (count.new ≡ count.old + length lines.now) }
+    ensures rows { (before : List (List ℕ)) → AreRowsOf wrapping before rows.old.items
+        → OnOk result (AreRowsOf wrapping (before ++ lines_of lines.now) rows.new.items) }
+    ensures ticks { OnOk result (ticks_of rows.new.items ≡ ticks_of rows.old.items ++ ticks_behind count.old (length lines.now)) }
+{
+    for i in 0..lines.len() {
+        let cut = line_ranges(
+            alloc,
+            lines[i].as_str(),
+            wrapping.mode,
+            wrapping.width,
+            wrapping.tab_len,
+            count,
+        )?;
+        rows.push(cut)?;
+    }
+    Ok(())
+}
+
+// The rows of all these lines.
+pub(crate) fn rows_of(
+    alloc: Global,
+    lines: &[String],
+    wrapping: Wrapping,
+    count: &mut WrapCount,
+) -> Result<Vec<Rows>, AllocError>
+    ensures counted { OnOk result (count.new ≡ count.old + length lines.now) }
+    ensures rows { IfOk result (λ rows. AreRowsOf wrapping (lines_of lines.now) rows.items) }
+    ensures ticks { IfOk result (λ rows. ticks_of rows.items ≡ ticks_behind count.old (length lines.now)) }
+{
+    let mut rows = Vec::with_capacity(alloc, lines.len())?;
+    push_rows(alloc, &mut rows, lines, wrapping, count)?;
+    Ok(rows)
+}
+
+// The rows of all lines after the replacement: of those above it, of its lines, and of those below it.
+pub(crate) fn rows_after(
+    alloc: Global,
+    lines: &[String],
+    change: &Replacement,
+    wrapping: Wrapping,
+    count: &mut WrapCount,
+) -> Result<Vec<Rows>, AllocError>
+    requires { change.now.row + change.now.count ≤ length lines.now }
+    ensures counted { OnOk result (count.new ≡ count.old + (length lines.now - change.now.count + vec_len change.now.lines)) }
+    ensures rows { IfOk result (λ rows. AreRowsOf wrapping
+        (lines_of (replaced lines.now change.now.row change.now.count change.now.lines.items)) rows.items) }
+    ensures ticks { IfOk result (λ rows. ticks_of rows.items
+        ≡ ticks_behind count.old (length lines.now - change.now.count + vec_len change.now.lines)) }
+{
+    let new = change.lines.as_slice();
+    let mut rows = Vec::with_capacity(alloc, lines.len() - change.count + new.len())?;
+    push_rows(alloc, &mut rows, &lines[..change.row], wrapping, count)?;
+    push_rows(alloc, &mut rows, new, wrapping, count)?;
+    let below = &lines[change.row + change.count..];
+    push_rows(alloc, &mut rows, below, wrapping, count)?;
+    Ok(rows)
+}
+
+// The map of the lines, each of which is cut once.
+pub(crate) fn map_of(
+    alloc: Global,
+    lines: &[String],
+    wrapping: Wrapping,
+    count: &mut WrapCount,
+) -> Result<ScreenMap, AllocError>
+    ensures counted { OnOk result (count.new ≡ count.old + length lines.now) }
+    ensures rows { IfOk result (λ map. AreRowsOf wrapping (lines_of lines.now) map.rows) }
+    ensures ticks { IfOk result (λ map. ticks_of map.rows ≡ ticks_behind count.old (length lines.now)) }
+{
+    let rows = rows_of(alloc, lines, wrapping, count)?;
+    let mut map = ScreenMap::new(alloc, &[], wrapping, &mut WrapCount::new())?;
+    let prepared = map.make_room(0, 0, rows)?;
+    map.put_in(prepared);
+    Ok(map)
+}
+
+// The rows for the lines after the replacement: those of its lines, or of all lines where their number changes how they are
+// cut.
+pub(crate) fn prepare_rows(
+    alloc: Global,
+    map: &mut ScreenMap,
+    lines: &[String],
+    change: &Replacement,
+    view: ViewSettings,
+    count: &mut WrapCount,
+) -> Result<PreparedRows, AllocError>
+    requires rows { AreRowsOf (wrapping_for view (length lines.now)) (lines_of lines.now) map.old.rows }
+    requires within { change.now.row + change.now.count ≤ length lines.now }
+    requires few { length lines.now + vec_len change.now.lines < 2 ^ 63 }
+    ensures same { map.new.rows ≡ map.old.rows }
+    ensures ready { IfOk result (λ prepared. IsReady map.new prepared) }
+    ensures rows { IfOk result (λ prepared.
+        AreRowsOf (wrapping_for view (length lines.now - change.now.count + vec_len change.now.lines))
+        (lines_of (replaced lines.now change.now.row change.now.count change.now.lines.items))
+        (replaced map.old.rows prepared.row prepared.count prepared.rows.items)) }
+    ensures screen { IfOk result (λ prepared.
+        (record { view = view; count = count.new; ticks = ticks_of (replaced map.old.rows prepared.row prepared.count prepared.rows.items) })
+        ≡ recut (record { view = view; count = count.old; ticks = ticks_of map.old.rows })
+        (length lines.now) change.now.row change.now.count (vec_len change.now.lines)) }
+{
+    let new = change.lines.as_slice();
+    let before = wrapping_for(view, lines.len());
+    let after = wrapping_for(view, lines.len() - change.count + new.len());
+    if is_same(after, before) {
+        let rows = rows_of(alloc, new, after, count)?;
+        return map.make_room(change.row, change.count, rows);
+    }
+    let rows = rows_after(alloc, lines, change, after, count)?;
+    map.make_room(0, lines.len(), rows)
+}
+
+// Cuts a line that isn't wrapped, and puts its row in the place of the one that it had; `rows` has room for it, so this takes
+// no memory.
+pub(crate) fn put_whole_line(
+    alloc: Global,
+    map: &mut ScreenMap,
+    mut rows: Vec<Rows>,
+    lines: &[String],
+    row: usize,
+    tab_len: u8,
+    count: &mut WrapCount,
+)
+    requires empty { vec_len rows ≡ 0 }
+    requires room { 1 ≤ vec_capacity rows }
+    requires within { row < length lines.now }
+    requires short { length (encode_utf8_all (get_or (lines_of lines.now) row [])) < 2 ^ 48 }
+    requires same { length map.old.rows ≡ length lines.now }
+    requires one { length (ranges_at map.old.rows row) ≡ 1 }
+    requires few { row_total map.old.rows ≤ 2 ^ 48 }
+    ensures rows { HasWholeLine tab_len (get_or (lines_of lines.now) row []) row (count.old + 1) map.old.rows map.new.rows }
+    ensures counted { count.new ≡ count.old + 1 }
+{
+    let line = lines[row].as_str();
+    let cut = line_ranges(alloc, line, WrapMode::None, 1, tab_len, count).unwrap();
+    let _ = rows.push(cut);
+    map.put_in(PreparedRows {
+        row,
+        count: 1,
+        rows,
+        total: 1,
+    });
+}

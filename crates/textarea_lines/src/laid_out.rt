@@ -1,0 +1,345 @@
+//! The lines of a text with their visual rows, kept line by line.
+ghost use Rattle.std.specs.Prelude.{◌≡◌, ◌+◌, ◌-◌, ◌<◌, ◌≤◌, ◌^◌, ◌↔◌, [], length, vec_len, false, true, IfOk, IsOk, IsTrue, OnErr, OnOk, if◌then◌else◌};
+ghost use Rattle.textarea_text.specs.Place.{Place, IsPlace};
+ghost use Rattle.textarea_text.specs.Size.{size_of, weight};
+ghost use Rattle.textarea_text.specs.Splice.{Fits, applied, inverse};
+ghost use Rattle.textarea_text.specs.Text.{lines, lines_of, text_of};
+ghost use Rattle.textarea_text.specs.Touched.{breaks_of};
+ghost use Rattle.textarea_history.specs.Edit.{IsWellFormed};
+ghost use Rattle.textarea_map.specs.Map.{row_total};
+ghost use Rattle.textarea_map.specs.Seen.{IsSeenAt};
+ghost use Rattle.textarea_lines.specs.Rows.{OfRows};
+ghost use Rattle.textarea_lines.specs.Screen.{changed_by, laid_anew, replaced_in, seen_with, wrapping_of};
+ghost use Rattle.textarea_lines.specs.Wrappings.{is_same, is_wrapped, wrapping_for};
+
+use crate::cut::{map_of, prepare_rows, put_whole_line};
+use crate::view::{ViewSettings, is_same, is_wrapped, wrapping_for};
+use std::alloc::{AllocError, Global};
+use std::marker::Model;
+use textarea_history::edit::Edit;
+use textarea_map::screen_map::ScreenMap;
+use textarea_text::rows;
+use textarea_text::rows::Replacement;
+use textarea_wrap::wrap::WrapCount;
+
+/// The most bytes and lines together that are held; what would grow past that is answered as out of memory.
+const MAX_SIZE: usize = 0x1_0000_0000_0000;
+
+/// Lines of text, one at least, and the rows into which each is cut. A change cuts the lines that it touches, and all lines
+/// only where the number of lines changes how they are cut.
+///
+/// Rows and columns count from 0, columns in characters. A call that runs out of memory leaves all as it was.
+#[derive(Drop)]
+pub struct LaidOutLines {
+    lines: Vec<String>,
+    size: usize,
+    map: ScreenMap,
+    count: WrapCount,
+    view: ViewSettings,
+}
+
+impl Model for LaidOutLines {
+    ghost use Rattle.textarea_text.specs.Text.{text_of};
+    ghost use Rattle.textarea_lines.specs.Screen.{LaidOut};
+
+    ghost Value = { LaidOut };
+
+    ghost use Rattle.textarea_lines.specs.Rows.{ticks_of};
+    ghost use Rattle.textarea_lines.specs.Stored.{HoldsRows};
+
+    ghost view = { λ laid. record { text = text_of laid.lines.items; screen = record { view = laid.view; count = laid.count; ticks = ticks_of laid.map.rows } } };
+
+    ghost invariant = { λ laid. HoldsRows laid.view laid.lines.items laid.size laid.map.rows };
+}
+
+impl Clone for LaidOutLines {
+    ghost is_clone = { λ laid copy. copy ≡ laid };
+
+    /// The same lines with the same rows, or an error where there is no memory for them. No line is cut.
+    fn clone(&self) -> Result<LaidOutLines, AllocError> {
+        Ok(LaidOutLines {
+            lines: self.lines.clone()?,
+            size: self.size,
+            map: self.map.clone()?,
+            count: self.count.clone()?,
+            view: self.view,
+        })
+    }
+}
+
+impl LaidOutLines {
+    /// These lines, seen under the settings; no line at all becomes one empty line. A line feed inside a line stays a
+    /// character of that line. Each line is cut once.
+    pub fn new(
+        alloc: Global,
+        mut lines: Vec<String>,
+        view: ViewSettings,
+    ) -> Result<LaidOutLines, AllocError>
+        ensures { IfOk result (λ laid. laid ≡ laid_anew view 0 (text_of lines.items)) }
+    {
+        if lines.is_empty() {
+            lines.push(String::new(alloc))?;
+        }
+        LaidOutLines::lay_out(lines, view, WrapCount::new())
+    }
+
+    // The lines, cut anew where the count stands.
+    fn lay_out(
+        lines: Vec<String>,
+        view: ViewSettings,
+        mut count: WrapCount,
+    ) -> Result<LaidOutLines, AllocError>
+        requires { 0 < vec_len lines }
+        ensures { IfOk result (λ laid. laid ≡ laid_anew view count (text_of lines.items)) }
+    {
+        let size = rows::size_of(lines.as_slice());
+        if MAX_SIZE < size {
+            return Err(AllocError);
+        }
+        let wrapping = wrapping_for(view, lines.len());
+        let map = map_of(*lines.allocator(), lines.as_slice(), wrapping, &mut count)?;
+        Ok(LaidOutLines {
+            lines,
+            size,
+            map,
+            count,
+            view,
+        })
+    }
+
+    /// The lines, one at least. Their bytes and their number together are at most 2^48, so the row of a place is less than
+    /// 2^48 and its column at most that.
+    pub fn lines(&self) -> &[String]
+        ensures value { text_of result.now ≡ self.now.text }
+        ensures lines { lines_of result.now ≡ lines self.now.text }
+        ensures some { 0 < length result.now }
+        ensures limit { size_of result.now ≤ 2 ^ 48 }
+        ensures small { (place : Place) → IsPlace self.now.text place → (place.0 < 2 ^ 48) × (place.1 ≤ 2 ^ 48) }
+    {
+        self.lines.as_slice() // one line at least, by the invariant
+    }
+
+    /// A law: the row of a place of the text is less than 2^48, and its column at most that.
+    pub fn places_are_small(&self)
+        ensures { (place : Place) → IsPlace self.now.text place → (place.0 < 2 ^ 48) × (place.1 ≤ 2 ^ 48) }
+    {
+        let _ = &self.lines; // of which the invariant says that they are few and short enough
+    }
+
+    /// Where all memory of the lines and their rows comes from.
+    pub fn allocator(&self) -> Global {
+        *self.lines.allocator()
+    }
+
+    /// What decides how the lines are cut and seen.
+    pub fn view(&self) -> ViewSettings
+        ensures { result ≡ self.now.screen.view }
+    {
+        self.view // as it was set
+    }
+
+    /// Whether the text is one empty line.
+    pub fn is_empty(&self) -> bool
+        ensures { IsTrue result ↔ (self.now.text ≡ []) }
+    {
+        self.lines.len() == 1 && self.lines[0].is_empty()
+    }
+
+    /// The lines alone.
+    pub fn into_lines(self) -> Vec<String>
+        ensures text { text_of result.items ≡ self.text }
+        ensures some { 0 < vec_len result }
+    {
+        let LaidOutLines { lines, .. } = self;
+        lines
+    }
+
+    /// Holds these lines in place of the others, seen under the same settings. Each is cut once.
+    pub fn set_lines(&mut self, lines: Vec<String>) -> Result<(), AllocError>
+        requires { 0 < vec_len lines }
+        ensures ok { OnOk result (self.new ≡ laid_anew self.old.screen.view self.old.screen.count (text_of lines.items)) }
+        ensures err { OnErr result (self.new ≡ self.old) }
+    {
+        *self = LaidOutLines::lay_out(lines, self.view, self.count.clone()?)?;
+        Ok(())
+    }
+
+    /// Sets what decides how the lines are cut and seen. They are cut anew, each once, only where they are cut in another
+    /// way, and only then memory is taken.
+    pub fn set_view(&mut self, view: ViewSettings) -> Result<(), AllocError>
+        ensures ok { OnOk result (self.new ≡ seen_with self.old view) }
+        ensures err { OnErr result (self.new ≡ self.old) }
+        ensures no_memory { is_same (wrapping_for view (length (lines self.old.text))) (wrapping_of self.old) ≡ true → IsOk result }
+    {
+        let before = wrapping_for(self.view, self.lines.len());
+        let after = wrapping_for(view, self.lines.len());
+        if is_same(after, before) {
+            self.view = view; // the rows stay
+            return Ok(());
+        }
+        let mut count = self.count.clone()?;
+        let alloc = *self.lines.allocator();
+        self.map = map_of(alloc, self.lines.as_slice(), after, &mut count)?;
+        self.count = count;
+        self.view = view;
+        Ok(())
+    }
+
+    /// How many visual rows the lines have in all.
+    pub fn row_count(&self) -> usize
+        ensures { OfRows self.now (λ rows. result ≡ row_total rows) }
+    {
+        self.map.row_count()
+    }
+
+    /// The visual row in which a place of the text is seen, and its display column there.
+    pub fn seen_at(&self, place: (usize, usize)) -> (usize, usize)
+        requires { IsPlace self.now.text place }
+        ensures { OfRows self.now (λ rows. IsSeenAt self.now.screen.view.tab_len (lines self.now.text) rows place result) }
+    {
+        let lines = self.lines.as_slice();
+        let wrapping = wrapping_for(self.view, lines.len());
+        self.map.seen_at(lines, wrapping, place)
+    }
+
+    /// Makes an edit that fits the text.
+    pub fn make(&mut self, edit: &Edit) -> Result<(), AllocError>
+        requires well_formed { IsWellFormed edit.now }
+        requires fits { Fits self.old.text edit.now.splice }
+        ensures ok { OnOk result (self.new ≡ changed_by self.old edit.now.splice) }
+        ensures err { OnErr result (self.new ≡ self.old) }
+    {
+        let size = size_after(self.size, edit.weight(), edit.inserts())?;
+        if !is_wrapped(self.view) && is_inside_line(edit) {
+            return self.make_inside(edit, size);
+        }
+        let alloc = *self.lines.allocator();
+        let change = edit.prepare_redo(alloc, self.lines.as_slice())?;
+        self.replace(change, size)
+    }
+
+    /// Takes an edit back, whose inverse fits the text.
+    pub fn take_back(&mut self, edit: &Edit) -> Result<(), AllocError>
+        requires well_formed { IsWellFormed edit.now }
+        requires fits { Fits self.old.text (inverse edit.now.splice) }
+        ensures ok { OnOk result (self.new ≡ changed_by self.old (inverse edit.now.splice)) }
+        ensures err { OnErr result (self.new ≡ self.old) }
+    {
+        let size = size_after(self.size, edit.weight(), !edit.inserts())?;
+        if !is_wrapped(self.view) && is_inside_line(edit) {
+            return self.take_back_inside(edit, size);
+        }
+        let alloc = *self.lines.allocator();
+        let change = edit.prepare_undo(alloc, self.lines.as_slice())?;
+        self.replace(change, size)
+    }
+
+    // Makes an edit inside one line in place, where lines aren't wrapped: the rest of the text is not looked at. The edit takes
+    // all memory, and comes first.
+    fn make_inside(&mut self, edit: &Edit, size: usize) -> Result<(), AllocError>
+        requires well_formed { IsWellFormed edit.now }
+        requires fits { Fits self.old.text edit.now.splice }
+        requires inside { breaks_of edit.now.splice.symbols ≡ 0 }
+        requires whole { is_wrapped self.old.screen.view ≡ false }
+        requires size { size ≡ weight (applied self.old.text edit.now.splice) + 1 }
+        requires limit { size ≤ 2 ^ 48 }
+        ensures ok { OnOk result (self.new ≡ changed_by self.old edit.now.splice) }
+        ensures err { OnErr result (self.new ≡ self.old) }
+    {
+        let alloc = *self.lines.allocator();
+        let row = edit.cursor_before().0;
+        let rows = Vec::with_capacity(alloc, 1)?;
+        edit.redo(&mut self.lines)?;
+        put_whole_line(
+            alloc,
+            &mut self.map,
+            rows,
+            self.lines.as_slice(),
+            row,
+            self.view.tab_len,
+            &mut self.count,
+        );
+        self.size = size;
+        Ok(())
+    }
+
+    // Takes back an edit inside one line in place, as `make_inside` makes it.
+    fn take_back_inside(&mut self, edit: &Edit, size: usize) -> Result<(), AllocError>
+        requires well_formed { IsWellFormed edit.now }
+        requires fits { Fits self.old.text (inverse edit.now.splice) }
+        requires inside { breaks_of edit.now.splice.symbols ≡ 0 }
+        requires whole { is_wrapped self.old.screen.view ≡ false }
+        requires size { size ≡ weight (applied self.old.text (inverse edit.now.splice)) + 1 }
+        requires limit { size ≤ 2 ^ 48 }
+        ensures ok { OnOk result (self.new ≡ changed_by self.old (inverse edit.now.splice)) }
+        ensures err { OnErr result (self.new ≡ self.old) }
+    {
+        let alloc = *self.lines.allocator();
+        let row = edit.cursor_before().0;
+        let rows = Vec::with_capacity(alloc, 1)?;
+        edit.undo(&mut self.lines)?;
+        put_whole_line(
+            alloc,
+            &mut self.map,
+            rows,
+            self.lines.as_slice(),
+            row,
+            self.view.tab_len,
+            &mut self.count,
+        );
+        self.size = size;
+        Ok(())
+    }
+
+    // Puts new lines in the place of others, with their rows; the size is that of the lines afterwards. All memory is taken
+    // before the first change.
+    fn replace(&mut self, change: Replacement, size: usize) -> Result<(), AllocError>
+        requires within { change.row + change.count ≤ length (lines self.old.text) }
+        requires some { 0 < vec_len change.lines }
+        requires size { size ≡ weight (replaced_in self.old change.row change.count (lines_of change.lines.items)).text + 1 }
+        requires limit { size ≤ 2 ^ 48 }
+        ensures ok { OnOk result (self.new ≡ replaced_in self.old change.row change.count (lines_of change.lines.items)) }
+        ensures err { OnErr result (self.new ≡ self.old) }
+    {
+        let alloc = *self.lines.allocator();
+        let mut count = self.count.clone()?;
+        let prepared = prepare_rows(
+            alloc,
+            &mut self.map,
+            self.lines.as_slice(),
+            &change,
+            self.view,
+            &mut count,
+        )?;
+        self.lines.reserve(change.lines.len())?;
+        change.put_in(&mut self.lines);
+        self.map.put_in(prepared);
+        self.size = size;
+        self.count = count; // of a change that was made
+        Ok(())
+    }
+}
+
+// Whether the edit begins and ends in the same row, so that it has no line break.
+fn is_inside_line(edit: &Edit) -> bool
+    requires { IsWellFormed edit.now }
+    ensures { IsTrue result → breaks_of edit.now.splice.symbols ≡ 0 }
+{
+    edit.cursor_before().0 == edit.cursor_after().0
+}
+
+// How large the lines are after an edit of that weight that puts in, or takes out; more than the limit is out of memory.
+fn size_after(size: usize, weight: usize, grows: bool) -> Result<usize, AllocError>
+    requires { size ≤ 2 ^ 48 }
+    ensures size { IfOk result (λ after. after ≡ if grows then size + weight else size - weight) }
+    ensures limit { IfOk result (λ after. after ≤ 2 ^ 48) }
+{
+    if !grows {
+        return Ok(size.saturating_sub(weight));
+    }
+    let after = size.saturating_add(weight);
+    if MAX_SIZE < after {
+        return Err(AllocError);
+    }
+    Ok(after)
+}

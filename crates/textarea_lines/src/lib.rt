@@ -1,0 +1,8 @@
+//! The lines of a text with their visual rows, changed together.
+#![tactic(auto)]
+
+mod cut;
+pub mod laid_out;
+#[cfg(test)]
+mod tests;
+pub mod view;

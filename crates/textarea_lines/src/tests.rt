@@ -1,0 +1,162 @@
+//! Lines and their rows over some edits: numbers worked by hand from the rules, and the same rows as those of lines that are
+//! laid out anew.
+ghost use Rattle.std.specs.Prelude.{◌≡◌, IfOk, OnOk};
+ghost use Rattle.textarea_text.specs.Place.{IsPlace};
+ghost use Rattle.textarea_text.specs.Splice.{Fits, inverse};
+ghost use Rattle.textarea_history.specs.Edit.{IsWellFormed};
+
+use crate::laid_out::LaidOutLines;
+use crate::view::ViewSettings;
+use std::alloc::{AllocError, Global};
+use std::process::Abort;
+use std::test::Fail;
+use textarea_history::edit::{Edit, EditKind};
+use textarea_text::rows::column_count;
+use textarea_wrap::wrap::WrapMode;
+
+fn nine_lines(alloc: Global) -> Result<Vec<String>, AllocError> {
+    let mut lines = Vec::new(alloc);
+    for _ in 0..9 {
+        lines.push(String::from_str(alloc, "abcdefg")?)?;
+    }
+    Ok(lines)
+}
+
+fn end_of(laid: &LaidOutLines) -> (usize, usize)
+    ensures { IsPlace laid.now.text result }
+{
+    let lines = laid.lines();
+    let row = lines.len() - 1;
+    (row, column_count(lines[row].as_str()))
+}
+
+fn put_in_break(laid: &mut LaidOutLines, place: (usize, usize)) -> Result<Edit, AllocError>
+    requires { IsPlace laid.old.text place }
+    ensures well_formed { IfOk result (λ edit. IsWellFormed edit) }
+    ensures fits { IfOk result (λ edit. Fits laid.new.text (inverse edit.splice)) }
+{
+    let _lines = laid.lines();
+    let edit = Edit::between(EditKind::InsertNewline, place, (place.0 + 1, 0));
+    laid.make(&edit)?;
+    Ok(edit)
+}
+
+fn type_and_take_back(
+    rt: &(impl Abort + AllocGlobal),
+    laid: &mut LaidOutLines,
+    place: (usize, usize),
+) -> Result<(), AllocError>
+    requires { IsPlace laid.old.text place }
+    ensures { OnOk result (laid.new.text ≡ laid.old.text) }
+{
+    let _lines = laid.lines();
+    let edit = Edit::between(EditKind::InsertChar('x'), place, (place.0, place.1 + 1));
+    laid.make(&edit)?;
+    expect_as_anew(rt, laid)?;
+    laid.take_back(&edit)?;
+    expect_as_anew(rt, laid)
+}
+
+fn expect_as_anew(rt: &(impl Abort + AllocGlobal), laid: &LaidOutLines) -> Result<(), AllocError> {
+    let mut lines = Vec::new(rt.alloc());
+    for line in laid.lines() {
+        lines.push(line.clone()?)?;
+    }
+    let anew = LaidOutLines::new(rt.alloc(), lines, laid.view())?;
+    assert_eq!(rt; laid.row_count(), anew.row_count());
+    Ok(())
+}
+
+#[test]
+fn a_tenth_line_makes_all_rows_narrower(rt: HostRuntime) -> Result<(), Fail> {
+    let alloc = rt.alloc();
+    let view = ViewSettings {
+        mode: WrapMode::Glyph,
+        tab_len: 4,
+        line_numbers: true,
+        inner_width: 11,
+    };
+    let mut laid = LaidOutLines::new(alloc, nine_lines(alloc)?, view)?;
+    assert_eq!(rt; laid.row_count(), 9);
+    let end = end_of(&laid);
+    assert!(rt; laid.seen_at(end) == (8, 7));
+    let edit = put_in_break(&mut laid, end)?;
+    assert_eq!(rt; laid.row_count(), 19);
+    assert!(rt; laid.seen_at(end_of(&laid)) == (18, 0));
+    laid.take_back(&edit)?;
+    assert_eq!(rt; laid.row_count(), 9);
+    Ok(())
+}
+
+fn edit_under(
+    rt: &(impl Abort + AllocGlobal),
+    view: ViewSettings,
+    other: ViewSettings,
+) -> Result<(), AllocError> {
+    let alloc = rt.alloc();
+    let mut laid = LaidOutLines::new(alloc, nine_lines(alloc)?, view)?;
+    expect_as_anew(rt, &laid)?;
+    let end = end_of(&laid);
+    type_and_take_back(rt, &mut laid, end)?;
+    let end = end_of(&laid);
+    let edit = put_in_break(&mut laid, end)?;
+    expect_as_anew(rt, &laid)?;
+    laid.take_back(&edit)?;
+    expect_as_anew(rt, &laid)?;
+    laid.set_view(other)?;
+    expect_as_anew(rt, &laid)?;
+    let end = end_of(&laid);
+    type_and_take_back(rt, &mut laid, end)?;
+    let mut others = LaidOutLines::new(alloc, Vec::new(alloc), view)?;
+    others.set_lines(laid.into_lines())?;
+    expect_as_anew(rt, &others)
+}
+
+#[test]
+fn rows_are_those_of_lines_laid_out_anew(rt: HostRuntime) -> Result<(), Fail> {
+    let wrapped = ViewSettings {
+        mode: WrapMode::Glyph,
+        tab_len: 4,
+        line_numbers: true,
+        inner_width: 11,
+    };
+    let narrow = ViewSettings {
+        mode: WrapMode::Word,
+        inner_width: 4,
+        line_numbers: false,
+        ..wrapped
+    };
+    let whole = ViewSettings {
+        mode: WrapMode::None,
+        ..wrapped
+    };
+    let hidden = ViewSettings {
+        inner_width: 0,
+        ..wrapped
+    };
+    edit_under(&rt, wrapped, whole)?;
+    edit_under(&rt, whole, hidden)?;
+    edit_under(&rt, narrow, wrapped)?;
+    edit_under(&rt, hidden, narrow)?;
+    Ok(())
+}
+
+#[test]
+fn lines_are_held(rt: HostRuntime) -> Result<(), Fail> {
+    let alloc = rt.alloc();
+    let view = ViewSettings {
+        mode: WrapMode::None,
+        tab_len: 4,
+        line_numbers: false,
+        inner_width: 20,
+    };
+    let laid = LaidOutLines::new(alloc, Vec::new(alloc), view)?;
+    assert!(rt; laid.is_empty());
+    assert!(rt; laid.view() == view);
+    assert_eq!(rt; laid.row_count(), 1);
+    assert!(rt; laid.seen_at(end_of(&laid)) == (0, 0));
+    let mut rows = Vec::new(laid.allocator());
+    rows.push(laid.row_count())?;
+    assert_eq!(rt; laid.into_lines().len(), 1);
+    Ok(())
+}

@@ -1,0 +1,50 @@
+//! What decides how the lines of a text are cut into rows, besides the lines.
+ghost use Rattle.std.specs.Prelude.{◌≡◌};
+ghost use Rattle.textarea_lines.specs.Wrappings.{is_same, is_wrapped, wrapping_for};
+
+use textarea_map::layout::Wrapping;
+use textarea_wrap::layout::LayoutMetrics;
+use textarea_wrap::wrap::WrapMode;
+
+/// How lines are cut and seen: the mode, the columns between tab stops, whether each line has its number beside it, and the
+/// columns of the inner area, line numbers included. At an inner width of 0 lines aren't wrapped.
+#[derive(Clone, Copy, Debug, PartialEq, Eq)]
+pub struct ViewSettings {
+    pub mode: WrapMode,
+    pub tab_len: u8,
+    pub line_numbers: bool,
+    pub inner_width: u16,
+}
+
+/// Whether lines are wrapped. Where they aren't, each line is one row.
+pub fn is_wrapped(view: ViewSettings) -> bool
+    ensures { result ≡ is_wrapped view }
+{
+    view.inner_width != 0 && view.mode != WrapMode::None
+}
+
+/// How a text of so many lines is cut. Line numbers take columns away, one more for each digit more.
+pub fn wrapping_for(view: ViewSettings, line_count: usize) -> Wrapping
+    ensures { result ≡ wrapping_for view line_count }
+{
+    if !is_wrapped(view) {
+        return Wrapping {
+            mode: WrapMode::None,
+            width: 1,
+            tab_len: view.tab_len,
+        };
+    }
+    let metrics = LayoutMetrics::new(view.inner_width, line_count, view.line_numbers, view.mode);
+    Wrapping {
+        mode: view.mode,
+        width: metrics.wrap_width().unwrap_or(1),
+        tab_len: view.tab_len,
+    }
+}
+
+/// Whether lines are cut in the same way under both.
+pub fn is_same(one: Wrapping, other: Wrapping) -> bool
+    ensures { result ≡ is_same one other }
+{
+    one == other
+}

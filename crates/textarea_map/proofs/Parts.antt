@@ -1,0 +1,127 @@
+-- The characters of a line before a row, in it and behind it.
+use Rattle.std.proofs.Common.{◌≡◌, ℕ, ◌+◌, ◌-◌, ◌<◌, ◌≤◌, inl, inr, true, List, ◌++◌, length, take, drop, sym, ap, refl, ◌∙◌, arith, encode_utf8_all}
+use Rattle.std.proofs.lemmas.List.{append_assoc, drop-drop, drop_at, length-append, length-drop, length-take-le, take-append-drop, take-append-le, take_at}
+use Rattle.std.proofs.Math.Seq.{take-add}
+use Rattle.std.proofs.lemmas.Bool.{cases_lt}
+use Rattle.std.proofs.lemmas.Str.{IsUtf8-between, IsUtf8-drop, IsUtf8-take, encodes-append, encodes-chars, encodes_same, length-le-encodes}
+use Rattle.std.specs.Str.{IsUtf8, all_scalars, chars}
+use Rattle.textarea_text.proofs.Columns.{chars_from_bytes, encodes_cut, offset_in, offsets_ordered}
+use Rattle.textarea_wrap.specs.Wrapped.{IsRowRange}
+
+pub record Parts (line : List ℕ) (range : ℕ × ℕ) : Type 0 where
+  pub front : List ℕ
+  pub text : List ℕ
+  pub rest : List ℕ
+  pub whole : line ≡ front ++ (text ++ rest)
+  pub begins : offset_in line (length front) ≡ range.0
+  pub ends : offset_in line (length front + length text) ≡ range.1
+  pub begins_bytes : length (encode_utf8_all front) ≡ range.0
+  pub text_bytes : range.0 + length (encode_utf8_all text) ≡ range.1
+  pub front_is : front ≡ chars (take range.0 (encode_utf8_all line))
+  pub text_is : text ≡ chars (take (range.1 - range.0) (drop range.0 (encode_utf8_all line)))
+
+pub parts_of : (line : List ℕ) (range : ℕ × ℕ) → all_scalars line ≡ true → IsRowRange (encode_utf8_all line) range → Parts line range
+parts_of line range scalar h =
+    let bytes = encode_utf8_all line in
+    let valid : IsUtf8 bytes = (line, (scalar, refl)) in
+    let front = chars (take range.0 bytes) in
+    let text = chars (take (range.1 - range.0) (drop range.0 bytes)) in
+    let rest = chars (drop range.1 bytes) in
+    let front_bytes : encode_utf8_all front ≡ take range.0 bytes = encodes-chars (take range.0 bytes) (IsUtf8-take bytes range.0 valid h.start) in
+    let text_bytes : encode_utf8_all text ≡ take (range.1 - range.0) (drop range.0 bytes) =
+    encodes-chars (take (range.1 - range.0) (drop range.0 bytes)) (IsUtf8-between bytes range.0 range.1 valid h.ordered h.start h.end) in
+    let rest_bytes : encode_utf8_all rest ≡ drop range.1 bytes = encodes-chars (drop range.1 bytes) (IsUtf8-drop bytes range.1 valid h.end) in
+    let seam : drop range.1 bytes ≡ drop (range.1 - range.0) (drop range.0 bytes) =
+    ap (λ n. drop n bytes) (omega (arith, h.ordered)) ∙ sym (drop-drop (range.1 - range.0) range.0 bytes) in
+    let joined : encode_utf8_all (front ++ (text ++ rest)) ≡ bytes =
+    encodes-append front (text ++ rest) ∙ ap (λ t. encode_utf8_all front ++ t) (encodes-append text rest)
+    ∙ ap (λ t. t ++ (encode_utf8_all text ++ encode_utf8_all rest)) front_bytes
+    ∙ ap (λ t. take range.0 bytes ++ (t ++ encode_utf8_all rest)) text_bytes
+    ∙ ap (λ t. take range.0 bytes ++ (take (range.1 - range.0) (drop range.0 bytes) ++ t)) (rest_bytes ∙ seam)
+    ∙ ap (λ t. take range.0 bytes ++ t) (take-append-drop (range.1 - range.0) (drop range.0 bytes))
+    ∙ take-append-drop range.0 bytes in
+    let whole : line ≡ front ++ (text ++ rest) = encodes_same line (front ++ (text ++ rest)) (sym joined) in
+    let start_inside : range.0 ≤ length bytes = h.start.0 in
+    let end_inside : range.1 ≤ length bytes = h.end.0 in
+    let size : length (encode_utf8_all front) ≡ range.0 = ap length front_bytes ∙ length-take-le range.0 bytes start_inside in
+    let more : length (encode_utf8_all text) ≡ range.1 - range.0 =
+    ap length text_bytes ∙ length-take-le (range.1 - range.0) (drop range.0 bytes) (omega (arith, end_inside, length-drop range.0 bytes)) in
+    record {
+      front = front;
+      text = text;
+      rest = rest;
+      whole = whole;
+      begins = ap (λ t. length (encode_utf8_all (take (length front) t))) whole
+          ∙ ap (λ t. length (encode_utf8_all t)) (take_at front (text ++ rest) (length front) refl) ∙ size;
+      ends = ap (λ t. length (encode_utf8_all (take (length front + length text) t))) (whole ∙ sym (append_assoc front text rest))
+          ∙ ap (λ t. length (encode_utf8_all t)) (take_at (front ++ text) rest (length front + length text) (length-append front text))
+          ∙ ap length (encodes-append front text) ∙ length-append (encode_utf8_all front) (encode_utf8_all text) ∙ omega (arith, size, more, h.ordered);
+      begins_bytes = size;
+      text_bytes = omega (arith, more, h.ordered);
+      front_is = refl;
+      text_is = refl;
+    }
+
+-- ---- columns and offsets
+
+pub offset_less : (cs : List ℕ) (column later : ℕ) → column < later → later ≤ length cs → offset_in cs column < offset_in cs later
+offset_less cs column later ordered within =
+    let front = take column cs in
+    let more = take (later - column) (drop column cs) in
+    let size : column + (later - column) ≡ later = omega arith in
+    let joined : take later cs ≡ front ++ more = ap (λ n. take n cs) (sym size) ∙ take-add column (later - column) cs in
+    omega (arith, ap (λ t. length (encode_utf8_all t)) joined, ap length (encodes-append front more), length-append (encode_utf8_all front) (encode_utf8_all more), length-le-encodes more, length-take-le (later - column) (drop column cs) (omega (arith, length-drop column cs)))
+
+length_parts : (line : List ℕ) (range : ℕ × ℕ) (p : Parts line range) → length p.front + length p.text ≤ length line
+length_parts line range p =
+    omega (arith, ap length p.whole, length-append p.front (p.text ++ p.rest), length-append p.text p.rest)
+
+pub row_within : (line : List ℕ) (range : ℕ × ℕ) (p : Parts line range) → length p.front + length p.text ≤ length line
+row_within line range p = length_parts line range p
+
+-- an offset from the row's first byte on is that of a column from the row's first one on
+pub column_from : (line : List ℕ) (range : ℕ × ℕ) (p : Parts line range) (column : ℕ) → column ≤ length line → range.0 ≤ offset_in line column → length p.front ≤ column
+column_from line range p column within from =
+    elim (cases_lt column (length p.front)) [
+      | inl less ↦ absurd (omega (arith, offset_less line column (length p.front) less (omega (arith, length_parts line range p)), p.begins, from))
+      | inr more ↦ more
+    ]
+
+pub column_to : (line : List ℕ) (range : ℕ × ℕ) (p : Parts line range) (column : ℕ) → column ≤ length line → offset_in line column ≤ range.1 → column ≤ length p.front + length p.text
+column_to line range p column within to =
+    elim (cases_lt (length p.front + length p.text) column) [
+      | inl less ↦ absurd (omega (arith, offset_less line (length p.front + length p.text) column less within, p.ends, to))
+      | inr more ↦ more
+    ]
+
+pub column_before : (line : List ℕ) (range : ℕ × ℕ) (p : Parts line range) (column : ℕ) → offset_in line column < range.1 → column < length p.front + length p.text
+column_before line range p column before =
+    elim (cases_lt column (length p.front + length p.text)) [
+      | inl less ↦ less
+      | inr more ↦ absurd (omega (arith, offsets_ordered line (length p.front + length p.text) column more, p.ends, before))
+    ]
+
+-- the text from the row's first byte up to the offset of a column holds the row's characters before that column
+pub characters_between : (line : List ℕ) (range : ℕ × ℕ) (p : Parts line range) (column : ℕ) (slice : List ℕ) → length p.front ≤ column → column ≤ length p.front + length p.text → IsUtf8 slice → slice ≡ take (offset_in line column - range.0) (drop range.0 (encode_utf8_all line)) → chars slice ≡ take (column - length p.front) p.text
+characters_between line range p column slice from to valid is =
+    let index = column - length p.front in
+    let part = take index p.text in
+    let left = encode_utf8_all (drop index p.text) ++ encode_utf8_all p.rest in
+    let bytes : encode_utf8_all line ≡ encode_utf8_all p.front ++ (encode_utf8_all p.text ++ encode_utf8_all p.rest) =
+    ap encode_utf8_all p.whole ∙ encodes-append p.front (p.text ++ p.rest) ∙ ap (λ t. encode_utf8_all p.front ++ t) (encodes-append p.text p.rest) in
+    let behind : drop range.0 (encode_utf8_all line) ≡ encode_utf8_all part ++ left =
+    ap (drop range.0) bytes ∙ drop_at (encode_utf8_all p.front) (encode_utf8_all p.text ++ encode_utf8_all p.rest) range.0 p.begins_bytes
+    ∙ ap (λ t. t ++ encode_utf8_all p.rest) (encodes_cut p.text index)
+    ∙ append_assoc (encode_utf8_all part) (encode_utf8_all (drop index p.text)) (encode_utf8_all p.rest) in
+    let before : take column line ≡ p.front ++ part =
+    ap (λ n. take n line) (omega arith) ∙ take-add (length p.front) index line
+    ∙ ap (λ t. take (length p.front) t ++ take index (drop (length p.front) line)) p.whole
+    ∙ ap (λ t. t ++ take index (drop (length p.front) line)) (take_at p.front (p.text ++ p.rest) (length p.front) refl)
+    ∙ ap (λ t. p.front ++ take index (drop (length p.front) t)) p.whole
+    ∙ ap (λ t. p.front ++ take index t) (drop_at p.front (p.text ++ p.rest) (length p.front) refl)
+    ∙ ap (λ t. p.front ++ t) (take-append-le index p.text p.rest (omega arith)) in
+    let size : offset_in line column - range.0 ≡ length (encode_utf8_all part) =
+    omega (arith, ap (λ t. length (encode_utf8_all t)) before, ap length (encodes-append p.front part), length-append (encode_utf8_all p.front) (encode_utf8_all part), p.begins_bytes) in
+    chars_from_bytes slice part valid
+    (is ∙ ap (λ n. take n (drop range.0 (encode_utf8_all line))) size ∙ ap (take (length (encode_utf8_all part))) behind
+    ∙ take_at (encode_utf8_all part) left (length (encode_utf8_all part)) refl)

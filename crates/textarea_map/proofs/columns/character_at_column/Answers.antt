@@ -1,0 +1,60 @@
+use Rattle.std.proofs.Common.{◌≡◌, ◌+◌, ◌≤◌, inl, inr, max, sym, ap, ◌∙◌, arith, below_more, length}
+use Rattle.std.proofs.lemmas.List.{length-append, length-drop, nil_from_length}
+use Rattle.std.proofs.lemmas.Str.{chars-nil, chars_past_char, IsUtf8-past_char, length-encode, len_utf8_bounds}
+use Rattle.std.specs.Prelude.{encode_utf8}
+use Rattle.std.specs.Str.{chars}
+use Rattle.std.specs.Str.Iter.{chars_rest}
+use Rattle.textarea_wrap.specs.Columns.{column_after}
+use Rattle.textarea_map.specs.Rows.{column_at}
+use Rattle.textarea_map.proofs.RowColumns.{column_at-more, leads_to_covering, leads_to_end, leads_to_first, passed}
+use Rattle.textarea_map.proofs.columns.character_at_column.Goals as goal
+
+pub returns-then-column-at : goal.returns-then-column-at
+returns-then-column-at c =
+    let was = c.loop-c.invariant in
+    let cs = chars c.args.text.now in
+    let t = c.args.tab_len in
+    let read = chars_past_char _ _ c.in-Some.c was.text c.in-Some.ensures.steps.0 in
+    let step = passed cs _ c.loop-c.index c.in-Some.c was.within (was.left ∙ read) in
+    elim c.then-column-at.either [
+      | inl h ↦ leads_to_first t cs c.args.column c.loop-c.index c.loop-c.at was.within was.at (omega (arith, h, was.reached)) was.before
+      | inr h ↦
+          leads_to_covering t cs c.args.column c.loop-c.index c.loop-c.at c.display_column_behind-next.result step.0 was.at
+          (c.display_column_behind-next.ensures.value
+          ∙ ap (λ n. column_after (max t 1) n c.in-Some.c) was.at
+          ∙ ap (column_after (max t 1) (column_at t cs c.loop-c.index)) (sym step.1)
+          ∙ sym (column_at-more t cs c.loop-c.index 0 step.0)) h.0 h.1
+    ]
+
+pub loop-c-preserved : goal.loop-c-preserved
+loop-c-preserved c =
+    let was = c.loop-c.invariant in
+    let cs = chars c.args.text.now in
+    let t = c.args.tab_len in
+    let split = c.in-Some.ensures.steps.0 in
+    let read = chars_past_char _ _ c.in-Some.c was.text split in
+    let step = passed cs _ c.loop-c.index c.in-Some.c was.within (was.left ∙ read) in
+    let shorter : length (chars_rest c.next.new.self) + 1 ≤ length (chars_rest c.loop-c.c-iterator) =
+    omega (arith, ap length split, length-append (encode_utf8 c.in-Some.c) (chars_rest c.next.new.self), length-encode c.in-Some.c, len_utf8_bounds c.in-Some.c) in
+    record {
+      text = IsUtf8-past_char _ _ c.in-Some.c was.text split;
+      left = step.2;
+      within = omega (arith, step.0);
+      bytes = omega (arith, was.bytes, shorter);
+      at = c.display_column_behind-next.ensures.value
+          ∙ ap (λ n. column_after (max t 1) n c.in-Some.c) was.at
+          ∙ ap (column_after (max t 1) (column_at t cs c.loop-c.index)) (sym step.1)
+          ∙ sym (column_at-more t cs c.loop-c.index 0 step.0);
+      fits = omega (arith, was.fits, c.display_column_behind-next.ensures.near, shorter);
+      before = below_more _ _ was.before (omega (arith, was.at, c.if-column-at.false));
+      reached = c.if-column-next.false;
+    }
+
+pub returns : goal.returns
+returns c =
+    let was = c.loop-c.invariant in
+    let cs = chars c.args.text.now in
+    let none = nil_from_length (chars_rest c.loop-c.c-iterator) c.in-None.ensures.steps.0.0 in
+    let end : c.loop-c.index ≡ length cs =
+    omega (arith, was.within, length-drop c.loop-c.index cs, ap length (was.left ∙ ap chars none ∙ chars-nil)) in
+    leads_to_end c.args.tab_len cs c.args.column c.loop-c.index c.loop-c.at end was.at was.reached was.before

@@ -1,0 +1,14 @@
+use Rattle.std.proofs.Common.{ap, arith}
+use Rattle.textarea_text.specs.Text.{lines_of}
+use Rattle.textarea_map.specs.Map.{MapView, row_total}
+use Rattle.textarea_map.proofs.VisualRows.{row_count}
+use Rattle.textarea_map.proofs.screen_map.ScreenMap.below.Goals as goal
+
+pub overflow_add-row : goal.overflow_add-row
+overflow_add-row c =
+    omega (arith, c.seen_at-row.ensures.row, c.self.invariant.small, c.self.invariant.all, ap (λ (v : MapView). row_total v.rows) c.self.view_is)
+
+pub returns-then-row-total : goal.returns-then-row-total
+returns-then-row-total c =
+    let count = row_count c.args.wrapping (lines_of c.args.lines.now) c.args.self.now.rows c.requires.rows in
+    (c.seen_at-row.result, c.seen_at-row.ensures.seen, omega (arith, count, c.self.invariant.all, ap (λ (v : MapView). row_total v.rows) c.self.view_is, c.if-row-total.true))
