@@ -7,7 +7,7 @@ use Rattle.textarea_text.specs.Text.{Symbol, text_of}
 use Rattle.textarea_text.specs.Place.{Place, IsPlace}
 use Rattle.textarea_text.specs.Splice.{Fits}
 use Rattle.textarea_document.specs.State.{DocumentState}
-use Rattle.textarea_document.specs.Outcomes.{edited, unanchored}
+use Rattle.textarea_document.specs.Outcomes.{edited}
 use Rattle.textarea_document.specs.Edits.{insertion, insertion_place, is_filled, with_nothing, with_symbols}
 
 pub some_filled : (symbols : List Symbol) → is_filled symbols ≡ true → 0 < length symbols

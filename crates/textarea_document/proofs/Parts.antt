@@ -1,10 +1,10 @@
 -- What stands between two places of a text.
-use Rattle.std.proofs.Common.{◌≡◌, ◌+◌, ◌-◌, ◌≤◌, ◌<◌, List, [], ◌∷◌, length, take, drop, sym, ap, refl, ◌∙◌, subst, arith, String}
+use Rattle.std.proofs.Common.{◌≡◌, ◌+◌, ◌-◌, ◌≤◌, ◌<◌, List, [], ◌∷◌, length, take, drop, sym, ap, ◌∙◌, subst, arith, String}
 use Rattle.std.specs.Option.{IfSome}
-use Rattle.std.proofs.lemmas.List.{length-append, length-drop, length-take-le, take_at}
+use Rattle.std.proofs.lemmas.List.{length-drop, length-take-le}
 use Rattle.std.proofs.Math.Seq.{take-add}
 use Rattle.textarea_text.specs.Text.{Symbol, text_of}
-use Rattle.textarea_text.specs.Place.{Place, IsPlace, StandsAt, end, index_of, place_of}
+use Rattle.textarea_text.specs.Place.{Place, IsPlace, StandsAt, end, index_of}
 use Rattle.textarea_text.specs.Splice.{Splice, Fits}
 use Rattle.textarea_text.proofs.Places.{index_within, place_of-index}
 use Rattle.textarea_text.proofs.Splices.{end-append}

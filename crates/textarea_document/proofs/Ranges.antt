@@ -1,5 +1,5 @@
 -- Ranges of a text, and what an edit keeps of them.
-use Rattle.std.proofs.Common.{◌≡◌, ◌≢◌, ℕ, ◌+◌, ◌-◌, ◌<◌, ◌≤◌, ◌==◌, ◌⊎◌, inl, inr, nat_lt, Bool, true, false, cond, List, [], ◌∷◌, length, drop, take, get_or, Option, Some, None, All, Contains, MatchOption, refl, sym, ap, subst, ◌∙◌, arith}
+use Rattle.std.proofs.Common.{◌≡◌, ℕ, ◌+◌, ◌<◌, ◌≤◌, ◌==◌, inl, inr, Bool, true, false, cond, List, [], ◌∷◌, length, drop, take, get_or, Option, Some, None, All, Contains, MatchOption, refl, sym, ap, subst, ◌∙◌, arith}
 use Rattle.std.specs.Option.{IfSome}
 use Rattle.std.proofs.lemmas.Bool.{cases_lt}
 use Rattle.std.proofs.lemmas.Bool.Decides.{nat_tests}
@@ -7,8 +7,8 @@ use Rattle.std.proofs.lemmas.List.{drop_more, map-id}
 use Rattle.std.proofs.lemmas.List.Elements.{All-contains}
 use Rattle.std.specs.List.{AllZip}
 use Rattle.std.proofs.lemmas.Slice.Zip.{AllZip-map}
-use Rattle.textarea_text.specs.Text.{Symbol, Character, Break, joined, lines}
-use Rattle.textarea_text.specs.Place.{Place, IsPlace, IsPlaceOf, IsSymbolBefore, StandsAt, end, index_of}
+use Rattle.textarea_text.specs.Text.{Symbol, Character, Break, lines}
+use Rattle.textarea_text.specs.Place.{Place, IsPlace, IsSymbolBefore, StandsAt, end, index_of}
 use Rattle.textarea_text.specs.Splice.{Fits}
 use Rattle.textarea_text.proofs.Befores.{character_stands}
 use Rattle.textarea_text.proofs.Places.{index_within, joined-lines}

@@ -1,19 +1,15 @@
 -- Each step keeps what each document keeps.
-use Rattle.std.proofs.Common.{◌≡◌, ◌≢◌, ℕ, ◌+◌, ◌-◌, ◌≤◌, ◌<◌, ◌==◌, Bool, true, false, cond, List, [], ◌∷◌, ◌++◌, length, take, drop, reverse, Option, Some, None, slice_get, String, string_bytes, min, ◌^◌, sym, ap, refl, ◌∙◌, subst, arith, eq-eqb}
+use Rattle.std.proofs.Common.{◌≡◌, ◌≢◌, ℕ, ◌+◌, ◌-◌, ◌≤◌, ◌<◌, ◌==◌, Bool, true, false, cond, List, [], ◌∷◌, ◌++◌, length, take, drop, reverse, Option, Some, None, slice_get, sym, ap, refl, ◌∙◌, subst, arith, eq-eqb}
 use Rattle.std.proofs.lemmas.Bool.{eqb-true}
-use Rattle.std.proofs.lemmas.List.{reverse-append, length-append, length-map, length-drop, length-take-le, take-append-drop, nil_from_length, drop_more, drop_all}
-use Rattle.std.specs.Str.{chars}
-use Rattle.std.proofs.lemmas.Str.{chars-nil}
+use Rattle.std.proofs.lemmas.List.{reverse-append, length-append, length-drop, length-take-le, take-append-drop, nil_from_length, drop_more, drop_all}
 use Rattle.std.proofs.lemmas.Option.{get_or_from_slice_get, slice_get_within}
-use Rattle.textarea_text.specs.Text.{Symbol, characters, characters_of, joined, lines, lines_of, text_of}
-use Rattle.textarea_text.specs.Place.{Place, IsPlace, inserted, removed}
-use Rattle.textarea_text.specs.Splice.{Splice, Allows, Fits, applied, inverse, place_before, place_after, CanApply, CanTakeBack}
+use Rattle.textarea_text.specs.Text.{Symbol, lines}
+use Rattle.textarea_text.specs.Place.{Place, IsPlace}
+use Rattle.textarea_text.specs.Splice.{Splice, Fits, applied, inverse, place_before, place_after, CanApply, CanTakeBack}
 use Rattle.textarea_history.specs.Log.{Log, done_after, empty_log, grown, is_typed, joins, kept, made_again, merged, newest, next, recorded, taken_back, with_done}
 use Rattle.textarea_history.proofs.Joins.{joins_newest}
 use Rattle.textarea_history.proofs.UndoLaws.{CanTakeBack-merged, inverse-inverse}
 use Rattle.textarea_text.proofs.Places.{IsPlace-end, takes_back}
-use Rattle.textarea_text.specs.Size.{size_of, weight}
-use Rattle.textarea_text.proofs.Sizes.{size_of_text, weight_inserted, weight_removed}
 use Rattle.textarea_atomic.specs.declared.atomic.AtomicRange.{AtomicRange}
 use Rattle.textarea_document.proofs.Ranges.{valid_none}
 use Rattle.textarea_lines.specs.declared.view.ViewSettings.{ViewSettings}

@@ -1,10 +1,9 @@
-use Rattle.std.proofs.Common.{◌≡◌, sym, subst, Option}
+use Rattle.std.proofs.Common.{sym, subst}
 use Rattle.std.specs.Option.{IfSome}
-use Rattle.textarea_atomic.specs.declared.atomic.AtomicRange.{AtomicRange}
 use Rattle.textarea_text.specs.Text.{lines}
-use Rattle.textarea_text.specs.Place.{Place, IsPlace}
+use Rattle.textarea_text.specs.Place.{IsPlace}
 use Rattle.textarea_ranges.specs.Valid.{AreValid}
-use Rattle.textarea_document.specs.Ranges.{anchor_out, unless_empty}
+use Rattle.textarea_document.specs.Ranges.{unless_empty}
 use Rattle.textarea_document.specs.State.{DocumentState}
 use Rattle.textarea_document.proofs.Ranges.{anchor_place}
 use Rattle.textarea_document.proofs.document.Document.hold.Goals as goal

@@ -1,4 +1,4 @@
-use Rattle.std.proofs.Common.{sym, subst, All, ap}
+use Rattle.std.proofs.Common.{sym, subst, All}
 use Rattle.textarea_text.specs.Text.{lines}
 use Rattle.textarea_ranges.specs.Held.{IsInside}
 use Rattle.textarea_ranges.specs.Valid.{AreValid}

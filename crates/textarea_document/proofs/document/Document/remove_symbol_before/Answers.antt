@@ -1,8 +1,7 @@
-use Rattle.std.proofs.Common.{◌∙◌, ◌∷◌, [], false, ap, sym, subst}
-use Rattle.textarea_text.specs.Text.{Symbol, lines, symbol_in, text_of}
+use Rattle.std.proofs.Common.{◌∙◌, ◌∷◌, [], sym, subst}
+use Rattle.textarea_text.specs.Text.{symbol_in, text_of}
 use Rattle.textarea_text.specs.Place.{Place, IsSymbolBefore}
-use Rattle.textarea_ranges.specs.Held.{TakesWhole, hit}
-use Rattle.textarea_atomic.specs.declared.atomic.AtomicDeleteDirection.TheVariants.{Backward}
+use Rattle.textarea_ranges.specs.Held.{TakesWhole}
 use Rattle.textarea_document.specs.Ranges.{CutsNone}
 use Rattle.textarea_document.proofs.Behinds.{removal_of_kind}
 use Rattle.textarea_document.proofs.Ranges.{whole_before}

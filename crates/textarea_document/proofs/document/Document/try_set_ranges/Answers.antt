@@ -1,4 +1,4 @@
-use Rattle.std.proofs.Common.{◌≡◌, ap, subst}
+use Rattle.std.proofs.Common.{subst}
 use Rattle.std.specs.Result.{MatchResult}
 use Rattle.textarea_text.specs.Text.{lines, lines_of}
 use Rattle.textarea_ranges.specs.Rejected.{AreAccepted, AreRefused}

@@ -1,9 +1,9 @@
-use Rattle.std.proofs.Common.{[], ◌∙◌, sym, ap, subst, arith, length, get_or, encode_utf8_all}
+use Rattle.std.proofs.Common.{◌∙◌, sym, ap, subst, length}
 use Rattle.textarea_text.specs.Text.{lines_of}
 use Rattle.textarea_text.specs.Place.{IsPlace, IsPlaceOf}
-use Rattle.textarea_text.proofs.StringRows.{row_within, rows_place}
+use Rattle.textarea_text.proofs.StringRows.{rows_place}
 use Rattle.textarea_lines.specs.Screen.{LaidOut}
-use Rattle.textarea_lines.proofs.Stores.{bytes_in_size, laid_out_as, seen_place, tab_len_of}
+use Rattle.textarea_lines.proofs.Stores.{laid_out_as, seen_place, tab_len_of}
 use Rattle.textarea_lines.proofs.laid_out.LaidOutLines.seen_at.Goals as goal
 
 pub seen_at-requires-clause-place : goal.seen_at-requires-clause-place
