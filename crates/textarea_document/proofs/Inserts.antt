@@ -2,7 +2,7 @@
 use Rattle.std.proofs.Common.{◌≡◌, ◌≢◌, ℕ, ◌<◌, Bool, true, false, List, [], ◌∷◌, length, refl, sym, arith, ◌==◌, not, get_or, String, eq-eqb}
 use Rattle.std.specs.String.{string_len}
 use Rattle.std.proofs.lemmas.Bool.{eqb-true}
-use Rattle.textarea_document.proofs.Area.{empty_text}
+use Rattle.textarea_text.proofs.EmptyTexts.{empty_text}
 use Rattle.textarea_text.specs.Text.{Symbol, text_of}
 use Rattle.textarea_text.specs.Place.{Place, IsPlace}
 use Rattle.textarea_text.specs.Splice.{Fits}

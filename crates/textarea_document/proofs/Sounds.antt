@@ -1,5 +1,6 @@
 -- Each step keeps what each document keeps.
-use Rattle.std.proofs.Common.{◌≡◌, ◌≢◌, ℕ, ◌+◌, ◌-◌, ◌≤◌, ◌<◌, ◌==◌, Bool, true, false, cond, List, [], ◌∷◌, ◌++◌, length, take, drop, reverse, Option, Some, None, slice_get, sym, ap, refl, ◌∙◌, subst, arith, eq-eqb}
+use Rattle.std.proofs.Common.{◌≡◌, ◌≢◌, ℕ, ◌+◌, ◌-◌, ◌≤◌, ◌<◌, ◌==◌, Bool, true, false, cond, List, [], ◌∷◌, ◌++◌, length, take, drop, reverse, Option, Some, None, Result, Ok, Err, slice_get, sym, ap, refl, ◌∙◌, subst, arith, eq-eqb}
+use Rattle.std.specs.Result.{OnErr, OnOk}
 use Rattle.std.proofs.lemmas.Bool.{eqb-true}
 use Rattle.std.proofs.lemmas.List.{reverse-append, length-append, length-drop, length-take-le, take-append-drop, nil_from_length, drop_more, drop_all}
 use Rattle.std.proofs.lemmas.Option.{get_or_from_slice_get, slice_get_within}
@@ -13,7 +14,8 @@ use Rattle.textarea_text.proofs.Places.{IsPlace-end, takes_back}
 use Rattle.textarea_atomic.specs.declared.atomic.AtomicRange.{AtomicRange}
 use Rattle.textarea_document.proofs.Ranges.{valid_none}
 use Rattle.textarea_lines.specs.declared.view.ViewSettings.{ViewSettings}
-use Rattle.textarea_lines.specs.Screen.{LaidOut, Screen, all_cut, laid_anew}
+use Rattle.textarea_lines.specs.Screen.{LaidOut, Screen, all_cut, laid_anew, seen_with, wrapping_of}
+use Rattle.textarea_lines.specs.Wrappings.{is_same, wrapping_for}
 use Rattle.textarea_document.specs.State.{DocumentState, fresh_document}
 use Rattle.textarea_document.specs.Outcomes.{edited, redone_by, screen_after, undone, undone_by}
 use Rattle.textarea_document.specs.Sound.{IsSound}
@@ -206,3 +208,25 @@ same_document laid other cursor anchor ranges copies log copy laid_is ranges_are
     ap (λ (l : LaidOut). document_of l cursor anchor copies copy) laid_is
     ∙ ap (λ (r : List AtomicRange). document_of laid cursor anchor r copy) ranges_are
     ∙ ap (λ (l : Log). document_of laid cursor anchor ranges l) log_is
+
+-- ---- other settings
+
+-- the text is the same, however it is seen
+text_seen : (laid : LaidOut) (view : ViewSettings) → (seen_with laid view).text ≡ laid.text
+text_seen laid view = by (is_same (wrapping_for view (length (lines laid.text))) (wrapping_of laid))
+  where
+    as_it_was : LaidOut
+    as_it_was = record { text = laid.text; screen = record { view = view; count = laid.screen.count; ticks = laid.screen.ticks } }
+
+    by : (b : Bool) → (cond b as_it_was (laid_anew view laid.screen.count laid.text)).text ≡ laid.text
+    by true = refl
+    by false = refl
+
+text_viewed : {T E : Type 0} (r : Result T E) (laid new : LaidOut) (view : ViewSettings) → OnOk r (new ≡ seen_with laid view) → OnErr r (new ≡ laid) → new.text ≡ laid.text
+text_viewed (Ok x) laid new view ok err = ap (λ (l : LaidOut). l.text) ok ∙ text_seen laid view
+text_viewed (Err e) laid new view ok err = ap (λ (l : LaidOut). l.text) err
+
+pub sound_viewed : {T E : Type 0} (r : Result T E) (laid new : LaidOut) (view : ViewSettings) (cursor : Place) (anchor : Option Place) (ranges : List AtomicRange) (log : Log) → OnOk r (new ≡ seen_with laid view) → OnErr r (new ≡ laid) → IsSound (document_of laid cursor anchor ranges log) → IsSound (document_of new cursor anchor ranges log)
+sound_viewed r laid new view cursor anchor ranges log ok err h =
+    subst (λ (t : List Symbol). IsSound (record { text = t; screen = new.screen; cursor = cursor; anchor = anchor; ranges = ranges; log = log })) (sym (text_viewed r laid new view ok err))
+    (resound (document_of laid cursor anchor ranges log) new.screen h)

@@ -6,6 +6,7 @@ use Rattle.textarea_text.specs.Splice.{Splice}
 use Rattle.textarea_pieces.specs.Part.{part}
 use Rattle.textarea_atomic.specs.declared.atomic.AtomicRange.{AtomicRange}
 use Rattle.textarea_atomic.specs.declared.atomic.AtomicCursorBias.TheVariants.{Forward}
+use Rattle.textarea_atomic.specs.declared.atomic.AtomicDeleteDirection.{AtomicDeleteDirection}
 use Rattle.textarea_atomic.specs.declared.atomic.AtomicDeleteDirection.TheVariants.{Backward as DeleteBackward, Forward as DeleteForward}
 use Rattle.textarea_ranges.specs.Held.{hit, moved_out, start, stop, widened}
 use Rattle.textarea_document.specs.State.{DocumentState}
@@ -66,12 +67,15 @@ abbrev pub without_hit_or : Option AtomicRange → DocumentState → ℕ → Doc
 without_hit_or None document now other = other
 without_hit_or (Some range) document now other = without_part document (start range) (stop range) now
 
--- the range that is hit before the cursor, or behind it
+-- the range that is hit from the cursor in this direction: before it, or behind it
+abbrev pub hit_at_cursor : DocumentState → AtomicDeleteDirection → Option AtomicRange
+hit_at_cursor document direction = hit document.ranges document.cursor direction
+
 abbrev pub hit_before : DocumentState → Option AtomicRange
-hit_before document = hit document.ranges document.cursor DeleteBackward
+hit_before document = hit_at_cursor document DeleteBackward
 
 abbrev pub hit_behind : DocumentState → Option AtomicRange
-hit_behind document = hit document.ranges document.cursor DeleteForward
+hit_behind document = hit_at_cursor document DeleteForward
 
 -- how many symbols stand before the cursor
 abbrev pub cursor_index : DocumentState → ℕ

@@ -7,8 +7,7 @@ use Rattle.textarea_pieces.specs.Part.{clip}
 use Rattle.textarea_atomic.specs.declared.atomic.AtomicRange.{AtomicRange}
 use Rattle.textarea_atomic.specs.declared.atomic.AtomicCursorBias.{AtomicCursorBias}
 use Rattle.textarea_atomic.specs.declared.atomic.AtomicCursorBias.TheVariants.{Backward, Forward}
-use Rattle.textarea_atomic.specs.declared.atomic.AtomicDeleteDirection.{AtomicDeleteDirection}
-use Rattle.textarea_ranges.specs.Held.{IsInside, TakesWhole, hit, moved_out, start, stop}
+use Rattle.textarea_ranges.specs.Held.{IsInside, TakesWhole, moved_out, start, stop}
 use Rattle.textarea_ranges.specs.Order.{in_order}
 use Rattle.textarea_document.specs.State.{DocumentState}
 use Rattle.textarea_document.specs.Edits.{without_part}
@@ -54,10 +53,6 @@ without_ranges document = record document { ranges = [] }
 -- the cursor goes out of the range that strictly holds it, and all else stays
 abbrev pub normalized : DocumentState → AtomicCursorBias → DocumentState
 normalized document bias = record document { cursor = moved_out document.ranges document.cursor bias }
-
--- the range that the direction hits from the cursor
-abbrev pub hit_at_cursor : DocumentState → AtomicDeleteDirection → Option AtomicRange
-hit_at_cursor document direction = hit document.ranges document.cursor direction
 
 -- the document has this anchor, in its row or at that row's end where the row is shorter
 abbrev pub anchored : DocumentState → Option Place → DocumentState

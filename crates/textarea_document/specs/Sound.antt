@@ -6,8 +6,8 @@ use Rattle.textarea_text.specs.Splice.{CanApply, CanTakeBack}
 use Rattle.textarea_ranges.specs.Valid.{AreValid}
 use Rattle.textarea_document.specs.State.{DocumentState}
 
--- the cursor and the anchor are places of the text, and the ranges are valid for it; the done changes can be taken back, the newest first; the undone ones
--- can be made again, the next one first; together they are at most the maximum
+-- the cursor and the anchor are places of the text, and the ranges are valid for it; the done changes can be taken back, the
+-- newest first; the undone ones can be made again, the next one first; together they are at most the maximum
 pub record IsSound (document : DocumentState) : Type 0 where
   pub cursor : IsPlace document.text document.cursor
   pub anchor : IfSome document.anchor (IsPlace document.text)

@@ -7,8 +7,8 @@ use Rattle.textarea_lines.specs.declared.view.ViewSettings.{ViewSettings}
 use Rattle.textarea_lines.specs.Screen.{Screen, all_cut}
 use Rattle.textarea_atomic.specs.declared.atomic.AtomicRange.{AtomicRange}
 
--- the text as one flat list of symbols; what is seen of it, with the ticks of its lines' rows; where the cursor stands; where the selection began, if there is one; the atomic
--- ranges; and the changes made and taken back
+-- the text as one flat list of symbols; what is seen of it, with the ticks of its lines' rows; where the cursor stands; where
+-- the selection began, if there is one; the atomic ranges; and the changes made and taken back
 pub record DocumentState : Type 0 where
   pub text : List Symbol
   pub screen : Screen
@@ -19,7 +19,14 @@ pub record DocumentState : Type 0 where
 
 -- a document without a past and without ranges, the cursor at this place; all lines are cut, where the count stood at this one
 abbrev pub fresh_document : List Symbol → ViewSettings → ℕ → Place → ℕ → DocumentState
-fresh_document text view count cursor maximum = record { text = text; screen = all_cut view count (length (lines text)); cursor = cursor; anchor = None; ranges = []; log = empty_log maximum }
+fresh_document text view count cursor maximum = record {
+  text = text;
+  screen = all_cut view count (length (lines text));
+  cursor = cursor;
+  anchor = None;
+  ranges = [];
+  log = empty_log maximum;
+}
 
 -- a new document: the cursor at the start
 abbrev pub new_document : List Symbol → ViewSettings → ℕ → DocumentState

@@ -2,5 +2,6 @@
 #![tactic(auto)]
 
 pub mod document;
+pub mod laws;
 
 pub use document::Document;

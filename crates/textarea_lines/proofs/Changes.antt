@@ -11,13 +11,13 @@ use Rattle.textarea_text.proofs.Replacing.{length-replaced}
 use Rattle.textarea_text.proofs.Sizes.{size_of_text, weight_inserted, weight_removed}
 use Rattle.textarea_wrap.specs.RowsView.{RowsView}
 use Rattle.textarea_map.specs.declared.layout.Wrapping.{Wrapping}
-use Rattle.textarea_map.specs.Layout.{AreRowsOf}
+use Rattle.textarea_map.specs.Layout.{AreRowsOf, ticks_behind, ticks_of}
 use Rattle.textarea_lines.specs.declared.view.ViewSettings.{ViewSettings}
-use Rattle.textarea_lines.specs.Rows.{ticks_of}
-use Rattle.textarea_lines.specs.Screen.{LaidOut, Screen, changed_by, laid_anew, recut, replaced_in, seen_with, ticks_behind, wrapping_of}
+use Rattle.textarea_lines.specs.Screen.{LaidOut, Screen, changed_by, laid_anew, recut, replaced_in, seen_with, wrapping_of}
 use Rattle.textarea_lines.specs.Stored.{IsStored, HoldsRows}
 use Rattle.textarea_lines.specs.Wrappings.{is_same, wrapping_for}
 use Rattle.textarea_lines.proofs.Layouts.{lines_of-replaced}
+use Rattle.textarea_lines.proofs.SameCuts.{AreRowsOf-same}
 use Rattle.textarea_lines.proofs.Stores.{count_held, lines_held, seen}
 
 -- the text of the new lines
@@ -138,3 +138,10 @@ viewed_anew old view items count now rows new laid before after h differs e =
     e
     ∙ ap (λ (l : LaidOut). laid_anew view l.screen.count l.text) h.is
     ∙ ap (λ (b : Bool). cond b (record { text = laid.text; screen = record { view = view; count = laid.screen.count; ticks = laid.screen.ticks } }) (laid_anew view laid.screen.count laid.text)) (sym (test_is old view items count rows laid before after h ∙ differs))
+
+-- where the lines are cut as before, their rows stay right
+pub holds_viewed : {Z : Type 0} (old view : ViewSettings) (items : List (String Z)) (size count : ℕ) (rows : List RowsView) (laid : LaidOut) (before after : Wrapping) → Reviewing old view items count rows laid before after → is_same after before ≡ true → HoldsRows old items size rows → HoldsRows view items size rows
+holds_viewed old view items size count rows laid before after h same k =
+    let test : is_same (wrapping_for view (length items)) (wrapping_for old (length items)) ≡ true =
+    ap (λ w. is_same w (wrapping_for old (length items))) (sym h.after_is) ∙ ap (is_same after) (sym h.before_is) ∙ same in
+    record { stored = k.stored; laid_out = AreRowsOf-same (wrapping_for view (length items)) (wrapping_for old (length items)) (lines_of items) rows test k.laid_out }

@@ -1,43 +1,12 @@
 -- Rows of lines and their ticks, as lines give place to others.
-use Rattle.std.proofs.Common.{◌≡◌, ℕ, zero, suc, ◌+◌, List, [], ◌∷◌, ◌++◌, length, take, drop, map, sym, ap, ◌∙◌, arith, subst, String}
-use Rattle.std.specs.List.{range_with_len}
+use Rattle.std.proofs.Common.{◌≡◌, ℕ, ◌+◌, List, [], ◌++◌, length, take, drop, map, sym, ap, ◌∙◌, arith, subst, String}
 use Rattle.std.proofs.lemmas.List.{append_assoc, append-nil, drop_all, map-append, take-map, drop-map}
 use Rattle.textarea_text.specs.Replaced.{replaced}
 use Rattle.textarea_text.specs.Text.{characters_of, lines_of}
 use Rattle.textarea_wrap.specs.RowsView.{RowsView}
 use Rattle.textarea_map.specs.declared.layout.Wrapping.{Wrapping}
-use Rattle.textarea_map.specs.Layout.{AreRowsOf}
-use Rattle.textarea_lines.specs.Rows.{ticks_of}
-use Rattle.textarea_lines.specs.Screen.{ticks_behind}
-
--- ---- ticks
-
-range_append : (first size more : ℕ) → range_with_len first size ++ range_with_len (first + size) more ≡ range_with_len first (size + more)
-range_append first zero more =
-    let start : first + 0 ≡ first = omega arith in
-    let sum : more ≡ 0 + more = omega arith in
-    ap (λ n. range_with_len n more) start ∙ ap (range_with_len first) sum
-range_append first (suc size) more =
-    let start : first + suc size ≡ first + 1 + size = omega arith in
-    let sum : suc (size + more) ≡ suc size + more = omega arith in
-    ap (λ n. first ∷ (range_with_len (first + 1) size ++ range_with_len n more)) start
-    ∙ ap (λ t. first ∷ t) (range_append (first + 1) size more)
-    ∙ ap (range_with_len first) sum
-
--- some calls more
-pub ticks_append : (count size more : ℕ) → ticks_behind count size ++ ticks_behind (count + size) more ≡ ticks_behind count (size + more)
-ticks_append count size more =
-    let start : count + size + 1 ≡ count + 1 + size = omega arith in
-    ap (λ n. range_with_len (count + 1) size ++ range_with_len n more) start ∙ range_append (count + 1) size more
-
--- one line more
-pub ticks_more : (before after : List RowsView) (cut : RowsView) (ticks : List ℕ) (count i : ℕ) → after ≡ before ++ cut ∷ [] → ticks_of before ≡ ticks ++ ticks_behind count i → cut.tick ≡ count + i + 1 → ticks_of after ≡ ticks ++ ticks_behind count (i + 1)
-ticks_more before after cut ticks count i is e tick =
-    ap ticks_of is ∙ map-append (λ (r : RowsView). r.tick) before (cut ∷ [])
-    ∙ ap (λ t. t ++ cut.tick ∷ []) e
-    ∙ ap (λ (n : ℕ). (ticks ++ ticks_behind count i) ++ n ∷ []) tick
-    ∙ append_assoc ticks (ticks_behind count i) ((count + i + 1) ∷ [])
-    ∙ ap (λ t. ticks ++ t) (ticks_append count i 1)
+use Rattle.textarea_map.specs.Layout.{AreRowsOf, ticks_behind}
+use Rattle.textarea_map.proofs.Layouts.{ticks_append}
 
 -- ---- items that take the place of others
 

@@ -1,5 +1,9 @@
 mod Layouts
 mod Stores
+mod SameCuts
 mod Preparing
 mod Changes
+mod Measuring
 mod WholeLines
+mod OneList
+mod Steps

@@ -1,52 +1,22 @@
 -- Rows that are prepared while the old ones stand: of some lines, or of all.
-use Rattle.std.proofs.Common.{◌≡◌, ℕ, ◌+◌, ◌-◌, Bool, true, false, cond, ◌==◌, ◌&&◌, List, length, sym, ap, refl, ◌∙◌, subst, String, Result, Ok, Err}
+use Rattle.std.proofs.Common.{◌≡◌, ℕ, ◌+◌, ◌-◌, Bool, true, false, cond, List, length, sym, ap, ◌∙◌, subst, String, Result, Ok, Err}
 use Rattle.std.specs.Result.{IfOk}
-use Rattle.std.proofs.lemmas.Bool.{eqb-true}
 use Rattle.textarea_text.specs.Replaced.{replaced}
 use Rattle.textarea_text.specs.Text.{lines_of}
 use Rattle.textarea_wrap.specs.RowsView.{RowsView}
-use Rattle.textarea_wrap.specs.declared.wrap.WrapMode.{WrapMode}
-use Rattle.textarea_wrap.specs.declared.wrap.WrapMode.TheVariants as mode
 use Rattle.textarea_map.specs.declared.layout.Wrapping.{Wrapping}
-use Rattle.textarea_map.specs.Layout.{AreRowsOf}
+use Rattle.textarea_map.specs.Layout.{AreRowsOf, ticks_behind, ticks_of}
 use Rattle.textarea_map.proofs.Layouts.{AreRowsOf-replaced}
 use Rattle.textarea_lines.specs.declared.view.ViewSettings.{ViewSettings}
-use Rattle.textarea_lines.specs.Rows.{ticks_of}
-use Rattle.textarea_lines.specs.Screen.{Screen, all_cut, recut, some_cut, ticks_behind}
-use Rattle.textarea_lines.specs.Wrappings.{is_same, is_same_mode, wrapping_for}
+use Rattle.textarea_lines.specs.Screen.{Screen, all_cut, recut, some_cut}
+use Rattle.textarea_lines.specs.Wrappings.{is_same, wrapping_for}
 use Rattle.textarea_lines.proofs.Layouts.{lines_of-replaced, map-replaced, replaced_whole}
+use Rattle.textarea_lines.proofs.SameCuts.{AreRowsOf-same}
 
 -- what three clauses say together of a call that succeeded
 pub IfOk-from_three : {T E : Type 0} (r : Result T E) (P Q R S : T → Type 0) → ((x : T) → P x → Q x → R x → S x) → IfOk r P → IfOk r Q → IfOk r R → IfOk r S
 IfOk-from_three (Ok x) P Q R S f p q h = f x p q h
 IfOk-from_three (Err e) P Q R S f p q h = tt
-
--- ---- the same wrapping
-
-left_of : (a b : Bool) → (a && b) ≡ true → a ≡ true
-left_of true b e = refl
-left_of false b e = e
-
-right_of : (a b : Bool) → (a && b) ≡ true → b ≡ true
-right_of true b e = e
-right_of false b e = absurd cc
-
-same_mode : (one other : WrapMode) → is_same_mode one other ≡ true → one ≡ other
-same_mode mode.None mode.None e = refl
-same_mode mode.Word mode.Word e = refl
-same_mode mode.Glyph mode.Glyph e = refl
-same_mode mode.WordOrGlyph mode.WordOrGlyph e = refl
-same_mode one other e = absurd cc
-
-pub same_wrapping : (one other : Wrapping) → is_same one other ≡ true → one ≡ other
-same_wrapping one other e =
-    let front = left_of (is_same_mode one.mode other.mode && (one.width == other.width)) (one.tab_len == other.tab_len) e in
-    let mode_is = same_mode one.mode other.mode (left_of (is_same_mode one.mode other.mode) (one.width == other.width) front) in
-    let width_is = eqb-true one.width other.width (right_of (is_same_mode one.mode other.mode) (one.width == other.width) front) in
-    let tab_is = eqb-true one.tab_len other.tab_len (right_of (is_same_mode one.mode other.mode && (one.width == other.width)) (one.tab_len == other.tab_len) e) in
-    ap (λ (m : WrapMode). record one { mode = m }) mode_is
-    ∙ ap (λ (n : ℕ). record one { mode = other.mode; width = n }) width_is
-    ∙ ap (λ (n : ℕ). record other { tab_len = n }) tab_is
 
 -- ---- rows
 
@@ -55,10 +25,10 @@ prepared_as : (rows others cut : List RowsView) (at number row count : ℕ) → 
 prepared_as rows others cut at number row count at_is number_is others_is =
     ap (λ n. replaced rows n number others) at_is ∙ ap (λ n. replaced rows row n others) number_is ∙ ap (replaced rows row count) others_is
 
-pub rows_of_some : {Z : Type 0} (was now after : Wrapping) (items new lent : List (String Z)) (row count at number : ℕ) (rows cut others : List RowsView) → after ≡ was → after ≡ now → AreRowsOf was (lines_of items) rows → lent ≡ new → AreRowsOf after (lines_of lent) cut → at ≡ row → number ≡ count → others ≡ cut → AreRowsOf now (lines_of (replaced items row count new)) (replaced rows at number others)
+pub rows_of_some : {Z : Type 0} (was now after : Wrapping) (items new lent : List (String Z)) (row count at number : ℕ) (rows cut others : List RowsView) → is_same after was ≡ true → after ≡ now → AreRowsOf was (lines_of items) rows → lent ≡ new → AreRowsOf after (lines_of lent) cut → at ≡ row → number ≡ count → others ≡ cut → AreRowsOf now (lines_of (replaced items row count new)) (replaced rows at number others)
 rows_of_some was now after items new lent row count at number rows cut others same is h lent_is k at_is number_is others_is =
     let changed : AreRowsOf after (replaced (lines_of items) row count (lines_of new)) (replaced rows row count cut) =
-    AreRowsOf-replaced after (lines_of items) (lines_of new) rows cut row count (subst (λ (w : Wrapping). AreRowsOf w (lines_of items) rows) (sym same) h) (subst (λ (t : List (String _)). AreRowsOf after (lines_of t) cut) lent_is k) in
+    AreRowsOf-replaced after (lines_of items) (lines_of new) rows cut row count (AreRowsOf-same after was (lines_of items) rows same h) (subst (λ (t : List (String _)). AreRowsOf after (lines_of t) cut) lent_is k) in
     subst (λ (w : Wrapping). AreRowsOf w (lines_of (replaced items row count new)) (replaced rows at number others)) is
     (subst (λ (t : List RowsView). AreRowsOf after (lines_of (replaced items row count new)) t) (sym (prepared_as rows others cut at number row count at_is number_is others_is))
     (subst (λ (t : List (List ℕ)). AreRowsOf after t (replaced rows row count cut)) (sym (lines_of-replaced items new row count)) changed))

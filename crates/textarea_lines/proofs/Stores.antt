@@ -1,57 +1,23 @@
 -- Lines that are stored: how far a place can be, when the text is empty, and their size after a change.
-use Rattle.std.proofs.Common.{◌≡◌, ◌≢◌, ℕ, zero, suc, ◌+◌, ◌<◌, ◌≤◌, ◌^◌, Bool, true, false, cond, List, [], ◌∷◌, ◌++◌, length, sym, ap, refl, ◌∙◌, arith, get_or, subst, String, string_bytes, encode_utf8_all}
-use Rattle.std.specs.String.{string_len}
-use Rattle.std.specs.Str.{chars}
-use Rattle.std.proofs.lemmas.Str.{IsUtf8-string_bytes, length-le-encodes, encodes-chars, chars-nil}
-use Rattle.std.proofs.lemmas.List.{append-nil, length-append, length-map, nil_from_length}
-use Rattle.textarea_text.specs.Text.{characters, following, characters_of, joined, lines, lines_of, text_of}
+use Rattle.std.proofs.Common.{◌≡◌, ℕ, zero, suc, ◌+◌, ◌<◌, ◌≤◌, ◌^◌, Bool, true, false, cond, List, [], ◌∷◌, length, sym, ap, refl, ◌∙◌, arith, get_or, subst, String, string_bytes, encode_utf8_all, Option, None, Some}
+use Rattle.std.specs.Option.{IfSome, MatchOption}
+use Rattle.std.proofs.lemmas.Str.{IsUtf8-string_bytes, length-le-encodes, encodes-chars}
+use Rattle.std.proofs.lemmas.List.{length-map}
+use Rattle.textarea_text.specs.Text.{characters_of, joined, lines, lines_of, text_of}
 use Rattle.textarea_text.specs.Place.{Place, IsPlace}
 use Rattle.textarea_text.specs.Size.{size_of, weight}
 use Rattle.textarea_text.proofs.Sizes.{length-le-size_of, size_of_text}
-use Rattle.textarea_text.proofs.Splices.{length-characters, lines-joined}
+use Rattle.textarea_text.proofs.Splices.{lines-joined}
 use Rattle.textarea_text.proofs.StringRows.{row_within, rows_place}
 use Rattle.textarea_wrap.specs.RowsView.{RowsView}
-use Rattle.textarea_map.specs.Layout.{AreRowsOf}
-use Rattle.textarea_map.specs.Seen.{IsSeenAt}
+use Rattle.textarea_map.specs.Layout.{AreRowsOf, ticks_of}
+use Rattle.textarea_map.specs.Map.{IsRowCount}
+use Rattle.textarea_lines.specs.declared.measured.Measured.{Measured}
 use Rattle.textarea_lines.specs.declared.view.ViewSettings.{ViewSettings}
 use Rattle.textarea_lines.specs.Wrappings.{cut_at_width, is_wrapped, whole_lines, wrapping_for}
-use Rattle.textarea_lines.specs.Rows.{IsLaidOutAs, ticks_of}
+use Rattle.textarea_lines.specs.Rows.{IsLaidOutAs}
 use Rattle.textarea_lines.specs.Screen.{LaidOut}
 use Rattle.textarea_lines.specs.Stored.{IsStored, HoldsRows}
-
--- ---- the empty text
-
-characters_of-nil : {Z : Type 0} (s : String Z) → string_bytes s ≡ [] → characters_of s ≡ []
-characters_of-nil s e = ap chars e ∙ chars-nil
-
-string_len-nil : {Z : Type 0} (s : String Z) → characters_of s ≡ [] → string_len s ≡ 0
-string_len-nil s e = omega (arith, s.bytes.ok.0, ap length (sym (encodes-chars (string_bytes s) (IsUtf8-string_bytes s)) ∙ ap encode_utf8_all e))
-
-text_of-one : {Z : Type 0} (s : String Z) → characters_of s ≡ [] → text_of (s ∷ []) ≡ []
-text_of-one s e = append-nil (characters (characters_of s)) ∙ ap characters e
-
-text_of-one_nil : {Z : Type 0} (s : String Z) → text_of (s ∷ []) ≡ [] → characters_of s ≡ []
-text_of-one_nil s e = nil_from_length (characters_of s) (omega (arith, length-characters (characters_of s), ap length (sym (append-nil (characters (characters_of s))) ∙ e)))
-
--- the text is empty where its one line is
-pub empty_text : {Z : Type 0} (items : List (String Z)) (s : String Z) → length items ≡ 1 → s ≡ get_or items 0 s → (string_len s ≡ 0 → text_of items ≡ []) × (text_of items ≡ [] → string_len s ≡ 0)
-empty_text [] s one e = absurd (omega arith)
-empty_text (a ∷ []) s one e = (
-  (λ none. text_of-one a (ap characters_of (sym e) ∙ characters_of-nil s (nil_from_length (string_bytes s) (omega (arith, s.bytes.ok.0))))),
-  (λ none. string_len-nil s (ap characters_of e ∙ text_of-one_nil a none)),
-)
-empty_text (a ∷ b ∷ rest) s one e = absurd (omega arith)
-
-pub text_of-many : {Z : Type 0} (items : List (String Z)) → length items ≢ 1 → 0 < length items → text_of items ≢ []
-text_of-many [] apart some = absurd (omega arith)
-text_of-many (a ∷ []) apart some = absurd (apart refl)
-text_of-many (a ∷ b ∷ rest) apart some = λ e. omega (arith, ap length e, length-append (characters (characters_of a)) (following (lines_of (b ∷ rest))))
-
--- one empty line holds what no line holds
-pub text_of_empty : {Z : Type 0} (lines old : List (String Z)) (line : String Z) → lines ≡ old ++ line ∷ [] → length old ≡ 0 → string_bytes line ≡ [] → text_of lines ≡ text_of old
-text_of_empty lines old line is none e =
-    let nil : old ≡ [] = nil_from_length old none in
-    ap text_of (is ∙ ap (λ t. t ++ line ∷ []) nil) ∙ ap (λ t. characters t ++ []) (ap chars e ∙ chars-nil) ∙ ap text_of (sym nil)
 
 -- ---- places
 
@@ -95,16 +61,21 @@ laid_out_as view items size count rows laid h is =
 pub tab_len_of : (view : ViewSettings) (n : ℕ) → (wrapping_for view n).tab_len ≡ view.tab_len
 tab_len_of view n = by (is_wrapped view)
   where
-    by : (b : Bool) → (cond b (cut_at_width view n) (whole_lines view)).tab_len ≡ view.tab_len
+    by : (b : Bool) → (cond b (cut_at_width view view.inner_width n) (whole_lines view)).tab_len ≡ view.tab_len
     by true = refl
     by false = refl
 
--- a place is seen in the text where it is seen in the lines
-pub seen_place : {Z : Type 0} (view : ViewSettings) (items lent : List (String Z)) (count : ℕ) (rows : List RowsView) (laid : LaidOut) (place found : Place) (tab_len : ℕ) → 0 < length items → lent ≡ items → tab_len ≡ view.tab_len → seen view items count rows ≡ laid → IsSeenAt tab_len (lines_of lent) rows place found → IsSeenAt laid.screen.view.tab_len (lines laid.text) rows place found
-seen_place view items lent count rows laid place found tab_len some lent_is tab is h =
-    subst (λ (l : LaidOut). IsSeenAt l.screen.view.tab_len (lines l.text) rows place found) is
-    (subst (λ (t : List (List ℕ)). IsSeenAt view.tab_len t rows place found) (ap lines_of lent_is ∙ sym (lines_held items some))
-    (subst (λ n. IsSeenAt n (lines_of lent) rows place found) tab h))
+-- what is so of the lines that are lent, at their tab stops, is so of the text's
+pub in_text : {Z : Type 0} (view : ViewSettings) (items lent : List (String Z)) (count : ℕ) (rows : List RowsView) (laid : LaidOut) (tab_len : ℕ) (Fact : ℕ → List (List ℕ) → Type 0) → 0 < length items → lent ≡ items → tab_len ≡ view.tab_len → seen view items count rows ≡ laid → Fact tab_len (lines_of lent) → Fact laid.screen.view.tab_len (lines laid.text)
+in_text view items lent count rows laid tab_len Fact some lent_is tab is h =
+    subst (λ (l : LaidOut). Fact l.screen.view.tab_len (lines l.text)) is
+    (subst (Fact view.tab_len) (ap lines_of lent_is ∙ sym (lines_held items some))
+    (subst (λ n. Fact n (lines_of lent)) tab h))
+
+-- of a target that is a place, both facts alone
+pub targets : {X : Type 0} (o : Option X) (P : Type 0) (Q R : X → Type 0) → MatchOption o P (λ x. Q x × R x) → IfSome o Q × MatchOption o P R
+targets None P Q R h = (tt, h)
+targets (Some x) P Q R h = h
 
 -- copies of the lines, with the same rows
 pub holds_copied : {Z : Type 0} (view : ViewSettings) (old copies : List (String Z)) (size : ℕ) (rows again : List RowsView) → HoldsRows view old size rows → lines_of copies ≡ lines_of old → again ≡ rows → HoldsRows view copies size again
@@ -121,6 +92,10 @@ holds_copied view old copies size rows again h e rows_are =
           (subst (λ (t : List (List ℕ)). AreRowsOf (wrapping_for view (length copies)) t rows) (sym e)
           (subst (λ n. AreRowsOf (wrapping_for view n) (lines_of old) rows) (sym long) h.laid_out));
     }
+
+-- what was measured of the lines is true of the same lines elsewhere
+pub measured_of : (lines same : List (List ℕ)) (measured : Option Measured) → lines ≡ same → IfSome measured (λ last. IsRowCount last.wrapping lines last.rows) → IfSome measured (λ last. IsRowCount last.wrapping same last.rows)
+measured_of lines same measured e h = subst (λ (t : List (List ℕ)). IfSome measured (λ last. IsRowCount last.wrapping t last.rows)) e h
 
 pub seen_copied : {Z : Type 0} (view : ViewSettings) (old copies : List (String Z)) (count again : ℕ) (rows others : List RowsView) → lines_of copies ≡ lines_of old → again ≡ count → others ≡ rows → seen view copies again others ≡ seen view old count rows
 seen_copied view old copies count again rows others e count_is rows_are =

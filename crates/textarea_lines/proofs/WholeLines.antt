@@ -1,5 +1,5 @@
 -- Lines that aren't wrapped, and an edit inside one of them.
-use Rattle.std.proofs.Common.{◌≡◌, ℕ, zero, suc, ◌+◌, ◌-◌, ◌<◌, ◌≤◌, ◌^◌, Bool, true, false, not, cond, List, [], ◌∷◌, ◌++◌, length, take, drop, get_or, encode_utf8_all, eq-eqb, sym, ap, refl, ◌∙◌, arith, subst, String, Result, Ok, Err, is_ok}
+use Rattle.std.proofs.Common.{◌≡◌, ℕ, zero, suc, ◌+◌, ◌-◌, ◌<◌, ◌≤◌, ◌^◌, Bool, true, false, not, cond, List, [], ◌∷◌, ◌++◌, length, take, drop, get_or, encode_utf8_all, sym, ap, refl, ◌∙◌, arith, subst, String, Result, Ok, Err, is_ok}
 use Rattle.std.specs.Result.{IsOk}
 use Rattle.std.proofs.lemmas.List.{get_or-append_right, length-map, length-take-le}
 use Rattle.textarea_text.specs.Place.{Place, end}
@@ -16,13 +16,13 @@ use Rattle.textarea_wrap.specs.RowsView.{RowsView}
 use Rattle.textarea_wrap.specs.Wrapped.{IsWrapped}
 use Rattle.textarea_wrap.specs.declared.wrap.WrapMode.TheVariants as mode
 use Rattle.textarea_map.specs.declared.layout.Wrapping.{Wrapping}
-use Rattle.textarea_map.specs.Layout.{AreRowsOf, AreRowsOfLine}
+use Rattle.textarea_map.specs.Layout.{AreRowsOf, AreRowsOfLine, ticks_behind, ticks_of}
 use Rattle.textarea_map.specs.Map.{ranges_at, row_total}
 use Rattle.textarea_map.proofs.Layouts.{AreRowsOf-replaced, length-AreRowsOf}
 use Rattle.textarea_map.proofs.Numbers.{row_total-replaced}
 use Rattle.textarea_lines.specs.declared.view.ViewSettings.{ViewSettings}
-use Rattle.textarea_lines.specs.Rows.{HasWholeLine, ticks_of}
-use Rattle.textarea_lines.specs.Screen.{Screen, all_cut, changed_by, recut, some_cut, ticks_behind}
+use Rattle.textarea_lines.specs.Rows.{HasWholeLine}
+use Rattle.textarea_lines.specs.Screen.{Screen, all_cut, changed_by, recut, some_cut}
 use Rattle.textarea_lines.specs.Stored.{IsStored, HoldsRows}
 use Rattle.textarea_lines.specs.Wrappings.{cut_at_width, is_same, is_wrapped, whole_lines, wrapping_for}
 use Rattle.textarea_lines.proofs.Layouts.{map-replaced}
@@ -102,7 +102,7 @@ pub record Inside {Z : Type 0} (view : ViewSettings) (old now lent : List (Strin
   pub limit : after ≤ 2 ^ 48
 
 whole_is : (view : ViewSettings) (n : ℕ) → is_wrapped view ≡ false → wrapping_for view n ≡ whole_lines view
-whole_is view n e = ap (λ (b : Bool). cond b (cut_at_width view n) (whole_lines view)) e
+whole_is view n e = ap (λ (b : Bool). cond b (cut_at_width view view.inner_width n) (whole_lines view)) e
 
 inside_line : {Z : Type 0} (view : ViewSettings) (old now lent : List (String Z)) (size after : ℕ) (rows : List RowsView) (splice : Splice) (row : ℕ) → Inside view old now lent size after rows splice row → ChangesLine (lines_of old) (lines_of now) row
 inside_line view old now lent size after rows splice row h =
@@ -176,7 +176,7 @@ recut_one screen n row going coming whole one one' =
     let view = screen.view in
     let after : ℕ = n - going + coming in
     let same : is_same (wrapping_for view after) (wrapping_for view n) ≡ true =
-    ap (λ w. is_same w (wrapping_for view n)) (whole_is view after whole) ∙ ap (is_same (whole_lines view)) (whole_is view n whole) ∙ eq-eqb view.tab_len view.tab_len refl in
+    ap (λ w. is_same w (wrapping_for view n)) (whole_is view after whole) ∙ ap (is_same (whole_lines view)) (whole_is view n whole) in
     ap (λ (b : Bool). cond b (some_cut screen row going coming) (all_cut view screen.count after)) same
     ∙ ap (λ m. some_cut screen row m coming) one ∙ ap (some_cut screen row 1) one'
 

@@ -1,17 +1,16 @@
 -- The rows behind what clauses see of a text.
-use Rattle.std.specs.Prelude.{◌≡◌, ℕ, ◌<◌, ◌^◌, true, List, [], ◌∷◌, encode_utf8_all, length, map}
+use Rattle.std.specs.Prelude.{◌≡◌, ℕ, ◌<◌, ◌^◌, true, List, Option, MatchOption, [], ◌∷◌, encode_utf8_all, length}
 use Rattle.std.specs.Str.{all_scalars}
+use Rattle.textarea_text.specs.Place.{Place}
 use Rattle.textarea_text.specs.Replaced.{replaced}
 use Rattle.textarea_text.specs.Text.{lines}
 use Rattle.textarea_wrap.specs.RowsView.{RowsView}
 use Rattle.textarea_wrap.specs.Wrapped.{IsWrapped}
 use Rattle.textarea_wrap.specs.declared.wrap.WrapMode.TheVariants as mode
-use Rattle.textarea_map.specs.Layout.{AreRowsOf}
-use Rattle.textarea_lines.specs.Screen.{LaidOut, wrapping_of}
-
--- for each line the number that the call which cut its rows counted to
-abbrev pub ticks_of : List RowsView → List ℕ
-ticks_of rows = map (λ (r : RowsView). r.tick) rows
+use Rattle.textarea_map.specs.Layout.{AreRowsOf, ticks_of}
+use Rattle.textarea_map.specs.Map.{IsRowCount}
+use Rattle.textarea_map.specs.Seen.{IsAbove, IsBelow, IsInFirstRow, IsInLastRow}
+use Rattle.textarea_lines.specs.Screen.{LaidOut, wrapping_at, wrapping_of}
 
 -- these are right rows of the text as it stands, cut when the screen says
 pub record IsLaidOutAs (laid : LaidOut) (rows : List RowsView) : Type 0 where
@@ -21,6 +20,23 @@ pub record IsLaidOutAs (laid : LaidOut) (rows : List RowsView) : Type 0 where
 -- the fact holds of the text's rows
 abbrev pub OfRows : LaidOut → (List RowsView → Type 0) → Type 0
 OfRows laid Fact = (rows : List RowsView) × IsLaidOutAs laid rows × Fact rows
+
+-- where a cursor goes one visual row up from a place of the text, in the rows of the text as it stands; none from the first
+-- visual row
+abbrev pub IsFoundAbove : LaidOut → Place → Option Place → Type 0
+IsFoundAbove laid place found = OfRows laid (λ rows. MatchOption found
+    (IsInFirstRow laid.screen.view.tab_len (lines laid.text) rows place)
+    (IsAbove laid.screen.view.tab_len (lines laid.text) rows place))
+
+-- where it goes one visual row down; none from the last visual row
+abbrev pub IsFoundBelow : LaidOut → Place → Option Place → Type 0
+IsFoundBelow laid place found = OfRows laid (λ rows. MatchOption found
+    (IsInLastRow laid.screen.view.tab_len (lines laid.text) rows place)
+    (IsBelow laid.screen.view.tab_len (lines laid.text) rows place))
+
+-- the text has this many visual rows in all where it is laid out anew in an inner area of this width
+abbrev pub IsRowCountAt : LaidOut → ℕ → ℕ → Type 0
+IsRowCountAt laid inner_width count = IsRowCount (wrapping_at laid inner_width) (lines laid.text) count
 
 -- the line in the row, given by its characters, each of them one of Unicode's, is shorter than 2^48 bytes and was cut as one
 -- that isn't wrapped, with this tick; all others keep their rows

@@ -1,13 +1,13 @@
 -- What clauses see of lines with their rows, and what a change of the text makes of it.
-use Rattle.std.specs.Prelude.{ℕ, ◌+◌, ◌-◌, List, length, if◌then◌else◌}
-use Rattle.std.specs.List.{range_with_len}
+use Rattle.std.specs.Prelude.{ℕ, ◌+◌, ◌-◌, Bool, List, length, if◌then◌else◌}
 use Rattle.textarea_text.specs.Text.{Symbol, joined, lines}
 use Rattle.textarea_text.specs.Replaced.{replaced}
 use Rattle.textarea_text.specs.Splice.{Splice, applied}
 use Rattle.textarea_text.specs.Touched.{lines_coming, lines_going}
+use Rattle.textarea_map.specs.Layout.{ticks_behind}
 use Rattle.textarea_map.specs.declared.layout.Wrapping.{Wrapping}
 use Rattle.textarea_lines.specs.declared.view.ViewSettings.{ViewSettings}
-use Rattle.textarea_lines.specs.Wrappings.{is_same, wrapping_for}
+use Rattle.textarea_lines.specs.Wrappings.{cut_at_width, is_same, wrapping_for}
 
 -- What decides how the text is cut, how many lines were cut so far, and for each line the number that the call which cut its
 -- rows counted to. Which rows these are is no part of it: they are right for the text as it stands.
@@ -19,10 +19,6 @@ pub record Screen : Type 0 where
 pub record LaidOut : Type 0 where
   pub text : List Symbol
   pub screen : Screen
-
--- the numbers that so many calls count to, one after the other, where the count stood at this one
-abbrev pub ticks_behind : ℕ → ℕ → List ℕ
-ticks_behind count size = range_with_len (count + 1) size
 
 -- all of so many lines are cut, from the first on
 abbrev pub all_cut : ViewSettings → ℕ → ℕ → Screen
@@ -65,7 +61,19 @@ laid_anew view count text = record { text = text; screen = all_cut view count (l
 abbrev pub wrapping_of : LaidOut → Wrapping
 wrapping_of laid = wrapping_for laid.screen.view (length (lines laid.text))
 
+-- how it is cut in an inner area of this many columns
+abbrev pub wrapping_at : LaidOut → ℕ → Wrapping
+wrapping_at laid inner_width = cut_at_width laid.screen.view inner_width (length (lines laid.text))
+
+-- whether it is cut as it stands under these settings
+abbrev pub stays_cut : LaidOut → ViewSettings → Bool
+stays_cut laid view = is_same (wrapping_for view (length (lines laid.text))) (wrapping_of laid)
+
+-- whether it is cut as it stands in an inner area of this many columns
+abbrev pub is_cut_at : LaidOut → ℕ → Bool
+is_cut_at laid inner_width = is_same (wrapping_at laid inner_width) (wrapping_of laid)
+
 -- the same text seen in another way: its lines are cut anew where they are cut in another way
 abbrev pub seen_with : LaidOut → ViewSettings → LaidOut
 seen_with laid view =
-    if is_same (wrapping_for view (length (lines laid.text))) (wrapping_of laid) then (record { text = laid.text; screen = record { view = view; count = laid.screen.count; ticks = laid.screen.ticks } }) else laid_anew view laid.screen.count laid.text
+    if stays_cut laid view then (record { text = laid.text; screen = record { view = view; count = laid.screen.count; ticks = laid.screen.ticks } }) else laid_anew view laid.screen.count laid.text

@@ -1,5 +1,5 @@
 -- How a text of so many lines is cut into rows.
-use Rattle.std.specs.Prelude.{ℕ, ◌==◌, ◌&&◌, Bool, true, false, not, unwrap_or, if◌then◌else◌}
+use Rattle.std.specs.Prelude.{ℕ, ◌==◌, ◌&&◌, ◌||◌, Bool, true, false, not, unwrap_or, if◌then◌else◌}
 use Rattle.textarea_wrap.specs.declared.wrap.WrapMode.{WrapMode}
 use Rattle.textarea_wrap.specs.declared.wrap.WrapMode.TheVariants as mode
 use Rattle.textarea_wrap.specs.Layout.{columns_for_rows, line_number_columns}
@@ -21,17 +21,18 @@ is_wrapped view = not (view.inner_width == 0) && wraps view.mode
 abbrev pub whole_lines : ViewSettings → Wrapping
 whole_lines view = record { mode = mode.None; width = 1; tab_len = view.tab_len }
 
--- at the width that is left for rows beside line numbers of so many lines (there is one in each mode that wraps)
-abbrev pub cut_at_width : ViewSettings → ℕ → Wrapping
-cut_at_width view line_count = record {
+-- Rows in an inner area of this many columns: at the width that is left beside line numbers of so many lines, and at 1 where
+-- none is left. In the mode `None`, in which each line is one row, the width is 1 as well.
+abbrev pub cut_at_width : ViewSettings → ℕ → ℕ → Wrapping
+cut_at_width view inner_width line_count = record {
   mode = view.mode;
-  width = unwrap_or (columns_for_rows view.mode view.inner_width (line_number_columns view.line_numbers line_count)) 1;
+  width = unwrap_or (columns_for_rows view.mode inner_width (line_number_columns view.line_numbers line_count)) 1;
   tab_len = view.tab_len;
 }
 
 -- how a text of so many lines is cut
 abbrev pub wrapping_for : ViewSettings → ℕ → Wrapping
-wrapping_for view line_count = if is_wrapped view then cut_at_width view line_count else whole_lines view
+wrapping_for view line_count = if is_wrapped view then cut_at_width view view.inner_width line_count else whole_lines view
 
 abbrev pub is_same_mode : WrapMode → WrapMode → Bool
 is_same_mode mode.None mode.None = true
@@ -40,6 +41,6 @@ is_same_mode mode.Glyph mode.Glyph = true
 is_same_mode mode.WordOrGlyph mode.WordOrGlyph = true
 is_same_mode one other = false
 
--- lines are cut in the same way: all three parts are equal
+-- lines are cut in the same way: in the same mode and, where it wraps, at the same width and with the same tab stops
 abbrev pub is_same : Wrapping → Wrapping → Bool
-is_same one other = is_same_mode one.mode other.mode && (one.width == other.width) && (one.tab_len == other.tab_len)
+is_same one other = is_same_mode one.mode other.mode && (not (wraps one.mode) || ((one.width == other.width) && (one.tab_len == other.tab_len)))

@@ -2,61 +2,18 @@
 ghost use Rattle.std.specs.Prelude.{◌≡◌, ◌+◌, ◌-◌, ◌^◌, ◌<◌, ◌≤◌, ◌++◌, List, ℕ, [], encode_utf8_all, get_or, length, vec_capacity, vec_len, IfOk, OnOk};
 ghost use Rattle.textarea_text.specs.Replaced.{replaced};
 ghost use Rattle.textarea_text.specs.Text.{lines_of};
-ghost use Rattle.textarea_map.specs.Layout.{AreRowsOf};
+ghost use Rattle.textarea_map.specs.Layout.{AreRowsOf, ticks_behind, ticks_of};
 ghost use Rattle.textarea_map.specs.Map.{IsReady, ranges_at, row_total};
-ghost use Rattle.textarea_lines.specs.Rows.{HasWholeLine, ticks_of};
-ghost use Rattle.textarea_lines.specs.Screen.{recut, ticks_behind};
+ghost use Rattle.textarea_lines.specs.Rows.{HasWholeLine};
+ghost use Rattle.textarea_lines.specs.Screen.{recut};
 ghost use Rattle.textarea_lines.specs.Wrappings.{wrapping_for};
 
 use crate::view::{ViewSettings, is_same, wrapping_for};
 use std::alloc::{AllocError, Global};
-use textarea_map::layout::Wrapping;
+use textarea_map::layout::{Wrapping, push_rows, rows_of};
 use textarea_map::screen_map::{PreparedRows, ScreenMap};
 use textarea_text::rows::Replacement;
 use textarea_wrap::wrap::{Rows, WrapCount, WrapMode, line_ranges};
-
-// Cuts the lines, and puts their rows behind those of the lines before them. Each line adds one to `count`.
-pub(crate) fn push_rows(
-    alloc: Global,
-    rows: &mut Vec<Rows>,
-    lines: &[String],
-    wrapping: Wrapping,
-    count: &mut WrapCount,
-) -> Result<(), AllocError>
-    ensures counted { OnOk result (count.new ≡ count.old + length lines.now) }
-    ensures rows { (before : List (List ℕ)) → AreRowsOf wrapping before rows.old.items
-        → OnOk result (AreRowsOf wrapping (before ++ lines_of lines.now) rows.new.items) }
-    ensures ticks { OnOk result (ticks_of rows.new.items ≡ ticks_of rows.old.items ++ ticks_behind count.old (length lines.now)) }
-{
-    for i in 0..lines.len() {
-        let cut = line_ranges(
-            alloc,
-            lines[i].as_str(),
-            wrapping.mode,
-            wrapping.width,
-            wrapping.tab_len,
-            count,
-        )?;
-        rows.push(cut)?;
-    }
-    Ok(())
-}
-
-// The rows of all these lines.
-pub(crate) fn rows_of(
-    alloc: Global,
-    lines: &[String],
-    wrapping: Wrapping,
-    count: &mut WrapCount,
-) -> Result<Vec<Rows>, AllocError>
-    ensures counted { OnOk result (count.new ≡ count.old + length lines.now) }
-    ensures rows { IfOk result (λ rows. AreRowsOf wrapping (lines_of lines.now) rows.items) }
-    ensures ticks { IfOk result (λ rows. ticks_of rows.items ≡ ticks_behind count.old (length lines.now)) }
-{
-    let mut rows = Vec::with_capacity(alloc, lines.len())?;
-    push_rows(alloc, &mut rows, lines, wrapping, count)?;
-    Ok(rows)
-}
 
 // The rows of all lines after the replacement: of those above it, of its lines, and of those below it.
 pub(crate) fn rows_after(
@@ -80,24 +37,6 @@ pub(crate) fn rows_after(
     let below = &lines[change.row + change.count..];
     push_rows(alloc, &mut rows, below, wrapping, count)?;
     Ok(rows)
-}
-
-// The map of the lines, each of which is cut once.
-pub(crate) fn map_of(
-    alloc: Global,
-    lines: &[String],
-    wrapping: Wrapping,
-    count: &mut WrapCount,
-) -> Result<ScreenMap, AllocError>
-    ensures counted { OnOk result (count.new ≡ count.old + length lines.now) }
-    ensures rows { IfOk result (λ map. AreRowsOf wrapping (lines_of lines.now) map.rows) }
-    ensures ticks { IfOk result (λ map. ticks_of map.rows ≡ ticks_behind count.old (length lines.now)) }
-{
-    let rows = rows_of(alloc, lines, wrapping, count)?;
-    let mut map = ScreenMap::new(alloc, &[], wrapping, &mut WrapCount::new())?;
-    let prepared = map.make_room(0, 0, rows)?;
-    map.put_in(prepared);
-    Ok(map)
 }
 
 // The rows for the lines after the replacement: those of its lines, or of all lines where their number changes how they are

@@ -1,5 +1,5 @@
 //! The lines of a text with their visual rows, kept line by line.
-ghost use Rattle.std.specs.Prelude.{◌≡◌, ◌+◌, ◌-◌, ◌<◌, ◌≤◌, ◌^◌, ◌↔◌, [], length, vec_len, false, true, IfOk, IsOk, IsTrue, OnErr, OnOk, if◌then◌else◌};
+ghost use Rattle.std.specs.Prelude.{◌≡◌, ◌+◌, ◌-◌, ◌<◌, ◌≤◌, ◌^◌, ◌↔◌, [], length, vec_len, false, true, IfOk, IfSome, IsOk, IsTrue, OnErr, OnOk, if◌then◌else◌};
 ghost use Rattle.textarea_text.specs.Place.{Place, IsPlace};
 ghost use Rattle.textarea_text.specs.Size.{size_of, weight};
 ghost use Rattle.textarea_text.specs.Splice.{Fits, applied, inverse};
@@ -8,15 +8,17 @@ ghost use Rattle.textarea_text.specs.Touched.{breaks_of};
 ghost use Rattle.textarea_history.specs.Edit.{IsWellFormed};
 ghost use Rattle.textarea_map.specs.Map.{row_total};
 ghost use Rattle.textarea_map.specs.Seen.{IsSeenAt};
-ghost use Rattle.textarea_lines.specs.Rows.{OfRows};
-ghost use Rattle.textarea_lines.specs.Screen.{changed_by, laid_anew, replaced_in, seen_with, wrapping_of};
-ghost use Rattle.textarea_lines.specs.Wrappings.{is_same, is_wrapped, wrapping_for};
+ghost use Rattle.textarea_lines.specs.Rows.{IsFoundAbove, IsFoundBelow, IsRowCountAt, OfRows};
+ghost use Rattle.textarea_lines.specs.Screen.{changed_by, is_cut_at, laid_anew, replaced_in, seen_with, stays_cut};
+ghost use Rattle.textarea_lines.specs.Wrappings.{is_wrapped};
 
-use crate::cut::{map_of, prepare_rows, put_whole_line};
-use crate::view::{ViewSettings, is_same, is_wrapped, wrapping_for};
+use crate::cut::{prepare_rows, put_whole_line};
+use crate::measured::Measured;
+use crate::view::{ViewSettings, is_same, is_wrapped, wrapping_at, wrapping_for};
 use std::alloc::{AllocError, Global};
 use std::marker::Model;
 use textarea_history::edit::Edit;
+use textarea_map::layout::rows_in;
 use textarea_map::screen_map::ScreenMap;
 use textarea_text::rows;
 use textarea_text::rows::Replacement;
@@ -36,6 +38,7 @@ pub struct LaidOutLines {
     map: ScreenMap,
     count: WrapCount,
     view: ViewSettings,
+    measured: Option<Measured>,
 }
 
 impl Model for LaidOutLines {
@@ -44,12 +47,12 @@ impl Model for LaidOutLines {
 
     ghost Value = { LaidOut };
 
-    ghost use Rattle.textarea_lines.specs.Rows.{ticks_of};
-    ghost use Rattle.textarea_lines.specs.Stored.{HoldsRows};
+    ghost use Rattle.textarea_map.specs.Layout.{ticks_of};
+    ghost use Rattle.textarea_lines.specs.Stored.{KeepsRows};
 
     ghost view = { λ laid. record { text = text_of laid.lines.items; screen = record { view = laid.view; count = laid.count; ticks = ticks_of laid.map.rows } } };
 
-    ghost invariant = { λ laid. HoldsRows laid.view laid.lines.items laid.size laid.map.rows };
+    ghost invariant = { λ laid. KeepsRows laid.view laid.lines.items laid.size laid.map.rows laid.measured };
 }
 
 impl Clone for LaidOutLines {
@@ -63,6 +66,7 @@ impl Clone for LaidOutLines {
             map: self.map.clone()?,
             count: self.count.clone()?,
             view: self.view,
+            measured: self.measured,
         })
     }
 }
@@ -97,13 +101,15 @@ impl LaidOutLines {
             return Err(AllocError);
         }
         let wrapping = wrapping_for(view, lines.len());
-        let map = map_of(*lines.allocator(), lines.as_slice(), wrapping, &mut count)?;
+        let alloc = *lines.allocator();
+        let map = ScreenMap::new(alloc, lines.as_slice(), wrapping, &mut count)?;
         Ok(LaidOutLines {
             lines,
             size,
             map,
             count,
             view,
+            measured: None,
         })
     }
 
@@ -169,7 +175,7 @@ impl LaidOutLines {
     pub fn set_view(&mut self, view: ViewSettings) -> Result<(), AllocError>
         ensures ok { OnOk result (self.new ≡ seen_with self.old view) }
         ensures err { OnErr result (self.new ≡ self.old) }
-        ensures no_memory { is_same (wrapping_for view (length (lines self.old.text))) (wrapping_of self.old) ≡ true → IsOk result }
+        ensures no_memory { stays_cut self.old view ≡ true → IsOk result }
     {
         let before = wrapping_for(self.view, self.lines.len());
         let after = wrapping_for(view, self.lines.len());
@@ -179,7 +185,7 @@ impl LaidOutLines {
         }
         let mut count = self.count.clone()?;
         let alloc = *self.lines.allocator();
-        self.map = map_of(alloc, self.lines.as_slice(), after, &mut count)?;
+        self.map = ScreenMap::new(alloc, self.lines.as_slice(), after, &mut count)?;
         self.count = count;
         self.view = view;
         Ok(())
@@ -189,7 +195,7 @@ impl LaidOutLines {
     pub fn row_count(&self) -> usize
         ensures { OfRows self.now (λ rows. result ≡ row_total rows) }
     {
-        self.map.row_count()
+        self.map.row_count() // over all lines
     }
 
     /// The visual row in which a place of the text is seen, and its display column there.
@@ -200,6 +206,51 @@ impl LaidOutLines {
         let lines = self.lines.as_slice();
         let wrapping = wrapping_for(self.view, lines.len());
         self.map.seen_at(lines, wrapping, place)
+    }
+
+    /// Where a cursor goes from a place of the text, one visual row up; none from the first visual row.
+    pub fn above(&self, place: (usize, usize)) -> Option<(usize, usize)>
+        requires { IsPlace self.now.text place }
+        ensures place { IfSome result (IsPlace self.now.text) }
+        ensures above { IsFoundAbove self.now place result }
+    {
+        let lines = self.lines.as_slice();
+        let wrapping = wrapping_for(self.view, lines.len());
+        self.map.above(lines, wrapping, place)
+    }
+
+    /// Where a cursor goes from a place of the text, one visual row down; none from the last visual row.
+    pub fn below(&self, place: (usize, usize)) -> Option<(usize, usize)>
+        requires { IsPlace self.now.text place }
+        ensures place { IfSome result (IsPlace self.now.text) }
+        ensures below { IsFoundBelow self.now place result }
+    {
+        let lines = self.lines.as_slice();
+        let wrapping = wrapping_for(self.view, lines.len());
+        self.map.below(lines, wrapping, place)
+    }
+
+    /// How many visual rows the lines would have in all in an inner area of this width, in columns. Where they are cut so as
+    /// they stand, and where the last answer was for lines cut so, no line is cut; else each is cut once and none of the rows
+    /// is kept. In the mode `None` it takes no memory. What is seen of the lines stays as it is, the count too.
+    pub fn rows_at_width(&mut self, inner_width: u16) -> Result<usize, AllocError>
+        ensures same { self.new ≡ self.old }
+        ensures rows { IfOk result (IsRowCountAt self.old inner_width) }
+        ensures no_memory { is_cut_at self.old inner_width ≡ true → IsOk result }
+    {
+        let lines = self.lines.as_slice();
+        let wrapping = wrapping_at(self.view, inner_width, lines.len());
+        if is_same(wrapping, wrapping_for(self.view, lines.len())) {
+            return Ok(self.map.row_count());
+        }
+        if let Some(measured) = self.measured {
+            if is_same(wrapping, measured.wrapping) {
+                return Ok(measured.rows);
+            }
+        }
+        let rows = rows_in(*self.lines.allocator(), lines, wrapping)?;
+        self.measured = Some(Measured { wrapping, rows });
+        Ok(rows)
     }
 
     /// Makes an edit that fits the text.
@@ -260,6 +311,7 @@ impl LaidOutLines {
             &mut self.count,
         );
         self.size = size;
+        self.measured = None; // of the line before the edit
         Ok(())
     }
 
@@ -288,6 +340,7 @@ impl LaidOutLines {
             &mut self.count,
         );
         self.size = size;
+        self.measured = None; // of the line with the edit
         Ok(())
     }
 
@@ -315,6 +368,7 @@ impl LaidOutLines {
         change.put_in(&mut self.lines);
         self.map.put_in(prepared);
         self.size = size;
+        self.measured = None; // of other lines
         self.count = count; // of a change that was made
         Ok(())
     }

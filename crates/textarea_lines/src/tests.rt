@@ -1,12 +1,13 @@
 //! Lines and their rows over some edits: numbers worked by hand from the rules, and the same rows as those of lines that are
 //! laid out anew.
-ghost use Rattle.std.specs.Prelude.{◌≡◌, IfOk, OnOk};
+ghost use Rattle.std.specs.Prelude.{◌≡◌, false, IfOk, OnOk};
 ghost use Rattle.textarea_text.specs.Place.{IsPlace};
 ghost use Rattle.textarea_text.specs.Splice.{Fits, inverse};
 ghost use Rattle.textarea_history.specs.Edit.{IsWellFormed};
+ghost use Rattle.textarea_lines.specs.Wrappings.{is_wrapped};
 
 use crate::laid_out::LaidOutLines;
-use crate::view::ViewSettings;
+use crate::view::{ViewSettings, is_wrapped};
 use std::alloc::{AllocError, Global};
 use std::process::Abort;
 use std::test::Fail;
@@ -18,6 +19,14 @@ fn nine_lines(alloc: Global) -> Result<Vec<String>, AllocError> {
     let mut lines = Vec::new(alloc);
     for _ in 0..9 {
         lines.push(String::from_str(alloc, "abcdefg")?)?;
+    }
+    Ok(lines)
+}
+
+fn lines_of_texts(alloc: Global, texts: &[&str]) -> Result<Vec<String>, AllocError> {
+    let mut lines = Vec::new(alloc);
+    for text in texts {
+        lines.push(String::from_str(alloc, text)?)?;
     }
     Ok(lines)
 }
@@ -158,5 +167,103 @@ fn lines_are_held(rt: HostRuntime) -> Result<(), Fail> {
     let mut rows = Vec::new(laid.allocator());
     rows.push(laid.row_count())?;
     assert_eq!(rt; laid.into_lines().len(), 1);
+    Ok(())
+}
+
+// A place that the test gives, once it is found in the lines.
+fn place_of(rt: &impl Abort, laid: &LaidOutLines, place: (usize, usize)) -> (usize, usize)
+    ensures { IsPlace laid.now.text result }
+{
+    let lines = laid.lines();
+    assert!(rt; place.0 < lines.len());
+    assert!(rt; place.1 <= column_count(lines[place.0].as_str()));
+    place
+}
+
+#[test]
+fn a_cursor_goes_up_and_down(rt: HostRuntime) -> Result<(), Fail> {
+    let alloc = rt.alloc();
+    let whole = ViewSettings {
+        mode: WrapMode::None,
+        tab_len: 4,
+        line_numbers: false,
+        inner_width: 4,
+    };
+    let wrapped = ViewSettings {
+        mode: WrapMode::Glyph,
+        ..whole
+    };
+    let laid = LaidOutLines::new(alloc, lines_of_texts(alloc, &["犬犬", "abcd"])?, whole)?;
+    assert!(rt; laid.below(place_of(&rt, &laid, (0, 1))) == Some((1, 2)));
+    assert!(rt; laid.above(place_of(&rt, &laid, (1, 1))) == Some((0, 0)));
+    assert!(rt; laid.above(place_of(&rt, &laid, (0, 1))).is_none());
+    assert!(rt; laid.below(place_of(&rt, &laid, (1, 1))).is_none());
+    let laid = LaidOutLines::new(alloc, lines_of_texts(alloc, &["abcdef"])?, wrapped)?;
+    assert!(rt; laid.below(place_of(&rt, &laid, (0, 1))) == Some((0, 4)));
+    assert!(rt; laid.above(place_of(&rt, &laid, (0, 4))) == Some((0, 1)));
+    Ok(())
+}
+
+#[test]
+fn rows_are_counted_at_a_width(rt: HostRuntime) -> Result<(), Fail> {
+    let alloc = rt.alloc();
+    let hidden = ViewSettings {
+        mode: WrapMode::Glyph,
+        tab_len: 4,
+        line_numbers: false,
+        inner_width: 0,
+    };
+    for (text, mode, inner_width, rows) in [
+        ("abc", WrapMode::Glyph, 0, 3),
+        ("abcdef", WrapMode::WordOrGlyph, 5, 2),
+        ("abcdef", WrapMode::None, 1, 1),
+    ] {
+        let lines = lines_of_texts(alloc, &[text])?;
+        let mut laid = LaidOutLines::new(alloc, lines, ViewSettings { mode, ..hidden })?;
+        assert_eq!(rt;
+            laid.rows_at_width(inner_width)?,
+            rows,
+            "{text} at {inner_width}"
+        );
+    }
+    let numbered = ViewSettings {
+        line_numbers: true,
+        ..hidden
+    };
+    let mut laid = LaidOutLines::new(alloc, nine_lines(alloc)?, numbered)?;
+    assert_eq!(rt; laid.rows_at_width(11)?, 9);
+    let end = end_of(&laid);
+    put_in_break(&mut laid, end)?;
+    assert_eq!(rt; laid.rows_at_width(11)?, 19);
+    assert_eq!(rt; laid.rows_at_width(11)?, 19);
+    assert_eq!(rt; laid.row_count(), 10);
+    Ok(())
+}
+
+// Other tab stops, where lines aren't wrapped: no line is cut.
+fn set_tab_len(laid: &mut LaidOutLines, tab_len: u8) -> Result<(), AllocError>
+    requires { is_wrapped laid.old.screen.view ≡ false }
+    ensures { OnOk result (laid.new.screen.count ≡ laid.old.screen.count) }
+{
+    let view = laid.view();
+    laid.set_view(ViewSettings { tab_len, ..view })
+}
+
+#[test]
+fn tab_stops_cut_no_whole_line(rt: HostRuntime) -> Result<(), Fail> {
+    let alloc = rt.alloc();
+    let view = ViewSettings {
+        mode: WrapMode::None,
+        tab_len: 4,
+        line_numbers: false,
+        inner_width: 20,
+    };
+    let lines = lines_of_texts(alloc, &["\ta", "abcdef"])?;
+    let mut laid = LaidOutLines::new(alloc, lines, view)?;
+    assert!(rt; laid.seen_at(place_of(&rt, &laid, (0, 1))) == (0, 4));
+    assert!(rt; !is_wrapped(laid.view()));
+    set_tab_len(&mut laid, 2)?;
+    assert!(rt; laid.seen_at(place_of(&rt, &laid, (0, 1))) == (0, 2));
+    assert_eq!(rt; laid.rows_at_width(1)?, 2);
     Ok(())
 }

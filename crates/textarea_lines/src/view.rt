@@ -1,6 +1,6 @@
 //! What decides how the lines of a text are cut into rows, besides the lines.
 ghost use Rattle.std.specs.Prelude.{◌≡◌};
-ghost use Rattle.textarea_lines.specs.Wrappings.{is_same, is_wrapped, wrapping_for};
+ghost use Rattle.textarea_lines.specs.Wrappings.{cut_at_width, is_same, is_wrapped, wrapping_for};
 
 use textarea_map::layout::Wrapping;
 use textarea_wrap::layout::LayoutMetrics;
@@ -27,14 +27,22 @@ pub fn is_wrapped(view: ViewSettings) -> bool
 pub fn wrapping_for(view: ViewSettings, line_count: usize) -> Wrapping
     ensures { result ≡ wrapping_for view line_count }
 {
-    if !is_wrapped(view) {
-        return Wrapping {
-            mode: WrapMode::None,
-            width: 1,
-            tab_len: view.tab_len,
-        };
+    if is_wrapped(view) {
+        return wrapping_at(view, view.inner_width, line_count);
     }
-    let metrics = LayoutMetrics::new(view.inner_width, line_count, view.line_numbers, view.mode);
+    Wrapping {
+        mode: WrapMode::None,
+        width: 1,
+        tab_len: view.tab_len,
+    }
+}
+
+/// How a text of so many lines would be cut in an inner area of this width, in columns; where line numbers leave none, as in
+/// one of one column.
+pub fn wrapping_at(view: ViewSettings, inner_width: u16, line_count: usize) -> Wrapping
+    ensures { result ≡ cut_at_width view inner_width line_count }
+{
+    let metrics = LayoutMetrics::new(inner_width, line_count, view.line_numbers, view.mode);
     Wrapping {
         mode: view.mode,
         width: metrics.wrap_width().unwrap_or(1),
@@ -42,9 +50,9 @@ pub fn wrapping_for(view: ViewSettings, line_count: usize) -> Wrapping
     }
 }
 
-/// Whether lines are cut in the same way under both.
+/// Whether lines are cut in the same way under both: where the mode wraps, the width and the tab stops count too.
 pub fn is_same(one: Wrapping, other: Wrapping) -> bool
     ensures { result ≡ is_same one other }
 {
-    one == other
+    one.mode == other.mode && (one.mode == WrapMode::None || one == other)
 }

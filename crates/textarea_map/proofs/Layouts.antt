@@ -2,13 +2,14 @@
 use Rattle.std.proofs.Common.{map, ap₂, ◌≡◌, ℕ, zero, suc, ◌+◌, ◌<◌, ◌^◌, max, List, [], ◌∷◌, ◌++◌, length, take, drop, get_or, sym, ap, refl, ◌∙◌, arith, subst, encode_utf8_all, String, string_bytes}
 use Rattle.std.proofs.lemmas.List.{append_assoc, drop-map, length-map, map-append, take-map, take_more}
 use Rattle.std.proofs.lemmas.Str.{encodes-chars, scalars-chars, IsUtf8-string_bytes}
+use Rattle.std.specs.List.{range_with_len}
 use Rattle.std.specs.Str.{all_scalars}
 use Rattle.textarea_text.specs.Text.{characters_of, lines_of}
 use Rattle.textarea_text.proofs.StringRows.{line_at}
 use Rattle.textarea_wrap.specs.RowsView.{RowsView}
 use Rattle.textarea_wrap.specs.Wrapped.{IsWrapped}
 use Rattle.textarea_map.specs.declared.layout.Wrapping.{Wrapping}
-use Rattle.textarea_map.specs.Layout.{AreRowsOf, AreRowsOfLine, AreFresh}
+use Rattle.textarea_map.specs.Layout.{AreRowsOf, AreRowsOfLine, ticks_behind, ticks_of}
 use Rattle.textarea_text.specs.Replaced.{replaced}
 
 pub AreRowsOf-append : (w : Wrapping) (lines more : List (List ℕ)) (rows others : List RowsView) → AreRowsOf w lines rows → AreRowsOf w more others → AreRowsOf w (lines ++ more) (rows ++ others)
@@ -58,9 +59,32 @@ AreRowsOf-more w before items i line text rows cut within read same h k short =
     (append_assoc before (take i (lines_of items)) (get_or (lines_of items) i [] ∷ []) ∙ ap (λ t. before ++ t) (sym (take_more (lines_of items) i [] (omega (arith, length-map items characters_of)))))
     (AreRowsOf-append w (before ++ take i (lines_of items)) (get_or (lines_of items) i [] ∷ []) rows (cut ∷ []) h (here, tt))
 
-pub AreFresh-append : (low : ℕ) (rows more : List RowsView) → AreFresh low rows → AreFresh low more → AreFresh low (rows ++ more)
-AreFresh-append low [] more h k = k
-AreFresh-append low (r ∷ rows) more h k = (h.0, AreFresh-append low rows more h.1 k)
+range_append : (first size more : ℕ) → range_with_len first size ++ range_with_len (first + size) more ≡ range_with_len first (size + more)
+range_append first zero more =
+    let start : first + 0 ≡ first = omega arith in
+    let sum : more ≡ 0 + more = omega arith in
+    ap (λ n. range_with_len n more) start ∙ ap (range_with_len first) sum
+range_append first (suc size) more =
+    let start : first + suc size ≡ first + 1 + size = omega arith in
+    let sum : suc (size + more) ≡ suc size + more = omega arith in
+    ap (λ n. first ∷ (range_with_len (first + 1) size ++ range_with_len n more)) start
+    ∙ ap (λ t. first ∷ t) (range_append (first + 1) size more)
+    ∙ ap (range_with_len first) sum
+
+-- some calls more
+pub ticks_append : (count size more : ℕ) → ticks_behind count size ++ ticks_behind (count + size) more ≡ ticks_behind count (size + more)
+ticks_append count size more =
+    let start : count + size + 1 ≡ count + 1 + size = omega arith in
+    ap (λ n. range_with_len (count + 1) size ++ range_with_len n more) start ∙ range_append (count + 1) size more
+
+-- one line more
+pub ticks_more : (before after : List RowsView) (cut : RowsView) (ticks : List ℕ) (count i : ℕ) → after ≡ before ++ cut ∷ [] → ticks_of before ≡ ticks ++ ticks_behind count i → cut.tick ≡ count + i + 1 → ticks_of after ≡ ticks ++ ticks_behind count (i + 1)
+ticks_more before after cut ticks count i is e tick =
+    ap ticks_of is ∙ map-append (λ (r : RowsView). r.tick) before (cut ∷ [])
+    ∙ ap (λ t. t ++ cut.tick ∷ []) e
+    ∙ ap (λ (n : ℕ). (ticks ++ ticks_behind count i) ++ n ∷ []) tick
+    ∙ append_assoc ticks (ticks_behind count i) ((count + i + 1) ∷ [])
+    ∙ ap (λ t. ticks ++ t) (ticks_append count i 1)
 
 -- two maps of the same lines, where a line has one right cutting
 pub ranges_same : (w : Wrapping) (lines : List (List ℕ)) (rows others : List RowsView) → ((line : List ℕ) (ranges more : List (ℕ × ℕ)) → IsWrapped w.mode w.tab_len (max w.width 1) line ranges → IsWrapped w.mode w.tab_len (max w.width 1) line more → ranges ≡ more) → AreRowsOf w lines rows → AreRowsOf w lines others → map (λ (r : RowsView). r.ranges) rows ≡ map (λ (r : RowsView). r.ranges) others

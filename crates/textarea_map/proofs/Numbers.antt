@@ -1,6 +1,7 @@
 -- The numbers of lines' first rows, as lines give place to others.
-use Rattle.std.proofs.Common.{◌≡◌, ℕ, zero, suc, ◌+◌, ◌-◌, ◌≤◌, ◌<◌, List, [], ◌∷◌, ◌++◌, length, take, drop, get_or, set, sym, ap, refl, ◌∙◌, arith}
+use Rattle.std.proofs.Common.{◌≡◌, ℕ, zero, suc, ◌+◌, ◌-◌, ◌≤◌, ◌<◌, List, [], ◌∷◌, ◌++◌, length, take, drop, get_or, map, set, sum_by, sym, ap, refl, ◌∙◌, arith}
 use Rattle.std.proofs.lemmas.List.{take_more, take-append-drop, take_more_set, take_at, take-take, take-append-le, length-take, length-take-le}
+use Rattle.std.proofs.lemmas.List.Sums.{sum_by-cons}
 use Rattle.std.proofs.Math.Seq.{take-add}
 use Rattle.textarea_text.proofs.Replacing.{take_two, drop_two}
 use Rattle.textarea_wrap.specs.RowsView.{RowsView}
@@ -53,6 +54,11 @@ pub drop-firsts : (first n : ℕ) (rows : List RowsView) → drop n (firsts_from
 drop-firsts first zero rows = ap (λ k. firsts_from k rows) (omega arith)
 drop-firsts first (suc n) [] = refl
 drop-firsts first (suc n) (r ∷ rows) = drop-firsts (first + length r.ranges) n rows ∙ ap (λ k. firsts_from k (drop n rows)) (omega arith)
+
+-- the rows of the lines, added up line by line
+pub row_total-sum : (rows : List RowsView) → row_total rows ≡ sum_by length (map (λ (r : RowsView). r.ranges) rows)
+row_total-sum [] = refl
+row_total-sum (r ∷ rows) = ap (λ n. length r.ranges + n) (row_total-sum rows) ∙ sym (sum_by-cons length r.ranges (map (λ (s : RowsView). s.ranges) rows))
 
 -- ---- a loop that numbers lines
 

@@ -1,5 +1,6 @@
 -- The rows of the lines of a text.
-use Rattle.std.specs.Prelude.{◌≡◌, ℕ, ◌<◌, ◌^◌, max, true, length, List, [], ◌∷◌, encode_utf8_all}
+use Rattle.std.specs.Prelude.{◌≡◌, ℕ, ◌+◌, ◌<◌, ◌^◌, max, true, length, map, List, [], ◌∷◌, encode_utf8_all}
+use Rattle.std.specs.List.{range_with_len}
 use Rattle.std.specs.Str.{all_scalars}
 use Rattle.textarea_wrap.specs.RowsView.{RowsView}
 use Rattle.textarea_wrap.specs.Wrapped.{IsWrapped}
@@ -20,7 +21,10 @@ AreRowsOf wrapping [] (rows ∷ rest) = ⊥
 AreRowsOf wrapping (line ∷ lines) [] = ⊥
 AreRowsOf wrapping (line ∷ lines) (rows ∷ rest) = AreRowsOfLine wrapping line rows × AreRowsOf wrapping lines rest
 
--- all these rows were cut after the count stood at this number
-abbrev pub AreFresh : ℕ → List RowsView → Type 0
-AreFresh count [] = Unit {0}
-AreFresh count (rows ∷ rest) = (count < rows.tick) × AreFresh count rest
+-- for each line the number that the call which cut its rows counted to
+abbrev pub ticks_of : List RowsView → List ℕ
+ticks_of rows = map (λ (r : RowsView). r.tick) rows
+
+-- the numbers that so many calls count to, one after the other, where the count stood at this one
+abbrev pub ticks_behind : ℕ → ℕ → List ℕ
+ticks_behind count size = range_with_len (count + 1) size

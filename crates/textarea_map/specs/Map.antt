@@ -2,7 +2,9 @@
 use Rattle.std.specs.Prelude.{◌≡◌, ℕ, ◌+◌, ◌≤◌, ◌^◌, List, [], ◌∷◌, map, length, get_or, vec_len}
 use Rattle.textarea_text.specs.Replaced.{replaced}
 use Rattle.textarea_wrap.specs.RowsView.{RowsView}
+use Rattle.textarea_map.specs.declared.layout.Wrapping.{Wrapping}
 use Rattle.textarea_map.specs.declared.screen_map.PreparedRows.{PreparedRows}
+use Rattle.textarea_map.specs.Layout.{AreRowsOf}
 
 -- the rows of each line, and how many lines more the map can take without memory
 pub record MapView : Type 0 where
@@ -13,6 +15,10 @@ pub record MapView : Type 0 where
 abbrev pub row_total : List RowsView → ℕ
 row_total [] = 0
 row_total (rows ∷ rest) = length rows.ranges + row_total rest
+
+-- lines that are cut so have this many visual rows in all
+abbrev pub IsRowCount : Wrapping → List (List ℕ) → ℕ → Type 0
+IsRowCount wrapping lines count = (rows : List RowsView) × AreRowsOf wrapping lines rows × (count ≡ row_total rows)
 
 -- the number of the first visual row of each line, where the first line begins at this one
 abbrev pub firsts_from : ℕ → List RowsView → List ℕ

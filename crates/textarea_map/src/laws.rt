@@ -4,6 +4,7 @@ ghost use Rattle.textarea_text.specs.Place.{IsPlaceOf, Place};
 ghost use Rattle.textarea_wrap.specs.RowsView.{RowsView};
 ghost use Rattle.textarea_map.specs.declared.layout.Wrapping.{Wrapping};
 ghost use Rattle.textarea_map.specs.Layout.{AreRowsOf};
+ghost use Rattle.textarea_map.specs.Map.{IsRowCount};
 ghost use Rattle.textarea_map.specs.Rows.{greatest_column, row_at};
 ghost use Rattle.textarea_map.specs.Seen.{HasNoZeroWidth, IsAbove, IsBelow, IsPlaceAt, IsPlaceNear, IsSeenAt};
 
@@ -54,6 +55,14 @@ pub fn one_map()
     ensures { (wrapping : Wrapping) (lines : List (List ℕ)) (rows others : List RowsView) →
         AreRowsOf wrapping lines rows → AreRowsOf wrapping lines others →
         map (λ (r : RowsView). r.ranges) rows ≡ map (λ (r : RowsView). r.ranges) others }
+{
+    one_cutting();
+}
+
+/// Lines that are cut so have one number of rows.
+pub fn one_row_count()
+    ensures { (wrapping : Wrapping) (lines : List (List ℕ)) (count other : ℕ) →
+        IsRowCount wrapping lines count → IsRowCount wrapping lines other → count ≡ other }
 {
     one_cutting();
 }

@@ -3,10 +3,10 @@
 ghost use Rattle.std.specs.Prelude.{◌≡◌, ◌+◌, ◌<◌, ◌≤◌, ◌^◌, length, take, drop, vec_len, vec_capacity, IfOk, OnOk};
 ghost use Rattle.textarea_text.specs.Text.{lines_of};
 ghost use Rattle.textarea_text.specs.Replaced.{replaced};
-ghost use Rattle.textarea_map.specs.Layout.{AreFresh, AreRowsOf};
+ghost use Rattle.textarea_map.specs.Layout.{AreRowsOf, ticks_behind, ticks_of};
 ghost use Rattle.textarea_map.specs.Map.{IsReady, firsts_from, ranges_at, row_total};
 
-use crate::layout::{MAX_ROWS, Wrapping, count_rows, push_rows};
+use crate::layout::{MAX_ROWS, Wrapping, count_rows, rows_of};
 use std::alloc::{AllocError, Global};
 use std::marker::Model;
 use textarea_text::replace::put_in;
@@ -70,7 +70,7 @@ impl ScreenMap {
     ) -> Result<ScreenMap, AllocError>
         ensures counted { OnOk result (counter.new ≡ counter.old + length lines.now) }
         ensures rows { IfOk result (λ map. AreRowsOf wrapping (lines_of lines.now) map.rows) }
-        ensures fresh { IfOk result (λ map. AreFresh counter.old map.rows) }
+        ensures ticks { IfOk result (λ map. ticks_of map.rows ≡ ticks_behind counter.old (length lines.now)) }
     {
         let mut map = ScreenMap {
             rows: Vec::new(alloc),
@@ -99,11 +99,10 @@ impl ScreenMap {
         ensures row { IfOk result (λ prepared. prepared.row ≡ row) }
         ensures count { IfOk result (λ prepared. prepared.count ≡ count) }
         ensures rows { IfOk result (λ prepared. AreRowsOf wrapping (lines_of lines.now) prepared.rows.items) }
-        ensures fresh { IfOk result (λ prepared. AreFresh counter.old prepared.rows.items) }
+        ensures ticks { IfOk result (λ prepared. ticks_of prepared.rows.items ≡ ticks_behind counter.old (length lines.now)) }
         ensures counted { OnOk result (counter.new ≡ counter.old + length lines.now) }
     {
-        let mut rows = Vec::with_capacity(alloc, lines.len())?;
-        push_rows(alloc, &mut rows, lines, wrapping, counter)?;
+        let rows = rows_of(alloc, lines, wrapping, counter)?;
         self.make_room(row, count, rows)
     }
 

@@ -3,24 +3,86 @@ use Rattle.std.proofs.Common.{◌≡◌, List, [], ◌∷◌, true, false, refl}
 use Rattle.textarea_text.specs.Text.{Character, Break}
 use Rattle.textarea_document.specs.Edits.{without_before, without_behind, without_part}
 use Rattle.tui_textarea.specs.Removals.{yanked}
+use Rattle.textarea_target.specs.Target.{target}
+use Rattle.tui_textarea.specs.Moves.{IsMoved, IsTarget, moved_by, pushed}
 use Rattle.tui_textarea.specs.State.{State, new_state}
-use Rattle.textarea_move.specs.declared.cursor_move.CursorMove.TheVariants.{Back, Head}
+use Rattle.textarea_move.specs.declared.cursor_move.CursorMove.{CursorMove}
+use Rattle.textarea_move.specs.declared.cursor_move.CursorMove.TheVariants.{Back, Down, Head, Up}
 use Rattle.textarea_script.specs.Calls.{answer_of, state_after}
-use Rattle.textarea_script.specs.Run.{state_at}
+use Rattle.textarea_script.specs.Outcomes.{IsAnswer, IsBehind}
+use Rattle.textarea_script.specs.Run.{Leads}
 use Rattle.textarea_script.specs.Said.{Said, Done, Flag, Text}
 use Rattle.textarea_script.specs.declared.call.Call.{Call}
-use Rattle.textarea_script.specs.declared.call.Call.TheVariants.{InsertChar, InsertNewline, DeleteChar, DeleteStr, Cut, Paste, Undo, Redo, StartSelection, SelectAll, YankText, Move}
+use Rattle.textarea_script.specs.declared.call.Call.TheVariants.{InsertChar, InsertNewline, DeleteChar, DeleteStr, Cut, Paste, Undo, Redo, StartSelection, SelectAll, YankText, Measure, Move, SetSearchPattern}
 
 abbrev empty : State
 empty = new_state []
 
--- what calls answer of which none sets a pattern, and the state that they lead to
+-- the move goes over no visual rows
+abbrev IsPlain : CursorMove → Type 0
+IsPlain Up = ⊥
+IsPlain Down = ⊥
+IsPlain cursor_move = Unit {0}
+
+-- the call sets no pattern, measures nothing and goes over no visual rows, so its answer and the state behind it are computed
+abbrev IsSettled : Call → Type 0
+IsSettled (SetSearchPattern text) = ⊥
+IsSettled (Measure width) = ⊥
+IsSettled (Move cursor_move) = IsPlain cursor_move
+IsSettled call = Unit {0}
+
+abbrev AreSettled : List Call → Type 0
+AreSettled [] = Unit {0}
+AreSettled (call ∷ calls) = IsSettled call × AreSettled calls
+
+-- the state behind a move that goes over no visual rows
+abbrev after_move : State → CursorMove → State
+after_move state cursor_move = moved_by state (pushed state.document.ranges cursor_move (target state.document.text state.document.cursor cursor_move))
+
+-- the state behind a settled call
+abbrev behind : State → Call → State
+behind state (Move cursor_move) = after_move state cursor_move
+behind state call = state_after state call
+
+-- what such calls answer, and the state that they lead to
 abbrev answers_of : State → List Call → List Said
 answers_of state [] = []
-answers_of state (call ∷ calls) = answer_of state call ∷ answers_of (state_after state call) calls
+answers_of state (call ∷ calls) = answer_of state call ∷ answers_of (behind state call) calls
+
+abbrev end_of : State → List Call → State
+end_of state [] = state
+end_of state (call ∷ calls) = end_of (behind state call) calls
+
+settled-answer : (state : State) (call : Call) → IsSettled call → IsAnswer state call (answer_of state call)
+settled-answer state (SetSearchPattern text) settled = absurd settled
+settled-answer state (Measure width) settled = absurd settled
+settled-answer state call settled = refl
+
+plain-target : (state : State) (cursor_move : CursorMove) → IsPlain cursor_move → IsTarget state cursor_move (target state.document.text state.document.cursor cursor_move)
+plain-target state Up plain = absurd plain
+plain-target state Down plain = absurd plain
+plain-target state cursor_move plain = refl
+
+plain-moved : (state : State) (cursor_move : CursorMove) → IsPlain cursor_move → IsMoved state cursor_move (after_move state cursor_move)
+plain-moved state cursor_move plain = record {
+  found = target state.document.text state.document.cursor cursor_move;
+  target_is = plain-target state cursor_move plain;
+  new_is = refl;
+}
+
+settled-behind : (state : State) (call : Call) → IsSettled call → IsBehind state call (answer_of state call) (behind state call)
+settled-behind state (SetSearchPattern text) settled = absurd settled
+settled-behind state (Measure width) settled = absurd settled
+settled-behind state (Move cursor_move) settled = plain-moved state cursor_move settled
+settled-behind state call settled = refl
+
+settled-leads : (state : State) (calls : List Call) → AreSettled calls → Leads state calls (answers_of state calls) (end_of state calls)
+settled-leads state [] settled = refl
+settled-leads state (call ∷ calls) settled =
+    (behind state call, settled-answer state call settled.0, settled-behind state call settled.0, settled-leads (behind state call) calls settled.1)
 
 abbrev reached : List Call → State
-reached calls = state_at empty calls (answers_of empty calls)
+reached calls = end_of empty calls
 
 -- `a`, a break, `b`, the removal of `b`, and its undo
 abbrev two_lines : List Call
@@ -29,6 +91,10 @@ two_lines = InsertChar 97 ∷ InsertNewline ∷ InsertChar 98 ∷ DeleteChar ∷
 two_lines-answers : answers_of empty two_lines ≡ Done ∷ Done ∷ Done ∷ Flag true ∷ Flag true ∷ []
 unfolding without_before without_behind without_part yanked
 two_lines-answers = refl
+
+-- so a run leads there
+two_lines-leads : Leads empty two_lines (answers_of empty two_lines) (reached two_lines)
+two_lines-leads = settled-leads empty two_lines (tt, (tt, (tt, (tt, (tt, tt)))))
 
 two_lines-text : (reached two_lines).document.text ≡ Character 97 ∷ Break ∷ Character 98 ∷ []
 unfolding without_before without_behind without_part yanked

@@ -1,5 +1,5 @@
 -- What each call answers and makes of the state of a text area, and where it may answer out of memory.
-use Rattle.std.specs.Prelude.{◌≡◌, ◌≢◌, ◌<◌, false, List, [], ◌∷◌, length, is_some, None, String}
+use Rattle.std.specs.Prelude.{◌≡◌, ◌≢◌, ◌<◌, true, false, List, [], ◌∷◌, length, is_some, None, Some, String}
 use Rattle.std.specs.Coded.{le_prop, Unit-prop}
 use Rattle.std.specs.Duration.{as_nanos}
 use Rattle.std.specs.Str.{chars}
@@ -14,22 +14,25 @@ use Rattle.textarea_history.specs.Log.{empty_log, newest, next}
 use Rattle.textarea_pieces.specs.Given.{given, written}
 use Rattle.textarea_pieces.specs.Part.{clip}
 use Rattle.textarea_document.specs.State.{fresh_document}
-use Rattle.textarea_document.specs.Edits.{is_filled}
+use Rattle.textarea_document.specs.Edits.{hit_at_cursor, is_filled}
 use Rattle.textarea_document.specs.Outcomes.{redone, run_ended, undone}
-use Rattle.textarea_document.specs.Ranges.{hit_at_cursor}
 use Rattle.textarea_document.specs.Selection.{is_selected}
 use Rattle.tui_textarea.specs.State.{State, with_document}
 use Rattle.tui_textarea.specs.Edits.{inserts_tab, inserts_text, with_char, with_newline, with_tab, with_text}
 use Rattle.tui_textarea.specs.Removals.{break_before_out, cleared, has_ahead, has_before, has_behind, has_break_before, has_line_before, has_line_behind, has_word_before, has_word_behind, line_end_out, line_head_out, removes_or, symbol_before_out, symbol_behind_out, symbols_ahead_out, unselected_or, word_before_out, word_behind_out}
 use Rattle.tui_textarea.specs.Selection.{all_selected, copied, cut_out, dropped, selection_started, unselected}
 use Rattle.tui_textarea.specs.Selection as selection
-use Rattle.tui_textarea.specs.Moves.{after_move}
+use Rattle.textarea_screen.specs.Block.{shown_block}
+use Rattle.textarea_screen.specs.Text.{shown_text}
+use Rattle.textarea_frame.specs.Outcomes.{with_max_rows, with_min_rows, with_placeholder_style, with_placeholder_text}
+use Rattle.tui_textarea.specs.View.{mode_set, numbers_set, stays_cut, tab_length_set, with_line_numbers, with_tab_length, with_wrap_mode, without_line_numbers}
+use Rattle.tui_textarea.specs.Measure.{reads_rows, with_frame}
 use Rattle.tui_textarea.specs.Search.{next_match, previous_match, searched, with_pattern}
 use Rattle.textarea_script.specs.Patterns.{IsNewPattern}
 use Rattle.tui_textarea.specs.Ranges.{cursor_normalized, range_out, ranges_accepted, ranges_cleared}
 use Rattle.textarea_script.specs.Said.{Said, Done, Flag, Range, Rejected, Text}
 use Rattle.textarea_script.specs.declared.call.Call.{Call}
-use Rattle.textarea_script.specs.declared.call.Call.TheVariants.{InsertChar, InsertStr, InsertTab, InsertNewline, DeleteStr, DeleteNewline, DeleteChar, DeleteNextChar, DeleteLineByEnd, DeleteLineByHead, DeleteWord, DeleteNextWord, Clear, Cut, Copy, Paste, Undo, Redo, StartSelection, CancelSelection, SelectAll, SetYankText, YankText, SetTabLength, SetHardTabIndent, SetMaxHistories, SetUndoCoalescing, SetNow, Move, SetLines, TrySetAtomicRanges, ClearAtomicRanges, NormalizeCursorAroundAtomicRanges, AtomicRangeAtCursor, DeleteAtomicRangeAtCursor, SetSearchPattern, SearchForward, SearchBack}
+use Rattle.textarea_script.specs.declared.call.Call.TheVariants.{InsertChar, InsertStr, InsertTab, InsertNewline, DeleteStr, DeleteNewline, DeleteChar, DeleteNextChar, DeleteLineByEnd, DeleteLineByHead, DeleteWord, DeleteNextWord, Clear, Cut, Copy, Paste, Undo, Redo, StartSelection, CancelSelection, SelectAll, SetYankText, YankText, SetTabLength, SetHardTabIndent, SetMaxHistories, SetUndoCoalescing, SetNow, SetLines, TrySetAtomicRanges, ClearAtomicRanges, NormalizeCursorAroundAtomicRanges, AtomicRangeAtCursor, DeleteAtomicRangeAtCursor, SetSearchPattern, SearchForward, SearchBack, SetWrapMode, SetLineNumberStyle, RemoveLineNumber, Measure, SetBlock, RemoveBlock, SetPlaceholderText, SetStyledPlaceholder, SetPlaceholderStyle, SetMinRows, SetMaxRows}
 
 -- the given ranges that are rejected, in their order, each with its reason
 abbrev pub rejected_ranges : State → List AtomicRange → List RejectedAtomicRange
@@ -77,24 +80,7 @@ abbrev pub with_lines : {Z : Type 0} → State → List (String Z) → Place →
 with_lines state lines cursor =
     with_document state (fresh_document (text_of lines) state.document.screen.view state.document.screen.count (clip (lines_of lines) cursor) state.document.log.maximum)
 
--- the state after a call that takes no memory in any state and answers nothing: a move, a setting, a begun, dropped or whole
--- selection, or ranges that are forgotten; any other call leaves it here
-abbrev pub after_setting : State → Call → State
-after_setting state StartSelection = selection_started state
-after_setting state CancelSelection = dropped state
-after_setting state SelectAll = all_selected state
-after_setting state (SetTabLength columns) = record state { settings = record state.settings { tab_length = columns } }
-after_setting state (SetHardTabIndent hard) = record state { settings = record state.settings { hard_tab_indent = hard } }
-after_setting state (SetMaxHistories maximum) =
-    with_document state (record state.document { log = empty_log maximum })
-after_setting state (SetUndoCoalescing joins) =
-    record state { document = record state.document { log = run_ended state.document.log }; settings = record state.settings { undo_coalescing = joins } }
-after_setting state (SetNow moment) = record state { moment = as_nanos moment }
-after_setting state (Move cursor_move) = after_move state cursor_move
-after_setting state ClearAtomicRanges = ranges_cleared state
-after_setting state call = state
-
--- the state after the call; after a pattern that is set, where it isn't refused
+-- the state after the call; after a pattern that is set, where it isn't refused. Where a move leads isn't said here
 abbrev pub state_after : State → Call → State
 state_after state (InsertChar c) = with_char state c
 state_after state (InsertStr text) = with_text state (given (chars text.now))
@@ -124,10 +110,32 @@ state_after state (SetLines lines cursor) = with_lines state lines.now cursor
 state_after state (SetSearchPattern text) = with_pattern state text.now
 state_after state (SearchForward at_cursor) = searched state (next_match state at_cursor)
 state_after state (SearchBack at_cursor) = searched state (previous_match state at_cursor)
-state_after state call = after_setting state call
+state_after state StartSelection = selection_started state
+state_after state CancelSelection = dropped state
+state_after state SelectAll = all_selected state
+state_after state (SetTabLength columns) = with_tab_length state columns
+state_after state (SetWrapMode mode) = with_wrap_mode state mode
+state_after state (SetLineNumberStyle style) = with_line_numbers state style
+state_after state RemoveLineNumber = without_line_numbers state
+state_after state (SetBlock block) = with_frame state (record state.frame { block = Some (shown_block block.now) })
+state_after state RemoveBlock = with_frame state (record state.frame { block = None })
+state_after state (SetPlaceholderText text) = with_frame state (with_placeholder_text state.frame text.now)
+state_after state (SetStyledPlaceholder text) = with_frame state (record state.frame { placeholder = shown_text text.now })
+state_after state (SetPlaceholderStyle style) = with_frame state (with_placeholder_style state.frame style)
+state_after state (SetMinRows rows) = with_frame state (with_min_rows state.frame rows)
+state_after state (SetMaxRows rows) = with_frame state (with_max_rows state.frame rows)
+state_after state (SetHardTabIndent hard) = record state { settings = record state.settings { hard_tab_indent = hard } }
+state_after state (SetMaxHistories maximum) =
+    with_document state (record state.document { log = empty_log maximum })
+state_after state (SetUndoCoalescing joins) =
+    record state { document = record state.document { log = run_ended state.document.log }; settings = record state.settings { undo_coalescing = joins } }
+state_after state (SetNow moment) = record state { moment = as_nanos moment }
+state_after state ClearAtomicRanges = ranges_cleared state
+state_after state call = state
 
--- the call may answer out of memory: not where it has nothing to do, and a move, a setting, a begun, dropped or whole
--- selection, and ranges that are forgotten or looked up never
+-- the call may answer out of memory: not where it has nothing to do, where a setting cuts no line and where a measure reads the
+-- rows that are kept; and a move, any other setting, a begun, dropped or whole selection, and ranges that are forgotten or looked
+-- up never
 abbrev pub MayRefuse : State → Call → Type 0
 MayRefuse state (InsertChar c) = Unit {0}
 MayRefuse state (InsertStr text) = inserts_text state (given (chars text.now)) ≢ false
@@ -155,6 +163,14 @@ MayRefuse state (SetLines lines cursor) = Unit {0}
 MayRefuse state (SetSearchPattern text) = IsNewPattern state text.now
 MayRefuse state (SearchForward at_cursor) = state.pattern ≢ None
 MayRefuse state (SearchBack at_cursor) = state.pattern ≢ None
+MayRefuse state (SetTabLength columns) = stays_cut state (tab_length_set state columns) ≢ true
+MayRefuse state (SetWrapMode mode) = stays_cut state (mode_set state mode) ≢ true
+MayRefuse state (SetLineNumberStyle style) = stays_cut state (numbers_set state true) ≢ true
+MayRefuse state RemoveLineNumber = stays_cut state (numbers_set state false) ≢ true
+MayRefuse state (Measure width) = reads_rows state width ≢ true
+MayRefuse state (SetBlock block) = Unit {0}
+MayRefuse state (SetPlaceholderText text) = text.now ≢ []
+MayRefuse state (SetStyledPlaceholder text) = Unit {0}
 MayRefuse state call = ⊥
 
 -- what a call that answered out of memory leaves: the state as it was, or, of an insertion, the one without what was selected

@@ -1,4 +1,5 @@
 pub mod Calls
+pub mod Kinds
 pub mod Outcomes
 pub mod Patterns
 pub mod Run

@@ -5,31 +5,27 @@ use Rattle.textarea_script.specs.declared.call.Call.{Call}
 use Rattle.textarea_script.specs.declared.call.Answer.{Answer}
 use Rattle.textarea_script.specs.Said.{Said, said}
 use Rattle.textarea_script.specs.Calls.{Refused}
-use Rattle.textarea_script.specs.Outcomes.{IsAnswer, state_behind}
+use Rattle.textarea_script.specs.Outcomes.{IsAnswer, IsBehind}
 
--- the calls may answer so, one answer a call, each in the state that those before it left
-abbrev pub AreAnswers : State → List Call → List Said → Type 0
-AreAnswers state [] [] = Unit {0}
-AreAnswers state (call ∷ calls) (answer ∷ answers) =
-    IsAnswer state call answer × AreAnswers (state_behind state call answer) calls answers
-AreAnswers state calls answers = ⊥
-
--- the state that the calls lead to, where they answer so
-abbrev pub state_at : State → List Call → List Said → State
-state_at state (call ∷ calls) (answer ∷ answers) = state_at (state_behind state call answer) calls answers
-state_at state calls answers = state
+-- the calls lead from the old state to the new one where they answer so, one answer a call: behind each call is a state from
+-- which the later ones go on
+abbrev pub Leads : State → List Call → List Said → State → Type 0
+Leads old [] [] new = new ≡ old
+Leads old (call ∷ calls) (answer ∷ answers) new =
+    (between : State) × IsAnswer old call answer × IsBehind old call answer between × Leads between calls answers new
+Leads old calls answers new = ⊥
 
 -- all calls were made
-pub record Completes (old : State) (calls : List Call) (answers : List Answer) (new : State) : Type 0 where
-  pub answered : AreAnswers old calls (map said answers)
-  pub state : new ≡ state_at old calls (map said answers)
+abbrev pub Completes : State → List Call → List Answer → State → Type 0
+Completes old calls answers new = Leads old calls (map said answers) new
 
--- the calls before the one of this index were made, and that one was refused
+-- the calls before the one of this index were made, and that one was refused in the state that they led to
 pub record StopsAt (old : State) (calls : List Call) (answers : List Answer) (index : ℕ) (new : State) : Type 0 where
   pub call : Call
   pub here : slice_get calls index ≡ Some call
-  pub answered : AreAnswers old (take index calls) (map said answers)
-  pub refused : Refused (state_at old (take index calls) (map said answers)) call new
+  pub before : State
+  pub led : Leads old (take index calls) (map said answers) before
+  pub refused : Refused before call new
 
 -- there is a call and no room for its answer, so none was made
 pub record NeverBegins (old : State) (calls : List Call) (answers : List Answer) (index : ℕ) (new : State) : Type 0 where

@@ -4,6 +4,7 @@ ghost use Rattle.std.specs.Prelude.{◌<◌, ◌≤◌, length, vec_len, IfOk, I
 use std::alloc::{AllocError, AllocFailed, Global};
 use textarea_atomic::atomic::AtomicRange;
 use textarea_move::cursor_move::CursorMove;
+use tui_textarea::WrapMode;
 
 // Why a command was not read.
 #[derive(Clone, Copy, Debug, PartialEq, Eq)]
@@ -81,12 +82,13 @@ pub fn truth(text: &str) -> Option<bool> {
     }
 }
 
-// The move that the text names. `Jump` has a command of its own, and `Up`, `Down` and `InViewport` have
-// none yet.
+// The move that the text names. `Jump` has a command of its own, and `InViewport` has none yet.
 pub fn move_named(name: &str) -> Option<CursorMove> {
     Some(match name {
         "Forward" => CursorMove::Forward,
         "Back" => CursorMove::Back,
+        "Up" => CursorMove::Up,
+        "Down" => CursorMove::Down,
         "Head" => CursorMove::Head,
         "End" => CursorMove::End,
         "Top" => CursorMove::Top,
@@ -96,6 +98,17 @@ pub fn move_named(name: &str) -> Option<CursorMove> {
         "WordBack" => CursorMove::WordBack,
         "ParagraphForward" => CursorMove::ParagraphForward,
         "ParagraphBack" => CursorMove::ParagraphBack,
+        _ => return None,
+    })
+}
+
+// The wrap mode that the text names.
+pub fn mode_named(name: &str) -> Option<WrapMode> {
+    Some(match name {
+        "None" => WrapMode::None,
+        "Word" => WrapMode::Word,
+        "Glyph" => WrapMode::Glyph,
+        "WordOrGlyph" => WrapMode::WordOrGlyph,
         _ => return None,
     })
 }

@@ -7,9 +7,11 @@ use textarea_atomic::atomic::{
     AtomicCursorBias, AtomicDeleteDirection, AtomicRange, RejectedAtomicRange,
 };
 use textarea_move::cursor_move::CursorMove;
+use textarea_screen::screen::{Block, Style, Text};
+use tui_textarea::{TextAreaMeasure, WrapMode};
 
 /// One call on a text area, with its arguments.
-#[derive(Clone, Copy, Debug, PartialEq, Eq)]
+#[derive(Clone, Copy)]
 pub enum Call<'a> {
     /// `TextArea::insert_char`
     InsertChar(char),
@@ -92,6 +94,28 @@ pub enum Call<'a> {
     SearchForward(bool),
     /// `TextArea::search_back`
     SearchBack(bool),
+    /// `TextArea::set_wrap_mode`
+    SetWrapMode(WrapMode),
+    /// `TextArea::set_line_number_style`
+    SetLineNumberStyle(Style),
+    /// `TextArea::remove_line_number`
+    RemoveLineNumber,
+    /// `TextArea::measure`
+    Measure(u16),
+    /// `TextArea::set_block`, with a copy of this block
+    SetBlock(&'a Block<'static>),
+    /// `TextArea::remove_block`
+    RemoveBlock,
+    /// `TextArea::set_placeholder_text`
+    SetPlaceholderText(&'a str),
+    /// `TextArea::set_styled_placeholder`, with a copy of this text
+    SetStyledPlaceholder(&'a Text<'static>),
+    /// `TextArea::set_placeholder_style`
+    SetPlaceholderStyle(Style),
+    /// `TextArea::set_min_rows`
+    SetMinRows(u16),
+    /// `TextArea::set_max_rows`
+    SetMaxRows(u16),
 }
 
 impl Call<'_> {
@@ -119,6 +143,8 @@ pub enum Answer {
     Range(Option<AtomicRange>),
     /// The ranges that were rejected, so that none was set.
     Rejected(Vec<RejectedAtomicRange>),
+    /// The heights that were measured.
+    Measured(TextAreaMeasure),
     /// The pattern isn't taken, and nothing changed.
     PatternRefused,
 }

@@ -4,7 +4,7 @@ ghost use Rattle.textarea_script.specs.Calls.{CanBeMade};
 ghost use Rattle.textarea_script.specs.Script.{lines_of, filled_lines, IsAtLine, IsReady, IsReady-prop, NamesLine};
 
 use crate::arguments::{
-    Unread, move_named, number, one_character, ranges, truth, two_numbers, unescaped,
+    Unread, mode_named, move_named, number, one_character, ranges, truth, two_numbers, unescaped,
     unescaped_lines,
 };
 use crate::call::Call;
@@ -13,6 +13,7 @@ use std::str::from_utf8;
 use std::time::Duration;
 use textarea_atomic::atomic::AtomicRange;
 use textarea_move::cursor_move::CursorMove;
+use textarea_screen::screen::Style;
 
 /// Why a script was not read.
 #[derive(Clone, Copy, Debug, PartialEq, Eq)]
@@ -208,8 +209,22 @@ fn call_with(name: &str, arguments: &str) -> Option<Call<'static>>
         "now" => Call::SetNow(Duration::from_millis(number(arguments)?)),
         "search_forward" => Call::SearchForward(truth(arguments)?),
         "search_back" => Call::SearchBack(truth(arguments)?),
+        "set_wrap_mode" => Call::SetWrapMode(mode_named(arguments)?),
+        "line_numbers" => line_numbers(truth(arguments)?),
+        "measure" => Call::Measure(u16::try_from(number(arguments)?).ok()?),
         _ => return None,
     })
+}
+
+// Line numbers in the empty style, or none.
+fn line_numbers(shown: bool) -> Call<'static>
+    ensures { CanBeMade result }
+{
+    if shown {
+        Call::SetLineNumberStyle(Style::new())
+    } else {
+        Call::RemoveLineNumber
+    }
 }
 
 // The jump to a row and a column.

@@ -5,6 +5,8 @@
 mod arguments;
 pub mod call;
 pub mod commands;
+mod kind;
+pub mod laws;
 pub mod perform;
 pub mod printing;
 pub mod run;

@@ -1,46 +1,162 @@
 // One call made on a text area.
-ghost use Rattle.std.specs.Prelude.{◌≡◌, ◌<◌, length, OnErr, OnOk, IfOk};
-ghost use Rattle.textarea_script.specs.Calls.{after_setting, ranges_answer, rejected_ranges, with_lines, with_ranges_if, CanBeMade, Refused};
-ghost use Rattle.textarea_script.specs.Outcomes.{behind_pattern, state_behind, IsAnswer, IsPatternAnswer};
+ghost use Rattle.std.specs.Prelude.{◌≡◌, ◌<◌, length, OnErr, OnOk, IfOk, Some};
+ghost use Rattle.textarea_screen.specs.Block.{shown_block};
+ghost use Rattle.textarea_screen.specs.Text.{shown_text};
+ghost use Rattle.tui_textarea.specs.Measure.{with_frame};
+ghost use Rattle.textarea_script.specs.Calls.{ranges_answer, rejected_ranges, with_lines, with_ranges_if, CanBeMade, Refused};
+ghost use Rattle.textarea_script.specs.Kinds.{kind_of};
+ghost use Rattle.textarea_script.specs.Outcomes.{behind_pattern, IsAnswer, IsBehind, IsPatternAnswer};
 ghost use Rattle.textarea_script.specs.Patterns.{IsNewPattern};
-ghost use Rattle.textarea_script.specs.Said.{said};
+ghost use Rattle.textarea_script.specs.Said.{said, Done, Flag};
+ghost use Rattle.textarea_script.specs.declared.kind.Kind.TheVariants.{Removes, Finds, Changes, Shows, Sets, Tells};
 
 use crate::call::{Answer, Call};
+use crate::kind::Kind;
 use std::alloc::{AllocError, Global};
 use textarea_atomic::atomic::AtomicRange;
 use textarea_pieces::given::copied;
+use textarea_screen::screen::{Block, Text};
 use textarea_search::search::SearchError;
 use tui_textarea::TextArea;
 
 /// Makes one call, and hands out its answer; that a pattern is refused is an answer. It answers out of
 /// memory only where the call may take memory in the state that the text area has, and the text area
 /// is then as a refusal of that call leaves it.
-pub fn perform(area: &mut TextArea, call: Call<'_>) -> Result<Answer, AllocError>
+///
+/// Each kind of calls has a function of its own, small enough to be proved by itself.
+pub fn perform(area: &mut TextArea<'_>, call: Call<'_>) -> Result<Answer, AllocError>
     requires { CanBeMade call }
     ensures answer { IfOk result (λ answer. IsAnswer area.old call.entry (said answer)) }
-    ensures ok { IfOk result (λ answer. area.new ≡ state_behind area.old call.entry (said answer)) }
+    ensures ok { IfOk result (λ answer. IsBehind area.old call.entry (said answer) area.new) }
+    ensures err { OnErr result (Refused area.old call.entry area.new) }
+{
+    match call.kind() {
+        Kind::Removes => remove(area, call).map(Answer::Flag),
+        Kind::Finds => find(area, call).map(Answer::Flag),
+        Kind::Changes => change(area, call).map(|()| Answer::Done),
+        Kind::Shows => show(area, call).map(|()| Answer::Done),
+        Kind::Sets => {
+            set(area, call);
+            Ok(Answer::Done)
+        }
+        Kind::Tells => tell(area, call),
+    }
+}
+
+// Makes a call that takes out what is selected, or else a part of the text beside the cursor.
+fn remove(area: &mut TextArea<'_>, call: Call<'_>) -> Result<bool, AllocError>
+    requires { kind_of call ≡ Removes }
+    ensures answer { IfOk result (λ removed. IsAnswer area.old call.entry (Flag removed)) }
+    ensures ok { IfOk result (λ removed. IsBehind area.old call.entry (Flag removed) area.new) }
     ensures err { OnErr result (Refused area.old call.entry area.new) }
 {
     match call {
-        Call::InsertChar(c) => area.insert_char(c).map(|()| Answer::Done),
-        Call::InsertStr(text) => area.insert_str(text).map(Answer::Flag),
-        Call::InsertTab => area.insert_tab().map(Answer::Flag),
-        Call::InsertNewline => area.insert_newline().map(|()| Answer::Done),
-        Call::DeleteStr(count) => area.delete_str(count).map(Answer::Flag),
-        Call::DeleteNewline => area.delete_newline().map(Answer::Flag),
-        Call::DeleteChar => area.delete_char().map(Answer::Flag),
-        Call::DeleteNextChar => area.delete_next_char().map(Answer::Flag),
-        Call::DeleteLineByEnd => area.delete_line_by_end().map(Answer::Flag),
-        Call::DeleteLineByHead => area.delete_line_by_head().map(Answer::Flag),
-        Call::DeleteWord => area.delete_word().map(Answer::Flag),
-        Call::DeleteNextWord => area.delete_next_word().map(Answer::Flag),
-        Call::Clear => area.clear().map(Answer::Flag),
-        Call::Cut => area.cut().map(Answer::Flag),
-        Call::Copy => area.copy().map(|()| Answer::Done),
-        Call::Paste => area.paste().map(Answer::Flag),
-        Call::Undo => area.undo().map(Answer::Flag),
-        Call::Redo => area.redo().map(Answer::Flag),
-        Call::SetYankText(text) => area.set_yank_text(text).map(|()| Answer::Done),
+        Call::DeleteStr(count) => area.delete_str(count),
+        Call::DeleteNewline => area.delete_newline(),
+        Call::DeleteChar => area.delete_char(),
+        Call::DeleteNextChar => area.delete_next_char(),
+        Call::DeleteLineByEnd => area.delete_line_by_end(),
+        Call::DeleteLineByHead => area.delete_line_by_head(),
+        Call::DeleteWord => area.delete_word(),
+        Call::DeleteNextWord => area.delete_next_word(),
+        _ => unreachable!(),
+    }
+}
+
+// Makes any other call that answers whether it found something to do.
+fn find(area: &mut TextArea<'_>, call: Call<'_>) -> Result<bool, AllocError>
+    requires { kind_of call ≡ Finds }
+    ensures answer { IfOk result (λ found. IsAnswer area.old call.entry (Flag found)) }
+    ensures ok { IfOk result (λ found. IsBehind area.old call.entry (Flag found) area.new) }
+    ensures err { OnErr result (Refused area.old call.entry area.new) }
+{
+    match call {
+        Call::InsertStr(text) => area.insert_str(text),
+        Call::InsertTab => area.insert_tab(),
+        Call::Clear => area.clear(),
+        Call::Cut => area.cut(),
+        Call::Paste => area.paste(),
+        Call::Undo => area.undo(),
+        Call::Redo => area.redo(),
+        Call::SearchForward(match_cursor) => area.search_forward(match_cursor),
+        Call::SearchBack(match_cursor) => area.search_back(match_cursor),
+        _ => unreachable!(),
+    }
+}
+
+// Makes a call that changes text, cursor or yank, has nothing to say, and may be refused memory.
+fn change(area: &mut TextArea<'_>, call: Call<'_>) -> Result<(), AllocError>
+    requires kind { kind_of call ≡ Changes }
+    requires can { CanBeMade call }
+    ensures answer { OnOk result (IsAnswer area.old call.entry Done) }
+    ensures ok { OnOk result (IsBehind area.old call.entry Done area.new) }
+    ensures err { OnErr result (Refused area.old call.entry area.new) }
+{
+    match call {
+        Call::InsertChar(c) => area.insert_char(c),
+        Call::InsertNewline => area.insert_newline(),
+        Call::Copy => area.copy(),
+        Call::SetYankText(text) => area.set_yank_text(text),
+        Call::SetLines { lines, cursor } => set_lines(area, lines, cursor),
+        _ => unreachable!(),
+    }
+}
+
+// Makes a call that sets how the text is seen or what is around it, and may be refused memory.
+fn show(area: &mut TextArea<'_>, call: Call<'_>) -> Result<(), AllocError>
+    requires { kind_of call ≡ Shows }
+    ensures answer { OnOk result (IsAnswer area.old call.entry Done) }
+    ensures ok { OnOk result (IsBehind area.old call.entry Done area.new) }
+    ensures err { OnErr result (Refused area.old call.entry area.new) }
+{
+    match call {
+        Call::SetTabLength(columns) => area.set_tab_length(columns),
+        Call::SetWrapMode(mode) => area.set_wrap_mode(mode),
+        Call::SetLineNumberStyle(style) => area.set_line_number_style(style),
+        Call::RemoveLineNumber => area.remove_line_number(),
+        Call::SetBlock(block) => set_block(area, block),
+        Call::SetPlaceholderText(text) => area.set_placeholder_text(text),
+        Call::SetStyledPlaceholder(text) => set_styled_placeholder(area, text),
+        _ => unreachable!(),
+    }
+}
+
+// Makes a call that has nothing to say and takes no memory in any state.
+fn set(area: &mut TextArea<'_>, call: Call<'_>)
+    requires { kind_of call ≡ Sets }
+    ensures answer { IsAnswer area.old call.entry Done }
+    ensures ok { IsBehind area.old call.entry Done area.new }
+{
+    match call {
+        Call::StartSelection => area.start_selection(),
+        Call::CancelSelection => area.cancel_selection(),
+        Call::SelectAll => area.select_all(),
+        Call::SetHardTabIndent(hard) => area.set_hard_tab_indent(hard),
+        Call::SetMaxHistories(maximum) => area.set_max_histories(maximum),
+        Call::SetUndoCoalescing(joins) => area.set_undo_coalescing(joins),
+        Call::SetNow(moment) => area.set_now(moment),
+        Call::ClearAtomicRanges => area.clear_atomic_ranges(),
+        Call::RemoveBlock => area.remove_block(),
+        Call::SetPlaceholderStyle(style) => area.set_placeholder_style(style),
+        Call::SetMinRows(rows) => area.set_min_rows(rows),
+        Call::SetMaxRows(rows) => area.set_max_rows(rows),
+        _ => unreachable!(),
+    }
+}
+
+// Makes a call whose answer, or whose state behind it, has a form of its own.
+fn tell(area: &mut TextArea<'_>, call: Call<'_>) -> Result<Answer, AllocError>
+    requires { kind_of call ≡ Tells }
+    ensures answer { IfOk result (λ answer. IsAnswer area.old call.entry (said answer)) }
+    ensures ok { IfOk result (λ answer. IsBehind area.old call.entry (said answer) area.new) }
+    ensures err { OnErr result (Refused area.old call.entry area.new) }
+{
+    match call {
+        Call::Move(cursor_move) => {
+            area.move_cursor(cursor_move);
+            Ok(Answer::Done)
+        }
+        Call::Measure(width) => area.measure(width).map(Answer::Measured),
         Call::YankText => area.yank_text().map(Answer::Text),
         Call::TrySetAtomicRanges(ranges) => {
             let copies = ranges_copied(*area.lines()[0].allocator(), ranges)?;
@@ -55,20 +171,14 @@ pub fn perform(area: &mut TextArea, call: Call<'_>) -> Result<Answer, AllocError
         Call::DeleteAtomicRangeAtCursor(direction) => area
             .delete_atomic_range_at_cursor(direction)
             .map(Answer::Range),
-        Call::SetLines { lines, cursor } => set_lines(area, lines, cursor).map(|()| Answer::Done),
         Call::SetSearchPattern(pattern) => set_search_pattern(area, pattern),
-        Call::SearchForward(match_cursor) => area.search_forward(match_cursor).map(Answer::Flag),
-        Call::SearchBack(match_cursor) => area.search_back(match_cursor).map(Answer::Flag),
-        setting => {
-            set(area, setting);
-            Ok(Answer::Done)
-        }
+        _ => unreachable!(),
     }
 }
 
 // Puts a copy of the lines in the place of the old ones.
 fn set_lines(
-    area: &mut TextArea,
+    area: &mut TextArea<'_>,
     lines: &[String],
     cursor: (usize, usize),
 ) -> Result<(), AllocError>
@@ -80,6 +190,24 @@ fn set_lines(
     area.set_lines(copied(alloc, lines)?, cursor)
 }
 
+// Puts a copy of the block around the rows.
+fn set_block(area: &mut TextArea<'_>, block: &Block<'static>) -> Result<(), AllocError>
+    ensures ok { OnOk result (area.new ≡ with_frame area.old (record area.old.frame { block = Some (shown_block block.now) })) }
+    ensures err { OnErr result (area.new ≡ area.old) }
+{
+    area.set_block(block.clone()?);
+    Ok(())
+}
+
+// Shows a copy of the text where the text area's is empty.
+fn set_styled_placeholder(area: &mut TextArea<'_>, text: &Text<'static>) -> Result<(), AllocError>
+    ensures ok { OnOk result (area.new ≡ with_frame area.old (record area.old.frame { placeholder = shown_text text.now })) }
+    ensures err { OnErr result (area.new ≡ area.old) }
+{
+    area.set_styled_placeholder(text.clone()?);
+    Ok(())
+}
+
 // A copy of the ranges.
 fn ranges_copied(alloc: Global, ranges: &[AtomicRange]) -> Result<Vec<AtomicRange>, AllocError>
     ensures { IfOk result (λ copies. copies.items ≡ ranges.now) }
@@ -88,7 +216,7 @@ fn ranges_copied(alloc: Global, ranges: &[AtomicRange]) -> Result<Vec<AtomicRang
 }
 
 // Sets the ranges, or names the rejected ones.
-fn set_ranges(area: &mut TextArea, ranges: Vec<AtomicRange>) -> Result<Answer, AllocError>
+fn set_ranges(area: &mut TextArea<'_>, ranges: Vec<AtomicRange>) -> Result<Answer, AllocError>
     ensures answer { IfOk result (λ answer. said answer ≡ ranges_answer (rejected_ranges area.old ranges.items)) }
     ensures ok { OnOk result (area.new ≡ with_ranges_if (rejected_ranges area.old ranges.items) area.old ranges.items) }
     ensures err { OnErr result (area.new ≡ area.old) }
@@ -100,7 +228,7 @@ fn set_ranges(area: &mut TextArea, ranges: Vec<AtomicRange>) -> Result<Answer, A
 }
 
 // Sets the pattern that is searched for, or answers that it is refused.
-fn set_search_pattern(area: &mut TextArea, pattern: &str) -> Result<Answer, AllocError>
+fn set_search_pattern(area: &mut TextArea<'_>, pattern: &str) -> Result<Answer, AllocError>
     ensures answer { IfOk result (λ answer. IsPatternAnswer area.old pattern.now (said answer)) }
     ensures ok { IfOk result (λ answer. area.new ≡ behind_pattern area.old pattern.now (said answer)) }
     ensures err { OnErr result (area.new ≡ area.old) }
@@ -110,24 +238,5 @@ fn set_search_pattern(area: &mut TextArea, pattern: &str) -> Result<Answer, Allo
         Ok(()) => Ok(Answer::Done), // it is set
         Err(SearchError::Pattern(_)) => Ok(Answer::PatternRefused),
         Err(SearchError::Memory(refused)) => Err(refused),
-    }
-}
-
-// Makes a call that takes no memory in any state; any other call changes nothing.
-fn set(area: &mut TextArea, call: Call<'_>)
-    ensures { area.new ≡ after_setting area.old call.entry }
-{
-    match call {
-        Call::StartSelection => area.start_selection(),
-        Call::CancelSelection => area.cancel_selection(),
-        Call::SelectAll => area.select_all(),
-        Call::SetTabLength(columns) => area.set_tab_length(columns),
-        Call::SetHardTabIndent(hard) => area.set_hard_tab_indent(hard),
-        Call::SetMaxHistories(maximum) => area.set_max_histories(maximum),
-        Call::SetUndoCoalescing(joins) => area.set_undo_coalescing(joins),
-        Call::SetNow(moment) => area.set_now(moment),
-        Call::Move(cursor_move) => area.move_cursor(cursor_move),
-        Call::ClearAtomicRanges => area.clear_atomic_ranges(),
-        _ => {}
     }
 }

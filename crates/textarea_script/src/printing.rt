@@ -7,12 +7,12 @@ use tui_textarea::TextArea;
 /// The end of a run, printed as a line for each answer, counted from 1, and then the text area: its
 /// lines, its cursor and its selection.
 #[derive(Clone, Copy)]
-pub struct Report<'a> {
+pub struct Report<'a, 'b> {
     pub answers: &'a [Answer],
-    pub area: &'a TextArea,
+    pub area: &'a TextArea<'b>,
 }
 
-impl fmt::Display for Report<'_> {
+impl fmt::Display for Report<'_, '_> {
     fn fmt<W: fmt::Write>(&self, f: &mut fmt::Formatter<W>) -> fmt::Result {
         for (index, answer) in self.answers.iter().enumerate() {
             writeln!(f, "{} {answer}", index + 1)?;
@@ -50,6 +50,11 @@ impl fmt::Display for Answer {
                 }
                 Ok(())
             }
+            Answer::Measured(measure) => write!(
+                f,
+                "{} {} {} {}",
+                measure.content_rows, measure.preferred_rows, measure.min_rows, measure.max_rows
+            ),
             Answer::PatternRefused => write!(f, "pattern"),
         }
     }

@@ -16,19 +16,20 @@ pub struct RunEnd {
     pub refused: Option<usize>,
 }
 
-/// Makes the calls one after another, up to the first that is refused memory.
+/// Makes the calls one after another, up to the first that is refused memory. The calls and their
+/// answers settle the state that they lead to (`laws::one_end`).
 ///
 /// After any list of calls and inputs, the text, cursor, selection, yank, ranges and both history
 /// lists are those of one flat list of characters and breaks changed by nonempty splices, and the
 /// visual rows, measured height, drawn cells, caret and hit tests are those of a layout computed
 /// anew from text, cursor, highlights, settings, viewport and last area.
 ///
-/// For the calls so far the first half holds, of text, cursor, selection, yank, ranges and both history
-/// lists, edit by edit.
+/// For the calls so far this holds of text, cursor, selection, yank, ranges and both history lists, edit by
+/// edit, of where moves over visual rows lead, and of measured heights.
 ///
 /// It asks that each `Call::SetLines` holds a line. Room for the answers is reserved first. Where that
 /// is refused, no call is made and the refused index is 0.
-pub fn run(area: &mut TextArea, calls: &[Call<'_>]) -> RunEnd
+pub fn run(area: &mut TextArea<'_>, calls: &[Call<'_>]) -> RunEnd
     requires { All CanBeMade calls.now }
     ensures { Run area.old calls.now result.answers.items result.refused area.new }
 {

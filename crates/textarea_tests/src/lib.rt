@@ -5,6 +5,8 @@
 #[cfg(test)]
 mod edits;
 #[cfg(test)]
+mod heights;
+#[cfg(test)]
 mod ranges;
 #[cfg(test)]
 mod rows;

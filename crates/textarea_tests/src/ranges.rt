@@ -1,6 +1,8 @@
 // Atomic ranges: what is rejected, and what edits and moves make of a text with ranges.
 use crate::table::Step::{Cursor, Do, Lines, Ranges, Rejects, Says, Selected, Yank};
 use crate::table::{Row, check, part, strings};
+use std::alloc::AllocError;
+use std::process::Abort;
 use std::test::Fail;
 use textarea_atomic::atomic::{AtomicCursorBias, AtomicDeleteDirection, AtomicRangeRejectReason};
 use tui_textarea::TextArea;
@@ -116,13 +118,8 @@ fn edits_and_moves(rt: HostRuntime) -> Result<(), Fail> {
     check(&rt, &EDITS)
 }
 
-#[test]
-fn a_range_at_the_cursor(rt: HostRuntime) -> Result<(), Fail> {
-    let mut area = TextArea::new(rt.alloc(), strings(&rt, &["Send [[a]]"])?)?;
-    let ranges = vec![in rt.alloc(); part((0, 5, 10))]?;
-    assert!(rt; area.try_set_atomic_ranges(ranges)?.is_ok());
-    area.select_all();
-    area.start_selection();
+// The range before the cursor is hit backward, and goes whole; what is selected from the cursor on stays, and is empty.
+fn a_range_goes(rt: &impl Abort, area: &mut TextArea<'_>) -> Result<(), AllocError> {
     let backward = AtomicDeleteDirection::Backward;
     let forward = AtomicDeleteDirection::Forward;
     assert!(rt; area.atomic_range_at_cursor(forward) == None);
@@ -136,21 +133,39 @@ fn a_range_at_the_cursor(rt: HostRuntime) -> Result<(), Fail> {
 }
 
 #[test]
+fn a_range_at_the_cursor(rt: HostRuntime) -> Result<(), Fail> {
+    let mut area = TextArea::new(rt.alloc(), strings(&rt, &["Send [[a]]"])?)?;
+    let ranges = vec![in rt.alloc(); part((0, 5, 10))]?;
+    assert!(rt; area.try_set_atomic_ranges(ranges)?.is_ok());
+    area.select_all();
+    area.start_selection();
+    a_range_goes(&rt, &mut area)?;
+    Ok(())
+}
+
+// Found inside of the range, the cursor goes out of it to the side that the bias says, once.
+fn a_cursor_goes_out(
+    rt: &impl Abort,
+    area: &mut TextArea<'_>,
+    bias: AtomicCursorBias,
+    column: usize,
+) -> Result<(), AllocError> {
+    assert!(rt; area.search_forward(true)?);
+    assert_eq!(rt; area.cursor(), (0, 2));
+    assert!(rt; area.normalize_cursor_around_atomic_ranges(bias));
+    assert_eq!(rt; area.cursor(), (0, column));
+    assert!(rt; !area.normalize_cursor_around_atomic_ranges(bias));
+    Ok(())
+}
+
+#[test]
 fn a_cursor_inside_a_range(rt: HostRuntime) -> Result<(), Fail> {
     let mut area = TextArea::new(rt.alloc(), strings(&rt, &["abcd"])?)?;
     let ranges = vec![in rt.alloc(); part((0, 0, 4))]?;
     assert!(rt; area.try_set_atomic_ranges(ranges)?.is_ok());
     assert!(rt; area.set_search_pattern("c").is_ok());
-    for (bias, column) in [
-        (AtomicCursorBias::Backward, 0),
-        (AtomicCursorBias::Forward, 4),
-    ] {
-        assert!(rt; area.search_forward(true)?);
-        assert_eq!(rt; area.cursor(), (0, 2));
-        assert!(rt; area.normalize_cursor_around_atomic_ranges(bias));
-        assert_eq!(rt; area.cursor(), (0, column));
-        assert!(rt; !area.normalize_cursor_around_atomic_ranges(bias));
-    }
+    a_cursor_goes_out(&rt, &mut area, AtomicCursorBias::Backward, 0)?;
+    a_cursor_goes_out(&rt, &mut area, AtomicCursorBias::Forward, 4)?;
     area.clear_atomic_ranges();
     assert!(rt; area.atomic_ranges().is_empty());
     Ok(())

@@ -83,6 +83,11 @@ fn commands(rt: HostRuntime) -> Result<(), Fail> {
             "insert_str abc\nranges 0 0 2\nmove Back\nmove Back\ndelete_next_char\nranges 0 0 1 0 1 1\nranges 0 2 1 0 0 1\nranges\n",
             "1 true\n2 ok\n3 ok\n4 ok\n5 true\n6 rejected 0:1..1 Empty\n7 rejected 0:2..1 ColumnOutOfBounds\n8 ok\nlines 1\n|c\ncursor 0 0\nselection none\n",
         ),
+        // Measured heights, moves over visual rows, and line numbers.
+        (
+            "insert_str abc\\n犬犬犬\nset_wrap_mode Glyph\nmeasure 0\nmeasure 3\nline_numbers true\nmeasure 65535\nmove Up\nset_wrap_mode Word\nline_numbers false\nset_wrap_mode None\nset_wrap_mode WordOrGlyph\nmove Down\n",
+            "1 true\n2 ok\n3 6 6 1 65535\n4 5 5 1 65535\n5 ok\n6 2 2 1 65535\n7 ok\n8 ok\n9 ok\n10 ok\n11 ok\n12 ok\nlines 2\n|abc\n|犬犬犬\ncursor 1 1\nselection none\n",
+        ),
         // Texts that are empty, and an empty yank.
         (
             "insert_str\ninsert_str \nset_yank_text\nset_yank_text \nyank_text\nset_lines 7 7\nset_lines 0 0 \nselect_all\n",
@@ -207,17 +212,19 @@ fn arguments_that_are_not_read(rt: HostRuntime) -> Result<(), Fail> {
         "jump 1 2 3",
         "jump 65536 0",
         "jump 0 65536",
-        // Moves by their names; a jump has its own command, and moves over the rows of a screen have none.
+        // Moves by their names; a jump has its own command, and the move into what was drawn has none.
         "move",
         "move Jump",
-        "move Up",
-        "move Down",
         "move InViewport",
         "move forward",
         "move Forward ",
         "set_hard_tab_indent",
         "set_hard_tab_indent True",
         "set_undo_coalescing 1",
+        "line_numbers 1",
+        "set_wrap_mode glyph",
+        "measure",
+        "measure 65536",
         "search_forward",
         "search_forward ",
         "search_back TRUE",

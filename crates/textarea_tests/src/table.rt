@@ -5,7 +5,7 @@ use textarea_atomic::atomic::{AtomicRange, AtomicRangeRejectReason, RejectedAtom
 use textarea_script::Answer;
 use textarea_script::commands::read;
 use textarea_script::perform::perform;
-use tui_textarea::TextArea;
+use tui_textarea::{TextArea, TextAreaMeasure};
 
 // Two ends of a selection, the first one first.
 type Ends = ((usize, usize), (usize, usize));
@@ -38,6 +38,9 @@ pub enum Step<'a> {
     Rejects(&'a str, &'a [(Triple, AtomicRangeRejectReason)]),
     // The ranges that are held.
     Ranges(&'a [Triple]),
+    // The call of this command, which answers with the rows of the content, and the preferred, the least and the
+    // greatest height.
+    Measures(&'a str, [u16; 4]),
 }
 
 // The lines at first, with the cursor at their start, and the steps.
@@ -57,12 +60,19 @@ pub fn check(rt: &(impl Abort + AllocGlobal), rows: &[Row<'_>]) -> Result<(), Fa
     Ok(())
 }
 
-fn take(rt: &(impl Abort + AllocGlobal), area: &mut TextArea, step: &Step<'_>) -> Result<(), Fail> {
+fn take(
+    rt: &(impl Abort + AllocGlobal),
+    area: &mut TextArea<'_>,
+    step: &Step<'_>,
+) -> Result<(), Fail> {
     match step {
         Step::Do(command) => make(rt, area, command, &Answer::Done),
         Step::Says(command, flag) => make(rt, area, command, &Answer::Flag(*flag)),
         Step::Refuses(command) => make(rt, area, command, &Answer::PatternRefused),
         Step::Rejects(command, rejected) => make_rejected(rt, area, command, rejected),
+        Step::Measures(command, heights) => {
+            make(rt, area, command, &Answer::Measured(measure(*heights)))
+        }
         Step::Type(text) => type_in(area, text),
         wanted => compare(rt, area, wanted),
     }
@@ -71,7 +81,7 @@ fn take(rt: &(impl Abort + AllocGlobal), area: &mut TextArea, step: &Step<'_>) -
 // The state, where the step says what it must be.
 fn compare(
     rt: &(impl Abort + AllocGlobal),
-    area: &TextArea,
+    area: &TextArea<'_>,
     wanted: &Step<'_>,
 ) -> Result<(), Fail> {
     match wanted {
@@ -89,7 +99,7 @@ fn compare(
     Ok(())
 }
 
-pub fn compare_lines(rt: &impl Abort, area: &TextArea, lines: &[&str]) {
+pub fn compare_lines(rt: &impl Abort, area: &TextArea<'_>, lines: &[&str]) {
     assert_eq!(rt; area.lines().len(), lines.len());
     for (line, wanted) in area.lines().iter().zip(lines) {
         assert_eq!(rt; line.as_str(), *wanted);
@@ -97,7 +107,7 @@ pub fn compare_lines(rt: &impl Abort, area: &TextArea, lines: &[&str]) {
     assert_eq!(rt; area.is_empty(), lines == [""].as_slice());
 }
 
-fn compare_ranges(rt: &impl Abort, area: &TextArea, ranges: &[Triple]) {
+fn compare_ranges(rt: &impl Abort, area: &TextArea<'_>, ranges: &[Triple]) {
     assert_eq!(rt; area.atomic_ranges().len(), ranges.len());
     for (range, wanted) in area.atomic_ranges().iter().zip(ranges) {
         assert_eq!(rt; *range, part(*wanted));
@@ -106,7 +116,7 @@ fn compare_ranges(rt: &impl Abort, area: &TextArea, ranges: &[Triple]) {
 
 fn make(
     rt: &(impl Abort + AllocGlobal),
-    area: &mut TextArea,
+    area: &mut TextArea<'_>,
     command: &str,
     wanted: &Answer,
 ) -> Result<(), Fail> {
@@ -121,7 +131,7 @@ fn make(
 
 fn make_rejected(
     rt: &(impl Abort + AllocGlobal),
-    area: &mut TextArea,
+    area: &mut TextArea<'_>,
     command: &str,
     wanted: &[(Triple, AtomicRangeRejectReason)],
 ) -> Result<(), Fail> {
@@ -135,6 +145,17 @@ fn make_rejected(
     make(rt, area, command, &Answer::Rejected(rejected))
 }
 
+// The rows of the content, and the preferred, the least and the greatest height.
+pub fn measure(heights: [u16; 4]) -> TextAreaMeasure {
+    let [content_rows, preferred_rows, min_rows, max_rows] = heights;
+    TextAreaMeasure {
+        content_rows,
+        preferred_rows,
+        min_rows,
+        max_rows,
+    }
+}
+
 pub fn part((row, start_col, end_col): Triple) -> AtomicRange {
     AtomicRange {
         row,
@@ -143,7 +164,7 @@ pub fn part((row, start_col, end_col): Triple) -> AtomicRange {
     }
 }
 
-fn type_in(area: &mut TextArea, text: &str) -> Result<(), Fail> {
+fn type_in(area: &mut TextArea<'_>, text: &str) -> Result<(), Fail> {
     for c in text.chars() {
         area.insert_char(c)?;
     }

@@ -8,3 +8,4 @@ pub mod Sizes
 pub mod Befores
 pub mod Insides
 pub mod Touching
+pub mod EmptyTexts

@@ -3,3 +3,4 @@ pub mod Copying
 pub mod Given
 pub mod Searches
 mod Cases
+mod OneTarget

@@ -7,6 +7,7 @@ use Rattle.textarea_document.specs.Selection.{is_selected}
 use Rattle.textarea_pieces.specs.Tab.{width_of}
 use Rattle.tui_textarea.specs.State.{State, with_document}
 use Rattle.tui_textarea.specs.Selection.{dropped, unselected}
+use Rattle.tui_textarea.specs.View.{tab_length}
 
 -- a line feed and a carriage return break the line
 abbrev pub breaks_line : ℕ → Bool
@@ -35,14 +36,14 @@ before_insertion document = take (insertion_place document).1 (slice_index_or (l
 
 -- how many spaces reach from there to the next tab stop: the tab length less the remainder of the width of what stands
 -- before it in its line
-abbrev pub spaces_to_stop : State → ℕ
-spaces_to_stop state = state.settings.tab_length - width_of (before_insertion state.document) % state.settings.tab_length
+abbrev pub spaces_to_stop : DocumentState → ℕ → ℕ
+spaces_to_stop document tab_length = tab_length - width_of (before_insertion document) % tab_length
 
--- a tab is put in: at tab length 0 nothing, else a tab character, typed, or the spaces to the next tab stop
-abbrev pub put_tab : State → State
-put_tab state =
-    if state.settings.tab_length == 0 then dropped state
-    else (if state.settings.hard_tab_indent then put_character state 9 else put_symbols state (replicate (spaces_to_stop state) (Character 32)))
+-- a tab of this length is put in: at tab length 0 nothing, else a tab character, typed, or the spaces to the next tab stop
+abbrev pub put_tab : State → ℕ → State
+put_tab state tab_length =
+    if tab_length == 0 then dropped state
+    else (if state.settings.hard_tab_indent then put_character state 9 else put_symbols state (replicate (spaces_to_stop state.document tab_length) (Character 32)))
 
 -- ---- the calls
 
@@ -60,7 +61,7 @@ abbrev pub inserts_text : State → List Symbol → Bool
 inserts_text state symbols = is_selected state.document || is_filled symbols
 
 abbrev pub with_tab : State → State
-with_tab state = put_tab (unselected state)
+with_tab state = put_tab (unselected state) (tab_length state.document)
 
 abbrev pub inserts_tab : State → Bool
-inserts_tab state = is_selected state.document || not (state.settings.tab_length == 0)
+inserts_tab state = is_selected state.document || not (tab_length state.document == 0)

@@ -1,5 +1,5 @@
 -- What the moves make of the state.
-use Rattle.std.specs.Prelude.{List, Option, Some, None, option_map}
+use Rattle.std.specs.Prelude.{◌≡◌, List, Option, Some, None, option_map}
 use Rattle.textarea_text.specs.Place.{Place}
 use Rattle.textarea_move.specs.declared.cursor_move.CursorMove.{CursorMove}
 use Rattle.textarea_move.specs.declared.cursor_move.CursorMove.TheVariants as move
@@ -8,6 +8,7 @@ use Rattle.textarea_atomic.specs.declared.atomic.AtomicCursorBias.{AtomicCursorB
 use Rattle.textarea_atomic.specs.declared.atomic.AtomicCursorBias.TheVariants.{Backward, Forward}
 use Rattle.textarea_ranges.specs.Held.{moved_out}
 use Rattle.textarea_document.specs.Outcomes.{moved}
+use Rattle.textarea_document.specs.Rows.{IsAboveCursor, IsBelowCursor}
 use Rattle.textarea_target.specs.Target.{target}
 use Rattle.tui_textarea.specs.State.{State, with_document}
 
@@ -30,5 +31,15 @@ bias_of other = Forward
 abbrev pub pushed : List AtomicRange → CursorMove → Option Place → Option Place
 pushed ranges cursor_move found = option_map (λ place. moved_out ranges place (bias_of cursor_move)) found
 
-abbrev pub after_move : State → CursorMove → State
-after_move state cursor_move = moved_by state (pushed state.document.ranges cursor_move (target state.document.text state.document.cursor cursor_move))
+-- Where the move leads to, if anywhere: for Up and Down one visual row up or down from the cursor, in the rows of the
+-- text as it stands; for any other move its target in the text.
+abbrev pub IsTarget : State → CursorMove → Option Place → Type 0
+IsTarget state move.Up found = IsAboveCursor state.document found
+IsTarget state move.Down found = IsBelowCursor state.document found
+IsTarget state other found = found ≡ target state.document.text state.document.cursor other
+
+-- the state after the move: the cursor has gone to the target, if there is one
+pub record IsMoved (old : State) (cursor_move : CursorMove) (new : State) : Type 0 where
+  pub found : Option Place
+  pub target_is : IsTarget old cursor_move found
+  pub new_is : new ≡ moved_by old (pushed old.document.ranges cursor_move found)

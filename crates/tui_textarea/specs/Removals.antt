@@ -67,7 +67,8 @@ abbrev pub hit_out_or : Option AtomicRange → State → State → State
 hit_out_or None state other = other
 hit_out_or (Some range) state other = with_document state (without_part state.document (start range) (stop range) state.moment)
 
--- from the start of the word before the cursor, or the line's start, to the cursor; at the line's start as the break before
+-- from the start of the word before the cursor, or the line's start, to the cursor; at the line's start as the break
+-- before
 unfoldable pub back_to_word_out : State → State
 back_to_word_out state =
     if state.document.cursor.1 == 0 then break_before_out state

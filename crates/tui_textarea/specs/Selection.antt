@@ -26,8 +26,8 @@ all_selected state = with_document state (moved state.document (place_of state.d
 abbrev pub copied : State → State
 copied state = if is_selected state.document then record (dropped state) { yank = selected state.document } else dropped state
 
--- what is selected is taken out, if a symbol is, with the atomic ranges that it overlaps, and what went is yanked; nothing is
--- selected any more
+-- what is selected is taken out, if a symbol is, with the atomic ranges that it overlaps, and what went is yanked;
+-- nothing is selected any more
 abbrev pub cut_out : State → State
 cut_out state =
     if is_selected state.document then record (unselected state) { yank = taken state.document (selection_start state.document) (selection_end state.document) }

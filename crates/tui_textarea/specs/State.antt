@@ -8,35 +8,39 @@ use Rattle.textarea_document.specs.State.{DocumentState, new_document}
 use Rattle.textarea_document.specs.Outcomes.{edited}
 use Rattle.textarea_wrap.specs.declared.wrap.WrapMode.TheVariants as mode
 use Rattle.textarea_lines.specs.declared.view.ViewSettings.{ViewSettings}
+use Rattle.textarea_screen.specs.Style.{empty_style}
+use Rattle.textarea_frame.specs.State.{FrameState, new_frame}
 use Rattle.tui_textarea.specs.declared.textarea.settings.Settings.{Settings}
 
 -- a text area as its callers see it: the document; what was yanked last; the settings; the moment that was handed in last,
--- in nanoseconds; and the pattern that is searched for, by its bytes, if there is one
+-- in nanoseconds; the pattern that is searched for, by its bytes, if there is one; and the frame around the rows
 pub record State : Type 0 where
   pub document : DocumentState
   pub yank : List Symbol
   pub settings : Settings
   pub moment : ℕ
   pub pattern : Option (List ℕ)
+  pub frame : FrameState
 
--- the settings at first: a tab of four columns made of spaces, and no joining of typed edits
+-- the settings at first: a tab made of spaces, no joining of typed edits, and line numbers in no style of their own
 abbrev pub default_settings : Settings
-default_settings = record { tab_length = 4; hard_tab_indent = false; undo_coalescing = false }
+default_settings = record { hard_tab_indent = false; undo_coalescing = false; line_number_style = empty_style }
 
 -- how the text is seen at first: one row a line, tab stops at each fourth column, no line numbers, and no area drawn yet
 abbrev pub default_view : ViewSettings
 default_view = record { mode = mode.None; tab_len = 4; line_numbers = false; inner_width = 0 }
 
 -- a new text area: the cursor at the start, nothing selected, at most 50 edits remembered and none yet, nothing yanked,
--- no pattern
+-- no pattern, no block and no placeholder
 abbrev pub new_state : List Symbol → State
-new_state text = record { document = new_document text default_view 50; yank = []; settings = default_settings; moment = 0; pattern = None }
+new_state text = record { document = new_document text default_view 50; yank = []; settings = default_settings; moment = 0; pattern = None; frame = new_frame }
 
 -- the document changes, and all else stays
 abbrev pub with_document : State → DocumentState → State
 with_document state document = record state { document = document }
 
--- the change is made and recorded: not as a typed one, or as a typed one, which may join the run before it where joining is on
+-- the change is made and recorded: not as a typed one, or as a typed one, which may join the run before it where
+-- joining is on
 abbrev pub changed : State → Splice → State
 changed state splice = with_document state (edited state.document splice false state.moment)
 

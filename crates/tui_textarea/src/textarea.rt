@@ -1,7 +1,9 @@
-//! The text area: a document, what was yanked, the settings and the clock.
+//! The text area: a document, what was yanked, the settings, the clock, a pattern and a frame.
 mod constructors;
 mod edits;
+mod frame;
 mod laws;
+mod measure;
 mod moves;
 mod past;
 mod ranges;
@@ -9,6 +11,7 @@ mod removals;
 mod search;
 mod selection;
 pub mod settings;
+mod view;
 
 ghost use Rattle.std.specs.Prelude.{◌≡◌, ◌<◌, ◌≤◌, ◌^◌, ◌↔◌, length, OnErr, OnOk, IfOk, IsTrue, [], vec_len};
 ghost use Rattle.textarea_text.specs.Text.{lines, lines_of, text_of};
@@ -24,6 +27,7 @@ use std::alloc::{AllocError, Global};
 use std::marker::Model;
 use std::time::Duration;
 use textarea_document::Document;
+use textarea_frame::frame::Frame;
 use textarea_lines::view::ViewSettings;
 use textarea_search::search::Search;
 use textarea_wrap::wrap::WrapMode;
@@ -39,46 +43,48 @@ const DEFAULT_VIEW: ViewSettings = ViewSettings {
     inner_width: 0,
 };
 
-/// A multi-line text editor: lines of text, a cursor, a selection, a yanked text, settings, a pattern to search for, and a
-/// history of edits.
+/// A multi-line text editor: lines of text, a cursor, a selection, a yanked text, settings, a pattern to search for, a
+/// history of edits, and a frame of a block, a placeholder and the least and the greatest height.
 ///
-/// Rows and columns count from 0, columns in characters. A call that runs out of memory leaves the text area as it was, or,
-/// where it inserts over a selection, as it is after what was selected was taken out.
+/// Rows and columns count from 0, columns in characters. A call that runs out of memory leaves the text area as it was,
+/// or, where it inserts over a selection, as it is after what was selected was taken out.
 #[derive(Drop)]
-pub struct TextArea {
+pub struct TextArea<'a> {
     document: Document,
     yank: Vec<String>,
     settings: Settings,
     moment: Duration,
     search: Search,
+    frame: Frame<'a>,
 }
 
-impl Model for TextArea {
+impl<'a> Model for TextArea<'a> {
     ghost use Rattle.std.specs.Duration.{as_nanos};
     ghost use Rattle.textarea_text.specs.Text.{text_of};
     ghost use Rattle.tui_textarea.specs.State.{State};
 
     ghost Value = { State };
 
-    ghost view = { λ area. record { document = area.document; yank = text_of area.yank.items; settings = area.settings; moment = as_nanos area.moment; pattern = area.search } };
+    ghost view = { λ area. record { document = area.document; yank = text_of area.yank.items; settings = area.settings; moment = as_nanos area.moment; pattern = area.search; frame = area.frame } };
 }
 
-impl Clone for TextArea {
+impl<'a> Clone for TextArea<'a> {
     ghost is_clone = { λ area copy. copy ≡ area };
 
     /// The same text area with its history, or an error where there is no memory for it.
-    fn clone(&self) -> Result<TextArea, AllocError> {
+    fn clone(&self) -> Result<TextArea<'a>, AllocError> {
         Ok(TextArea {
             document: self.document.clone()?,
             yank: self.yank.clone()?,
             settings: self.settings,
             moment: self.moment,
             search: self.search.clone()?,
+            frame: self.frame.clone()?,
         })
     }
 }
 
-impl TextArea {
+impl<'a> TextArea<'a> {
     /// A text area of these lines, the cursor at the start; no line at all becomes one empty line. A line feed inside a
     /// line stays a character of that line.
     pub fn new(alloc: Global, lines: Vec<String>) -> Result<Self, AllocError>
@@ -90,6 +96,7 @@ impl TextArea {
             settings: Settings::default(),
             moment: Duration::ZERO,
             search: Search::default(),
+            frame: Frame::new(alloc),
         })
     }
 
@@ -100,8 +107,9 @@ impl TextArea {
         TextArea::new(alloc, Vec::new(alloc))
     }
 
-    /// Holds these lines in place of the old ones, the cursor at the nearest place of theirs. All edits are forgotten, and
-    /// nothing is selected; the settings, the pattern and what was yanked stay. A line feed inside a line stays a character of that line.
+    /// Holds these lines in place of the old ones, the cursor at the nearest place of theirs. All edits are forgotten,
+    /// and nothing is selected; the settings, the pattern and what was yanked stay. A line feed inside a line stays a
+    /// character of that line.
     pub fn set_lines(
         &mut self,
         lines: Vec<String>,
@@ -125,7 +133,7 @@ impl TextArea {
 
     /// The lines alone.
     pub fn into_lines(self) -> Vec<String>
-        ensures lines { text_of result.items ≡ self.document.text }
+        ensures lines { text_of result.items ≡ self.entry.document.text }
         ensures some { 0 < vec_len result }
     {
         let TextArea { document, .. } = self;

@@ -7,8 +7,8 @@ ghost use Rattle.textarea_ranges.specs.Held.{inside, start, stop};
 ghost use Rattle.textarea_ranges.specs.Rejected.{AreRefused};
 ghost use Rattle.textarea_ranges.specs.Valid.{AreValid};
 ghost use Rattle.textarea_atomic.specs.declared.atomic.AtomicDeleteDirection.TheVariants.{Backward, Forward};
-ghost use Rattle.textarea_document.specs.Edits.{is_at_end, is_at_start};
-ghost use Rattle.textarea_document.specs.Ranges.{accepted, anchor_out, anchored, hit_at_cursor, holding, normalized, unless_empty, without_range, without_ranges};
+ghost use Rattle.textarea_document.specs.Edits.{hit_at_cursor, is_at_end, is_at_start};
+ghost use Rattle.textarea_document.specs.Ranges.{accepted, anchor_out, anchored, holding, normalized, unless_empty, without_range, without_ranges};
 
 use crate::document::Document;
 use std::alloc::AllocError;

@@ -8,7 +8,7 @@ ghost use Rattle.tui_textarea.specs.State.{new_state, text_of_each};
 use crate::textarea::TextArea;
 use std::alloc::{AllocError, Global};
 
-impl TextArea {
+impl<'b> TextArea<'b> {
     /// A text area of the lines that the iterator gives, the cursor at the start; no line at all becomes one empty line. A
     /// line feed inside a line stays a character of that line.
     pub fn from_strings<I: Iterator<Item = String> + Drop>(
@@ -22,8 +22,8 @@ impl TextArea {
         TextArea::new(alloc, collected(alloc, lines)?)
     }
 
-    /// A text area of copies of the lines that the iterator gives, the cursor at the start; no line at all becomes one empty
-    /// line. A line feed inside a line stays a character of that line.
+    /// A text area of copies of the lines that the iterator gives, the cursor at the start; no line at all becomes one
+    /// empty line. A line feed inside a line stays a character of that line.
     pub fn from_strs<'a, I: Iterator<Item = &'a str> + Drop>(
         alloc: Global,
         lines: I,

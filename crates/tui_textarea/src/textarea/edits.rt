@@ -1,5 +1,5 @@
-//! Insertions: what is selected goes first, as an edit of its own; then the cursor goes out of the atomic range that strictly
-//! holds it, to its end.
+//! Insertions: what is selected goes first, as an edit of its own; then the cursor goes out of the atomic range that
+//! strictly holds it, to its end.
 ghost use Rattle.std.specs.Prelude.{◌≡◌, ◌<◌, OnOk, OnErr, IsOk, IfOk, false, [], replicate, vec_len};
 ghost use Rattle.std.specs.Str.{chars};
 ghost use Rattle.textarea_text.specs.Text.{Character, text_of};
@@ -16,8 +16,9 @@ use textarea_pieces::given::{copied, pieces_of};
 use textarea_pieces::tab::spaces_to_stop;
 use textarea_text::util::spaces;
 
-impl TextArea {
-    /// Puts the character in at the cursor, or at the end of the atomic range that strictly holds it, as typed; `\n` and `\r` break the line.
+impl TextArea<'_> {
+    /// Puts the character in at the cursor, or at the end of the atomic range that strictly holds it, as typed; `\n`
+    /// and `\r` break the line.
     pub fn insert_char(&mut self, c: char) -> Result<(), AllocError>
         ensures ok { OnOk result (self.new ≡ with_char self.old c) }
         ensures err { OnErr result (IsLeft self.old self.new) }
@@ -39,8 +40,9 @@ impl TextArea {
         self.document.insert_break(self.moment)
     }
 
-    /// Puts the text in at the cursor, or at the end of the atomic range that strictly holds it, and says whether there was any or a selection went. The text is cut at each line feed;
-    /// a carriage return directly before a line feed goes with it. Where there is nothing to do, it takes no memory.
+    /// Puts the text in at the cursor, or at the end of the atomic range that strictly holds it, and says whether there
+    /// was any or a selection went. The text is cut at each line feed; a carriage return directly before a line feed
+    /// goes with it. Where there is nothing to do, it takes no memory.
     pub fn insert_str(&mut self, text: &str) -> Result<bool, AllocError>
         ensures inserted { IfOk result (λ inserted. inserted ≡ inserts_text self.old (given (chars text.now))) }
         ensures ok { OnOk result (self.new ≡ with_text self.old (given (chars text.now))) }
@@ -56,7 +58,8 @@ impl TextArea {
         Ok(true)
     }
 
-    /// Puts in what was yanked last, where `insert_str` does, and says whether there was any. Where there is nothing to do, it takes no memory.
+    /// Puts in what was yanked last, where `insert_str` does, and says whether there was any. Where there is nothing to
+    /// do, it takes no memory.
     pub fn paste(&mut self) -> Result<bool, AllocError>
         ensures inserted { IfOk result (λ inserted. inserted ≡ is_filled self.old.yank) }
         ensures ok { OnOk result (self.new ≡ with_text self.old self.old.yank) }
@@ -72,16 +75,17 @@ impl TextArea {
         self.document.insert(pieces, self.moment)
     }
 
-    /// Puts a tab in at the cursor, or at the end of the atomic range that strictly holds it, and says whether it did or a selection went: a tab character where hard tabs are on, as
-    /// typed, and else as many spaces as reach to the next tab stop. At tab length 0 it puts nothing in. Where there is
-    /// nothing to do, it takes no memory.
+    /// Puts a tab in at the cursor, or at the end of the atomic range that strictly holds it, and says whether it did
+    /// or a selection went: a tab character where hard tabs are on, as typed, and else as many spaces as reach to the
+    /// next tab stop. At tab length 0 it puts nothing in. Where there is nothing to do, it takes no memory.
     pub fn insert_tab(&mut self) -> Result<bool, AllocError>
         ensures inserted { IfOk result (λ inserted. inserted ≡ inserts_tab self.old) }
         ensures ok { OnOk result (self.new ≡ with_tab self.old) }
         ensures err { OnErr result (IsLeft self.old self.new) }
         ensures nothing { inserts_tab self.old ≡ false → IsOk result }
     {
-        if self.settings.tab_length == 0 {
+        let tab_length = self.document.view().tab_len;
+        if tab_length == 0 {
             return self.drop_selection();
         }
         self.document.remove_selection(self.moment)?;
@@ -89,20 +93,20 @@ impl TextArea {
             self.document
                 .insert_character('\t', self.settings.undo_coalescing, self.moment)?;
         } else {
-            self.insert_spaces()?;
+            self.insert_spaces(tab_length)?;
         }
         Ok(true)
     }
 
     // Puts in the spaces that reach from where they go to the next tab stop.
-    fn insert_spaces(&mut self) -> Result<(), AllocError>
-        requires some { 0 < self.old.settings.tab_length }
-        ensures ok { OnOk result (self.new ≡ put_symbols self.old (replicate (spaces_to_stop self.old) (Character 32))) }
+    fn insert_spaces(&mut self, tab_length: u8) -> Result<(), AllocError>
+        requires some { 0 < tab_length }
+        ensures ok { OnOk result (self.new ≡ put_symbols self.old (replicate (spaces_to_stop self.old.document tab_length) (Character 32))) }
         ensures err { OnErr result (self.new ≡ self.old) }
     {
         let (row, column) = self.document.insertion_place();
         let line = self.document.lines()[row].as_str();
-        let count = spaces_to_stop(line, column, self.settings.tab_length);
+        let count = spaces_to_stop(line, column, tab_length);
         let pieces = spaces_as_piece(self.allocator(), count)?;
         self.document.insert(pieces, self.moment)?;
         Ok(())

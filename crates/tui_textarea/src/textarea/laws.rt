@@ -7,17 +7,17 @@ ghost use Rattle.tui_textarea.specs.Selection.{copied};
 
 use crate::textarea::TextArea;
 
-impl TextArea {
-    /// The law of undo, for every text area: that many undos, at most as many as there are done edits, give the text before
-    /// the last that many of them, and as many redos give back the text and both lists of edits.
+impl TextArea<'_> {
+    /// The law of undo, for every text area: that many undos, at most as many as there are done edits, give the text
+    /// before the last that many of them, and as many redos give back the text and both lists of edits.
     pub fn undos_give_back(&self)
         ensures { (count : ℕ) → count ≤ length self.now.document.log.done → GivesBack self.now.document count }
     {
         self.document.undos_give_back();
     }
 
-    /// The law of copying, for every text area in which a symbol is selected: a `paste` behind a `copy` puts in exactly the
-    /// symbols that were selected, at the cursor, and takes nothing out.
+    /// The law of copying, for every text area in which a symbol is selected: a `paste` behind a `copy` puts in exactly
+    /// the symbols that were selected, at the cursor, and takes nothing out.
     pub fn copy_then_paste(&self)
         ensures { is_selected self.now.document ≡ true → with_text (copied self.now) (copied self.now).yank ≡ put_symbols (copied self.now) (selected self.now.document) }
     {

@@ -1,6 +1,7 @@
 //! Moves of the cursor.
-ghost use Rattle.std.specs.Prelude.{◌≡◌};
-ghost use Rattle.tui_textarea.specs.Moves.{after_move, bias_of};
+ghost use Rattle.std.specs.Prelude.{◌≡◌, IfSome};
+ghost use Rattle.textarea_text.specs.Place.{IsPlace};
+ghost use Rattle.tui_textarea.specs.Moves.{IsMoved, IsTarget, bias_of};
 
 use crate::textarea::TextArea;
 use textarea_atomic::atomic::AtomicCursorBias;
@@ -8,19 +9,32 @@ use textarea_cursor::cursor::CursorMove;
 use textarea_ranges::held::moved_out;
 use textarea_target::target::target;
 
-impl TextArea {
-    /// Moves the cursor; an open selection is widened or narrowed by that, and a run of typing ends. A target strictly inside
-    /// an atomic range goes to its start for Back, Up, Head, Top, WordBack and ParagraphBack, to its end for the others. A
-    /// move without a target changes nothing: Forward from the text's end, Back from its start, ParagraphBack from the first row, and
-    /// Up, Down and InViewport, which go over the rows of a screen.
+impl TextArea<'_> {
+    /// Moves the cursor; an open selection is widened or narrowed by that, and a run of typing ends. Up and Down lead
+    /// to the neighbouring visual row, at the cursor's display column or, where that row's greatest cursor column is
+    /// less, at that one. A target strictly inside an atomic range goes to its start for Back, Up, Head, Top, WordBack
+    /// and ParagraphBack, to its end for the others. A move without a target changes nothing: Forward from the text's
+    /// end, Back from its start, Up from the first visual row, Down from the last one, ParagraphBack from the first
+    /// row, and InViewport, which goes over what was drawn.
     pub fn move_cursor(&mut self, cursor_move: CursorMove)
-        ensures { self.new ≡ after_move self.old cursor_move }
+        ensures { IsMoved self.old cursor_move self.new }
     {
-        let found = target(self.document.lines(), self.document.cursor(), cursor_move);
-        if let Some(place) = found {
+        if let Some(place) = self.target_of(cursor_move) {
             let place = moved_out(self.document.ranges(), place, bias_of(cursor_move));
             let anchor = self.document.anchor();
             self.document.move_to(place, anchor);
+        }
+    }
+
+    // Where the move leads to, before it goes out of an atomic range.
+    fn target_of(&self, cursor_move: CursorMove) -> Option<(usize, usize)>
+        ensures place { IfSome result (IsPlace self.now.document.text) }
+        ensures target { IsTarget self.now cursor_move result }
+    {
+        match cursor_move {
+            CursorMove::Up => self.document.above(),
+            CursorMove::Down => self.document.below(),
+            _ => target(self.document.lines(), self.document.cursor(), cursor_move),
         }
     }
 }

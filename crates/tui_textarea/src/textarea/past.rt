@@ -7,7 +7,7 @@ ghost use Rattle.tui_textarea.specs.State.{with_document};
 use crate::textarea::TextArea;
 use std::alloc::AllocError;
 
-impl TextArea {
+impl TextArea<'_> {
     /// Takes back the newest edit, and says whether there was one. The cursor then stands behind the text that came
     /// back, or where the text that went began, and nothing is selected.
     pub fn undo(&mut self) -> Result<bool, AllocError>

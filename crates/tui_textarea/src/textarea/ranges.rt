@@ -4,7 +4,7 @@ ghost use Rattle.textarea_text.specs.Text.{lines};
 ghost use Rattle.textarea_ranges.specs.Held.{inside};
 ghost use Rattle.textarea_ranges.specs.Rejected.{AreRefused};
 ghost use Rattle.textarea_ranges.specs.Valid.{AreValid};
-ghost use Rattle.textarea_document.specs.Ranges.{hit_at_cursor};
+ghost use Rattle.textarea_document.specs.Edits.{hit_at_cursor};
 ghost use Rattle.tui_textarea.specs.Ranges.{cursor_normalized, range_out, ranges_accepted, ranges_cleared};
 
 use crate::textarea::TextArea;
@@ -13,7 +13,7 @@ use textarea_atomic::atomic::{
     AtomicCursorBias, AtomicDeleteDirection, AtomicRange, AtomicRangeError,
 };
 
-impl TextArea {
+impl TextArea<'_> {
     /// Holds these ranges, in order of row and start, in place of the old ones. Each has a character at least and lies in
     /// one line, and no two share a character. A cursor strictly inside one goes to its end, the place where a selection
     /// began to its start, and a selection that is empty then is dropped. An edit, an undo and a redo forget all ranges.
@@ -24,13 +24,13 @@ impl TextArea {
     {
         match self.document.try_set_ranges(ranges)? {
             Ok(()) => Ok(()),
-            Err(_) => Err(AllocError), // valid ranges are not refused
+            Err(_) => unreachable!(), // valid ranges are not refused
         }
     }
 
-    /// Holds these ranges as `set_atomic_ranges` does, where they are valid for the text. Else it changes nothing, and lists
-    /// the rejected ones in order of row and start, each with the first reason that there is: it is empty, its row isn't
-    /// there, its columns aren't, or it starts before the last valid range of its row ends.
+    /// Holds these ranges as `set_atomic_ranges` does, where they are valid for the text. Else it changes nothing, and
+    /// lists the rejected ones in order of row and start, each with the first reason that there is: it is empty, its
+    /// row isn't there, its columns aren't, or it starts before the last valid range of its row ends.
     pub fn try_set_atomic_ranges(
         &mut self,
         ranges: Vec<AtomicRange>,
@@ -59,8 +59,8 @@ impl TextArea {
         self.document.ranges()
     }
 
-    /// Moves a cursor strictly inside a range to its start for Backward, to its end for Forward, and says whether it moved.
-    /// The selection stays, and a run of typing goes on.
+    /// Moves a cursor strictly inside a range to its start for Backward, to its end for Forward, and says whether it
+    /// moved. The selection stays, and a run of typing goes on.
     pub fn normalize_cursor_around_atomic_ranges(&mut self, bias: AtomicCursorBias) -> bool
         ensures moved { result ≡ is_some (inside self.old.document.ranges self.old.document.cursor) }
         ensures new { self.new ≡ cursor_normalized self.old bias }
@@ -76,9 +76,9 @@ impl TextArea {
         self.document.range_at_cursor(direction)
     }
 
-    /// Removes the range that is hit from the cursor, yanks nothing, and hands the range out. The selection stays open, and
-    /// where it began behind its line's end then, it begins at that end. Where no range is hit nothing changes, and it takes
-    /// no memory.
+    /// Removes the range that is hit from the cursor, yanks nothing, and hands the range out. The selection stays open,
+    /// and where it began behind its line's end then, it begins at that end. Where no range is hit nothing changes, and
+    /// it takes no memory.
     pub fn delete_atomic_range_at_cursor(
         &mut self,
         direction: AtomicDeleteDirection,

@@ -11,10 +11,10 @@ use textarea_atomic::atomic::AtomicDeleteDirection;
 use textarea_pieces::places::{ahead, line_end, text_end};
 use textarea_target::ends::{word_end_after, word_start_before};
 
-impl TextArea {
-    /// Removes the atomic range that ends at the cursor or strictly holds it, or else the character before the cursor, or at
-    /// column 0 the line break there, and says whether something was
-    /// removed. Where nothing is, it takes no memory.
+impl TextArea<'_> {
+    /// Removes the atomic range that ends at the cursor or strictly holds it, or else the character before the cursor,
+    /// or at column 0 the line break there, and says whether something was removed. Where nothing is, it takes no
+    /// memory.
     pub fn delete_char(&mut self) -> Result<bool, AllocError>
         ensures removed { IfOk result (λ removed. removed ≡ removes_or self.old (has_before self.old)) }
         ensures ok { OnOk result (self.new ≡ unselected_or self.old (symbol_before_out self.old)) }
@@ -28,9 +28,9 @@ impl TextArea {
             .remove_before(self.settings.undo_coalescing, self.moment)
     }
 
-    /// Removes the atomic range that starts at the cursor or strictly holds it, or else the character behind the cursor, or
-    /// at a line's end the line break there, and says whether something was
-    /// removed. Where nothing is, it takes no memory.
+    /// Removes the atomic range that starts at the cursor or strictly holds it, or else the character behind the
+    /// cursor, or at a line's end the line break there, and says whether something was removed. Where nothing is, it
+    /// takes no memory.
     pub fn delete_next_char(&mut self) -> Result<bool, AllocError>
         ensures removed { IfOk result (λ removed. removed ≡ removes_or self.old (has_behind self.old)) }
         ensures ok { OnOk result (self.new ≡ unselected_or self.old (symbol_behind_out self.old)) }
@@ -44,8 +44,8 @@ impl TextArea {
             .remove_behind(self.settings.undo_coalescing, self.moment) // yanks nothing
     }
 
-    /// Removes the line break before the cursor's line, and says whether something was removed. Where nothing is, it takes no
-    /// memory.
+    /// Removes the line break before the cursor's line, and says whether something was removed. Where nothing is, it
+    /// takes no memory.
     pub fn delete_newline(&mut self) -> Result<bool, AllocError>
         ensures removed { IfOk result (λ removed. removed ≡ removes_or self.old (has_break_before self.old)) }
         ensures ok { OnOk result (self.new ≡ unselected_or self.old (break_before_out self.old)) }
@@ -58,8 +58,8 @@ impl TextArea {
         self.document.remove_break(self.moment)
     }
 
-    /// Removes that many characters behind the cursor, each line break counting one, or all that there are, yanks them, and
-    /// says whether something was removed. Where nothing is, it takes no memory.
+    /// Removes that many characters behind the cursor, each line break counting one, or all that there are, yanks them,
+    /// and says whether something was removed. Where nothing is, it takes no memory.
     pub fn delete_str(&mut self, count: usize) -> Result<bool, AllocError>
         ensures removed { IfOk result (λ removed. removed ≡ removes_or self.old (has_ahead self.old count)) }
         ensures ok { OnOk result (self.new ≡ unselected_or self.old (symbols_ahead_out self.old count)) }
@@ -119,8 +119,9 @@ impl TextArea {
         Ok(true)
     }
 
-    /// Removes the atomic range that ends at the cursor or strictly holds it; else removes and yanks what stands from the
-    /// start of the word before the cursor, or from the line's start, to the cursor; at column 0 it does as `delete_newline`. It says whether something was removed. Where nothing is, it takes no memory.
+    /// Removes the atomic range that ends at the cursor or strictly holds it; else removes and yanks what stands from
+    /// the start of the word before the cursor, or from the line's start, to the cursor; at column 0 it does as
+    /// `delete_newline`. It says whether something was removed. Where nothing is, it takes no memory.
     pub fn delete_word(&mut self) -> Result<bool, AllocError>
         ensures removed { IfOk result (λ removed. removed ≡ removes_or self.old (has_word_before self.old)) }
         ensures ok { OnOk result (self.new ≡ unselected_or self.old (word_before_out self.old)) }
@@ -140,8 +141,9 @@ impl TextArea {
         Ok(true)
     }
 
-    /// Removes the atomic range that starts at the cursor or strictly holds it; else removes and yanks what stands from the
-    /// cursor to behind the word there, or to the line's end; at the line's end it does as `delete_next_char`. It says whether something was removed. Where nothing is, it takes no memory.
+    /// Removes the atomic range that starts at the cursor or strictly holds it; else removes and yanks what stands from
+    /// the cursor to behind the word there, or to the line's end; at the line's end it does as `delete_next_char`. It
+    /// says whether something was removed. Where nothing is, it takes no memory.
     pub fn delete_next_word(&mut self) -> Result<bool, AllocError>
         ensures removed { IfOk result (λ removed. removed ≡ removes_or self.old (has_word_behind self.old)) }
         ensures ok { OnOk result (self.new ≡ unselected_or self.old (word_behind_out self.old)) }

@@ -9,9 +9,9 @@ use crate::textarea::TextArea;
 use std::alloc::AllocError;
 use textarea_search::search::SearchError;
 
-impl TextArea {
-    /// Searches for this pattern from now on, in the syntax of `regex`, and for none if it is empty. The empty text and that
-    /// of the present pattern are always taken, and take no memory.
+impl TextArea<'_> {
+    /// Searches for this pattern from now on, in the syntax of `regex`, and for none if it is empty. The empty text and
+    /// that of the present pattern are always taken, and take no memory.
     pub fn set_search_pattern(&mut self, pattern: &str) -> Result<(), SearchError>
         ensures ok { OnOk result (self.new ≡ with_pattern self.old pattern.now) }
         ensures err { OnErr result (self.new ≡ self.old) }
@@ -31,9 +31,9 @@ impl TextArea {
         self.search.pattern() // as it was set
     }
 
-    /// Moves the cursor to the next start of a match, and says whether there was one: the first behind the cursor or, with
-    /// `match_cursor`, at it, and past the end of the text the first of all. An open selection stays open, and a run of typing
-    /// ends. Where there is none, nothing changes; without a pattern it takes no memory.
+    /// Moves the cursor to the next start of a match, and says whether there was one: the first behind the cursor or,
+    /// with `match_cursor`, at it, and past the end of the text the first of all. An open selection stays open, and a
+    /// run of typing ends. Where there is none, nothing changes; without a pattern it takes no memory.
     pub fn search_forward(&mut self, match_cursor: bool) -> Result<bool, AllocError>
         ensures found { IfOk result (λ found. found ≡ is_some (next_match self.old match_cursor)) }
         ensures ok { OnOk result (self.new ≡ searched self.old (next_match self.old match_cursor)) }
@@ -45,9 +45,9 @@ impl TextArea {
         Ok(self.go_to(found))
     }
 
-    /// Moves the cursor to the last start of a match before it or, with `match_cursor`, at it, and past the beginning of the
-    /// text to the last of all; says whether there was one. An open selection stays open, and a run of typing ends. Where
-    /// there is none, nothing changes; without a pattern it takes no memory.
+    /// Moves the cursor to the last start of a match before it or, with `match_cursor`, at it, and past the beginning
+    /// of the text to the last of all; says whether there was one. An open selection stays open, and a run of typing
+    /// ends. Where there is none, nothing changes; without a pattern it takes no memory.
     pub fn search_back(&mut self, match_cursor: bool) -> Result<bool, AllocError>
         ensures found { IfOk result (λ found. found ≡ is_some (previous_match self.old match_cursor)) }
         ensures ok { OnOk result (self.new ≡ searched self.old (previous_match self.old match_cursor)) }

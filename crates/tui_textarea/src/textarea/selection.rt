@@ -11,7 +11,7 @@ use textarea_pieces::given::{joined_with_line_feeds, pieces_of};
 use textarea_pieces::part::between;
 use textarea_pieces::places::text_end;
 
-impl TextArea {
+impl TextArea<'_> {
     /// Begins a selection at the cursor, an empty one at first.
     pub fn start_selection(&mut self)
         ensures { self.new ≡ selection_started self.old }
@@ -84,8 +84,8 @@ impl TextArea {
         joined_with_line_feeds(self.allocator(), self.yank.as_slice())
     }
 
-    /// Sets what `paste` puts in. The text is cut at each line feed; a carriage return directly before a line feed goes with
-    /// it.
+    /// Sets what `paste` puts in. The text is cut at each line feed; a carriage return directly before a line feed goes
+    /// with it.
     pub fn set_yank_text(&mut self, text: &str) -> Result<(), AllocError>
         ensures ok { OnOk result (self.new ≡ record self.old { yank = given (chars text.now) }) }
         ensures err { OnErr result (self.new ≡ self.old) }

@@ -4,50 +4,38 @@ ghost use Rattle.std.specs.Duration.{as_nanos};
 ghost use Rattle.textarea_history.specs.Log.{empty_log};
 ghost use Rattle.textarea_document.specs.Outcomes.{run_ended};
 ghost use Rattle.tui_textarea.specs.State.{default_settings, with_document};
+ghost use Rattle.tui_textarea.specs.View.{tab_length};
 
 use crate::textarea::TextArea;
 use std::time::Duration;
+use textarea_screen::screen::Style;
 use textarea_text::util::spaces;
 
 /// What a text area is told once and keeps to.
 #[derive(Clone, Copy, Debug, PartialEq, Eq)]
 pub struct Settings {
-    /// The columns between two tab stops; at 0 a tab inserts nothing.
-    pub tab_length: u8,
     /// Whether a tab is inserted as a tab character, and not as spaces.
     pub hard_tab_indent: bool,
     /// Whether typed edits join into one that is undone at once.
     pub undo_coalescing: bool,
+    /// The style of line numbers, where there are any.
+    pub line_number_style: Style,
 }
 
 impl Default for Settings {
-    /// A tab of four columns, made of spaces, and no joining.
+    /// A tab made of spaces, no joining, and line numbers in no style of their own.
     fn default() -> Settings
         ensures { result ≡ default_settings }
     {
         Settings {
-            tab_length: 4,
             hard_tab_indent: false,
             undo_coalescing: false,
+            line_number_style: Style::new(),
         }
     }
 }
 
-impl TextArea {
-    /// Sets the columns between two tab stops; at 0 a tab inserts nothing.
-    pub fn set_tab_length(&mut self, tab_length: u8)
-        ensures { self.new ≡ record self.old { settings = record self.old.settings { tab_length = tab_length } } }
-    {
-        self.settings.tab_length = tab_length; // the text stays as it is
-    }
-
-    /// The columns between two tab stops.
-    pub fn tab_length(&self) -> u8
-        ensures { result ≡ self.now.settings.tab_length }
-    {
-        self.settings.tab_length // as it was set
-    }
-
+impl TextArea<'_> {
     /// Sets whether a tab is inserted as a tab character, and not as spaces.
     pub fn set_hard_tab_indent(&mut self, hard_tab_indent: bool)
         ensures { self.new ≡ record self.old { settings = record self.old.settings { hard_tab_indent = hard_tab_indent } } }
@@ -64,12 +52,12 @@ impl TextArea {
 
     /// What a tab at a line's start is: a tab character, or as many spaces as the tab length.
     pub fn indent(&self) -> &'static str
-        ensures { result.now ≡ cond self.now.settings.hard_tab_indent (9 ∷ []) (replicate self.now.settings.tab_length 32) }
+        ensures { result.now ≡ cond self.now.settings.hard_tab_indent (9 ∷ []) (replicate (tab_length self.now.document) 32) }
     {
         if self.settings.hard_tab_indent {
             "\t"
         } else {
-            spaces(self.settings.tab_length)
+            spaces(self.document.view().tab_len)
         }
     }
 
@@ -106,8 +94,8 @@ impl TextArea {
         self.document.max_histories()
     }
 
-    /// Hands in the moment of the edits that follow, counted from any fixed one. A moment earlier than the last edit's counts
-    /// as no pause between the two.
+    /// Hands in the moment of the edits that follow, counted from any fixed one. A moment earlier than the last edit's
+    /// counts as no pause between the two.
     pub fn set_now(&mut self, now: Duration)
         ensures { self.new ≡ record self.old { moment = as_nanos now } }
     {

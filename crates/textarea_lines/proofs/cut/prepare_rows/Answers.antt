@@ -1,10 +1,10 @@
-use Rattle.std.proofs.Common.{◌≡◌, ◌+◌, ◌-◌, ◌∙◌, ap, refl, sym, arith, length}
+use Rattle.std.proofs.Common.{◌≡◌, ◌+◌, ◌-◌, ◌∙◌, ap, refl, sym, arith, length, true}
 use Rattle.std.proofs.lemmas.List.{length-map}
 use Rattle.textarea_text.specs.Replaced.{replaced}
 use Rattle.textarea_text.specs.Text.{characters_of, lines_of}
 use Rattle.textarea_map.proofs.Layouts.{length-AreRowsOf}
 use Rattle.textarea_lines.specs.Wrappings.{is_same, wrapping_for}
-use Rattle.textarea_lines.proofs.Preparing.{IfOk-from_three, rows_of_all, rows_of_some, same_wrapping, screen_of_all, screen_of_some}
+use Rattle.textarea_lines.proofs.Preparing.{IfOk-from_three, rows_of_all, rows_of_some, screen_of_all, screen_of_some}
 use Rattle.textarea_lines.proofs.cut.prepare_rows.Goals as goal
 
 pub make_room-requires : goal.make_room-requires
@@ -15,10 +15,11 @@ pub returns-then-is_same-clause-rows : goal.returns-then-is_same-clause-rows
 returns-then-is_same-clause-rows c =
     let items = c.args.lines.now in
     let new = c.args.change.now in
-    let same = same_wrapping c.wrapping_for-after.result c.wrapping_for-before.result (sym c.is_same.ensures ∙ c.if-is_same.true) in
+    let same : is_same c.wrapping_for-after.result (wrapping_for c.args.view (length items)) ≡ true =
+    ap (is_same c.wrapping_for-after.result) (sym c.wrapping_for-before.ensures) ∙ sym c.is_same.ensures ∙ c.if-is_same.true in
     let after = c.wrapping_for-after.ensures ∙ ap (λ n. wrapping_for c.args.view (length items - new.count + n)) c.as_slice-new.ensures.len in
     IfOk-from_three c.make_room.result _ _ _ _
-    (λ p row count rows. rows_of_some _ _ c.wrapping_for-after.result items new.lines.items c.as_slice-new.result.now new.row new.count p.row p.count c.args.map.now.rows c.in_ok-rows.rows.items p.rows.items (same ∙ c.wrapping_for-before.ensures) after c.requires.rows c.as_slice-new.ensures.value c.in_ok-rows.ensures.rows row count rows)
+    (λ p row count rows. rows_of_some _ _ c.wrapping_for-after.result items new.lines.items c.as_slice-new.result.now new.row new.count p.row p.count c.args.map.now.rows c.in_ok-rows.rows.items p.rows.items same after c.requires.rows c.as_slice-new.ensures.value c.in_ok-rows.ensures.rows row count rows)
     c.make_room.ensures.row c.make_room.ensures.count c.make_room.ensures.rows
 
 pub returns-then-is_same-clause-screen : goal.returns-then-is_same-clause-screen

@@ -2,9 +2,7 @@ use Rattle.std.proofs.Common.{◌≡◌, ◌+◌, ◌-◌, ◌++◌, ◌∙◌, 
 use Rattle.std.proofs.lemmas.List.{length-drop, length-take-le, take_rest}
 use Rattle.textarea_text.specs.Text.{lines_of}
 use Rattle.textarea_wrap.specs.RowsView.{RowsView}
-use Rattle.textarea_map.specs.Layout.{AreRowsOf}
-use Rattle.textarea_lines.specs.Rows.{ticks_of}
-use Rattle.textarea_lines.specs.Screen.{ticks_behind}
+use Rattle.textarea_map.specs.Layout.{AreRowsOf, ticks_behind, ticks_of}
 use Rattle.textarea_lines.proofs.Layouts.{rows_together, ticks_together}
 use Rattle.textarea_lines.proofs.cut.rows_after.Goals as goal
 

@@ -1,8 +1,8 @@
 use Rattle.std.proofs.Common.{◌≡◌, ◌+◌, ◌<◌, ◌∷◌, [], ◌++◌, ◌∙◌, ap, cond, map, sym, subst, take, List, arith, is_ok, true, vec_len, vec_capacity}
-use Rattle.textarea_script.specs.Run.{AreAnswers, state_at}
+use Rattle.textarea_script.specs.Run.{Leads}
 use Rattle.textarea_script.specs.Said.{said}
 use Rattle.textarea_script.specs.declared.call.Answer.{Answer}
-use Rattle.textarea_script.proofs.Runs.{answers_more, state_more}
+use Rattle.textarea_script.proofs.Runs.{leads_more}
 use Rattle.textarea_script.proofs.run.run.Goals as goal
 
 pub loop-index-preserved : goal.loop-index-preserved
@@ -15,10 +15,8 @@ loop-index-preserved c =
     let items : c.push.new.self.items ≡ c.loop-index.answers.items ++ (c.in-Ok.answer ∷ []) =
     c.push.ensures.items ∙ ap (λ b. cond b (c.loop-index.answers.items ++ c.in-Ok.answer ∷ []) c.loop-index.answers.items) pushed in
     record {
-      answered = subst (λ (all : List Answer). AreAnswers c.args.area.now (take (c.loop-index.index + 1) c.args.calls.now) (map said all)) (sym items)
-          (answers_more c.args.area.now c.loop-index.area c.args.calls.now c.loop-index.answers.items c.loop-index.index c.index-calls-index.result c.in-Ok.answer within c.index-calls-index.is before.answered before.state did.answer);
-      state = state_more c.args.area.now c.loop-index.area c.perform.new.area c.args.calls.now c.loop-index.answers.items c.loop-index.index c.index-calls-index.result c.in-Ok.answer within c.index-calls-index.is before.answered before.state did.ok
-          ∙ ap (λ (all : List Answer). state_at c.args.area.now (take (c.loop-index.index + 1) c.args.calls.now) (map said all)) (sym items);
+      led = subst (λ (all : List Answer). Leads c.args.area.now (take (c.loop-index.index + 1) c.args.calls.now) (map said all) c.perform.new.area) (sym items)
+          (leads_more c.args.area.now c.loop-index.area c.perform.new.area c.args.calls.now c.loop-index.answers.items c.loop-index.index c.index-calls-index.result c.in-Ok.answer within c.index-calls-index.is before.led did.answer did.ok);
       counted = c.push.ensures.len ∙ ap (λ b. cond b (vec_len c.loop-index.answers + 1) (vec_len c.loop-index.answers)) pushed ∙ ap (λ n. n + 1) before.counted;
       room = omega (arith, before.room, c.push.ensures.capacity);
     }

@@ -1,7 +1,7 @@
 use Rattle.std.proofs.Common.{◌≡◌, ◌≢◌, ◌∙◌, ◌<◌, ◌≤◌, ◌==◌, nat_lt, length, true, false, arith}
 use Rattle.std.proofs.lemmas.Bool.Decides.{nat_tests}
 use Rattle.textarea_text.specs.Text.{text_of}
-use Rattle.textarea_document.proofs.Area.{text_of-many}
+use Rattle.textarea_text.proofs.EmptyTexts.{text_of-many}
 use Rattle.textarea_document.proofs.Inserts.{filled_one, filled_some}
 use Rattle.textarea_document.proofs.document.insertions.has_symbol.Goals as goal
 

@@ -2,7 +2,7 @@ use Rattle.std.proofs.Common.{◌≡◌, ◌≢◌, ◌∙◌, sym, ap, arith, l
 use Rattle.std.proofs.lemmas.Bool.{eqb-true}
 use Rattle.textarea_text.specs.Text.{text_of}
 use Rattle.textarea_lines.specs.Screen.{LaidOut}
-use Rattle.textarea_lines.proofs.Stores.{empty_text, text_of-many}
+use Rattle.textarea_text.proofs.EmptyTexts.{empty_text, text_of-many}
 use Rattle.textarea_lines.proofs.laid_out.LaidOutLines.is_empty.Goals as goal
 
 pub returns-then-len-eq1 : goal.returns-then-len-eq1
@@ -18,5 +18,5 @@ returns-else-len-eq1 c =
     let text : text_of c.self.inside.lines.items ≡ c.args.self.now.text = ap (λ (s : LaidOut). s.text) c.self.view_is in
     let apart : length c.self.inside.lines.items ≢ 1 = omega (arith, c.self.inside.lines.ok.0) in (
       (λ yes. absurd (c.if-len-eq1.false (eqb-true _ 1 yes))),
-      (λ none. absurd (text_of-many c.self.inside.lines.items apart c.self.invariant.stored.some (text ∙ none))),
+      (λ none. absurd (text_of-many c.self.inside.lines.items apart c.self.invariant.held.stored.some (text ∙ none))),
     )

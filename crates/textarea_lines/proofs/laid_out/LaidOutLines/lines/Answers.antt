@@ -8,9 +8,9 @@ use Rattle.textarea_lines.proofs.laid_out.LaidOutLines.lines.Goals as goal
 pub returns-clause-lines : goal.returns-clause-lines
 returns-clause-lines c =
     ap lines_of c.as_slice.ensures.value
-    ∙ sym (lines_held c.self.inside.lines.items c.self.invariant.stored.some)
+    ∙ sym (lines_held c.self.inside.lines.items c.self.invariant.held.stored.some)
     ∙ ap (λ (s : LaidOut). lines s.text) c.self.view_is
 
 pub returns-clause-small : goal.returns-clause-small
 returns-clause-small c = λ place h.
-    small_place c.self.inside.lines.items c.self.inside.size place c.self.invariant.stored (subst (λ (s : LaidOut). IsPlace s.text place) (sym c.self.view_is) h)
+    small_place c.self.inside.lines.items c.self.inside.size place c.self.invariant.held.stored (subst (λ (s : LaidOut). IsPlace s.text place) (sym c.self.view_is) h)

@@ -6,4 +6,4 @@ use Rattle.textarea_lines.proofs.laid_out.LaidOutLines.places_are_small.Goals as
 
 pub returns : goal.returns
 returns c = λ place h.
-    small_place c.self.inside.lines.items c.self.inside.size place c.self.invariant.stored (subst (λ (s : LaidOut). IsPlace s.text place) (sym c.self.view_is) h)
+    small_place c.self.inside.lines.items c.self.inside.size place c.self.invariant.held.stored (subst (λ (s : LaidOut). IsPlace s.text place) (sym c.self.view_is) h)

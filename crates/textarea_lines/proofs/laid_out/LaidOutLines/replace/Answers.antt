@@ -9,11 +9,11 @@ use Rattle.textarea_lines.proofs.laid_out.LaidOutLines.replace.Goals as goal
 
 pub prepare_rows-requires-clause-within : goal.prepare_rows-requires-clause-within
 prepare_rows-requires-clause-within c =
-    omega (arith, c.requires.within, ap (λ (s : LaidOut). length (lines s.text)) c.self.view_is, count_held c.self.inside.lines.items c.self.invariant.stored.some, ap length c.as_slice.ensures.value)
+    omega (arith, c.requires.within, ap (λ (s : LaidOut). length (lines s.text)) c.self.view_is, count_held c.self.inside.lines.items c.self.invariant.held.stored.some, ap length c.as_slice.ensures.value)
 
 pub put_in-requires-clause-within : goal.put_in-requires-clause-within
 put_in-requires-clause-within c =
-    omega (arith, c.requires.within, ap (λ (s : LaidOut). length (lines s.text)) c.self.view_is, count_held c.self.inside.lines.items c.self.invariant.stored.some, c.in_ok-reserve.ensures.len, c.self.inside.lines.ok.0)
+    omega (arith, c.requires.within, ap (λ (s : LaidOut). length (lines s.text)) c.self.view_is, count_held c.self.inside.lines.items c.self.invariant.held.stored.some, c.in_ok-reserve.ensures.len, c.self.inside.lines.ok.0)
 
 pub invariant_of-self-2 : goal.invariant_of-self-2
 invariant_of-self-2 c =
@@ -21,29 +21,32 @@ invariant_of-self-2 c =
     let change = c.args.change in
     let text = ap (λ (s : LaidOut). weight (joined (replaced (lines s.text) change.row change.count (lines_of change.lines.items))) + 1) c.self.view_is in
     let within : change.row + change.count ≤ length inside.lines.items =
-    omega (arith, c.requires.within, ap (λ (s : LaidOut). length (lines s.text)) c.self.view_is, count_held inside.lines.items c.self.invariant.stored.some) in
+    omega (arith, c.requires.within, ap (λ (s : LaidOut). length (lines s.text)) c.self.view_is, count_held inside.lines.items c.self.invariant.held.stored.some) in
     let steps : Replacing inside.lines.items c.as_slice.result.now c.reserve.new.self.items c.put_in.new.lines.items change.lines.items change.row change.count =
     record {
-      some = c.self.invariant.stored.some;
+      some = c.self.invariant.held.stored.some;
       lent_is = c.as_slice.ensures.value;
       kept_is = c.in_ok-reserve.ensures.items;
       now_is = c.put_in.ensures;
       within = within;
       new_some = omega (arith, c.requires.some, change.lines.ok.0);
     } in
-    holds_replaced inside.view inside.lines.items c.as_slice.result.now c.reserve.new.self.items c.put_in.new.lines.items change.lines.items change.row change.count c.args.size _ _ c.put_in-2.new.self.rows steps change.lines.ok.0 c.in_ok-prepared.ensures.rows
-    (c.put_in-2.ensures ∙ ap (λ t. replaced t c.in_ok-prepared.prepared.row c.in_ok-prepared.prepared.count c.in_ok-prepared.prepared.rows.items) c.in_ok-prepared.ensures.same)
-    (c.requires.size ∙ sym text) c.requires.limit
+    record {
+      held = holds_replaced inside.view inside.lines.items c.as_slice.result.now c.reserve.new.self.items c.put_in.new.lines.items change.lines.items change.row change.count c.args.size _ _ c.put_in-2.new.self.rows steps change.lines.ok.0 c.in_ok-prepared.ensures.rows
+          (c.put_in-2.ensures ∙ ap (λ t. replaced t c.in_ok-prepared.prepared.row c.in_ok-prepared.prepared.count c.in_ok-prepared.prepared.rows.items) c.in_ok-prepared.ensures.same)
+          (c.requires.size ∙ sym text) c.requires.limit;
+      measured = tt;
+    }
 
 pub returns-clause-ok : goal.returns-clause-ok
 returns-clause-ok c =
     let inside = c.self.inside in
     let change = c.args.change in
     let within : change.row + change.count ≤ length inside.lines.items =
-    omega (arith, c.requires.within, ap (λ (s : LaidOut). length (lines s.text)) c.self.view_is, count_held inside.lines.items c.self.invariant.stored.some) in
+    omega (arith, c.requires.within, ap (λ (s : LaidOut). length (lines s.text)) c.self.view_is, count_held inside.lines.items c.self.invariant.held.stored.some) in
     let steps : Replacing inside.lines.items c.as_slice.result.now c.reserve.new.self.items c.put_in.new.lines.items change.lines.items change.row change.count =
     record {
-      some = c.self.invariant.stored.some;
+      some = c.self.invariant.held.stored.some;
       lent_is = c.as_slice.ensures.value;
       kept_is = c.in_ok-reserve.ensures.items;
       now_is = c.put_in.ensures;

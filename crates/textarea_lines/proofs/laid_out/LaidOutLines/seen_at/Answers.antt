@@ -2,8 +2,9 @@ use Rattle.std.proofs.Common.{◌∙◌, sym, ap, subst, length}
 use Rattle.textarea_text.specs.Text.{lines_of}
 use Rattle.textarea_text.specs.Place.{IsPlace, IsPlaceOf}
 use Rattle.textarea_text.proofs.StringRows.{rows_place}
+use Rattle.textarea_map.specs.Seen.{IsSeenAt}
 use Rattle.textarea_lines.specs.Screen.{LaidOut}
-use Rattle.textarea_lines.proofs.Stores.{laid_out_as, seen_place, tab_len_of}
+use Rattle.textarea_lines.proofs.Stores.{in_text, laid_out_as, tab_len_of}
 use Rattle.textarea_lines.proofs.laid_out.LaidOutLines.seen_at.Goals as goal
 
 pub seen_at-requires-clause-place : goal.seen_at-requires-clause-place
@@ -11,13 +12,15 @@ seen_at-requires-clause-place c =
     let items = c.self.inside.lines.items in
     let place = c.args.place in
     subst (λ t. IsPlaceOf (lines_of t) place) (sym c.as_slice-lines.ensures.value)
-    (rows_place items place c.self.invariant.stored.some (subst (λ (s : LaidOut). IsPlace s.text place) (sym c.self.view_is) c.requires))
+    (rows_place items place c.self.invariant.held.stored.some (subst (λ (s : LaidOut). IsPlace s.text place) (sym c.self.view_is) c.requires))
 
 pub returns : goal.returns
 returns c =
     let inside = c.self.inside in
+    let rows = inside.map.rows in
+    let laid = c.args.self.now in
     let tab = ap (λ w. w.tab_len) c.wrapping_for-wrapping.ensures ∙ tab_len_of inside.view (length c.as_slice-lines.result.now) in (
-      inside.map.rows,
-      laid_out_as inside.view inside.lines.items inside.size inside.count inside.map.rows c.args.self.now c.self.invariant c.self.view_is,
-      seen_place inside.view inside.lines.items c.as_slice-lines.result.now inside.count inside.map.rows c.args.self.now c.args.place c.seen_at.result _ c.self.invariant.stored.some c.as_slice-lines.ensures.value tab c.self.view_is c.seen_at.ensures.seen,
+      rows,
+      laid_out_as inside.view inside.lines.items inside.size inside.count rows laid c.self.invariant.held c.self.view_is,
+      in_text inside.view inside.lines.items c.as_slice-lines.result.now inside.count rows laid _ (λ t ls. IsSeenAt t ls rows c.args.place c.seen_at.result) c.self.invariant.held.stored.some c.as_slice-lines.ensures.value tab c.self.view_is c.seen_at.ensures.seen,
     )

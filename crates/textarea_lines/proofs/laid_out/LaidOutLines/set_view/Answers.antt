@@ -1,15 +1,30 @@
 use Rattle.std.proofs.Common.{◌∙◌, ◌+◌, ap, sym, length}
-use Rattle.textarea_lines.specs.Screen.{ticks_behind}
+use Rattle.textarea_map.specs.Layout.{ticks_behind}
 use Rattle.textarea_lines.specs.Wrappings.{wrapping_for}
-use Rattle.textarea_lines.proofs.Changes.{Reviewing, laid_new, test_is, viewed_anew, viewed_same}
+use Rattle.textarea_lines.proofs.Changes.{Reviewing, holds_viewed, laid_new, test_is, viewed_anew, viewed_same}
 use Rattle.textarea_lines.proofs.laid_out.LaidOutLines.set_view.Goals as goal
+
+pub invariant_of-self : goal.invariant_of-self
+invariant_of-self c =
+    let inside = c.self.inside in
+    let steps : Reviewing inside.view c.args.view inside.lines.items inside.count inside.map.rows c.args.self.now c.wrapping_for-before.result c.wrapping_for-after.result =
+    record {
+      some = c.self.invariant.held.stored.some;
+      is = c.self.view_is;
+      before_is = c.wrapping_for-before.ensures ∙ ap (wrapping_for inside.view) (c.len.ensures ∙ inside.lines.ok.0);
+      after_is = c.wrapping_for-after.ensures ∙ ap (wrapping_for c.args.view) (c.len-2.ensures ∙ inside.lines.ok.0);
+    } in
+    record {
+      held = holds_viewed inside.view c.args.view inside.lines.items inside.size inside.count inside.map.rows c.args.self.now c.wrapping_for-before.result c.wrapping_for-after.result steps (sym c.is_same.ensures ∙ c.if-is_same.true) c.self.invariant.held;
+      measured = c.self.invariant.measured;
+    }
 
 pub returns-then-is_same-clause-ok : goal.returns-then-is_same-clause-ok
 returns-then-is_same-clause-ok c =
     let inside = c.self.inside in
     let steps : Reviewing inside.view c.args.view inside.lines.items inside.count inside.map.rows c.args.self.now c.wrapping_for-before.result c.wrapping_for-after.result =
     record {
-      some = c.self.invariant.stored.some;
+      some = c.self.invariant.held.stored.some;
       is = c.self.view_is;
       before_is = c.wrapping_for-before.ensures ∙ ap (wrapping_for inside.view) (c.len.ensures ∙ inside.lines.ok.0);
       after_is = c.wrapping_for-after.ensures ∙ ap (wrapping_for c.args.view) (c.len-2.ensures ∙ inside.lines.ok.0);
@@ -21,7 +36,7 @@ returns-in_err-self-inside-clause-no_memory c = λ yes.
     let inside = c.self.inside in
     let steps : Reviewing inside.view c.args.view inside.lines.items inside.count inside.map.rows c.args.self.now c.wrapping_for-before.result c.wrapping_for-after.result =
     record {
-      some = c.self.invariant.stored.some;
+      some = c.self.invariant.held.stored.some;
       is = c.self.view_is;
       before_is = c.wrapping_for-before.ensures ∙ ap (wrapping_for inside.view) (c.len.ensures ∙ inside.lines.ok.0);
       after_is = c.wrapping_for-after.ensures ∙ ap (wrapping_for c.args.view) (c.len-2.ensures ∙ inside.lines.ok.0);
@@ -34,7 +49,7 @@ returns-clause-ok c =
     let inside = c.self.inside in
     let steps : Reviewing inside.view c.args.view inside.lines.items inside.count inside.map.rows c.args.self.now c.wrapping_for-before.result c.wrapping_for-after.result =
     record {
-      some = c.self.invariant.stored.some;
+      some = c.self.invariant.held.stored.some;
       is = c.self.view_is;
       before_is = c.wrapping_for-before.ensures ∙ ap (wrapping_for inside.view) (c.len.ensures ∙ inside.lines.ok.0);
       after_is = c.wrapping_for-after.ensures ∙ ap (wrapping_for c.args.view) (c.len-2.ensures ∙ inside.lines.ok.0);
@@ -42,5 +57,5 @@ returns-clause-ok c =
     let items = inside.lines.items in
     let counted = c.in_ok-self-inside.ensures.counted ∙ ap (λ n. n + length c.as_slice.result.now) c.in_ok-count.ensures.cases in
     let ticks = c.in_ok-self-inside.ensures.ticks ∙ ap (λ n. ticks_behind n (length c.as_slice.result.now)) c.in_ok-count.ensures.cases in
-    viewed_anew inside.view c.args.view items inside.count c.map_of.new.count inside.map.rows c.in_ok-self-inside.field-0.rows c.args.self.now c.wrapping_for-before.result c.wrapping_for-after.result steps (sym c.is_same.ensures ∙ c.if-is_same.false)
-    (laid_new c.args.view items c.as_slice.result.now inside.count c.map_of.new.count c.in_ok-self-inside.field-0.rows c.self.invariant.stored.some c.as_slice.ensures.value counted ticks)
+    viewed_anew inside.view c.args.view items inside.count c.new.new.counter inside.map.rows c.in_ok-self-inside.field-0.rows c.args.self.now c.wrapping_for-before.result c.wrapping_for-after.result steps (sym c.is_same.ensures ∙ c.if-is_same.false)
+    (laid_new c.args.view items c.as_slice.result.now inside.count c.new.new.counter c.in_ok-self-inside.field-0.rows c.self.invariant.held.stored.some c.as_slice.ensures.value counted ticks)

@@ -12,7 +12,7 @@ put_whole_line-requires-clause-within c =
     let inside = c.self.inside in
     let steps : Inside inside.view inside.lines.items c.undo.new.lines.items c.as_slice.result.now inside.size c.args.size inside.map.rows (inverse c.args.edit.now.splice) c.cursor_before-row.result.0 =
     record {
-      holds = c.self.invariant;
+      holds = c.self.invariant.held;
       whole = ap (λ (s : LaidOut). is_wrapped s.screen.view) c.self.view_is ∙ c.requires.whole;
       none = c.requires.inside;
       fits = subst (λ (s : LaidOut). Fits s.text (inverse c.args.edit.now.splice)) (sym c.self.view_is) c.requires.fits;
@@ -31,7 +31,7 @@ put_whole_line-requires-clause-short c =
     let inside = c.self.inside in
     let steps : Inside inside.view inside.lines.items c.undo.new.lines.items c.as_slice.result.now inside.size c.args.size inside.map.rows (inverse c.args.edit.now.splice) c.cursor_before-row.result.0 =
     record {
-      holds = c.self.invariant;
+      holds = c.self.invariant.held;
       whole = ap (λ (s : LaidOut). is_wrapped s.screen.view) c.self.view_is ∙ c.requires.whole;
       none = c.requires.inside;
       fits = subst (λ (s : LaidOut). Fits s.text (inverse c.args.edit.now.splice)) (sym c.self.view_is) c.requires.fits;
@@ -50,7 +50,7 @@ put_whole_line-requires-clause-same c =
     let inside = c.self.inside in
     let steps : Inside inside.view inside.lines.items c.undo.new.lines.items c.as_slice.result.now inside.size c.args.size inside.map.rows (inverse c.args.edit.now.splice) c.cursor_before-row.result.0 =
     record {
-      holds = c.self.invariant;
+      holds = c.self.invariant.held;
       whole = ap (λ (s : LaidOut). is_wrapped s.screen.view) c.self.view_is ∙ c.requires.whole;
       none = c.requires.inside;
       fits = subst (λ (s : LaidOut). Fits s.text (inverse c.args.edit.now.splice)) (sym c.self.view_is) c.requires.fits;
@@ -69,7 +69,7 @@ put_whole_line-requires-clause-one c =
     let inside = c.self.inside in
     let steps : Inside inside.view inside.lines.items c.undo.new.lines.items c.as_slice.result.now inside.size c.args.size inside.map.rows (inverse c.args.edit.now.splice) c.cursor_before-row.result.0 =
     record {
-      holds = c.self.invariant;
+      holds = c.self.invariant.held;
       whole = ap (λ (s : LaidOut). is_wrapped s.screen.view) c.self.view_is ∙ c.requires.whole;
       none = c.requires.inside;
       fits = subst (λ (s : LaidOut). Fits s.text (inverse c.args.edit.now.splice)) (sym c.self.view_is) c.requires.fits;
@@ -88,7 +88,7 @@ put_whole_line-requires-clause-few c =
     let inside = c.self.inside in
     let steps : Inside inside.view inside.lines.items c.undo.new.lines.items c.as_slice.result.now inside.size c.args.size inside.map.rows (inverse c.args.edit.now.splice) c.cursor_before-row.result.0 =
     record {
-      holds = c.self.invariant;
+      holds = c.self.invariant.held;
       whole = ap (λ (s : LaidOut). is_wrapped s.screen.view) c.self.view_is ∙ c.requires.whole;
       none = c.requires.inside;
       fits = subst (λ (s : LaidOut). Fits s.text (inverse c.args.edit.now.splice)) (sym c.self.view_is) c.requires.fits;
@@ -107,7 +107,7 @@ invariant_of-self-2 c =
     let inside = c.self.inside in
     let steps : Inside inside.view inside.lines.items c.undo.new.lines.items c.as_slice.result.now inside.size c.args.size inside.map.rows (inverse c.args.edit.now.splice) c.cursor_before-row.result.0 =
     record {
-      holds = c.self.invariant;
+      holds = c.self.invariant.held;
       whole = ap (λ (s : LaidOut). is_wrapped s.screen.view) c.self.view_is ∙ c.requires.whole;
       none = c.requires.inside;
       fits = subst (λ (s : LaidOut). Fits s.text (inverse c.args.edit.now.splice)) (sym c.self.view_is) c.requires.fits;
@@ -118,14 +118,17 @@ invariant_of-self-2 c =
       after_is = c.requires.size ∙ sym (ap (λ (s : LaidOut). weight (applied s.text (inverse c.args.edit.now.splice)) + 1) c.self.view_is);
       limit = c.requires.limit;
     } in
-    holds_inside inside.view inside.lines.items c.undo.new.lines.items c.as_slice.result.now inside.size c.args.size inside.map.rows c.put_whole_line.new.map.rows (inverse c.args.edit.now.splice) c.cursor_before-row.result.0 _ steps c.put_whole_line.ensures.rows
+    record {
+      held = holds_inside inside.view inside.lines.items c.undo.new.lines.items c.as_slice.result.now inside.size c.args.size inside.map.rows c.put_whole_line.new.map.rows (inverse c.args.edit.now.splice) c.cursor_before-row.result.0 _ steps c.put_whole_line.ensures.rows;
+      measured = tt;
+    }
 
 pub returns-clause-ok : goal.returns-clause-ok
 returns-clause-ok c =
     let inside = c.self.inside in
     let steps : Inside inside.view inside.lines.items c.undo.new.lines.items c.as_slice.result.now inside.size c.args.size inside.map.rows (inverse c.args.edit.now.splice) c.cursor_before-row.result.0 =
     record {
-      holds = c.self.invariant;
+      holds = c.self.invariant.held;
       whole = ap (λ (s : LaidOut). is_wrapped s.screen.view) c.self.view_is ∙ c.requires.whole;
       none = c.requires.inside;
       fits = subst (λ (s : LaidOut). Fits s.text (inverse c.args.edit.now.splice)) (sym c.self.view_is) c.requires.fits;

@@ -1,13 +1,18 @@
-use Rattle.std.proofs.Common.{◌∙◌}
+use Rattle.std.proofs.Common.{◌∙◌, sym}
+use Rattle.textarea_text.specs.Text.{lines_of}
 use Rattle.textarea_history.proofs.Copies.{lines_copied}
-use Rattle.textarea_lines.proofs.Stores.{holds_copied, seen_copied}
+use Rattle.textarea_lines.proofs.Stores.{holds_copied, measured_of, seen_copied}
 use Rattle.textarea_lines.proofs.laid_out.LaidOutLinesClone.clone.Goals as goal
 
 pub invariant_of-result : goal.invariant_of-result
 invariant_of-result c =
     let inside = c.self.inside in
     let copies = c.in_ok-clone.field-0.items in
-    holds_copied inside.view inside.lines.items copies inside.size inside.map.rows c.in_ok-clone-2.field-0.rows c.self.invariant (lines_copied inside.lines.items copies c.in_ok-clone.ensures.cases.0) c.in_ok-clone-2.ensures.cases
+    let same = lines_copied inside.lines.items copies c.in_ok-clone.ensures.cases.0 in
+    record {
+      held = holds_copied inside.view inside.lines.items copies inside.size inside.map.rows c.in_ok-clone-2.field-0.rows c.self.invariant.held same c.in_ok-clone-2.ensures.cases;
+      measured = measured_of (lines_of inside.lines.items) (lines_of copies) inside.measured (sym same) c.self.invariant.measured;
+    }
 
 pub returns : goal.returns
 returns c =

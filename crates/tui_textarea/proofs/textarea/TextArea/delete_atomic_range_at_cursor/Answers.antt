@@ -1,5 +1,5 @@
 use Rattle.std.proofs.Common.{◌∙◌, ap}
-use Rattle.textarea_document.specs.Ranges.{hit_at_cursor}
+use Rattle.textarea_document.specs.Edits.{hit_at_cursor}
 use Rattle.tui_textarea.specs.State.{State}
 use Rattle.tui_textarea.proofs.textarea.TextArea.delete_atomic_range_at_cursor.Goals as goal
 

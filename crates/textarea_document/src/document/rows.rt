@@ -1,0 +1,58 @@
+//! The visual rows of a document.
+ghost use Rattle.std.specs.Prelude.{◌≡◌, true, IfOk, IfSome, IsOk, OnErr, OnOk};
+ghost use Rattle.textarea_text.specs.Place.{IsPlace};
+ghost use Rattle.textarea_lines.specs.Screen.{is_cut_at, stays_cut};
+ghost use Rattle.textarea_document.specs.Rows.{HasRowsAt, IsAboveCursor, IsBelowCursor, laid_of, viewed};
+
+use crate::document::Document;
+use std::alloc::AllocError;
+use textarea_lines::view::ViewSettings;
+
+impl Document {
+    /// What decides how the lines are cut and seen.
+    pub fn view(&self) -> ViewSettings
+        ensures { result ≡ self.now.screen.view }
+    {
+        self.laid.view()
+    }
+
+    /// Sets what decides how the lines are cut and seen. They are cut anew, each once, only where they are cut in another
+    /// way, and only then memory is taken.
+    pub fn set_view(&mut self, view: ViewSettings) -> Result<(), AllocError>
+        ensures ok { OnOk result (self.new ≡ viewed self.old view) }
+        ensures err { OnErr result (self.new ≡ self.old) }
+        ensures no_memory { stays_cut (laid_of self.old) view ≡ true → IsOk result }
+    {
+        self.laid.set_view(view)
+    }
+
+    /// Where the cursor goes one visual row up; none from the first visual row.
+    #[tactic(auto, unfolding(crate::specs::Rows::IsAboveCursor))]
+    pub fn above(&self) -> Option<(usize, usize)>
+        ensures place { IfSome result (IsPlace self.now.text) }
+        ensures above { IsAboveCursor self.now result }
+    {
+        self.laid.above(self.cursor)
+    }
+
+    /// Where the cursor goes one visual row down; none from the last visual row.
+    #[tactic(auto, unfolding(crate::specs::Rows::IsBelowCursor))]
+    pub fn below(&self) -> Option<(usize, usize)>
+        ensures place { IfSome result (IsPlace self.now.text) }
+        ensures below { IsBelowCursor self.now result }
+    {
+        self.laid.below(self.cursor)
+    }
+
+    /// How many visual rows the text would have in all in an inner area of this width, in columns. Where the lines are cut so
+    /// as they stand, and where the last answer was for lines cut so, no line is cut, and no memory is taken. Nothing that is
+    /// seen of the document changes.
+    #[tactic(auto, unfolding(crate::specs::Rows::HasRowsAt))]
+    pub fn rows_at_width(&mut self, inner_width: u16) -> Result<usize, AllocError>
+        ensures same { self.new ≡ self.old }
+        ensures rows { IfOk result (HasRowsAt self.old inner_width) }
+        ensures no_memory { is_cut_at (laid_of self.old) inner_width ≡ true → IsOk result }
+    {
+        self.laid.rows_at_width(inner_width)
+    }
+}

@@ -1,0 +1,16 @@
+-- Lists of rows that have the same ranges and the same ticks are one list.
+use Rattle.std.proofs.Common.{◌≡◌, ℕ, List, [], ◌∷◌, ap₂, map, refl}
+use Rattle.textarea_wrap.specs.RowsView.{RowsView}
+use Rattle.textarea_map.specs.Layout.{ticks_of}
+
+pub rows_same : (rows others : List RowsView) → map (λ (r : RowsView). r.ranges) rows ≡ map (λ (r : RowsView). r.ranges) others → ticks_of rows ≡ ticks_of others → rows ≡ others
+rows_same [] [] ranges ticks = refl
+rows_same [] (s ∷ others) ranges ticks = absurd cc
+rows_same (r ∷ rows) [] ranges ticks = absurd cc
+rows_same (r ∷ rows) (s ∷ others) ranges ticks =
+    let first_ranges : r.ranges ≡ s.ranges = cc in
+    let first_tick : r.tick ≡ s.tick = cc in
+    let more_ranges : map (λ (q : RowsView). q.ranges) rows ≡ map (λ (q : RowsView). q.ranges) others = cc in
+    let more_ticks : ticks_of rows ≡ ticks_of others = cc in
+    let first : r ≡ s = ap₂ (λ (t : List (ℕ × ℕ)) (n : ℕ). record { ranges = t; tick = n }) first_ranges first_tick in
+    ap₂ (λ (q : RowsView) (t : List RowsView). q ∷ t) first (rows_same rows others more_ranges more_ticks)

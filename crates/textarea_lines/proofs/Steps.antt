@@ -1,0 +1,64 @@
+-- From a place of a text as it is laid out one place, or none, is found one visual row up or down.
+use Rattle.std.proofs.Common.{◌≡◌, ℕ, List, Option, None, Some, MatchOption, length, ap, refl, arith, subst}
+use Rattle.textarea_text.specs.Place.{Place}
+use Rattle.textarea_text.specs.Text.{lines}
+use Rattle.textarea_wrap.specs.RowsView.{RowsView}
+use Rattle.textarea_map.specs.declared.layout.Wrapping.{Wrapping}
+use Rattle.textarea_map.specs.Layout.{AreRowsOf}
+use Rattle.textarea_map.specs.Seen.{IsAbove, IsBelow, IsInFirstRow, IsInLastRow, IsSeenAt}
+use Rattle.textarea_lines.specs.Rows.{IsLaidOutAs, OfRows}
+use Rattle.textarea_lines.specs.Screen.{LaidOut, wrapping_of}
+use Rattle.textarea_lines.proofs.Stores.{tab_len_of}
+
+-- ---- steps, and places from which there is none, in rows at some tab stops
+
+-- a place from which there is no step, and a step from one place to another
+abbrev pub Edge : Type 1
+Edge = ℕ → List (List ℕ) → List RowsView → Place → Type 0
+
+abbrev pub Step : Type 1
+Step = ℕ → List (List ℕ) → List RowsView → Place → Place → Type 0
+
+-- a place is seen in one visual row at one column
+abbrev pub IsSeenOnce : Type 0
+IsSeenOnce = (wrapping : Wrapping) (lines : List (List ℕ)) (rows : List RowsView) (place seen other : Place) → AreRowsOf wrapping lines rows → IsSeenAt wrapping.tab_len lines rows place seen → IsSeenAt wrapping.tab_len lines rows place other → seen ≡ other
+
+-- the step leads from a place to one place
+abbrev pub LeadsToOne : Step → Type 0
+LeadsToOne Goes = (wrapping : Wrapping) (lines : List (List ℕ)) (rows : List RowsView) (place target other : Place) → AreRowsOf wrapping lines rows → Goes wrapping.tab_len lines rows place target → Goes wrapping.tab_len lines rows place other → target ≡ other
+
+-- the step leads nowhere from such a place
+abbrev pub EndsAt : Edge → Step → Type 0
+EndsAt Ends Goes = (wrapping : Wrapping) (lines : List (List ℕ)) (rows : List RowsView) (place target : Place) → AreRowsOf wrapping lines rows → Ends wrapping.tab_len lines rows place → Goes wrapping.tab_len lines rows place target → ⊥
+
+pub none_above : IsSeenOnce → EndsAt IsInFirstRow IsAbove
+none_above once w lines rows place target kept first h =
+    omega (arith, ap (λ (seen : Place). seen.0) (once w lines rows place first.0 h.seen kept first.1 h.seen_at), first.2, h.not_first)
+
+pub none_below : IsSeenOnce → EndsAt IsInLastRow IsBelow
+none_below once w lines rows place target kept final h =
+    omega (arith, ap (λ (seen : Place). seen.0) (once w lines rows place final.0 h.seen kept final.1 h.seen_at), final.2, h.near.row)
+
+-- ---- what is found
+
+-- two places are one; a place and none contradict each other
+one_found : (Nothing : Type 0) (Goes : Place → Type 0) (found other : Option Place) → ((target : Place) → Nothing → Goes target → ⊥) → ((target more : Place) → Goes target → Goes more → target ≡ more) → MatchOption found Nothing Goes → MatchOption other Nothing Goes → found ≡ other
+one_found Nothing Goes None None ends one h k = refl
+one_found Nothing Goes None (Some target) ends one h k = absurd (ends target h k)
+one_found Nothing Goes (Some target) None ends one h k = absurd (ends target k h)
+one_found Nothing Goes (Some target) (Some more) ends one h k = ap Some (one target more h k)
+
+-- what the rows of a text as it is laid out say is found from a place
+abbrev pub Finds : Edge → Step → LaidOut → Place → Option Place → Type 0
+Finds Ends Goes laid place found = OfRows laid (λ (rows : List RowsView). MatchOption found (Ends laid.screen.view.tab_len (lines laid.text) rows place) (Goes laid.screen.view.tab_len (lines laid.text) rows place))
+
+pub finds_once : (Ends : Edge) (Goes : Step) (laid : LaidOut) (place : Place) (found other : Option Place) → ((rows others : List RowsView) → IsLaidOutAs laid rows → IsLaidOutAs laid others → rows ≡ others) → EndsAt Ends Goes → LeadsToOne Goes → Finds Ends Goes laid place found → Finds Ends Goes laid place other → found ≡ other
+finds_once Ends Goes laid place found other one_list ends one h k =
+    let text = lines laid.text in
+    let wrapping = wrapping_of laid in
+    let tab : wrapping.tab_len ≡ laid.screen.view.tab_len = tab_len_of laid.screen.view (length text) in
+    one_found (Ends laid.screen.view.tab_len text h.0 place) (Goes laid.screen.view.tab_len text h.0 place) found other
+    (λ target. subst (λ n. Ends n text h.0 place → Goes n text h.0 place target → ⊥) tab (ends wrapping text h.0 place target h.1.laid_out))
+    (λ target more. subst (λ n. Goes n text h.0 place target → Goes n text h.0 place more → target ≡ more) tab (one wrapping text h.0 place target more h.1.laid_out))
+    h.2
+    (subst (λ (rows : List RowsView). MatchOption other (Ends laid.screen.view.tab_len text rows place) (Goes laid.screen.view.tab_len text rows place)) (one_list k.0 h.0 k.1 h.1) k.2)

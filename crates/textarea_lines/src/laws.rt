@@ -1,0 +1,27 @@
+//! Laws of lines with their rows, each the contract of a function that does nothing.
+ghost use Rattle.std.specs.Prelude.{◌≡◌, List, Option};
+ghost use Rattle.textarea_text.specs.Place.{Place};
+ghost use Rattle.textarea_wrap.specs.RowsView.{RowsView};
+ghost use Rattle.textarea_lines.specs.Rows.{IsFoundAbove, IsFoundBelow, IsLaidOutAs};
+ghost use Rattle.textarea_lines.specs.Screen.{LaidOut};
+
+use textarea_map::laws::{one_map, seen_once};
+
+/// A text as it is laid out has one list of right rows: what is seen of it decides all of them.
+pub fn one_list_of_rows()
+    ensures { (laid : LaidOut) (rows others : List RowsView) → IsLaidOutAs laid rows → IsLaidOutAs laid others → rows ≡ others }
+{
+    one_map();
+}
+
+/// From a place of a text as it is laid out one place, or none, is found one visual row up, and one place, or none, one visual
+/// row down.
+pub fn one_place_up_and_down()
+    ensures above { (laid : LaidOut) (place : Place) (found other : Option Place) →
+        IsFoundAbove laid place found → IsFoundAbove laid place other → found ≡ other }
+    ensures below { (laid : LaidOut) (place : Place) (found other : Option Place) →
+        IsFoundBelow laid place found → IsFoundBelow laid place other → found ≡ other }
+{
+    one_list_of_rows();
+    seen_once();
+}

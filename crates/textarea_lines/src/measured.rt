@@ -1,0 +1,9 @@
+//! What was measured last.
+use textarea_map::layout::Wrapping;
+
+// How many rows the lines have in all where they are cut so.
+#[derive(Clone, Copy, Debug, PartialEq, Eq)]
+pub struct Measured {
+    pub wrapping: Wrapping,
+    pub rows: usize,
+}

@@ -1,0 +1,5 @@
+use Rattle.textarea_script.proofs.Runs.{one_end}
+use Rattle.textarea_script.proofs.laws.one_end.Goals as goal
+
+pub returns : goal.returns
+returns c = one_end c.one_move.ensures

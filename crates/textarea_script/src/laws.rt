@@ -1,0 +1,16 @@
+//! Laws of runs, each the contract of a function that does nothing.
+ghost use Rattle.std.specs.Prelude.{◌≡◌, List};
+ghost use Rattle.tui_textarea.specs.State.{State};
+ghost use Rattle.textarea_script.specs.declared.call.Call.{Call};
+ghost use Rattle.textarea_script.specs.Run.{Leads};
+ghost use Rattle.textarea_script.specs.Said.{Said};
+
+use tui_textarea::laws::one_move;
+
+/// Calls that answer so lead to one state: the answers settle all that a run leaves.
+pub fn one_end()
+    ensures { (calls : List Call) (answers : List Said) (old first second : State) →
+        Leads old calls answers first → Leads old calls answers second → first ≡ second }
+{
+    one_move();
+}

@@ -1,0 +1,24 @@
+//! The measured height.
+ghost use Rattle.std.specs.Prelude.{◌≡◌, ◌≤◌, IfOk, IsOk, true};
+ghost use Rattle.textarea_frame.specs.State.{AreBounds};
+ghost use Rattle.tui_textarea.specs.Measure.{IsMeasured, reads_rows};
+
+use crate::textarea::TextArea;
+use std::alloc::AllocError;
+use textarea_frame::frame::measure::TextAreaMeasure;
+
+impl TextArea<'_> {
+    /// The height that an area of this width, in columns, needs for the block and all rows of the text, or of the
+    /// placeholder where that is shown. Where the rows are those of the text as it is cut now, or of the width that was
+    /// measured last, no line is cut; else each is cut once. Nothing that is seen of the text area changes.
+    pub fn measure(&mut self, width: u16) -> Result<TextAreaMeasure, AllocError>
+        ensures same { self.new ≡ self.old }
+        ensures measured { IfOk result (IsMeasured self.old width) }
+        ensures bounds { IfOk result (λ measure. AreBounds measure.min_rows measure.max_rows) }
+        ensures within { IfOk result (λ measure. (measure.min_rows ≤ measure.preferred_rows) × (measure.preferred_rows ≤ measure.max_rows)) }
+        ensures no_memory { reads_rows self.old width ≡ true → IsOk result }
+    {
+        let rows = self.document.rows_at_width(self.frame.inner_width(width))?;
+        Ok(self.frame.measured(width, rows, self.document.is_empty()))
+    }
+}
