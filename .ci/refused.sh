@@ -1,6 +1,6 @@
 #!/bin/bash
-# Checks the programs that must not compile: each file .ci/refused/NAME.rt.txt names in its first two lines the error that is
-# wanted and the crates of this repository that it needs.
+# Tries the programs that must not compile: each file .ci/refused/NAME.rt.txt names in its first two lines the error that is
+# wanted and the crates of this repository that it needs. Nothing is proved for that: `rt try` reports what the compiler says.
 set -euo pipefail
 top=$(cd "$(dirname "$0")/.." && pwd)
 rt=${RT:-rt}
@@ -14,12 +14,15 @@ for program in "$top"/.ci/refused/*.rt.txt; do
   echo "refused: $needed" > "$folder/crates.txt"
   for crate in $needed; do
     grep -E "^$crate( [a-z_=]+)*:" "$top/crates.txt" >> "$folder/crates.txt"
-    cp -a "$top/crates/$crate" "$folder/crates/$crate"
+    mkdir "$folder/crates/$crate"
+    for part in src specs proofs; do
+      [ ! -d "$top/crates/$crate/$part" ] || cp -r "$top/crates/$crate/$part" "$folder/crates/$crate/"
+    done
   done
   cp "$top/HANDLES" "$folder/HANDLES"
-  tail -n +3 "$program" > "$folder/crates/refused/src/lib.rt"
+  tail -n +3 "$program" > "$folder/crates/refused/src/main.rt"
   log="$folder/log"
-  if (cd "$folder/crates/refused" && $rt check) > "$log" 2>&1; then
+  if (cd "$folder/crates/refused" && $rt try) > "$log" 2>&1; then
     echo "refused: $name was not refused"
     failed=1
   elif grep -qF "error[$wanted]" "$log"; then

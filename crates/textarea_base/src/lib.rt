@@ -2,11 +2,10 @@
 //! each proved in a crate of its own and passed on here.
 #![tactic(auto)]
 
+pub use textarea_data::{input, scroll};
 pub use textarea_history::{history, laws};
-pub use textarea_input::input;
 pub use textarea_pieces::{given, part, places, tab};
 pub use textarea_screen::screen;
-pub use textarea_scroll::scroll;
 pub use textarea_search::search;
 pub use textarea_text::{inside, rows, util};
 pub use textarea_word::word;

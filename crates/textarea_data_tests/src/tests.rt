@@ -2,11 +2,11 @@ use serde::{Deserialize, Serialize};
 use std::alloc::Global;
 use std::process::Abort;
 use std::test::Fail;
-use textarea_atomic::atomic::*;
-use textarea_cursor::cursor::DataCursor;
-use textarea_input::input::{Input, Key};
-use textarea_move::cursor_move::CursorMove;
-use textarea_scroll::scroll::Scrolling;
+use textarea_data::cursor::{CursorMove, DataCursor};
+use textarea_data::input::{Input, Key};
+use textarea_data::scroll::Scrolling;
+use textarea_ranges::atomic::*;
+use textarea_wrap::wrap::WrapMode;
 
 /// Writes `value`, which must give `form`, and reads `form`, which must give `value`.
 fn both_ways<'a, T>(rt: &impl Abort, alloc: Global, value: T, form: &'a str) -> Result<(), Fail>
@@ -64,6 +64,22 @@ fn moves(rt: HostRuntime) -> Result<(), Fail> {
     let delta = Scrolling::from((1, 2));
     both_ways(&rt, alloc, delta, "{\"Delta\":{\"rows\":1,\"cols\":2}}")?;
     both_ways(&rt, alloc, Scrolling::HalfPageUp, "\"HalfPageUp\"")
+}
+
+#[test]
+fn wrap_modes(rt: HostRuntime) -> Result<(), Fail> {
+    let alloc = rt.alloc();
+    for (mode, form) in [
+        (WrapMode::None, "\"None\""),
+        (WrapMode::Word, "\"Word\""),
+        (WrapMode::Glyph, "\"Glyph\""),
+        (WrapMode::WordOrGlyph, "\"WordOrGlyph\""),
+    ] {
+        both_ways(&rt, alloc, mode, form)?;
+    }
+    let mode: Result<WrapMode, _> = serde_json::from_str(alloc, "\"Words\"");
+    assert!(rt; mode.is_err());
+    Ok(())
 }
 
 #[test]

@@ -12,8 +12,8 @@ use Rattle.textarea_text.specs.Place.{Place, IsPlace, IsPlaceOf, index_of}
 use Rattle.textarea_text.proofs.Befores.{break_stands, character_stands, text_place}
 use Rattle.textarea_text.proofs.StringRows.{line_at}
 use Rattle.textarea_text.specs.Splice.{Fits}
-use Rattle.textarea_history.specs.Edit.{inserts_of, splice_of, symbols_of}
-use Rattle.textarea_history.specs.declared.edit.EditKind.{EditKind}
+use Rattle.textarea_edit.specs.Edit.{inserts_of, splice_of, symbols_of}
+use Rattle.textarea_edit.specs.declared.edit.EditKind.{EditKind}
 use Rattle.textarea_document.specs.State.{DocumentState}
 use Rattle.textarea_document.specs.Outcomes.{edited, unanchored}
 use Rattle.textarea_document.specs.Edits.{IsSymbolBehind, break_removal, symbol_removal, without_symbol_behind, without_break_before}
@@ -75,10 +75,6 @@ without_break_in document zero now apart = absurd (apart refl)
 without_break_in document (suc row) now apart = ap (λ n. edited document (break_removal document.text n) false now) (let same : row ≡ suc row - 1 = omega arith in same)
 
 -- ---- the symbol behind the cursor
-
--- its removal fits the text, and is the one that the definition means
-pub behind_removal_fits : (text : List Symbol) (place stop : Place) (symbol : Symbol) → IsPlace text place → IsSymbolBehind text place stop symbol → Fits text (record { place = place; symbols = symbol ∷ []; inserts = false })
-behind_removal_fits text place stop symbol h behind = record { some = omega arith; is_place = h; allowed = behind.symbol_is }
 
 pub without_symbol_behind_is : (document : DocumentState) (stop : Place) (symbol : Symbol) (typed : Bool) (now : ℕ) → IsPlace document.text document.cursor → IsSymbolBehind document.text document.cursor stop symbol → edited document (record { place = document.cursor; symbols = symbol ∷ []; inserts = false }) typed now ≡ without_symbol_behind document typed now
 without_symbol_behind_is document stop symbol typed now h behind =

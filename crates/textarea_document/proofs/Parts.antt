@@ -8,7 +8,7 @@ use Rattle.textarea_text.specs.Place.{Place, IsPlace, StandsAt, end, index_of}
 use Rattle.textarea_text.specs.Splice.{Splice, Fits}
 use Rattle.textarea_text.proofs.Places.{index_within, place_of-index}
 use Rattle.textarea_text.proofs.Splices.{end-append}
-use Rattle.textarea_history.specs.Edit.{Stored, IsWellFormed}
+use Rattle.textarea_edit.specs.Edit.{Stored, IsWellFormed}
 use Rattle.textarea_pieces.specs.Part.{part}
 use Rattle.textarea_document.specs.Edits.{removal}
 

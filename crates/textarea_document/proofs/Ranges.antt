@@ -13,11 +13,11 @@ use Rattle.textarea_text.specs.Splice.{Fits}
 use Rattle.textarea_text.proofs.Befores.{character_stands}
 use Rattle.textarea_text.proofs.Places.{index_within, joined-lines}
 use Rattle.textarea_pieces.proofs.PartLemmas.{IsBefore, before_from_index}
-use Rattle.textarea_atomic.specs.declared.atomic.AtomicRange.{AtomicRange}
-use Rattle.textarea_atomic.specs.declared.atomic.AtomicCursorBias.TheVariants.{Backward}
-use Rattle.textarea_atomic.specs.declared.atomic.AtomicDeleteDirection.{AtomicDeleteDirection}
+use Rattle.textarea_ranges.specs.declared.atomic.AtomicRange.{AtomicRange}
+use Rattle.textarea_ranges.specs.declared.atomic.AtomicCursorBias.TheVariants.{Backward}
+use Rattle.textarea_ranges.specs.declared.atomic.AtomicDeleteDirection.{AtomicDeleteDirection}
 use Rattle.textarea_document.specs.Ranges.{CutsNone, anchor_out, is_same, unless_empty}
-use Rattle.textarea_atomic.specs.declared.atomic.AtomicDeleteDirection.TheVariants.{Backward as DeleteBackward, Forward as DeleteForward}
+use Rattle.textarea_ranges.specs.declared.atomic.AtomicDeleteDirection.TheVariants.{Backward as DeleteBackward, Forward as DeleteForward}
 use Rattle.textarea_ranges.specs.Held.{IsHit, IsInside, IsUpTo, TakesWhole, hit, moved_out, start, stop}
 use Rattle.textarea_ranges.specs.Valid.{AreValid, IsPart}
 use Rattle.textarea_ranges.proofs.HeldLemmas.{IsPlaceOf-moved_out, MatchOption-hit, taken}

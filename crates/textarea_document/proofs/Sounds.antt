@@ -6,12 +6,13 @@ use Rattle.std.proofs.lemmas.List.{reverse-append, length-append, length-drop, l
 use Rattle.std.proofs.lemmas.Option.{get_or_from_slice_get, slice_get_within}
 use Rattle.textarea_text.specs.Text.{Symbol, lines}
 use Rattle.textarea_text.specs.Place.{Place, IsPlace}
-use Rattle.textarea_text.specs.Splice.{Splice, Fits, applied, inverse, place_before, place_after, CanApply, CanTakeBack}
-use Rattle.textarea_history.specs.Log.{Log, done_after, empty_log, grown, is_typed, joins, kept, made_again, merged, newest, next, recorded, taken_back, with_done}
+use Rattle.textarea_text.specs.Splice.{Splice, Fits, applied, inverse, place_after, CanApply, CanTakeBack}
+use Rattle.textarea_history.specs.Log.{Log, done_after, empty_log, grown, is_typed, joins, kept, newest, next, with_done}
+use Rattle.textarea_edit.specs.Run.{merged}
 use Rattle.textarea_history.proofs.Joins.{joins_newest}
 use Rattle.textarea_history.proofs.UndoLaws.{CanTakeBack-merged, inverse-inverse}
 use Rattle.textarea_text.proofs.Places.{IsPlace-end, takes_back}
-use Rattle.textarea_atomic.specs.declared.atomic.AtomicRange.{AtomicRange}
+use Rattle.textarea_ranges.specs.declared.atomic.AtomicRange.{AtomicRange}
 use Rattle.textarea_document.proofs.Ranges.{valid_none}
 use Rattle.textarea_lines.specs.declared.view.ViewSettings.{ViewSettings}
 use Rattle.textarea_lines.specs.Screen.{LaidOut, Screen, all_cut, laid_anew, seen_with, wrapping_of}
@@ -112,14 +113,16 @@ sound_edited document splice typed now h fits = by (document.log.maximum == 0) r
 pub resound : (document : DocumentState) (screen : Screen) → IsSound document → IsSound (record document { screen = screen })
 resound document screen h = record { cursor = h.cursor; anchor = h.anchor; ranges = h.ranges; undo = h.undo; redo = h.redo; bounded = h.bounded }
 
--- the same, of what an edit left
-pub sound_after : (document : DocumentState) (new : List Symbol) (screen : Screen) (place : Place) (held : List AtomicRange) (now : Log) (splice : Splice) (typed : Bool) (moment : ℕ) → IsSound document → Fits document.text splice → new ≡ applied document.text splice → place ≡ place_after splice → now ≡ recorded document.log splice typed moment → held ≡ [] → IsSound (record { text = new; screen = screen; cursor = place; anchor = None; ranges = held; log = now })
-sound_after document new screen place held now splice typed moment h fits text_is place_is log_is held_is =
-    subst (λ (r : List AtomicRange). IsSound (record { text = new; screen = screen; cursor = place; anchor = None; ranges = r; log = now })) (sym held_is)
-    (subst (λ t. IsSound (record { text = t; screen = screen; cursor = place; anchor = None; ranges = []; log = now })) (sym text_is)
-    (subst (λ (p : Place). IsSound (record { text = applied document.text splice; screen = screen; cursor = p; anchor = None; ranges = []; log = now })) (sym place_is)
-    (subst (λ l. IsSound (record { text = applied document.text splice; screen = screen; cursor = place_after splice; anchor = None; ranges = []; log = l })) (sym log_is)
-    (resound (edited document splice typed moment) screen (sound_edited document splice typed moment h fits)))))
+-- the same, of what a step left that has nothing selected and no ranges
+pub sound_left : (outcome : DocumentState) (text : List Symbol) (screen : Screen) (cursor : Place) (held : List AtomicRange) (log : Log) → IsSound outcome → text ≡ outcome.text → cursor ≡ outcome.cursor → held ≡ [] → log ≡ outcome.log → IsSound (record { text = text; screen = screen; cursor = cursor; anchor = None; ranges = held; log = log })
+sound_left outcome text screen cursor held log h text_is cursor_is held_is log_is = record {
+  cursor = rw (text_is, cursor_is) h.cursor;
+  anchor = tt;
+  ranges = rw held_is (valid_none (lines text));
+  undo = rw (text_is, log_is) h.undo;
+  redo = rw (text_is, log_is) h.redo;
+  bounded = rw log_is h.bounded;
+}
 
 -- ---- undo and redo
 
@@ -164,23 +167,6 @@ sound_redone document splice h e =
       redo = ahead.1;
       bounded = omega (arith, h.bounded, length-append document.log.done (splice ∷ []), ap length split);
     }
-
--- the same, of what an undo and a redo left
-pub sound_after_undo : (document : DocumentState) (new : List Symbol) (screen : Screen) (place : Place) (held : List AtomicRange) (now : Log) (splice : Splice) → IsSound document → newest document.log ≡ Some splice → new ≡ applied document.text (inverse splice) → place ≡ place_before splice → now ≡ taken_back document.log splice → held ≡ [] → IsSound (record { text = new; screen = screen; cursor = place; anchor = None; ranges = held; log = now })
-sound_after_undo document new screen place held now splice h e text_is place_is log_is held_is =
-    subst (λ (r : List AtomicRange). IsSound (record { text = new; screen = screen; cursor = place; anchor = None; ranges = r; log = now })) (sym held_is)
-    (subst (λ t. IsSound (record { text = t; screen = screen; cursor = place; anchor = None; ranges = []; log = now })) (sym text_is)
-    (subst (λ (p : Place). IsSound (record { text = applied document.text (inverse splice); screen = screen; cursor = p; anchor = None; ranges = []; log = now })) (sym place_is)
-    (subst (λ l. IsSound (record { text = applied document.text (inverse splice); screen = screen; cursor = place_before splice; anchor = None; ranges = []; log = l })) (sym log_is)
-    (resound (undone_by (Some splice) document) screen (sound_undone document splice h e)))))
-
-pub sound_after_redo : (document : DocumentState) (new : List Symbol) (screen : Screen) (place : Place) (held : List AtomicRange) (now : Log) (splice : Splice) → IsSound document → next document.log ≡ Some splice → new ≡ applied document.text splice → place ≡ place_after splice → now ≡ made_again document.log splice → held ≡ [] → IsSound (record { text = new; screen = screen; cursor = place; anchor = None; ranges = held; log = now })
-sound_after_redo document new screen place held now splice h e text_is place_is log_is held_is =
-    subst (λ (r : List AtomicRange). IsSound (record { text = new; screen = screen; cursor = place; anchor = None; ranges = r; log = now })) (sym held_is)
-    (subst (λ t. IsSound (record { text = t; screen = screen; cursor = place; anchor = None; ranges = []; log = now })) (sym text_is)
-    (subst (λ (p : Place). IsSound (record { text = applied document.text splice; screen = screen; cursor = p; anchor = None; ranges = []; log = now })) (sym place_is)
-    (subst (λ l. IsSound (record { text = applied document.text splice; screen = screen; cursor = place_after splice; anchor = None; ranges = []; log = l })) (sym log_is)
-    (resound (redone_by (Some splice) document) screen (sound_redone document splice h e)))))
 
 -- a document without a past
 pub sound_fresh : (text : List Symbol) (view : ViewSettings) (count : ℕ) (cursor : Place) (maximum : ℕ) → IsPlace text cursor → IsSound (fresh_document text view count cursor maximum)

@@ -35,10 +35,6 @@ redone_same first second h = by (next second.log) (next first.log) (ap (λ (u : 
     by None (Some other) e = cc
     by (Some splice) None e = cc
 
-times_same : (count : ℕ) (first second : DocumentState) → IsSame first second → IsSame (times count redone first) (times count redone second)
-times_same zero first second h = h
-times_same (suc count) first second h = redone_same (times count redone first) (times count redone second) (times_same count first second h)
-
 -- one step more in front is one step more behind
 times-front : (count : ℕ) (step : DocumentState → DocumentState) (document : DocumentState) → times (suc count) step document ≡ times count step (step document)
 times-front zero step document = refl

@@ -3,9 +3,9 @@ use Rattle.std.specs.Prelude.{Bool, false, ℕ, List, [], length, Option, Some, 
 use Rattle.textarea_text.specs.Text.{lines}
 use Rattle.textarea_lines.specs.Screen.{Screen, relaid}
 use Rattle.textarea_text.specs.Place.{Place}
-use Rattle.textarea_text.specs.Splice.{Splice, applied, inverse, place_before, place_after}
+use Rattle.textarea_text.specs.Splice.{Splice, applied, inverse, place_after}
 use Rattle.textarea_history.specs.Log.{Log, recorded, newest, next, taken_back, made_again}
-use Rattle.textarea_atomic.specs.declared.atomic.AtomicRange.{AtomicRange}
+use Rattle.textarea_ranges.specs.declared.atomic.AtomicRange.{AtomicRange}
 use Rattle.textarea_document.specs.State.{DocumentState}
 
 -- what a change of the text leaves of the atomic ranges: none of them
@@ -17,45 +17,35 @@ ranges_after ranges splice = []
 abbrev pub screen_after : DocumentState → Splice → Screen
 screen_after document splice = relaid document.screen (length (lines document.text)) splice
 
--- a change is made and recorded, as a typed one or not, at the moment: the cursor stands behind what was put in, or
--- where what was taken out began, and nothing is selected
-abbrev pub edited : DocumentState → Splice → Bool → ℕ → DocumentState
-edited document splice typed now = record {
+-- a change is made, and this is the log then: the cursor stands behind what was inserted, or where what was removed began, and
+-- nothing is selected
+abbrev pub after_change : DocumentState → Splice → Log → DocumentState
+after_change document splice log = record {
   text = applied document.text splice;
   screen = screen_after document splice;
   cursor = place_after splice;
   anchor = None;
   ranges = ranges_after document.ranges splice;
-  log = recorded document.log splice typed now;
+  log = log;
 }
 
--- the newest change is taken back, if there is one: the cursor stands behind the text that came back, or where the text
--- that went began, and nothing is selected
+-- an edit is made and recorded, as a typed one or not, at the moment
+abbrev pub edited : DocumentState → Splice → Bool → ℕ → DocumentState
+edited document splice typed now = after_change document splice (recorded document.log splice typed now)
+
+-- the newest edit is taken back, if there is one: the cursor stands behind the text that came back, or where the text that went
+-- began
 abbrev pub undone_by : Option Splice → DocumentState → DocumentState
 undone_by None document = document
-undone_by (Some splice) document = record {
-  text = applied document.text (inverse splice);
-  screen = screen_after document (inverse splice);
-  cursor = place_before splice;
-  anchor = None;
-  ranges = ranges_after document.ranges (inverse splice);
-  log = taken_back document.log splice;
-}
+undone_by (Some splice) document = after_change document (inverse splice) (taken_back document.log splice)
 
 abbrev pub undone : DocumentState → DocumentState
 undone document = undone_by (newest document.log) document
 
--- the change that was taken back last is made again, if there is one: the cursor stands where it had left it
+-- the edit that was taken back last is made again, if there is one: the cursor stands where it had left it
 abbrev pub redone_by : Option Splice → DocumentState → DocumentState
 redone_by None document = document
-redone_by (Some splice) document = record {
-  text = applied document.text splice;
-  screen = screen_after document splice;
-  cursor = place_after splice;
-  anchor = None;
-  ranges = ranges_after document.ranges splice;
-  log = made_again document.log splice;
-}
+redone_by (Some splice) document = after_change document splice (made_again document.log splice)
 
 abbrev pub redone : DocumentState → DocumentState
 redone document = redone_by (next document.log) document

@@ -5,7 +5,7 @@ use Rattle.textarea_text.specs.Place.{Place}
 use Rattle.textarea_history.specs.Log.{Log, empty_log}
 use Rattle.textarea_lines.specs.declared.view.ViewSettings.{ViewSettings}
 use Rattle.textarea_lines.specs.Screen.{Screen, all_cut}
-use Rattle.textarea_atomic.specs.declared.atomic.AtomicRange.{AtomicRange}
+use Rattle.textarea_ranges.specs.declared.atomic.AtomicRange.{AtomicRange}
 
 -- the text as one flat list of symbols; what is seen of it, with the ticks of its lines' rows; where the cursor stands; where
 -- the selection began, if there is one; the atomic ranges; and the changes made and taken back

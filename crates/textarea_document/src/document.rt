@@ -12,7 +12,7 @@ ghost use Rattle.textarea_text.specs.Text.{lines, lines_of, text_of};
 ghost use Rattle.textarea_text.specs.Place.{IsPlace};
 ghost use Rattle.textarea_text.specs.Size.{size_of};
 ghost use Rattle.textarea_text.specs.Splice.{Fits, Splice};
-ghost use Rattle.textarea_history.specs.Edit.{IsWellFormed};
+ghost use Rattle.textarea_edit.specs.Edit.{IsWellFormed};
 ghost use Rattle.textarea_history.specs.Log.{empty_log, newest, next};
 ghost use Rattle.textarea_pieces.specs.Part.{clip};
 ghost use Rattle.textarea_document.specs.State.{new_document, fresh_document};
@@ -23,11 +23,12 @@ ghost use Rattle.textarea_document.specs.Ranges.{CutsNone};
 use std::alloc::{AllocError, Global};
 use std::marker::Model;
 use std::time::Duration;
-use textarea_atomic::atomic::AtomicRange;
-use textarea_history::history::{Edit, History};
+use textarea_edit::edit::Edit;
+use textarea_history::history::History;
 use textarea_lines::laid_out::LaidOutLines;
 use textarea_lines::view::ViewSettings;
 use textarea_pieces::places::clipped;
+use textarea_ranges::atomic::AtomicRange;
 
 /// Lines of text, a cursor, the place where a selection began, atomic ranges, and a history of edits.
 ///
@@ -110,8 +111,8 @@ impl Document {
         ensures place { IsPlace self.now.text result }
         ensures small { (result.0 < 2 ^ 48) × (result.1 ≤ 2 ^ 48) }
     {
-        self.laid.places_are_small();
-        self.cursor // a place of the text, by the invariant
+        let _lines = self.laid.lines();
+        self.cursor
     }
 
     /// Where the selection began, if there is one; always a place of the text.
@@ -119,7 +120,7 @@ impl Document {
         ensures value { result ≡ self.now.anchor }
         ensures place { IfSome result (IsPlace self.now.text) }
     {
-        self.anchor // a place of the text, by the invariant
+        self.anchor
     }
 
     /// Whether the text is one empty line.
@@ -140,11 +141,12 @@ impl Document {
         let Some(edit) = self.history.newest() else {
             return Ok(false);
         };
-        let back = edit.cursor_before();
-        self.laid.take_back(edit)?;
+        let change = edit.inverse();
+        let back = change.cursor_after();
+        self.laid.apply(change)?;
         self.history.step_back();
         self.cursor = back;
-        self.anchor = None; // as behind every undo
+        self.anchor = None;
         change_ranges(&mut self.ranges);
         Ok(true)
     }
@@ -160,8 +162,9 @@ impl Document {
         let Some(edit) = self.history.next() else {
             return Ok(false);
         };
-        let ahead = edit.cursor_after();
-        self.laid.make(edit)?;
+        let change = edit.change();
+        let ahead = change.cursor_after();
+        self.laid.apply(change)?;
         self.history.step_forward();
         self.cursor = ahead;
         self.anchor = None;
@@ -179,10 +182,12 @@ impl Document {
         ensures err { OnErr result (self.new ≡ self.old) }
     {
         self.history.reserve()?;
-        self.laid.make(&edit)?;
-        self.cursor = edit.cursor_after();
+        let change = edit.change();
+        let ahead = change.cursor_after();
+        self.laid.apply(change)?;
         self.history.put(edit, typed, now);
-        self.anchor = None; // as behind every edit
+        self.cursor = ahead;
+        self.anchor = None;
         change_ranges(&mut self.ranges);
         Ok(())
     }
@@ -195,7 +200,7 @@ impl Document {
     {
         self.cursor = cursor;
         self.anchor = anchor;
-        self.history.break_run(); // a move ends it
+        self.history.break_run();
     }
 
     /// Sets where the selection began, or that nothing is selected.
@@ -203,7 +208,7 @@ impl Document {
         requires { IfSome anchor (IsPlace self.old.text) }
         ensures { self.new ≡ record self.old { anchor = anchor } }
     {
-        self.anchor = anchor; // the cursor stays, and so does a run of typing
+        self.anchor = anchor;
     }
 
     /// Ends a run of typing: the next edit is one of its own.

@@ -6,7 +6,5 @@ pub mod cut;
 pub mod display;
 pub mod highlighter;
 pub mod numbers;
-#[cfg(test)]
-mod tests;
 
 pub use highlighter::{CursorCellRender, LineHighlighter};

@@ -1,26 +1,13 @@
 -- Copies of edits, and of a history's list of them.
-use Rattle.std.proofs.Common.{◌≡◌, ◌≤◌, ◌-◌, ℕ, zero, suc, List, [], ◌∷◌, length, map, Option, Some, None, sym, ap, refl, ◌∙◌, arith, subst, slice_get, String, string_bytes}
+use Rattle.std.proofs.Common.{◌≡◌, ◌≤◌, ◌-◌, ℕ, zero, suc, List, [], ◌∷◌, length, map, Option, Some, None, sym, ap, refl, ◌∙◌, arith, subst, slice_get}
 use Rattle.std.specs.List.{AllZip}
 use Rattle.std.specs.Option.{IfSome}
-use Rattle.std.specs.Str.{chars}
 use Rattle.std.proofs.lemmas.List.Elements.{AllZip-get_or, length_all_zip}
 use Rattle.textarea_text.specs.Place.{end}
 use Rattle.textarea_text.specs.Splice.{Splice}
-use Rattle.textarea_text.specs.Text.{lines_of}
-use Rattle.textarea_history.specs.Edit.{Stored, IsCopyOfEdit, IsWellFormed}
+use Rattle.textarea_edit.specs.Edit.{Stored, IsCopyOfEdit, IsWellFormed}
 use Rattle.textarea_history.specs.Log.{edge_of}
 use Rattle.textarea_history.specs.Store.{splice_in, IsRun, RunIs, IsStore}
-
--- ---- the pieces of a chunk
-
-pub lines_copied : {Z : Type 0} (pieces copies : List (String Z)) → AllZip (λ s t. string_bytes t ≡ string_bytes s) pieces copies → lines_of copies ≡ lines_of pieces
-lines_copied [] [] h = refl
-lines_copied [] (copy ∷ copies) h = absurd h
-lines_copied (piece ∷ pieces) [] h = absurd h
-lines_copied (piece ∷ pieces) (copy ∷ copies) h =
-    ap (λ t. chars t ∷ lines_of copies) h.0 ∙ ap (λ t. chars (string_bytes piece) ∷ t) (lines_copied pieces copies h.1)
-
--- ---- the list of edits
 
 pub splices_copied : (items copies : List Stored) → AllZip IsCopyOfEdit items copies → map splice_in copies ≡ map splice_in items
 splices_copied [] [] h = refl

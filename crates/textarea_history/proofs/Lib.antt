@@ -1,6 +1,4 @@
 pub mod Joins
-pub mod Runs
 pub mod Stores
 pub mod UndoLaws
-mod Weights
-pub mod Copies
+mod Copies

@@ -1,5 +1,5 @@
 -- A log kept as one list of edits and an index.
-use Rattle.std.proofs.Common.{◌≡◌, ℕ, zero, suc, ◌+◌, ◌-◌, ◌≤◌, ◌<◌, Bool, true, false, cond, ◌&&◌, ◌==◌, nat_lt, List, [], ◌∷◌, ◌++◌, length, take, drop, map, Option, Some, None, is_some, sym, ap, refl, ◌∙◌, arith, get_or, set, subst, slice_get, eqb, eqb-true, eq-eqb}
+use Rattle.std.proofs.Common.{◌≡◌, ℕ, zero, suc, ◌+◌, ◌-◌, ◌≤◌, ◌<◌, Bool, true, false, cond, ◌&&◌, ◌==◌, nat_lt, List, [], ◌∷◌, ◌++◌, length, take, drop, map, Option, Some, None, is_some, sym, ap, refl, ◌∙◌, arith, get_or, set, subst, slice_get, eqb-true, eq-eqb}
 use Rattle.std.specs.Option.{IfSome, IsSome}
 use Rattle.std.proofs.lemmas.List.{length-take-le, length-map, length-set, length-append, get_or-take, get_or-map, get_or-set_same, get_or_at, map-set, set-get_or, take-take, drop_more, take_all, drop_all, take_more, take-append-drop, take-map, drop-map, drop-take, length-take, length-drop}
 use Rattle.std.specs.List.{All}
@@ -9,9 +9,10 @@ use Rattle.std.proofs.lemmas.Option.{slice_get_read, get_or_from_slice_get}
 use Rattle.std.proofs.lemmas.Bool.Decides.{nat_tests}
 use Rattle.textarea_text.specs.Text.{Symbol, Character, Break}
 use Rattle.textarea_text.specs.Place.{Place}
-use Rattle.textarea_text.specs.Splice.{Splice, applied, inverse, place_before, place_after}
-use Rattle.textarea_history.specs.Edit.{Stored, IsWellFormed}
-use Rattle.textarea_history.specs.Log.{Log, with_done, kept, character_of, typed_character, newest, next, taken_back, made_again, Undoes, UndoesBy, Redoes, RedoesBy, joins, continues, continues_newest, is_same_direction, is_same_place, is_empty, is_typed, done_joined, grown, merged, edge_of, pause}
+use Rattle.textarea_text.specs.Splice.{Splice, place_before, place_after}
+use Rattle.textarea_edit.specs.Edit.{Stored, IsWellFormed}
+use Rattle.textarea_history.specs.Log.{Log, with_done, kept, typed_character, newest, next, taken_back, made_again, joins, continues, continues_newest, is_same_direction, is_empty, is_typed, done_joined, grown, edge_of, pause}
+use Rattle.textarea_edit.specs.Run.{character_of, merged}
 use Rattle.textarea_history.proofs.Joins.{left_of, right_of, same_direction, same_place}
 use Rattle.textarea_history.specs.Store.{log_at, splice_in, spare_in, room_at, IsRun, RunIs, IsStore}
 
@@ -299,10 +300,6 @@ next_at items index maximum run_open last edit log within e view =
     ∙ ap (λ (t : List Splice). slice_get t 0) (drop_more splices index edit.splice (omega (arith, length-map items splice_in)))
     ∙ ap (λ (s : Splice). Some s) (sym read)
 
--- no edit is done
-pub newest_none : (splices : List Splice) (index maximum : ℕ) (run_open : Bool) (last : ℕ) → index ≡ 0 → newest (log_at splices index maximum run_open last) ≡ None
-newest_none splices index maximum run_open last e = ap (λ n. newest (log_at splices n maximum run_open last)) e
-
 -- no edit is undone
 pub next_none : (items : List Stored) (index maximum : ℕ) (run_open : Bool) (last : ℕ) → index ≡ length items → next (log_at (map splice_in items) index maximum run_open last) ≡ None
 next_none items index maximum run_open last e =
@@ -356,21 +353,6 @@ stepped_forward items index maximum run_open last log within view splice e =
     ap (λ (d : List Splice). record { done = d; undone = drop (index + 1) splices; maximum = maximum; run_open = false; last = last }) done
     ∙ ap (λ (u : List Splice). record { done = take index splices ++ splice ∷ []; undone = u; maximum = maximum; run_open = false; last = last }) undone
     ∙ ap (λ (l : Log). made_again l splice) view
-
--- one undo and one redo, of the change that the log names
-pub undoes_one : (old new : Log) (was now : List Symbol) (splice : Splice) (place : Place) → newest old ≡ Some splice → new ≡ taken_back old splice → now ≡ applied was (inverse splice) → place ≡ place_before splice → Undoes old new was now (Some place)
-undoes_one old new was now splice place found log_is now_is place_is =
-    subst (λ (o : Option Splice). UndoesBy o old new was now (Some place)) (sym found) (ap (λ (p : Place). Some p) place_is, log_is, now_is)
-
-pub redoes_one : (old new : Log) (was now : List Symbol) (splice : Splice) (place : Place) → next old ≡ Some splice → new ≡ made_again old splice → now ≡ applied was splice → place ≡ place_after splice → Redoes old new was now (Some place)
-redoes_one old new was now splice place found log_is now_is place_is =
-    subst (λ (o : Option Splice). RedoesBy o old new was now (Some place)) (sym found) (ap (λ (p : Place). Some p) place_is, log_is, now_is)
-
-pub undoes_none : (old new : Log) (was now : List Symbol) → newest old ≡ None → new ≡ old → now ≡ was → Undoes old new was now None
-undoes_none old new was now none log_is now_is = subst (λ (o : Option Splice). UndoesBy o old new was now None) (sym none) (refl, log_is, now_is)
-
-pub redoes_none : (old new : Log) (was now : List Symbol) → next old ≡ None → new ≡ old → now ≡ was → Redoes old new was now None
-redoes_none old new was now none log_is now_is = subst (λ (o : Option Splice). RedoesBy o old new was now None) (sym none) (refl, log_is, now_is)
 
 -- done and undone together are the edits of the store
 pub bounded_log : (items : List Stored) (index maximum : ℕ) (run_open : Bool) (last : ℕ) (log : Log) → length items ≤ maximum → log_at (map splice_in items) index maximum run_open last ≡ log → length log.done + length log.undone ≤ maximum

@@ -4,7 +4,7 @@ use Rattle.std.proofs.lemmas.List.{append_assoc, length-append, reverse-append, 
 use Rattle.textarea_text.specs.Text.{Symbol}
 use Rattle.textarea_text.specs.Place.{Place, IsPlace, StandsAt, end, inserted, removed}
 use Rattle.textarea_text.specs.Splice.{Splice, Fits, applied, inverse, place_before, place_after, CanApply, CanTakeBack, applied_all, taken_back_all, StoodBefore}
-use Rattle.textarea_history.specs.Log.{merged}
+use Rattle.textarea_edit.specs.Run.{merged}
 use Rattle.textarea_text.proofs.Splices.{end-append, inserted_at, removed_at, stands_at}
 use Rattle.textarea_text.proofs.Places.{takes_back, parted, standing, place_parted, index_parted}
 

@@ -1,4 +1,2 @@
 pub mod Log
-pub mod Edit
 pub mod Store
-pub mod Law

@@ -5,6 +5,7 @@ use Rattle.textarea_text.specs.Text.{Symbol, Character, Break}
 use Rattle.textarea_text.specs.Place.{Place}
 use Rattle.textarea_text.specs.Splice.{Splice, applied, inverse, place_before, place_after}
 use Rattle.textarea_word.specs.Words.{class_of, is_same}
+use Rattle.textarea_edit.specs.Run.{character_of, merged}
 
 -- the changes made, the newest last; those taken back, the next to be made again first; how many it holds at most;
 -- whether the newest change is a run of typing that may go on; and the moment of the last change, in nanoseconds
@@ -19,11 +20,6 @@ abbrev pub empty_log : ℕ → Log
 empty_log maximum = record { done = []; undone = []; maximum = maximum; run_open = false; last = 0 }
 
 -- ---- a run of typing
-
--- the character, where the symbols are just one and a character
-abbrev pub character_of : List Symbol → Option ℕ
-character_of (Character c ∷ []) = Some c
-character_of symbols = None
 
 -- an edit is typed if the caller says so and it has one character
 abbrev pub typed_character : Splice → Bool → Option ℕ
@@ -58,14 +54,6 @@ continues run edit =
 abbrev pub continues_newest : Option Splice → Splice → Bool
 continues_newest None edit = false
 continues_newest (Some run) edit = continues run edit
-
--- the run and the edit as one change
-abbrev pub merged : Splice → Splice → Splice
-merged run edit = record {
-  place = if run.inserts then run.place else edit.place;
-  symbols = if run.inserts then run.symbols ++ edit.symbols else edit.symbols ++ run.symbols;
-  inserts = run.inserts;
-}
 
 -- ---- recording
 

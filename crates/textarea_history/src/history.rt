@@ -1,17 +1,18 @@
 //! The edits that were made and taken back, with a greatest number, and runs of typing that grow in place.
 ghost use Rattle.std.specs.VecDeque.{deque_capacity};
-ghost use Rattle.std.specs.Prelude.{drop, ◌≡◌, ◌<◌, ◌≤◌, ◌+◌, length, OnOk, OnErr, IfOk, IfSome, IsSome, IsOk, MatchOption, [], vec_len, true, false};
+ghost use Rattle.std.specs.Prelude.{drop, ◌≡◌, ◌<◌, ◌≤◌, ◌+◌, length, OnOk, OnErr, IfOk, IfSome, IsSome, IsOk, MatchOption, Some, ◌∷◌, [], vec_len, true, false};
 ghost use Rattle.std.specs.Duration.{as_nanos};
-ghost use Rattle.textarea_text.specs.Text.{text_of};
+ghost use Rattle.textarea_text.specs.Text.{Character, text_of};
 ghost use Rattle.textarea_text.specs.Splice.{Splice, Fits, inverse};
-ghost use Rattle.textarea_history.specs.Edit.{IsWellFormed};
-ghost use Rattle.textarea_history.specs.Log.{empty_log, recorded, joins, with_done, done_joined, done_appended, is_typed, kept, Undoes, Redoes, newest, next, taken_back, made_again};
+ghost use Rattle.textarea_edit.specs.Edit.{IsWellFormed};
+ghost use Rattle.textarea_history.specs.Log.{continues, edge_of, empty_log, recorded, joins, typed_character, with_done, done_joined, done_appended, is_typed, kept, Undoes, Redoes, newest, next, taken_back, made_again};
 
-pub use crate::edit::{Edit, EditKind};
 use std::alloc::{AllocError, Global};
 use std::collections::VecDeque;
 use std::marker::Model;
 use std::time::Duration;
+pub use textarea_edit::edit::{Edit, EditKind};
+use textarea_word::word::CharKind;
 
 /// The pause after which typing begins a new run, in nanoseconds.
 const PAUSE: u128 = 500_000_000;
@@ -78,14 +79,14 @@ impl History {
         ensures value { result ≡ self.now.log.maximum }
         ensures bound { length self.now.log.done + length self.now.log.undone ≤ result }
     {
-        self.max_items // as it was set
+        self.max_items
     }
 
     /// Ends the run, if one is open.
     pub fn break_run(&mut self)
         ensures { self.new.log ≡ record self.old.log { run_open = false } }
     {
-        self.run = None; // the next edit can't join
+        self.run = None;
     }
 
     /// Records the edit, as one typed with coalescing on or not.
@@ -134,14 +135,14 @@ impl History {
         requires { IsWellFormed edit.now }
         ensures { result ≡ joins self.now.log edit.now.splice coalesce (as_nanos now) }
     {
-        let Some(c) = edit.typed_character(coalesce) else {
+        let Some(c) = typed_character(edit, coalesce) else {
             return false;
         };
         let Some(edge) = self.run else {
             return false;
         };
         let newest = &self.items[self.index - 1];
-        now.saturating_sub(self.last).as_nanos() < PAUSE && newest.is_continued_by(edge, edit, c)
+        now.saturating_sub(self.last).as_nanos() < PAUSE && continues(newest, edge, edit, c)
     }
 
     /// Grows the newest edit by the typed one, which joins it.
@@ -151,7 +152,7 @@ impl History {
         requires joins { joins self.old.log edit.now.splice true (as_nanos now) ≡ true }
         ensures { self.new.log ≡ with_done self.old.log (done_joined self.old.log edit.now.splice) true (as_nanos now) }
     {
-        if let Some(c) = edit.typed_character(true) {
+        if let Some(c) = typed_character(edit, true) {
             let newest = &mut self.items[self.index - 1];
             newest.grow(edit, c);
             self.run = Some(c);
@@ -167,7 +168,7 @@ impl History {
         ensures { self.new.log ≡ with_done self.old.log (done_appended self.old.log edit.splice) (is_typed edit.splice coalesce) (as_nanos now) }
     {
         self.make_place();
-        let typed = edit.typed_character(coalesce);
+        let typed = typed_character(&edit, coalesce);
         edit.start_run(typed);
         let _ = self.items.push_back(edit);
         self.index += 1;
@@ -218,7 +219,7 @@ impl History {
         requires { IsSome (newest self.old.log) }
         ensures { (splice : Splice) → newest self.old.log ≡ Some splice → self.new.log ≡ taken_back self.old.log splice }
     {
-        self.index -= 1; // it is the first undone one now
+        self.index -= 1;
         self.run = None;
     }
 
@@ -227,7 +228,7 @@ impl History {
         requires { IsSome (next self.old.log) }
         ensures { (splice : Splice) → next self.old.log ≡ Some splice → self.new.log ≡ made_again self.old.log splice }
     {
-        self.index += 1; // it is the newest done one now
+        self.index += 1;
         self.run = None;
     }
 
@@ -243,10 +244,11 @@ impl History {
         let Some(edit) = self.newest() else {
             return Ok(None);
         };
-        edit.undo(lines)?;
-        let place = edit.cursor_before();
+        let change = edit.inverse();
+        change.apply(lines)?;
+        let back = change.cursor_after();
         self.step_back();
-        Ok(Some(place))
+        Ok(Some(back))
     }
 
     /// Makes again the edit that was undone last, and says where the cursor goes; with nothing to make again nothing
@@ -262,10 +264,11 @@ impl History {
         let Some(edit) = self.next() else {
             return Ok(None);
         };
-        edit.redo(lines)?;
-        let place = edit.cursor_after();
+        let change = edit.change();
+        change.apply(lines)?;
+        let ahead = change.cursor_after();
         self.step_forward();
-        Ok(Some(place))
+        Ok(Some(ahead))
     }
 }
 
@@ -275,4 +278,30 @@ fn drop_oldest(items: &mut VecDeque<Edit>)
     ensures capacity { deque_capacity items.new ≡ deque_capacity items.old }
 {
     items.pop_front();
+}
+
+// The character, where the edit counts as typed: with coalescing on, and of one character.
+fn typed_character(edit: &Edit, coalesce: bool) -> Option<char>
+    requires { IsWellFormed edit.now }
+    ensures { result ≡ typed_character edit.now.splice coalesce }
+{
+    if coalesce { edit.character() } else { None }
+}
+
+// Whether the typed edit of the character goes on where this run, grown last by `edge`, ended.
+fn continues(run: &Edit, edge: char, edit: &Edit, c: char) -> bool
+    requires run { IsWellFormed run.now }
+    requires edit { IsWellFormed edit.now }
+    requires edge { edge_of run.now.splice ≡ Some (Character edge) }
+    requires character { edit.now.splice.symbols ≡ Character c ∷ [] }
+    ensures { result ≡ continues run.now.splice edit.now.splice }
+{
+    let before = run.change();
+    let change = edit.change();
+    let ended = before.cursor_after();
+    let begins = change.cursor_before();
+    before.inserts() == change.inserts()
+        && ended.0 == begins.0
+        && ended.1 == begins.1
+        && (c.is_whitespace() || CharKind::new(edge) == CharKind::new(c))
 }

@@ -1,7 +1,6 @@
-//! The edits of a text, and their history with a greatest number and runs of typing.
+//! The history of a text's edits, with a greatest number and runs of typing.
 #![tactic(auto)]
 
-pub mod edit;
 pub mod history;
-pub mod laws;
-mod texts;
+
+pub use textarea_edit::{edit, laws};

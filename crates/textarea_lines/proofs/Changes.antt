@@ -1,12 +1,14 @@
 -- Lines with their rows, after some of them gave place to others.
-use Rattle.std.proofs.Common.{◌≡◌, ℕ, ◌+◌, ◌-◌, ◌≤◌, ◌<◌, ◌^◌, Bool, true, false, cond, min, List, length, sym, ap, ◌∙◌, arith, subst, String}
+use Rattle.std.proofs.Common.{◌≡◌, ℕ, ◌+◌, ◌-◌, ◌≤◌, ◌<◌, ◌^◌, Bool, true, false, cond, List, length, sym, ap, ◌∙◌, arith, subst, String}
 use Rattle.std.proofs.lemmas.List.{length-map}
 use Rattle.textarea_text.specs.Place.{inserted, removed}
 use Rattle.textarea_text.specs.Replaced.{replaced}
 use Rattle.textarea_text.specs.Size.{weight}
 use Rattle.textarea_text.specs.Splice.{Splice, Allows, Fits, applied}
 use Rattle.textarea_text.specs.Text.{Symbol, characters_of, joined, lines, lines_of, text_of}
-use Rattle.textarea_text.specs.Touched.{lines_coming, lines_going}
+use Rattle.textarea_text.specs.Touched.{IsReplacementFor, lines_coming, lines_going}
+use Rattle.textarea_text.specs.declared.rows.Replacement.{Replacement}
+use Rattle.std.specs.declared.alloc.Global.{Global}
 use Rattle.textarea_text.proofs.Replacing.{length-replaced}
 use Rattle.textarea_text.proofs.Sizes.{size_of_text, weight_inserted, weight_removed}
 use Rattle.textarea_wrap.specs.RowsView.{RowsView}
@@ -76,34 +78,35 @@ seen_replaced view old lent kept now new row count n before was after first rows
 
 -- ---- an edit
 
--- the lines that an edit prepared are its change of the text
-pub made : {Z : Type 0} (laid : LaidOut) (items lent new : List (String Z)) (row count : ℕ) (splice : Splice) → 0 < length items → text_of items ≡ laid.text → lent ≡ items → text_of (replaced lent row count new) ≡ applied (text_of lent) splice → row ≡ splice.place.0 → row + count ≡ splice.place.0 + lines_going splice → length new ≡ lines_coming splice → replaced_in laid row count (lines_of new) ≡ changed_by laid splice
-made laid items lent new row count splice some is lent_is text at going coming =
-    let count_is : count ≡ lines_going splice = omega arith in
-    let coming_is : length (lines_of new) ≡ lines_coming splice = length-map new characters_of ∙ coming in
+-- a replacement that makes a splice of the lines is the splice of the text
+pub made : (laid : LaidOut) (items lent : List (String Global)) (replacement : Replacement) (splice : Splice) → 0 < length items → text_of items ≡ laid.text → lent ≡ items → IsReplacementFor lent splice replacement → replaced_in laid replacement.row replacement.count (lines_of replacement.lines.items) ≡ changed_by laid splice
+made laid items lent replacement splice some is lent_is h =
+    let row = replacement.row in
+    let count = replacement.count in
+    let new = replacement.lines.items in
+    let coming_is : length (lines_of new) ≡ lines_coming splice = length-map new characters_of ∙ sym replacement.lines.ok.0 ∙ h.coming in
     let text_is : joined (replaced (lines laid.text) row count (lines_of new)) ≡ applied laid.text splice =
     ap (λ t. joined (replaced (lines t) row count (lines_of new))) (sym is)
     ∙ sym (text_replaced items new row count some)
     ∙ ap (λ t. text_of (replaced t row count new)) (sym lent_is)
-    ∙ text
+    ∙ h.text
     ∙ ap (λ t. applied (text_of t) splice) lent_is
     ∙ ap (λ t. applied t splice) is in
     ap (λ (t : List Symbol). record { text = t; screen = recut laid.screen (length (lines laid.text)) row count (length (lines_of new)) }) text_is
-    ∙ ap (λ (m : ℕ). record { text = applied laid.text splice; screen = recut laid.screen (length (lines laid.text)) m count (length (lines_of new)) }) at
-    ∙ ap (λ (m : ℕ). record { text = applied laid.text splice; screen = recut laid.screen (length (lines laid.text)) splice.place.0 m (length (lines_of new)) }) count_is
+    ∙ ap (λ (m : ℕ). record { text = applied laid.text splice; screen = recut laid.screen (length (lines laid.text)) m count (length (lines_of new)) }) h.row
+    ∙ ap (λ (m : ℕ). record { text = applied laid.text splice; screen = recut laid.screen (length (lines laid.text)) splice.place.0 m (length (lines_of new)) }) h.going
     ∙ ap (λ (m : ℕ). record { text = applied laid.text splice; screen = recut laid.screen (length (lines laid.text)) splice.place.0 (lines_going splice) m }) coming_is
 
--- the size after an edit, of what its direction and its weight were told as
-pub size_made : {Z : Type 0} (items : List (String Z)) (text : List Symbol) (size after told : ℕ) (grows : Bool) (splice : Splice) → IsStored items size → text_of items ≡ text → Fits text splice → after ≡ cond grows (size + told) (size - told) → grows ≡ splice.inserts → told ≡ min (weight splice.symbols) (2 ^ 64 - 1) → after ≤ 2 ^ 48 → after ≡ weight (applied text splice) + 1
-size_made items text size after told grows splice stored is fits after_is grows_is told_is limit =
-    by splice.inserts fits.allowed (after_is ∙ ap (λ (b : Bool). cond b (size + told) (size - told)) grows_is)
+-- the size after a change
+pub size_made : {Z : Type 0} (items : List (String Z)) (text : List Symbol) (size after : ℕ) (splice : Splice) → IsStored items size → text_of items ≡ text → Fits text splice → after ≡ cond splice.inserts (size + weight splice.symbols) (size - weight splice.symbols) → after ≡ weight (applied text splice) + 1
+size_made items text size after splice stored is fits after_is = by splice.inserts fits.allowed after_is
   where
     was : size ≡ weight text + 1
     was = stored.size_is ∙ size_of_text items stored.some ∙ ap (λ t. weight t + 1) is
 
-    by : (b : Bool) → Allows b text splice.place splice.symbols → after ≡ cond b (size + told) (size - told) → after ≡ weight (cond b (inserted text splice.place splice.symbols) (removed text splice.place splice.symbols)) + 1
-    by true allowed e = omega (arith, was, e, told_is, weight_inserted text splice.place splice.symbols, limit)
-    by false allowed e = omega (arith, was, e, told_is, weight_removed text splice.place splice.symbols allowed, stored.limit)
+    by : (b : Bool) → Allows b text splice.place splice.symbols → after ≡ cond b (size + weight splice.symbols) (size - weight splice.symbols) → after ≡ weight (cond b (inserted text splice.place splice.symbols) (removed text splice.place splice.symbols)) + 1
+    by true allowed e = omega (arith, was, e, weight_inserted text splice.place splice.symbols)
+    by false allowed e = omega (arith, was, e, weight_removed text splice.place splice.symbols allowed)
 
 -- ---- all lines
 

@@ -5,7 +5,7 @@ use Rattle.std.proofs.lemmas.List.{get_or-append_right, length-map, length-take-
 use Rattle.textarea_text.specs.Place.{Place, end}
 use Rattle.textarea_text.specs.Replaced.{replaced}
 use Rattle.textarea_text.specs.Size.{weight}
-use Rattle.textarea_text.specs.Splice.{Splice, Fits, applied, place_after, place_before}
+use Rattle.textarea_text.specs.Splice.{Splice, Fits, applied, place_before}
 use Rattle.textarea_text.specs.Text.{Symbol, characters_of, lines, lines_of, text_of}
 use Rattle.textarea_text.specs.Touched.{breaks_of, lines_coming, lines_going}
 use Rattle.textarea_text.proofs.Replacing.{length-replaced}
@@ -21,7 +21,7 @@ use Rattle.textarea_map.specs.Map.{ranges_at, row_total}
 use Rattle.textarea_map.proofs.Layouts.{AreRowsOf-replaced, length-AreRowsOf}
 use Rattle.textarea_map.proofs.Numbers.{row_total-replaced}
 use Rattle.textarea_lines.specs.declared.view.ViewSettings.{ViewSettings}
-use Rattle.textarea_lines.specs.Rows.{HasWholeLine}
+use Rattle.textarea_lines.specs.Rows.{CanStayWhole, HasWholeLine}
 use Rattle.textarea_lines.specs.Screen.{Screen, all_cut, changed_by, recut, some_cut}
 use Rattle.textarea_lines.specs.Stored.{IsStored, HoldsRows}
 use Rattle.textarea_lines.specs.Wrappings.{cut_at_width, is_same, is_wrapped, whole_lines, wrapping_for}
@@ -68,16 +68,6 @@ pushed (Err v) old new x e h none = absurd cc
 -- ---- an edit inside one line
 
 -- the cursor stays in its row where there is no break
-pub stays_in_row : (splice : Splice) → (place_before splice).0 ≡ (place_after splice).0 → breaks_of splice.symbols ≡ 0
-stays_in_row splice = by splice.inserts
-  where
-    stop : Place
-    stop = end splice.place splice.symbols
-
-    by : (b : Bool) → (cond (not b) stop splice.place).0 ≡ (cond b stop splice.place).0 → breaks_of splice.symbols ≡ 0
-    by true e = omega (arith, e, end_row splice.place splice.symbols)
-    by false e = omega (arith, e, end_row splice.place splice.symbols)
-
 pub row_before : (splice : Splice) → breaks_of splice.symbols ≡ 0 → (place_before splice).0 ≡ splice.place.0
 row_before splice none = by splice.inserts
   where
@@ -126,15 +116,8 @@ inside_stored view old now lent size after rows splice row h = record {
   limit = h.limit;
 }
 
--- what cutting the line asks for
-pub record CanCut {Z : Type 0} (lent : List (String Z)) (rows : List RowsView) (row : ℕ) : Type 0 where
-  pub within : row < length lent
-  pub short : length (encode_utf8_all (get_or (lines_of lent) row [])) < 2 ^ 48
-  pub same : length rows ≡ length lent
-  pub one : length (ranges_at rows row) ≡ 1
-  pub few : row_total rows ≤ 2 ^ 48
-
-pub can_cut : {Z : Type 0} (view : ViewSettings) (old now lent : List (String Z)) (size after : ℕ) (rows : List RowsView) (splice : Splice) (row : ℕ) → Inside view old now lent size after rows splice row → CanCut lent rows row
+-- the line can be cut
+pub can_cut : {Z : Type 0} (view : ViewSettings) (old now lent : List (String Z)) (size after : ℕ) (rows : List RowsView) (splice : Splice) (row : ℕ) → Inside view old now lent size after rows splice row → CanStayWhole lent rows row
 can_cut view old now lent size after rows splice row h =
     let line = inside_line view old now lent size after rows splice row h in
     let right = inside_rows view old now lent size after rows splice row h in

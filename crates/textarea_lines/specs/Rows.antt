@@ -1,14 +1,14 @@
 -- The rows behind what clauses see of a text.
-use Rattle.std.specs.Prelude.{◌≡◌, ℕ, ◌<◌, ◌^◌, true, List, Option, MatchOption, [], ◌∷◌, encode_utf8_all, length}
+use Rattle.std.specs.Prelude.{◌≡◌, ℕ, ◌<◌, ◌≤◌, ◌^◌, true, List, Option, MatchOption, String, [], ◌∷◌, encode_utf8_all, get_or, length}
 use Rattle.std.specs.Str.{all_scalars}
 use Rattle.textarea_text.specs.Place.{Place}
 use Rattle.textarea_text.specs.Replaced.{replaced}
-use Rattle.textarea_text.specs.Text.{lines}
+use Rattle.textarea_text.specs.Text.{lines, lines_of}
 use Rattle.textarea_wrap.specs.RowsView.{RowsView}
 use Rattle.textarea_wrap.specs.Wrapped.{IsWrapped}
 use Rattle.textarea_wrap.specs.declared.wrap.WrapMode.TheVariants as mode
 use Rattle.textarea_map.specs.Layout.{AreRowsOf, ticks_of}
-use Rattle.textarea_map.specs.Map.{IsRowCount}
+use Rattle.textarea_map.specs.Map.{IsRowCount, ranges_at, row_total}
 use Rattle.textarea_map.specs.Seen.{IsAbove, IsBelow, IsInFirstRow, IsInLastRow}
 use Rattle.textarea_lines.specs.Screen.{LaidOut, wrapping_at, wrapping_of}
 
@@ -37,6 +37,15 @@ IsFoundBelow laid place found = OfRows laid (λ rows. MatchOption found
 -- the text has this many visual rows in all where it is laid out anew in an inner area of this width
 abbrev pub IsRowCountAt : LaidOut → ℕ → ℕ → Type 0
 IsRowCountAt laid inner_width count = IsRowCount (wrapping_at laid inner_width) (lines laid.text) count
+
+-- what has to hold of a line and of the rows that are kept, so that the line is cut as one that isn't wrapped and its one row
+-- takes the place of the one that it had
+pub record CanStayWhole {Z : Type 0} (lines : List (String Z)) (rows : List RowsView) (row : ℕ) : Type 0 where
+  pub within : row < length lines
+  pub short : length (encode_utf8_all (get_or (lines_of lines) row [])) < 2 ^ 48
+  pub same : length rows ≡ length lines
+  pub one : length (ranges_at rows row) ≡ 1
+  pub few : row_total rows ≤ 2 ^ 48
 
 -- the line in the row, given by its characters, each of them one of Unicode's, is shorter than 2^48 bytes and was cut as one
 -- that isn't wrapped, with this tick; all others keep their rows

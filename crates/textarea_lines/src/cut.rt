@@ -4,7 +4,7 @@ ghost use Rattle.textarea_text.specs.Replaced.{replaced};
 ghost use Rattle.textarea_text.specs.Text.{lines_of};
 ghost use Rattle.textarea_map.specs.Layout.{AreRowsOf, ticks_behind, ticks_of};
 ghost use Rattle.textarea_map.specs.Map.{IsReady, ranges_at, row_total};
-ghost use Rattle.textarea_lines.specs.Rows.{HasWholeLine};
+ghost use Rattle.textarea_lines.specs.Rows.{CanStayWhole, HasWholeLine};
 ghost use Rattle.textarea_lines.specs.Screen.{recut};
 ghost use Rattle.textarea_lines.specs.Wrappings.{wrapping_for};
 
@@ -19,22 +19,22 @@ use textarea_wrap::wrap::{Rows, WrapCount, WrapMode, line_ranges};
 pub(crate) fn rows_after(
     alloc: Global,
     lines: &[String],
-    change: &Replacement,
+    replacement: &Replacement,
     wrapping: Wrapping,
     count: &mut WrapCount,
 ) -> Result<Vec<Rows>, AllocError>
-    requires { change.now.row + change.now.count ≤ length lines.now }
-    ensures counted { OnOk result (count.new ≡ count.old + (length lines.now - change.now.count + vec_len change.now.lines)) }
+    requires { replacement.now.row + replacement.now.count ≤ length lines.now }
+    ensures counted { OnOk result (count.new ≡ count.old + (length lines.now - replacement.now.count + vec_len replacement.now.lines)) }
     ensures rows { IfOk result (λ rows. AreRowsOf wrapping
-        (lines_of (replaced lines.now change.now.row change.now.count change.now.lines.items)) rows.items) }
+        (lines_of (replaced lines.now replacement.now.row replacement.now.count replacement.now.lines.items)) rows.items) }
     ensures ticks { IfOk result (λ rows. ticks_of rows.items
-        ≡ ticks_behind count.old (length lines.now - change.now.count + vec_len change.now.lines)) }
+        ≡ ticks_behind count.old (length lines.now - replacement.now.count + vec_len replacement.now.lines)) }
 {
-    let new = change.lines.as_slice();
-    let mut rows = Vec::with_capacity(alloc, lines.len() - change.count + new.len())?;
-    push_rows(alloc, &mut rows, &lines[..change.row], wrapping, count)?;
+    let new = replacement.lines.as_slice();
+    let mut rows = Vec::with_capacity(alloc, lines.len() - replacement.count + new.len())?;
+    push_rows(alloc, &mut rows, &lines[..replacement.row], wrapping, count)?;
     push_rows(alloc, &mut rows, new, wrapping, count)?;
-    let below = &lines[change.row + change.count..];
+    let below = &lines[replacement.row + replacement.count..];
     push_rows(alloc, &mut rows, below, wrapping, count)?;
     Ok(rows)
 }
@@ -45,32 +45,32 @@ pub(crate) fn prepare_rows(
     alloc: Global,
     map: &mut ScreenMap,
     lines: &[String],
-    change: &Replacement,
+    replacement: &Replacement,
     view: ViewSettings,
     count: &mut WrapCount,
 ) -> Result<PreparedRows, AllocError>
     requires rows { AreRowsOf (wrapping_for view (length lines.now)) (lines_of lines.now) map.old.rows }
-    requires within { change.now.row + change.now.count ≤ length lines.now }
-    requires few { length lines.now + vec_len change.now.lines < 2 ^ 63 }
+    requires within { replacement.now.row + replacement.now.count ≤ length lines.now }
+    requires few { length lines.now + vec_len replacement.now.lines < 2 ^ 63 }
     ensures same { map.new.rows ≡ map.old.rows }
     ensures ready { IfOk result (λ prepared. IsReady map.new prepared) }
     ensures rows { IfOk result (λ prepared.
-        AreRowsOf (wrapping_for view (length lines.now - change.now.count + vec_len change.now.lines))
-        (lines_of (replaced lines.now change.now.row change.now.count change.now.lines.items))
+        AreRowsOf (wrapping_for view (length lines.now - replacement.now.count + vec_len replacement.now.lines))
+        (lines_of (replaced lines.now replacement.now.row replacement.now.count replacement.now.lines.items))
         (replaced map.old.rows prepared.row prepared.count prepared.rows.items)) }
     ensures screen { IfOk result (λ prepared.
         (record { view = view; count = count.new; ticks = ticks_of (replaced map.old.rows prepared.row prepared.count prepared.rows.items) })
         ≡ recut (record { view = view; count = count.old; ticks = ticks_of map.old.rows })
-        (length lines.now) change.now.row change.now.count (vec_len change.now.lines)) }
+        (length lines.now) replacement.now.row replacement.now.count (vec_len replacement.now.lines)) }
 {
-    let new = change.lines.as_slice();
+    let new = replacement.lines.as_slice();
     let before = wrapping_for(view, lines.len());
-    let after = wrapping_for(view, lines.len() - change.count + new.len());
+    let after = wrapping_for(view, lines.len() - replacement.count + new.len());
     if is_same(after, before) {
         let rows = rows_of(alloc, new, after, count)?;
-        return map.make_room(change.row, change.count, rows);
+        return map.make_room(replacement.row, replacement.count, rows);
     }
-    let rows = rows_after(alloc, lines, change, after, count)?;
+    let rows = rows_after(alloc, lines, replacement, after, count)?;
     map.make_room(0, lines.len(), rows)
 }
 
@@ -87,11 +87,7 @@ pub(crate) fn put_whole_line(
 )
     requires empty { vec_len rows ≡ 0 }
     requires room { 1 ≤ vec_capacity rows }
-    requires within { row < length lines.now }
-    requires short { length (encode_utf8_all (get_or (lines_of lines.now) row [])) < 2 ^ 48 }
-    requires same { length map.old.rows ≡ length lines.now }
-    requires one { length (ranges_at map.old.rows row) ≡ 1 }
-    requires few { row_total map.old.rows ≤ 2 ^ 48 }
+    requires whole { CanStayWhole lines.now map.old.rows row }
     ensures rows { HasWholeLine tab_len (get_or (lines_of lines.now) row []) row (count.old + 1) map.old.rows map.new.rows }
     ensures counted { count.new ≡ count.old + 1 }
 {

@@ -2,10 +2,9 @@
 ghost use Rattle.std.specs.Prelude.{◌≡◌, ◌+◌, ◌-◌, ◌<◌, ◌≤◌, ◌^◌, ◌↔◌, [], length, vec_len, false, true, IfOk, IfSome, IsOk, IsTrue, OnErr, OnOk, if◌then◌else◌};
 ghost use Rattle.textarea_text.specs.Place.{Place, IsPlace};
 ghost use Rattle.textarea_text.specs.Size.{size_of, weight};
-ghost use Rattle.textarea_text.specs.Splice.{Fits, applied, inverse};
+ghost use Rattle.textarea_text.specs.Splice.{Fits, applied};
 ghost use Rattle.textarea_text.specs.Text.{lines, lines_of, text_of};
 ghost use Rattle.textarea_text.specs.Touched.{breaks_of};
-ghost use Rattle.textarea_history.specs.Edit.{IsWellFormed};
 ghost use Rattle.textarea_map.specs.Map.{row_total};
 ghost use Rattle.textarea_map.specs.Seen.{IsSeenAt};
 ghost use Rattle.textarea_lines.specs.Rows.{IsFoundAbove, IsFoundBelow, IsRowCountAt, OfRows};
@@ -17,15 +16,12 @@ use crate::measured::Measured;
 use crate::view::{ViewSettings, is_same, is_wrapped, wrapping_at, wrapping_for};
 use std::alloc::{AllocError, Global};
 use std::marker::Model;
-use textarea_history::edit::Edit;
+use textarea_edit::edit::Change;
 use textarea_map::layout::rows_in;
 use textarea_map::screen_map::ScreenMap;
 use textarea_text::rows;
-use textarea_text::rows::Replacement;
+use textarea_text::rows::{MAX_SIZE, Replacement};
 use textarea_wrap::wrap::WrapCount;
-
-/// The most bytes and lines together that are held; what would grow past that is answered as out of memory.
-const MAX_SIZE: usize = 0x1_0000_0000_0000;
 
 /// Lines of text, one at least, and the rows into which each is cut. A change cuts the lines that it touches, and all lines
 /// only where the number of lines changes how they are cut.
@@ -122,14 +118,7 @@ impl LaidOutLines {
         ensures limit { size_of result.now ≤ 2 ^ 48 }
         ensures small { (place : Place) → IsPlace self.now.text place → (place.0 < 2 ^ 48) × (place.1 ≤ 2 ^ 48) }
     {
-        self.lines.as_slice() // one line at least, by the invariant
-    }
-
-    /// A law: the row of a place of the text is less than 2^48, and its column at most that.
-    pub fn places_are_small(&self)
-        ensures { (place : Place) → IsPlace self.now.text place → (place.0 < 2 ^ 48) × (place.1 ≤ 2 ^ 48) }
-    {
-        let _ = &self.lines; // of which the invariant says that they are few and short enough
+        self.lines.as_slice()
     }
 
     /// Where all memory of the lines and their rows comes from.
@@ -141,7 +130,7 @@ impl LaidOutLines {
     pub fn view(&self) -> ViewSettings
         ensures { result ≡ self.now.screen.view }
     {
-        self.view // as it was set
+        self.view
     }
 
     /// Whether the text is one empty line.
@@ -180,7 +169,7 @@ impl LaidOutLines {
         let before = wrapping_for(self.view, self.lines.len());
         let after = wrapping_for(view, self.lines.len());
         if is_same(after, before) {
-            self.view = view; // the rows stay
+            self.view = view;
             return Ok(());
         }
         let mut count = self.count.clone()?;
@@ -195,7 +184,7 @@ impl LaidOutLines {
     pub fn row_count(&self) -> usize
         ensures { OfRows self.now (λ rows. result ≡ row_total rows) }
     {
-        self.map.row_count() // over all lines
+        self.map.row_count()
     }
 
     /// The visual row in which a place of the text is seen, and its display column there.
@@ -253,54 +242,36 @@ impl LaidOutLines {
         Ok(rows)
     }
 
-    /// Makes an edit that fits the text.
-    pub fn make(&mut self, edit: &Edit) -> Result<(), AllocError>
-        requires well_formed { IsWellFormed edit.now }
-        requires fits { Fits self.old.text edit.now.splice }
-        ensures ok { OnOk result (self.new ≡ changed_by self.old edit.now.splice) }
+    /// Makes a change that fits the text.
+    pub fn apply(&mut self, change: Change<'_>) -> Result<(), AllocError>
+        requires { Fits self.old.text change }
+        ensures ok { OnOk result (self.new ≡ changed_by self.old change.entry) }
         ensures err { OnErr result (self.new ≡ self.old) }
     {
-        let size = size_after(self.size, edit.weight(), edit.inserts())?;
-        if !is_wrapped(self.view) && is_inside_line(edit) {
-            return self.make_inside(edit, size);
+        let size = size_after(self.size, &change)?;
+        if !is_wrapped(self.view) && change.is_inside_line() {
+            return self.apply_inside(change, size);
         }
         let alloc = *self.lines.allocator();
-        let change = edit.prepare_redo(alloc, self.lines.as_slice())?;
-        self.replace(change, size)
+        let replacement = change.prepare(alloc, self.lines.as_slice())?;
+        self.replace(replacement, size)
     }
 
-    /// Takes an edit back, whose inverse fits the text.
-    pub fn take_back(&mut self, edit: &Edit) -> Result<(), AllocError>
-        requires well_formed { IsWellFormed edit.now }
-        requires fits { Fits self.old.text (inverse edit.now.splice) }
-        ensures ok { OnOk result (self.new ≡ changed_by self.old (inverse edit.now.splice)) }
-        ensures err { OnErr result (self.new ≡ self.old) }
-    {
-        let size = size_after(self.size, edit.weight(), !edit.inserts())?;
-        if !is_wrapped(self.view) && is_inside_line(edit) {
-            return self.take_back_inside(edit, size);
-        }
-        let alloc = *self.lines.allocator();
-        let change = edit.prepare_undo(alloc, self.lines.as_slice())?;
-        self.replace(change, size)
-    }
-
-    // Makes an edit inside one line in place, where lines aren't wrapped: the rest of the text is not looked at. The edit takes
-    // all memory, and comes first.
-    fn make_inside(&mut self, edit: &Edit, size: usize) -> Result<(), AllocError>
-        requires well_formed { IsWellFormed edit.now }
-        requires fits { Fits self.old.text edit.now.splice }
-        requires inside { breaks_of edit.now.splice.symbols ≡ 0 }
+    // Makes a change inside one line in place, where lines aren't wrapped: the rest of the text is not looked at. The change
+    // takes all memory, and comes first.
+    fn apply_inside(&mut self, change: Change<'_>, size: usize) -> Result<(), AllocError>
+        requires fits { Fits self.old.text change }
+        requires inside { breaks_of change.symbols ≡ 0 }
         requires whole { is_wrapped self.old.screen.view ≡ false }
-        requires size { size ≡ weight (applied self.old.text edit.now.splice) + 1 }
+        requires size { size ≡ weight (applied self.old.text change) + 1 }
         requires limit { size ≤ 2 ^ 48 }
-        ensures ok { OnOk result (self.new ≡ changed_by self.old edit.now.splice) }
+        ensures ok { OnOk result (self.new ≡ changed_by self.old change.entry) }
         ensures err { OnErr result (self.new ≡ self.old) }
     {
         let alloc = *self.lines.allocator();
-        let row = edit.cursor_before().0;
+        let row = change.cursor_before().0;
         let rows = Vec::with_capacity(alloc, 1)?;
-        edit.redo(&mut self.lines)?;
+        change.apply(&mut self.lines)?;
         put_whole_line(
             alloc,
             &mut self.map,
@@ -311,47 +282,18 @@ impl LaidOutLines {
             &mut self.count,
         );
         self.size = size;
-        self.measured = None; // of the line before the edit
-        Ok(())
-    }
-
-    // Takes back an edit inside one line in place, as `make_inside` makes it.
-    fn take_back_inside(&mut self, edit: &Edit, size: usize) -> Result<(), AllocError>
-        requires well_formed { IsWellFormed edit.now }
-        requires fits { Fits self.old.text (inverse edit.now.splice) }
-        requires inside { breaks_of edit.now.splice.symbols ≡ 0 }
-        requires whole { is_wrapped self.old.screen.view ≡ false }
-        requires size { size ≡ weight (applied self.old.text (inverse edit.now.splice)) + 1 }
-        requires limit { size ≤ 2 ^ 48 }
-        ensures ok { OnOk result (self.new ≡ changed_by self.old (inverse edit.now.splice)) }
-        ensures err { OnErr result (self.new ≡ self.old) }
-    {
-        let alloc = *self.lines.allocator();
-        let row = edit.cursor_before().0;
-        let rows = Vec::with_capacity(alloc, 1)?;
-        edit.undo(&mut self.lines)?;
-        put_whole_line(
-            alloc,
-            &mut self.map,
-            rows,
-            self.lines.as_slice(),
-            row,
-            self.view.tab_len,
-            &mut self.count,
-        );
-        self.size = size;
-        self.measured = None; // of the line with the edit
+        self.measured = None;
         Ok(())
     }
 
     // Puts new lines in the place of others, with their rows; the size is that of the lines afterwards. All memory is taken
     // before the first change.
-    fn replace(&mut self, change: Replacement, size: usize) -> Result<(), AllocError>
-        requires within { change.row + change.count ≤ length (lines self.old.text) }
-        requires some { 0 < vec_len change.lines }
-        requires size { size ≡ weight (replaced_in self.old change.row change.count (lines_of change.lines.items)).text + 1 }
+    fn replace(&mut self, replacement: Replacement, size: usize) -> Result<(), AllocError>
+        requires within { replacement.row + replacement.count ≤ length (lines self.old.text) }
+        requires some { 0 < vec_len replacement.lines }
+        requires size { size ≡ weight (replaced_in self.old replacement.row replacement.count (lines_of replacement.lines.items)).text + 1 }
         requires limit { size ≤ 2 ^ 48 }
-        ensures ok { OnOk result (self.new ≡ replaced_in self.old change.row change.count (lines_of change.lines.items)) }
+        ensures ok { OnOk result (self.new ≡ replaced_in self.old replacement.row replacement.count (lines_of replacement.lines.items)) }
         ensures err { OnErr result (self.new ≡ self.old) }
     {
         let alloc = *self.lines.allocator();
@@ -360,35 +302,28 @@ impl LaidOutLines {
             alloc,
             &mut self.map,
             self.lines.as_slice(),
-            &change,
+            &replacement,
             self.view,
             &mut count,
         )?;
-        self.lines.reserve(change.lines.len())?;
-        change.put_in(&mut self.lines);
+        self.lines.reserve(replacement.lines.len())?;
+        replacement.put_in(&mut self.lines);
         self.map.put_in(prepared);
         self.size = size;
-        self.measured = None; // of other lines
-        self.count = count; // of a change that was made
+        self.measured = None;
+        self.count = count;
         Ok(())
     }
 }
 
-// Whether the edit begins and ends in the same row, so that it has no line break.
-fn is_inside_line(edit: &Edit) -> bool
-    requires { IsWellFormed edit.now }
-    ensures { IsTrue result → breaks_of edit.now.splice.symbols ≡ 0 }
-{
-    edit.cursor_before().0 == edit.cursor_after().0
-}
-
-// How large the lines are after an edit of that weight that puts in, or takes out; more than the limit is out of memory.
-fn size_after(size: usize, weight: usize, grows: bool) -> Result<usize, AllocError>
+// How large the lines are after the change; more than the limit is out of memory.
+fn size_after(size: usize, change: &Change<'_>) -> Result<usize, AllocError>
     requires { size ≤ 2 ^ 48 }
-    ensures size { IfOk result (λ after. after ≡ if grows then size + weight else size - weight) }
+    ensures size { IfOk result (λ after. after ≡ if change.now.inserts then size + weight change.now.symbols else size - weight change.now.symbols) }
     ensures limit { IfOk result (λ after. after ≤ 2 ^ 48) }
 {
-    if !grows {
+    let weight = change.weight();
+    if !change.inserts() {
         return Ok(size.saturating_sub(weight));
     }
     let after = size.saturating_add(weight);

@@ -5,6 +5,4 @@ mod cut;
 pub mod laid_out;
 pub mod laws;
 mod measured;
-#[cfg(test)]
-mod tests;
 pub mod view;

@@ -14,7 +14,7 @@ use Rattle.textarea_wrap.specs.Wrapped.{IsWrapped, IsRowRange, AreRowTexts}
 use Rattle.textarea_wrap.specs.declared.wrap.WrapMode.{WrapMode}
 use Rattle.textarea_map.specs.declared.layout.Wrapping.{Wrapping}
 use Rattle.textarea_map.specs.Layout.{AreRowsOf, AreRowsOfLine}
-use Rattle.textarea_map.specs.Map.{ranges_at, range_at, row_total}
+use Rattle.textarea_map.specs.Map.{ranges_at, range_at}
 
 -- a row begins where the one before it ends
 next_range : (at : ℕ) (texts : List (List ℕ)) (k : ℕ) → k + 1 < length (ranges_from at texts) → (range_at (ranges_from at texts) (k + 1)).0 ≡ (range_at (ranges_from at texts) k).1
@@ -110,12 +110,6 @@ range_is mode tab_len width line ranges row h within = all_ranges line ranges ro
 pub bytes_of_line : {Z : Type 0} (items : List (String Z)) (i : ℕ) (line : String Z) (text : List ℕ) → i < length items → line ≡ get_or items i line → text ≡ string_bytes line → text ≡ encode_utf8_all (get_or (lines_of items) i [])
 bytes_of_line items i line text within read same =
     same ∙ sym (encodes-chars (string_bytes line) (IsUtf8-string_bytes line)) ∙ ap encode_utf8_all (sym (line_at items i line within read))
-
--- the rows of a line are some of all
-pub row_total-at : (rows : List RowsView) (i : ℕ) → i < length rows → row_total (take i rows) + length (ranges_at rows i) ≤ row_total rows
-row_total-at [] i within = absurd (omega arith)
-row_total-at (r ∷ rows) zero within = omega arith
-row_total-at (r ∷ rows) (suc i) within = omega (arith, row_total-at rows i (omega arith))
 
 -- ---- a row and an offset as the code has them
 

@@ -1,6 +1,6 @@
 -- Rows of lines, taken apart and put together.
 use Rattle.std.proofs.Common.{map, ap₂, ◌≡◌, ℕ, zero, suc, ◌+◌, ◌<◌, ◌^◌, max, List, [], ◌∷◌, ◌++◌, length, take, drop, get_or, sym, ap, refl, ◌∙◌, arith, subst, encode_utf8_all, String, string_bytes}
-use Rattle.std.proofs.lemmas.List.{append_assoc, drop-map, length-map, map-append, take-map, take_more}
+use Rattle.std.proofs.lemmas.List.{append_assoc, length-map, map-append, take_more}
 use Rattle.std.proofs.lemmas.Str.{encodes-chars, scalars-chars, IsUtf8-string_bytes}
 use Rattle.std.specs.List.{range_with_len}
 use Rattle.std.specs.Str.{all_scalars}
@@ -95,16 +95,3 @@ ranges_same w (line ∷ lines) [] others one h k = absurd h
 ranges_same w (line ∷ lines) (r ∷ rows) [] one h k = absurd k
 ranges_same w (line ∷ lines) (r ∷ rows) (s ∷ others) one h k =
     ap₂ (λ (x : List (ℕ × ℕ)) (xs : List (List (ℕ × ℕ))). x ∷ xs) (one (encode_utf8_all line) r.ranges s.ranges h.0.cut k.0.cut) (ranges_same w lines rows others one h.1 k.1)
-
--- some `String`s and their rows give place to others and theirs
-pub AreRowsOf-put_in : {Z : Type 0} (w : Wrapping) (items new : List (String Z)) (rows others : List RowsView) (start count : ℕ) → AreRowsOf w (lines_of items) rows → AreRowsOf w (lines_of new) others → AreRowsOf w (lines_of (replaced items start count new)) (replaced rows start count others)
-AreRowsOf-put_in w items new rows others start count h k =
-    let same : lines_of (replaced items start count new) ≡ replaced (lines_of items) start count (lines_of new) =
-    map-append characters_of (take start items) (new ++ drop (start + count) items)
-    ∙ ap (λ t. t ++ map characters_of (new ++ drop (start + count) items)) (sym (take-map characters_of start items))
-    ∙ ap (λ t. take start (lines_of items) ++ t) (map-append characters_of new (drop (start + count) items))
-    ∙ ap (λ t. take start (lines_of items) ++ (lines_of new ++ t)) (sym (drop-map characters_of (start + count) items)) in
-    subst (λ (t : List (List ℕ)). AreRowsOf w t (replaced rows start count others)) (sym same) (AreRowsOf-replaced w (lines_of items) (lines_of new) rows others start count h k)
-
-pub one_row_list_a_line : {Z : Type 0} (w : Wrapping) (items : List (String Z)) (rows : List RowsView) → AreRowsOf w (lines_of items) rows → length rows ≡ length items
-one_row_list_a_line w items rows h = length-AreRowsOf w (lines_of items) rows h ∙ length-map items characters_of

@@ -1,6 +1,6 @@
 -- The numbers of lines' first rows, as lines give place to others.
 use Rattle.std.proofs.Common.{◌≡◌, ℕ, zero, suc, ◌+◌, ◌-◌, ◌≤◌, ◌<◌, List, [], ◌∷◌, ◌++◌, length, take, drop, get_or, map, set, sum_by, sym, ap, refl, ◌∙◌, arith}
-use Rattle.std.proofs.lemmas.List.{take_more, take-append-drop, take_more_set, take_at, take-take, take-append-le, length-take, length-take-le}
+use Rattle.std.proofs.lemmas.List.{take_more, take-append-drop, take_more_set, take_at, length-take-le}
 use Rattle.std.proofs.lemmas.List.Sums.{sum_by-cons}
 use Rattle.std.proofs.Math.Seq.{take-add}
 use Rattle.textarea_text.proofs.Replacing.{take_two, drop_two}
@@ -82,9 +82,6 @@ row_total-span rows row count =
 take-replaced : (rows new : List RowsView) (row count : ℕ) → row ≤ length rows → take row (replaced rows row count new) ≡ take row rows
 take-replaced rows new row count within = take_at (take row rows) (new ++ drop (row + count) rows) row (length-take-le row rows within)
 
-pub first_replaced : (rows new : List RowsView) (row count : ℕ) → row ≤ length rows → row_total (take row (replaced rows row count new)) ≡ row_total (take row rows)
-first_replaced rows new row count within = ap row_total (take-replaced rows new row count within)
-
 -- the lines above keep their numbers
 pub numbers_above : (rows new : List RowsView) (firsts : List ℕ) (row count : ℕ) → row ≤ length rows → firsts ≡ firsts_from 0 rows → take row firsts ≡ take row (firsts_from 0 (replaced rows row count new))
 numbers_above rows new firsts row count within e =
@@ -102,11 +99,6 @@ numbers_below rows new firsts row count within size same e =
     ∙ ap (λ n. firsts_from (0 + n) (drop (row + count) rows)) (sym now)
     ∙ ap (λ t. firsts_from (0 + row_total (take (row + count) (replaced rows row count new))) t) (sym (drop_two (take row rows) new (drop (row + count) rows) (row + count) seam))
     ∙ sym (drop-firsts 0 (row + count) (replaced rows row count new))
-
--- numbers that are cut off or filled up behind the row
-pub resized_above : (firsts filling : List ℕ) (row n : ℕ) → row ≤ n → row ≤ length firsts → take row (take n firsts ++ filling) ≡ take row firsts
-resized_above firsts filling row n within there =
-    take-append-le row (take n firsts) filling (omega (arith, length-take n firsts)) ∙ take-take row n firsts within
 
 -- the number of rows afterwards, from the numbers of the first row that goes and of the one behind the last
 pub total_replaced : (rows new : List RowsView) (row count total first end more : ℕ) → first ≡ row_total (take row rows) → end ≡ row_total (take (row + count) rows) → total ≡ row_total rows → more ≡ row_total new → total - (end - first) + more ≡ row_total (replaced rows row count new)

@@ -5,6 +5,7 @@ ghost use Rattle.textarea_map.specs.Layout.{AreRowsOf, ticks_behind, ticks_of};
 ghost use Rattle.textarea_map.specs.Map.{IsRowCount, row_total};
 
 use std::alloc::{AllocError, Global};
+use textarea_text::rows::MAX_SIZE;
 use textarea_wrap::wrap::{Rows, WrapCount, WrapMode, line_ranges};
 
 /// How lines are cut into rows: the mode, the width in columns, of which 0 counts as 1, and the columns between tab stops. In
@@ -18,7 +19,7 @@ pub struct Wrapping {
 
 /// The most rows that a map holds. A row has a byte, or is that of an empty line, so lines of at most 2^48 bytes and breaks
 /// have no more.
-pub const MAX_ROWS: usize = 0x1_0000_0000_0000;
+pub const MAX_ROWS: usize = MAX_SIZE;
 
 /// Cuts the lines, and puts their rows behind those of the lines before them. Each line adds one to `count`.
 pub fn push_rows(

@@ -5,5 +5,3 @@ mod columns;
 pub mod laws;
 pub mod layout;
 pub mod screen_map;
-#[cfg(test)]
-mod tests;

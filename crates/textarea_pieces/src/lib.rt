@@ -5,5 +5,3 @@ pub mod given;
 pub mod part;
 pub mod places;
 pub mod tab;
-#[cfg(test)]
-mod tests;

@@ -1,11 +1,11 @@
 -- Worked cases of the definitions, each by computing.
 use Rattle.std.proofs.Common.{◌≡◌, ℕ, List, [], ◌∷◌, refl, Some, None}
-use Rattle.textarea_atomic.specs.declared.atomic.AtomicRange.{AtomicRange}
-use Rattle.textarea_atomic.specs.declared.atomic.RejectedAtomicRange.{RejectedAtomicRange}
-use Rattle.textarea_atomic.specs.declared.atomic.AtomicCursorBias.TheVariants.{Backward, Forward}
-use Rattle.textarea_atomic.specs.declared.atomic.AtomicDeleteDirection.TheVariants.{Backward as DeleteBackward, Forward as DeleteForward}
-use Rattle.textarea_atomic.specs.declared.atomic.AtomicRangeRejectReason.{AtomicRangeRejectReason}
-use Rattle.textarea_atomic.specs.declared.atomic.AtomicRangeRejectReason.TheVariants.{Empty, RowOutOfBounds, ColumnOutOfBounds, OverlapsPrevious}
+use Rattle.textarea_ranges.specs.declared.atomic.AtomicRange.{AtomicRange}
+use Rattle.textarea_ranges.specs.declared.atomic.RejectedAtomicRange.{RejectedAtomicRange}
+use Rattle.textarea_ranges.specs.declared.atomic.AtomicCursorBias.TheVariants.{Backward, Forward}
+use Rattle.textarea_ranges.specs.declared.atomic.AtomicDeleteDirection.TheVariants.{Backward as DeleteBackward, Forward as DeleteForward}
+use Rattle.textarea_ranges.specs.declared.atomic.AtomicRangeRejectReason.{AtomicRangeRejectReason}
+use Rattle.textarea_ranges.specs.declared.atomic.AtomicRangeRejectReason.TheVariants.{Empty, RowOutOfBounds, ColumnOutOfBounds, OverlapsPrevious}
 use Rattle.textarea_ranges.specs.Held.{hit, moved_out, widened}
 use Rattle.textarea_ranges.specs.Order.{in_order}
 use Rattle.textarea_ranges.specs.Rejected.{rejected_of}

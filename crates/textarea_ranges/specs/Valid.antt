@@ -1,6 +1,6 @@
 -- Which lists of atomic ranges are valid for some lines.
 use Rattle.std.specs.Prelude.{◌≡◌, ℕ, ◌<◌, ◌≤◌, ◌⊎◌, List, [], length, slice_index_or, All, AllPairs}
-use Rattle.textarea_atomic.specs.declared.atomic.AtomicRange.{AtomicRange}
+use Rattle.textarea_ranges.specs.declared.atomic.AtomicRange.{AtomicRange}
 
 -- the characters of the row's line
 abbrev pub line_of : List (List ℕ) → ℕ → List ℕ

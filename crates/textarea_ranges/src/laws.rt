@@ -1,8 +1,8 @@
 //! Laws of ranges, each the contract of a function without a body.
 ghost use Rattle.std.specs.Prelude.{◌≡◌, ◌↔◌, ℕ, List, [], All, Contains, MatchOption, Some};
 ghost use Rattle.textarea_text.specs.Place.{Place};
-ghost use Rattle.textarea_atomic.specs.declared.atomic.AtomicDeleteDirection.{AtomicDeleteDirection};
-ghost use Rattle.textarea_atomic.specs.declared.atomic.AtomicRange.{AtomicRange};
+ghost use Rattle.textarea_ranges.specs.declared.atomic.AtomicDeleteDirection.{AtomicDeleteDirection};
+ghost use Rattle.textarea_ranges.specs.declared.atomic.AtomicRange.{AtomicRange};
 ghost use Rattle.textarea_ranges.specs.Held.{IsHit, IsInside, hit, inside};
 ghost use Rattle.textarea_ranges.specs.Order.{IsInOrder, in_order};
 ghost use Rattle.textarea_ranges.specs.Rejected.{rejected_of};

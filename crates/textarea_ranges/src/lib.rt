@@ -1,9 +1,8 @@
 //! The rules of atomic ranges, parts of a line that are edited as a whole, over lists of ranges and lines.
 #![tactic(auto)]
 
+pub mod atomic;
 pub mod held;
 pub mod laws;
 mod order;
-#[cfg(test)]
-mod tests;
 pub mod validate;

@@ -2,8 +2,8 @@
 ghost use Rattle.std.specs.Prelude.{◌≡◌, IfOk};
 ghost use Rattle.textarea_ranges.specs.Order.{in_order};
 
+use crate::atomic::AtomicRange;
 use std::alloc::AllocError;
-use textarea_atomic::atomic::AtomicRange;
 
 /// The ranges by row and start. Those that start at one place keep their order. Only want of memory fails.
 pub fn in_order(mut ranges: Vec<AtomicRange>) -> Result<Vec<AtomicRange>, AllocError>

@@ -1,42 +1,165 @@
--- Where the cells of a rectangle stand in the list of all of them.
-use Rattle.std.proofs.Common.{◌≡◌, ℕ, zero, suc, ◌+◌, ◌-◌, ◌*◌, ◌<◌, ◌≤◌, true, cond, List, [], ◌∷◌, length, None, Some, refl, ap, ◌∙◌, sym, ⊎_elim, arith}
+-- Where the cells of a rectangle stand in the list of all of them, and what a write of one of them changes.
+use Rattle.std.proofs.Common.{◌≡◌, ◌≢◌, ℕ, zero, suc, ◌+◌, ◌-◌, ◌*◌, ◌/◌, ◌%◌, ◌<◌, ◌≤◌, Bool, true, false, cond, eqb, leb, ltb, ◌&&◌, List, [], ◌∷◌, length, get_or, set, Option, None, Some, refl, sym, ap, ap₂, ◌∙◌, ⊎_elim, arith}
 use Rattle.std.specs.List.{slice_get, All}
 use Rattle.std.specs.Option.{option_map}
-use Rattle.std.proofs.lemmas.Bool.{ltb-true, leb-true, and_parts, cases_Bool, cond-true}
+use Rattle.std.proofs.lemmas.Bool.{ltb-true, leb-true, eqb-true, and_parts, and_from, cases_Bool, cond-true, cond-false, eq-eqb}
 use Rattle.std.proofs.lemmas.List.Elements.{All-tail}
-use Rattle.std.proofs.lemmas.Nat.{mul-add-lt}
-use Rattle.textarea_screen.specs.Buffer.{place_in}
-use Rattle.textarea_screen.specs.Cell.{shown_cell, fresh_cell}
+use Rattle.std.proofs.lemmas.Nat.{mul-add-lt, div-mul-add, mod-mul-add}
+use Rattle.std.proofs.lemmas.Option.{slice_get-get_or}
+use Rattle.textarea_screen.specs.Buffer.{place_in, cell_at, Changes}
+use Rattle.textarea_screen.specs.Cell.{ShownCell, shown_cell, fresh_cell}
 use Rattle.textarea_screen.specs.Rect.{contains}
-use Rattle.textarea_screen.specs.declared.screen.buffer.Cell.{Cell}
+use Rattle.textarea_screen.specs.declared.screen.buffer.Buffer.{Buffer}
+use Rattle.textarea_screen.specs.declared.screen.cell.Cell.{Cell}
 use Rattle.textarea_screen.specs.declared.screen.rect.Rect.{Rect}
+
+-- ---- places in the list of all cells
+
+record IsInside (area : Rect) (x y : ℕ) : Type 0 where
+  left : area.x ≤ x
+  right : x < area.x + area.width
+  top : area.y ≤ y
+  bottom : y < area.y + area.height
+
+inside : (area : Rect) (x y : ℕ) → contains area x y ≡ true → IsInside area x y
+inside area x y h =
+    let above_bottom = and_parts _ _ h in
+    let below_top = and_parts _ _ above_bottom.0 in
+    let between = and_parts _ _ below_top.0 in
+    record { left = leb-true _ _ between.0; right = ltb-true _ _ between.1; top = leb-true _ _ below_top.1; bottom = ltb-true _ _ above_bottom.1 }
 
 -- a cell of the rectangle stands before the end of the list
 pub place_in-below : (area : Rect) (x y : ℕ) → contains area x y ≡ true → place_in area x y < area.height * area.width
-place_in-below area x y inside =
-    let above_bottom = and_parts _ _ inside in
-    let below_top = and_parts _ _ above_bottom.0 in
-    let between = and_parts _ _ below_top.0 in
-    let left : area.x ≤ x = leb-true _ _ between.0 in
-    let right : x < area.x + area.width = ltb-true _ _ between.1 in
-    let top : area.y ≤ y = leb-true _ _ below_top.1 in
-    let bottom : y < area.y + area.height = ltb-true _ _ above_bottom.1 in
-    omega (arith, mul-add-lt (y - area.y) area.width (x - area.x) area.height (omega (arith, top, bottom)) (omega (arith, left, right)))
+place_in-below area x y h =
+    let i = inside area x y h in
+    omega (arith, mul-add-lt (y - area.y) area.width (x - area.x) area.height (omega (arith, i.top, i.bottom)) (omega (arith, i.left, i.right)))
 
--- in a list of fresh cells each place below the end has one
+-- two cells that stand in one place are one
+place_in-same : (area : Rect) (x y u v : ℕ) → contains area x y ≡ true → contains area u v ≡ true → place_in area u v ≡ place_in area x y → (u ≡ x) × (v ≡ y)
+place_in-same area x y u v h k e =
+    let i = inside area x y h in
+    let j = inside area u v k in
+    let b : x - area.x < area.width = omega (arith, i.left, i.right) in
+    let b' : u - area.x < area.width = omega (arith, j.left, j.right) in
+    let rows : v - area.y ≡ y - area.y = sym (div-mul-add (v - area.y) area.width (u - area.x) b') ∙ ap (λ n. n / area.width) e ∙ div-mul-add (y - area.y) area.width (x - area.x) b in
+    let columns : u - area.x ≡ x - area.x = sym (mod-mul-add (v - area.y) area.width (u - area.x) b') ∙ ap (λ n. n % area.width) e ∙ mod-mul-add (y - area.y) area.width (x - area.x) b in
+    (omega (arith, columns, i.left, j.left), omega (arith, rows, i.top, j.top))
+
+-- ---- one cell is written
+
+slice_get-set_same : {X : Type 0} (xs : List X) (i : ℕ) (w : X) → i < length xs → slice_get (set xs i w) i ≡ Some w
+slice_get-set_same [] i w h = absurd (omega arith)
+slice_get-set_same (x ∷ xs) zero w h = refl
+slice_get-set_same (x ∷ xs) (suc i) w h = slice_get-set_same xs i w (omega arith)
+
+slice_get-set_other : {X : Type 0} (xs : List X) (i j : ℕ) (w : X) → j ≢ i → slice_get (set xs i w) j ≡ slice_get xs j
+slice_get-set_other [] i j w h = refl
+slice_get-set_other (x ∷ xs) zero zero w h = absurd (h refl)
+slice_get-set_other (x ∷ xs) zero (suc j) w h = refl
+slice_get-set_other (x ∷ xs) (suc i) zero w h = refl
+slice_get-set_other (x ∷ xs) (suc i) (suc j) w h = slice_get-set_other xs i j w (λ e. h (ap suc e))
+
+option_map-kept : (b : Bool) (f : ShownCell → ShownCell) (o : Option ShownCell) → b ≡ false → option_map (λ c. cond b (f c) c) o ≡ o
+option_map-kept b f None e = refl
+option_map-kept b f (Some c) e = ap Some (cond-false b (f c) c e)
+
+-- the cell at (u, v), in the list of all cells
+abbrev cell_in : Rect → List Cell → ℕ → ℕ → Option ShownCell
+cell_in area cells u v = cond (contains area u v) (option_map shown_cell (slice_get cells (place_in area u v))) None
+
+cell_in-set : (area : Rect) (cells : List Cell) (x y u v : ℕ) (f : ShownCell → ShownCell) (d cell : Cell) → contains area x y ≡ true → area.height * area.width ≤ length cells →
+    shown_cell cell ≡ f (shown_cell (get_or cells (place_in area x y) d)) →
+    cell_in area (set cells (place_in area x y) cell) u v ≡ option_map (λ c. cond (eqb u x && eqb v y) (f c) c) (cell_in area cells u v)
+cell_in-set area cells x y u v f d cell h room is =
+    let within : place_in area x y < length cells = omega (arith, place_in-below area x y h, room) in
+    ⊎_elim
+    (λ here.
+    let same = and_parts _ _ here in
+    let at_x : u ≡ x = eqb-true u x same.0 in
+    let at_y : v ≡ y = eqb-true v y same.1 in
+    let in_area : contains area u v ≡ true = ap₂ (contains area) at_x at_y ∙ h in
+    let place : place_in area u v ≡ place_in area x y = ap₂ (place_in area) at_x at_y in
+    cond-true (contains area u v) _ _ in_area
+    ∙ ap (λ n. option_map shown_cell (slice_get (set cells (place_in area x y) cell) n)) place
+    ∙ ap (option_map shown_cell) (slice_get-set_same cells (place_in area x y) cell within)
+    ∙ ap Some (is ∙ sym (cond-true (eqb u x && eqb v y) _ _ here))
+    ∙ sym (ap (λ o. option_map (λ c. cond (eqb u x && eqb v y) (f c) c) (option_map shown_cell o)) (slice_get-get_or cells (place_in area x y) d within))
+    ∙ ap (λ n. option_map (λ c. cond (eqb u x && eqb v y) (f c) c) (option_map shown_cell (slice_get cells n))) (sym place)
+    ∙ ap (option_map (λ c. cond (eqb u x && eqb v y) (f c) c)) (sym (cond-true (contains area u v) _ _ in_area)))
+    (λ there.
+    ⊎_elim
+    (λ in_area.
+    let other : place_in area u v ≢ place_in area x y =
+    λ e. let both = place_in-same area x y u v h in_area e in absurd (cc (and_from _ _ (eq-eqb u x both.0) (eq-eqb v y both.1))) in
+    cond-true (contains area u v) _ _ in_area
+    ∙ ap (option_map shown_cell) (slice_get-set_other cells (place_in area x y) (place_in area u v) cell other)
+    ∙ sym (cond-true (contains area u v) _ _ in_area)
+    ∙ sym (option_map-kept (eqb u x && eqb v y) f (cell_in area cells u v) there))
+    (λ outside. rw outside refl)
+    (cases_Bool (contains area u v)))
+    (cases_Bool (eqb u x && eqb v y))
+
+pub Changes-set : (old new : Buffer) (x y place : ℕ) (f : ShownCell → ShownCell) (d cell : Cell) → contains old.area x y ≡ true → place ≡ place_in old.area x y →
+    length old.cells.items ≡ old.area.height * old.area.width → new.area ≡ old.area → new.cells.items ≡ set old.cells.items place cell →
+    shown_cell cell ≡ f (shown_cell (get_or old.cells.items place d)) →
+    Changes old new (λ u v c. cond (eqb u x && eqb v y) (f c) c)
+unfolding cell_at
+Changes-set old new x y place f d cell h at full area items is = record {
+  area = area;
+  cells = λ u v. ap₂ (λ a cs. cell_in a cs u v) area (items ∙ ap (λ n. set old.cells.items n cell) at)
+      ∙ cell_in-set old.area old.cells.items x y u v f d cell h (omega (arith, full)) (is ∙ ap (λ n. f (shown_cell (get_or old.cells.items n d))) at);
+}
+
+-- no cell of the buffer stands where it has none
+pub Changes-outside : (buffer : Buffer) (x y : ℕ) (f : ShownCell → ShownCell) → contains buffer.area x y ≡ false →
+    Changes buffer buffer (λ u v c. cond (eqb u x && eqb v y) (f c) c)
+unfolding cell_at
+Changes-outside buffer x y f outside = record {
+  area = refl;
+  cells = λ u v.
+      ⊎_elim
+      (λ here.
+      let same = and_parts _ _ here in
+      let nowhere : contains buffer.area u v ≡ false = ap₂ (contains buffer.area) (eqb-true u x same.0) (eqb-true v y same.1) ∙ outside in
+      rw nowhere refl)
+      (λ there. sym (option_map-kept (eqb u x && eqb v y) f (cell_in buffer.area buffer.cells.items u v) there))
+      (cases_Bool (eqb u x && eqb v y));
+}
+
+-- the cell that a list has at the place of (x, y)
+pub cell_at-inside : (buffer : Buffer) (x y place : ℕ) (cell : Cell) → contains buffer.area x y ≡ true → place ≡ place_in buffer.area x y → place < length buffer.cells.items →
+    cell ≡ get_or buffer.cells.items place cell → Some (shown_cell cell) ≡ cell_at buffer x y
+unfolding cell_at
+cell_at-inside buffer x y place cell in_area at within is =
+    ap (λ c. Some (shown_cell c)) is
+    ∙ sym (ap (option_map shown_cell) (slice_get-get_or buffer.cells.items place cell within))
+    ∙ ap (λ n. option_map shown_cell (slice_get buffer.cells.items n)) at
+    ∙ sym (cond-true (contains buffer.area x y) _ _ in_area)
+
+-- ---- fresh cells
+
 slice_get-fresh : (cells : List Cell) (n : ℕ) → n < length cells → All (λ cell. shown_cell cell ≡ fresh_cell) cells → option_map shown_cell (slice_get cells n) ≡ Some fresh_cell
 slice_get-fresh [] n below fresh = absurd (omega arith)
 slice_get-fresh (cell ∷ cells) zero below fresh = ap Some (fresh 0 cell (omega arith))
 slice_get-fresh (cell ∷ cells) (suc n) below fresh =
     slice_get-fresh cells n (omega arith) (All-tail (λ c. shown_cell c ≡ fresh_cell) cell cells fresh)
 
-pub cells_fresh : (area : Rect) (cells : List Cell) (x y : ℕ) → area.height * area.width ≤ length cells → All (λ cell. shown_cell cell ≡ fresh_cell) cells →
-    cond (contains area x y) (option_map shown_cell (slice_get cells (place_in area x y))) None ≡ cond (contains area x y) (Some fresh_cell) None
-cells_fresh area cells x y room fresh =
+pub cell_at-fresh : (buffer : Buffer) (x y : ℕ) → buffer.area.height * buffer.area.width ≤ length buffer.cells.items → All (λ cell. shown_cell cell ≡ fresh_cell) buffer.cells.items →
+    cell_at buffer x y ≡ cond (contains buffer.area x y) (Some fresh_cell) None
+unfolding cell_at
+cell_at-fresh buffer x y room fresh =
     ⊎_elim
-    (λ inside.
-    cond-true _ _ _ inside
-    ∙ slice_get-fresh cells (place_in area x y) (omega (arith, place_in-below area x y inside, room)) fresh
-    ∙ sym (cond-true _ _ _ inside))
+    (λ in_area.
+    let within : place_in buffer.area x y < length buffer.cells.items = omega (arith, place_in-below buffer.area x y in_area, room) in
+    cond-true _ _ _ in_area ∙ slice_get-fresh buffer.cells.items (place_in buffer.area x y) within fresh ∙ sym (cond-true _ _ _ in_area))
     (λ outside. rw outside refl)
-    (cases_Bool (contains area x y))
+    (cases_Bool (contains buffer.area x y))
+
+-- ---- the cells of a rectangle, one after another
+
+-- the cells of a row before this column, and the rows of a rectangle before this one
+abbrev pub is_before_column : ℕ → ℕ → ℕ → ℕ → ℕ → Bool
+is_before_column left row column x y = eqb y row && (leb left x && ltb x column)
+
+abbrev pub is_before_row : Rect → ℕ → ℕ → ℕ → Bool
+is_before_row area row x y = leb area.x x && ltb x (area.x + area.width) && leb area.y y && ltb y row

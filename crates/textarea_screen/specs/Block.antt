@@ -33,9 +33,13 @@ bottom_side = 4
 abbrev pub left_side : ℕ
 left_side = 8
 
+-- whether the side of this bit is in the set
+abbrev pub has_border : Borders → ℕ → Bool
+has_border borders side = bit_and borders.0 side == side
+
 -- whether the side of this bit is drawn
 abbrev pub has_side : Block → ℕ → Bool
-has_side block side = bit_and block.borders.0 side == side
+has_side block side = has_border block.borders side
 
 -- the columns at the left and the right, and the rows at the top and the bottom, that a block takes; a title stands in the
 -- top row, with a top side or without

@@ -1,7 +1,9 @@
 -- What clauses see of a cell, and what a style makes of one.
-use Rattle.std.specs.Prelude.{ℕ, List, [], ◌∷◌, string_bytes, unwrap_or}
+use Rattle.std.specs.Prelude.{ℕ, List, [], ◌∷◌, Some, string_bytes, unwrap_or}
 use Rattle.textarea_screen.specs.Modifier.{union_of, difference_of}
-use Rattle.textarea_screen.specs.declared.screen.buffer.Cell.{Cell}
+use Rattle.textarea_screen.specs.declared.screen.cell.Cell.{Cell}
+use Rattle.textarea_screen.specs.declared.screen.cell.CellText.{CellText}
+use Rattle.textarea_screen.specs.declared.screen.cell.CellText.TheVariants.{Inline, Owned}
 use Rattle.textarea_screen.specs.declared.screen.color.Color.{Color}
 use Rattle.textarea_screen.specs.declared.screen.color.Color.TheVariants.{Reset}
 use Rattle.textarea_screen.specs.declared.screen.modifier.Modifier.{Modifier}
@@ -14,8 +16,13 @@ pub record ShownCell : Type 0 where
   pub bg : Color
   pub modifier : Modifier
 
+-- the bytes of a cell's text, wherever they lie
+abbrev pub cell_text : CellText → List ℕ
+cell_text (Inline text) = text.bytes
+cell_text (Owned text) = string_bytes text
+
 abbrev pub shown_cell : Cell → ShownCell
-shown_cell cell = record { symbol = string_bytes cell.symbol; fg = cell.fg; bg = cell.bg; modifier = cell.modifier }
+shown_cell cell = record { symbol = cell_text cell.text; fg = cell.fg; bg = cell.bg; modifier = cell.modifier }
 
 -- a fresh cell: a blank in the terminal's own colours
 abbrev pub fresh_cell : ShownCell
@@ -28,3 +35,11 @@ styled style cell = record cell {
   bg = unwrap_or style.bg cell.bg;
   modifier = difference_of (union_of cell.modifier style.add_modifier) style.sub_modifier;
 }
+
+-- the cell in a style, with another text
+abbrev pub with_symbol : List ℕ → Style → ShownCell → ShownCell
+with_symbol text style cell = record (styled style cell) { symbol = text }
+
+-- the style that sets the cell's colours, and adds its modifiers
+abbrev pub style_of : ShownCell → Style
+style_of cell = record { fg = Some cell.fg; bg = Some cell.bg; add_modifier = cell.modifier; sub_modifier = record { 0 = 0 } }

@@ -3,5 +3,3 @@
 #![tactic(auto)]
 
 pub mod screen;
-#[cfg(test)]
-mod tests;

@@ -3,6 +3,7 @@
 pub mod alignment;
 pub mod block;
 pub mod buffer;
+pub mod cell;
 pub mod color;
 pub mod modifier;
 pub mod rect;
@@ -11,7 +12,8 @@ pub mod text;
 
 pub use alignment::Alignment;
 pub use block::{Block, Borders};
-pub use buffer::{Buffer, Cell};
+pub use buffer::Buffer;
+pub use cell::Cell;
 pub use color::Color;
 pub use modifier::Modifier;
 pub use rect::{Padding, Position, Rect};

@@ -1,7 +1,7 @@
 -- A run goes on by one call, and leads to one state.
 use Rattle.std.proofs.Common.{◌≡◌, ℕ, ◌+◌, ◌<◌, List, [], ◌∷◌, ◌++◌, map, take, length, get_or, ap, refl, sym, subst, ◌∙◌}
 use Rattle.std.proofs.lemmas.List.{map-append, take_more}
-use Rattle.textarea_move.specs.declared.cursor_move.CursorMove.{CursorMove}
+use Rattle.textarea_data.specs.declared.cursor.CursorMove.{CursorMove}
 use Rattle.tui_textarea.specs.State.{State}
 use Rattle.tui_textarea.specs.Moves.{IsMoved}
 use Rattle.textarea_script.specs.Outcomes.{IsAnswer, IsBehind}

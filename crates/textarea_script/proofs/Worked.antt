@@ -6,8 +6,8 @@ use Rattle.tui_textarea.specs.Removals.{yanked}
 use Rattle.textarea_target.specs.Target.{target}
 use Rattle.tui_textarea.specs.Moves.{IsMoved, IsTarget, moved_by, pushed}
 use Rattle.tui_textarea.specs.State.{State, new_state}
-use Rattle.textarea_move.specs.declared.cursor_move.CursorMove.{CursorMove}
-use Rattle.textarea_move.specs.declared.cursor_move.CursorMove.TheVariants.{Back, Down, Head, Up}
+use Rattle.textarea_data.specs.declared.cursor.CursorMove.{CursorMove}
+use Rattle.textarea_data.specs.declared.cursor.CursorMove.TheVariants.{Back, Down, Head, Up}
 use Rattle.textarea_script.specs.Calls.{answer_of, state_after}
 use Rattle.textarea_script.specs.Outcomes.{IsAnswer, IsBehind}
 use Rattle.textarea_script.specs.Run.{Leads}

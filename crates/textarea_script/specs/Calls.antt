@@ -5,8 +5,8 @@ use Rattle.std.specs.Duration.{as_nanos}
 use Rattle.std.specs.Str.{chars}
 use Rattle.textarea_text.specs.Place.{Place}
 use Rattle.textarea_text.specs.Text.{lines, lines_of, text_of}
-use Rattle.textarea_atomic.specs.declared.atomic.AtomicRange.{AtomicRange}
-use Rattle.textarea_atomic.specs.declared.atomic.RejectedAtomicRange.{RejectedAtomicRange}
+use Rattle.textarea_ranges.specs.declared.atomic.AtomicRange.{AtomicRange}
+use Rattle.textarea_ranges.specs.declared.atomic.RejectedAtomicRange.{RejectedAtomicRange}
 use Rattle.textarea_ranges.specs.Held.{inside}
 use Rattle.textarea_ranges.specs.Order.{in_order}
 use Rattle.textarea_ranges.specs.Rejected.{rejected_of}
@@ -24,9 +24,9 @@ use Rattle.tui_textarea.specs.Selection.{all_selected, copied, cut_out, dropped,
 use Rattle.tui_textarea.specs.Selection as selection
 use Rattle.textarea_screen.specs.Block.{shown_block}
 use Rattle.textarea_screen.specs.Text.{shown_text}
-use Rattle.textarea_frame.specs.Outcomes.{with_max_rows, with_min_rows, with_placeholder_style, with_placeholder_text}
+use Rattle.textarea_surround.specs.Outcomes.{with_max_rows, with_min_rows, with_placeholder_style, with_placeholder_text}
 use Rattle.tui_textarea.specs.View.{mode_set, numbers_set, stays_cut, tab_length_set, with_line_numbers, with_tab_length, with_wrap_mode, without_line_numbers}
-use Rattle.tui_textarea.specs.Measure.{reads_rows, with_frame}
+use Rattle.tui_textarea.specs.Measure.{reads_rows, with_surround}
 use Rattle.tui_textarea.specs.Search.{next_match, previous_match, searched, with_pattern}
 use Rattle.textarea_script.specs.Patterns.{IsNewPattern}
 use Rattle.tui_textarea.specs.Ranges.{cursor_normalized, range_out, ranges_accepted, ranges_cleared}
@@ -117,13 +117,13 @@ state_after state (SetTabLength columns) = with_tab_length state columns
 state_after state (SetWrapMode mode) = with_wrap_mode state mode
 state_after state (SetLineNumberStyle style) = with_line_numbers state style
 state_after state RemoveLineNumber = without_line_numbers state
-state_after state (SetBlock block) = with_frame state (record state.frame { block = Some (shown_block block.now) })
-state_after state RemoveBlock = with_frame state (record state.frame { block = None })
-state_after state (SetPlaceholderText text) = with_frame state (with_placeholder_text state.frame text.now)
-state_after state (SetStyledPlaceholder text) = with_frame state (record state.frame { placeholder = shown_text text.now })
-state_after state (SetPlaceholderStyle style) = with_frame state (with_placeholder_style state.frame style)
-state_after state (SetMinRows rows) = with_frame state (with_min_rows state.frame rows)
-state_after state (SetMaxRows rows) = with_frame state (with_max_rows state.frame rows)
+state_after state (SetBlock block) = with_surround state (record state.surround { block = Some (shown_block block.now) })
+state_after state RemoveBlock = with_surround state (record state.surround { block = None })
+state_after state (SetPlaceholderText text) = with_surround state (with_placeholder_text state.surround text.now)
+state_after state (SetStyledPlaceholder text) = with_surround state (record state.surround { placeholder = shown_text text.now })
+state_after state (SetPlaceholderStyle style) = with_surround state (with_placeholder_style state.surround style)
+state_after state (SetMinRows rows) = with_surround state (with_min_rows state.surround rows)
+state_after state (SetMaxRows rows) = with_surround state (with_max_rows state.surround rows)
 state_after state (SetHardTabIndent hard) = record state { settings = record state.settings { hard_tab_indent = hard } }
 state_after state (SetMaxHistories maximum) =
     with_document state (record state.document { log = empty_log maximum })

@@ -2,9 +2,9 @@
 -- asks for, so a text is compared by its characters.
 use Rattle.std.specs.Prelude.{ℕ, Bool, List, Option, string_bytes}
 use Rattle.std.specs.Str.{chars}
-use Rattle.textarea_atomic.specs.declared.atomic.AtomicRange.{AtomicRange}
-use Rattle.textarea_atomic.specs.declared.atomic.RejectedAtomicRange.{RejectedAtomicRange}
-use Rattle.textarea_frame.specs.declared.frame.measure.TextAreaMeasure.{TextAreaMeasure}
+use Rattle.textarea_ranges.specs.declared.atomic.AtomicRange.{AtomicRange}
+use Rattle.textarea_ranges.specs.declared.atomic.RejectedAtomicRange.{RejectedAtomicRange}
+use Rattle.textarea_surround.specs.declared.surround.measure.TextAreaMeasure.{TextAreaMeasure}
 use Rattle.textarea_script.specs.declared.call.Answer.{Answer}
 use Rattle.textarea_script.specs.declared.call.Answer.TheVariants as answer
 

@@ -2,8 +2,8 @@
 ghost use Rattle.std.specs.Prelude.{◌<◌, ◌≤◌, length, vec_len, IfOk, IfSome};
 
 use std::alloc::{AllocError, AllocFailed, Global};
-use textarea_atomic::atomic::AtomicRange;
-use textarea_move::cursor_move::CursorMove;
+use textarea_data::cursor::CursorMove;
+use textarea_ranges::atomic::AtomicRange;
 use tui_textarea::WrapMode;
 
 // Why a command was not read.

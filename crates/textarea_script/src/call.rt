@@ -3,10 +3,10 @@ ghost use Rattle.std.specs.Prelude.{◌↔◌, IsTrue};
 ghost use Rattle.textarea_script.specs.Calls.{CanBeMade};
 
 use std::time::Duration;
-use textarea_atomic::atomic::{
+use textarea_data::cursor::CursorMove;
+use textarea_ranges::atomic::{
     AtomicCursorBias, AtomicDeleteDirection, AtomicRange, RejectedAtomicRange,
 };
-use textarea_move::cursor_move::CursorMove;
 use textarea_screen::screen::{Block, Style, Text};
 use tui_textarea::{TextAreaMeasure, WrapMode};
 

@@ -11,8 +11,8 @@ use crate::call::Call;
 use std::alloc::{AllocError, AllocFailed, Global};
 use std::str::from_utf8;
 use std::time::Duration;
-use textarea_atomic::atomic::AtomicRange;
-use textarea_move::cursor_move::CursorMove;
+use textarea_data::cursor::CursorMove;
+use textarea_ranges::atomic::AtomicRange;
 use textarea_screen::screen::Style;
 
 /// Why a script was not read.

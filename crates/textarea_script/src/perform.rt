@@ -2,7 +2,7 @@
 ghost use Rattle.std.specs.Prelude.{◌≡◌, ◌<◌, length, OnErr, OnOk, IfOk, Some};
 ghost use Rattle.textarea_screen.specs.Block.{shown_block};
 ghost use Rattle.textarea_screen.specs.Text.{shown_text};
-ghost use Rattle.tui_textarea.specs.Measure.{with_frame};
+ghost use Rattle.tui_textarea.specs.Measure.{with_surround};
 ghost use Rattle.textarea_script.specs.Calls.{ranges_answer, rejected_ranges, with_lines, with_ranges_if, CanBeMade, Refused};
 ghost use Rattle.textarea_script.specs.Kinds.{kind_of};
 ghost use Rattle.textarea_script.specs.Outcomes.{behind_pattern, IsAnswer, IsBehind, IsPatternAnswer};
@@ -13,8 +13,8 @@ ghost use Rattle.textarea_script.specs.declared.kind.Kind.TheVariants.{Removes, 
 use crate::call::{Answer, Call};
 use crate::kind::Kind;
 use std::alloc::{AllocError, Global};
-use textarea_atomic::atomic::AtomicRange;
 use textarea_pieces::given::copied;
+use textarea_ranges::atomic::AtomicRange;
 use textarea_screen::screen::{Block, Text};
 use textarea_search::search::SearchError;
 use tui_textarea::TextArea;
@@ -192,7 +192,7 @@ fn set_lines(
 
 // Puts a copy of the block around the rows.
 fn set_block(area: &mut TextArea<'_>, block: &Block<'static>) -> Result<(), AllocError>
-    ensures ok { OnOk result (area.new ≡ with_frame area.old (record area.old.frame { block = Some (shown_block block.now) })) }
+    ensures ok { OnOk result (area.new ≡ with_surround area.old (record area.old.surround { block = Some (shown_block block.now) })) }
     ensures err { OnErr result (area.new ≡ area.old) }
 {
     area.set_block(block.clone()?);
@@ -201,7 +201,7 @@ fn set_block(area: &mut TextArea<'_>, block: &Block<'static>) -> Result<(), Allo
 
 // Shows a copy of the text where the text area's is empty.
 fn set_styled_placeholder(area: &mut TextArea<'_>, text: &Text<'static>) -> Result<(), AllocError>
-    ensures ok { OnOk result (area.new ≡ with_frame area.old (record area.old.frame { placeholder = shown_text text.now })) }
+    ensures ok { OnOk result (area.new ≡ with_surround area.old (record area.old.surround { placeholder = shown_text text.now })) }
     ensures err { OnErr result (area.new ≡ area.old) }
 {
     area.set_styled_placeholder(text.clone()?);
@@ -222,7 +222,7 @@ fn set_ranges(area: &mut TextArea<'_>, ranges: Vec<AtomicRange>) -> Result<Answe
     ensures err { OnErr result (area.new ≡ area.old) }
 {
     match area.try_set_atomic_ranges(ranges)? {
-        Ok(()) => Ok(Answer::Done), // they are valid
+        Ok(()) => Ok(Answer::Done),
         Err(error) => Ok(Answer::Rejected(error.rejected)),
     }
 }
@@ -235,7 +235,7 @@ fn set_search_pattern(area: &mut TextArea<'_>, pattern: &str) -> Result<Answer, 
     ensures may { OnErr result (IsNewPattern area.old pattern.now) }
 {
     match area.set_search_pattern(pattern) {
-        Ok(()) => Ok(Answer::Done), // it is set
+        Ok(()) => Ok(Answer::Done),
         Err(SearchError::Pattern(_)) => Ok(Answer::PatternRefused),
         Err(SearchError::Memory(refused)) => Err(refused),
     }

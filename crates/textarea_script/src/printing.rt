@@ -1,7 +1,7 @@
 // The text that `tascript` prints of a run that came to its end.
 use crate::call::Answer;
 use std::fmt;
-use textarea_atomic::atomic::{AtomicRange, AtomicRangeRejectReason};
+use textarea_ranges::atomic::{AtomicRange, AtomicRangeRejectReason};
 use tui_textarea::TextArea;
 
 /// The end of a run, printed as a line for each answer, counted from 1, and then the text area: its

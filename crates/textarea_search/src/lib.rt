@@ -2,5 +2,3 @@
 #![tactic(auto)]
 
 pub mod search;
-#[cfg(test)]
-mod tests;

@@ -3,7 +3,7 @@ use Rattle.std.proofs.Common.{◌≡◌, List, [], ◌∷◌, refl, Some, None}
 use Rattle.textarea_text.specs.Text.{Symbol, joined}
 use Rattle.textarea_word.specs.Words.{class_of}
 use Rattle.textarea_target.specs.Target.{target, word_end_after, word_start_before}
-use Rattle.textarea_move.specs.declared.cursor_move.CursorMove.TheVariants.{Forward, Back, Head, End, Bottom, WordForward, WordEnd, WordBack, ParagraphForward, ParagraphBack, Jump}
+use Rattle.textarea_data.specs.declared.cursor.CursorMove.TheVariants.{Forward, Back, Head, End, Bottom, WordForward, WordEnd, WordBack, ParagraphForward, ParagraphBack, Jump}
 
 -- an `e` with a combining accent, and the line `x`
 abbrev pub accented : List Symbol

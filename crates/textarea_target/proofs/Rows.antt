@@ -9,7 +9,7 @@ use Rattle.textarea_text.proofs.Splices.{lines-joined}
 use Rattle.textarea_word.specs.Paragraphs.{is_empty_line, is_paragraph_start, is_later_paragraph_start, is_earlier_paragraph_start}
 use Rattle.textarea_word.specs.Words.{next_word_last}
 use Rattle.textarea_target.specs.Target.{is_later_word_row, line_of, target}
-use Rattle.textarea_move.specs.declared.cursor_move.CursorMove.{CursorMove}
+use Rattle.textarea_data.specs.declared.cursor.CursorMove.{CursorMove}
 
 -- the lines that some `String`s hold are those of the text that they hold
 pub rows_of_text : {Z : Type 0} (items : List (String Z)) (place : Place) → IsPlaceOf (lines_of items) place → lines_of items ≡ lines (text_of items)

@@ -6,8 +6,8 @@ use Rattle.textarea_word.specs.Nearest.{least_below}
 use Rattle.textarea_word.specs.Words.{next_word_start, next_word_last, previous_word_start, next_behind_word}
 use Rattle.textarea_word.specs.Paragraphs.{next_paragraph_start, previous_paragraph_start}
 use Rattle.textarea_pieces.specs.Part.{clip}
-use Rattle.textarea_move.specs.declared.cursor_move.CursorMove.{CursorMove}
-use Rattle.textarea_move.specs.declared.cursor_move.CursorMove.TheVariants.{Forward, Back, Up, Down, Head, End, Top, Bottom, WordForward, WordEnd, WordBack, ParagraphForward, ParagraphBack, Jump, InViewport}
+use Rattle.textarea_data.specs.declared.cursor.CursorMove.{CursorMove}
+use Rattle.textarea_data.specs.declared.cursor.CursorMove.TheVariants.{Forward, Back, Up, Down, Head, End, Top, Bottom, WordForward, WordEnd, WordBack, ParagraphForward, ParagraphBack, Jump, InViewport}
 
 -- ---- places of some lines
 

@@ -8,7 +8,7 @@ use crate::ends::{next_place, previous_place};
 use crate::paragraphs::{paragraph_back, paragraph_forward};
 use crate::places::{clipped, last_row, row_end};
 use crate::words::{word_back, word_end, word_forward};
-use textarea_move::cursor_move::CursorMove;
+use textarea_data::cursor::CursorMove;
 use textarea_pieces::places;
 
 /// Where the move leads from the cursor, a place of the lines: row and column, both from 0, the column in characters.

@@ -1,26 +1,27 @@
-// Tests that cross the crates: worked rows over the calls and over `run`, and scripts over `serve` with
-// readers and writers of the tests' own.
+//! Worked cases of a text area: transcripts of scripts, and calls that no script makes.
 #![tactic(auto)]
 
 #[cfg(test)]
+mod calls;
+#[cfg(test)]
 mod edits;
+#[cfg(test)]
+mod given;
 #[cfg(test)]
 mod heights;
 #[cfg(test)]
+mod moves;
+#[cfg(test)]
 mod ranges;
 #[cfg(test)]
-mod rows;
-#[cfg(test)]
-mod scripts;
+mod reading;
 #[cfg(test)]
 mod searches;
 #[cfg(test)]
 mod selection;
 #[cfg(test)]
-mod settings;
-#[cfg(test)]
 mod streams;
 #[cfg(test)]
-mod table;
+mod transcript;
 #[cfg(test)]
-mod words;
+mod unprinted;

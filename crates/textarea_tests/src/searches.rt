@@ -1,135 +1,153 @@
-// Searches for a pattern, and the pattern itself.
-use crate::table::Step::{Cursor, Do, Lines, Pattern, Refuses, Says, Selected, Type};
-use crate::table::{Row, check, strings};
+// Searches for a pattern.
+use crate::transcript::check;
 use std::test::Fail;
-use tui_textarea::TextArea;
 
-static SEARCHES: [Row<'static>; 7] = [
-    Row {
-        lines: &["foo foo"],
-        steps: &[
-            Do("set_search_pattern foo"),
-            Do("move End"),
-            Says("search_back true", true),
-            Cursor(0, 4),
-        ],
-    },
+static SEARCHES: [&str; 8] = [
+    // Back to the last start before the cursor.
+    r"
+        set_lines 0 0 foo foo => ok
+        lines 1
+        |foo foo
+        set_search_pattern foo => ok
+        cursor 0 0
+        move End => ok
+        cursor 0 7
+        search_back true => true
+        cursor 0 4
+    ",
     // From start to start, and round the ends of the text.
-    Row {
-        lines: &["fooo foo", "foo fo foo fooo", "foooo"],
-        steps: &[
-            Do("set_search_pattern fo+"),
-            Do("jump 1 4"),
-            Says("search_forward false", true),
-            Cursor(1, 7),
-            Says("search_forward false", true),
-            Cursor(1, 11),
-            Says("search_forward false", true),
-            Cursor(2, 0),
-            Says("search_forward false", true),
-            Cursor(0, 0),
-            Do("jump 1 4"),
-            Says("search_back false", true),
-            Cursor(1, 0),
-            Says("search_back false", true),
-            Cursor(0, 5),
-            Says("search_back true", true),
-            Cursor(0, 5),
-            Says("search_back false", true),
-            Cursor(0, 0),
-            Says("search_back false", true),
-            Cursor(2, 0),
-        ],
-    },
+    r"
+        set_lines 0 0 fooo foo\nfoo fo foo fooo\nfoooo => ok
+        lines 3
+        |fooo foo
+        |foo fo foo fooo
+        |foooo
+        set_search_pattern fo+ => ok
+        cursor 0 0
+        jump 1 4 => ok
+        cursor 1 4
+        search_forward false => true
+        cursor 1 7
+        search_forward false => true
+        cursor 1 11
+        search_forward false => true
+        cursor 2 0
+        search_forward false => true
+        cursor 0 0
+        jump 1 4 => ok
+        cursor 1 4
+        search_back false => true
+        cursor 1 0
+        search_back false => true
+        cursor 0 5
+        search_back true => true
+        cursor 0 5
+        search_back false => true
+        cursor 0 0
+        search_back false => true
+        cursor 2 0
+    ",
     // A start at a line's end.
-    Row {
-        lines: &["ab", "c"],
-        steps: &[
-            Do("set_search_pattern $"),
-            Says("search_forward false", true),
-            Cursor(0, 2),
-            Says("search_forward false", true),
-            Cursor(1, 1),
-        ],
-    },
-    // A selection reaches to the place that is found. Where nothing is, it stays, and so does the cursor.
-    Row {
-        lines: &["犬 foo", "bar"],
-        steps: &[
-            Do("set_search_pattern foo"),
-            Do("start_selection"),
-            Says("search_forward false", true),
-            Selected(Some(((0, 0), (0, 2)))),
-            Do("set_search_pattern none"),
-            Says("search_forward false", false),
-            Says("search_back true", false),
-            Cursor(0, 2),
-            Selected(Some(((0, 0), (0, 2)))),
-        ],
-    },
+    r"
+        set_lines 0 0 ab\nc => ok
+        lines 2
+        |ab
+        |c
+        set_search_pattern $ => ok
+        cursor 0 0
+        search_forward false => true
+        cursor 0 2
+        search_forward false => true
+        cursor 1 1
+    ",
+    // A selection reaches to the place that is found; where nothing is, it stays, and so does the cursor.
+    r"
+        set_lines 0 0 犬 foo\nbar => ok
+        set_search_pattern foo => ok
+        start_selection => ok
+        search_forward false => true
+        lines 2
+        |犬 foo
+        |bar
+        cursor 0 2
+        selection 0 0 0 2
+        set_search_pattern none => ok
+        search_forward false => false
+        search_back true => false
+        cursor 0 2
+    ",
     // A search that finds ends a run of typing: two steps back.
-    Row {
-        lines: &["x"],
-        steps: &[
-            Do("set_undo_coalescing true"),
-            Do("set_search_pattern x"),
-            Type("a"),
-            Says("search_forward true", true),
-            Cursor(0, 1),
-            Type("b"),
-            Lines(&["abx"]),
-            Says("undo", true),
-            Lines(&["ax"]),
-            Says("undo", true),
-            Lines(&["x"]),
-        ],
-    },
+    r"
+        set_lines 0 0 x => ok
+        set_undo_coalescing true => ok
+        set_search_pattern x => ok
+        insert_char a => ok
+        search_forward true => true
+        lines 1
+        |ax
+        cursor 0 1
+        insert_char b => ok
+        lines 1
+        |abx
+        cursor 0 2
+        undo => true
+        lines 1
+        |ax
+        cursor 0 1
+        undo => true
+        lines 1
+        |x
+        cursor 0 0
+    ",
     // One that finds nothing doesn't: one step back.
-    Row {
-        lines: &["x"],
-        steps: &[
-            Do("set_undo_coalescing true"),
-            Do("set_search_pattern y"),
-            Type("a"),
-            Says("search_forward true", false),
-            Type("b"),
-            Says("undo", true),
-            Lines(&["x"]),
-        ],
-    },
+    r"
+        set_lines 0 0 x => ok
+        set_undo_coalescing true => ok
+        set_search_pattern y => ok
+        insert_char a => ok
+        search_forward true => false
+        insert_char b => ok
+        undo => true
+        lines 1
+        |x
+    ",
     // A refused pattern leaves the one before, and so do other lines; the empty text takes it away.
-    Row {
-        lines: &["foo"],
-        steps: &[
-            Pattern(None),
-            Do("set_search_pattern fo+"),
-            Refuses("set_search_pattern (hello"),
-            Pattern(Some("fo+")),
-            Do("set_lines 0 0 a\\nfoo"),
-            Pattern(Some("fo+")),
-            Says("search_back false", true),
-            Cursor(1, 0),
-            Do("set_search_pattern fo+"),
-            Do("set_search_pattern"),
-            Pattern(None),
-            Says("search_forward true", false),
-            Says("search_back true", false),
-        ],
-    },
+    r"
+        set_lines 0 0 foo => ok
+        set_search_pattern fo+ => ok
+        set_search_pattern (hello => pattern
+        set_lines 0 0 a\nfoo => ok
+        search_back false => true
+        lines 2
+        |a
+        |foo
+        cursor 1 0
+        set_search_pattern fo+ => ok
+        set_search_pattern => ok
+        search_forward true => false
+        search_back true => false
+        cursor 1 0
+    ",
+    // An escape is read before the pattern is.
+    r"
+        set_lines 0 0 foo f1o => ok
+        set_search_pattern foo => ok
+        move End => ok
+        search_back true => true
+        set_search_pattern (hello => pattern
+        search_forward false => true
+        set_search_pattern \\d => ok
+        search_forward false => true
+        set_search_pattern  => ok
+        search_forward true => false
+        set_search_pattern => ok
+        lines 1
+        |foo f1o
+        cursor 0 5
+    ",
 ];
 
 #[test]
 fn searches(rt: HostRuntime) -> Result<(), Fail> {
     check(&rt, &SEARCHES)
-}
-
-#[test]
-fn copies_keep_the_pattern(rt: HostRuntime) -> Result<(), Fail> {
-    let mut area = TextArea::new(rt.alloc(), strings(&rt, &["a"])?)?;
-    assert!(rt; area.set_search_pattern("a").is_ok());
-    let copy = area.clone()?;
-    assert!(rt; area.set_search_pattern("").is_ok());
-    assert!(rt; area.search_pattern() == None);
-    assert!(rt; copy.search_pattern() == Some("a"));
-    Ok(())
 }

@@ -1,52 +1,62 @@
 // Selections: what is typed, removed, yanked and put in over them.
-use crate::table::Step::{Cursor, Do, Lines, Says, Selected, Yank};
-use crate::table::{Row, check};
+use crate::transcript::check;
 use std::test::Fail;
 
-static REMOVALS_OVER_SELECTIONS: [Row<'static>; 4] = [
+static REMOVALS_OVER_SELECTIONS: [&str; 4] = [
     // The whole text goes and is yanked, whatever is selected.
-    Row {
-        lines: &["ab", "cd"],
-        steps: &[
-            Do("jump 0 1"),
-            Do("start_selection"),
-            Do("move Bottom"),
-            Says("clear", true),
-            Lines(&[""]),
-            Yank("ab\ncd"),
-            Says("undo", true),
-            Lines(&["ab", "cd"]),
-            Cursor(1, 2),
-        ],
-    },
-    Row {
-        lines: &["aaa", "bbb", "ccc"],
-        steps: &[
-            Do("select_all"),
-            Selected(Some(((0, 0), (2, 3)))),
-            Says("cut", true),
-            Lines(&[""]),
-            Yank("aaa\nbbb\nccc"),
-            Selected(None),
-        ],
-    },
+    r"
+        set_lines 0 0 ab\ncd => ok
+        jump 0 1 => ok
+        start_selection => ok
+        move Bottom => ok
+        clear => true
+        cursor 0 0
+        yank_text => text ab\ncd
+        undo => true
+        lines 2
+        |ab
+        |cd
+        cursor 1 2
+    ",
+    // What is selected is cut, and yanked.
+    r"
+        set_lines 0 0 aaa\nbbb\nccc => ok
+        select_all => ok
+        lines 3
+        |aaa
+        |bbb
+        |ccc
+        cursor 2 3
+        selection 0 0 2 3
+        cut => true
+        lines 1
+        |
+        cursor 0 0
+        selection none
+        yank_text => text aaa\nbbb\nccc
+        cursor 0 0
+    ",
     // Nothing is cut of an empty selection, and it is dropped.
-    Row {
-        lines: &["abc"],
-        steps: &[Do("start_selection"), Says("cut", false), Selected(None)],
-    },
+    r"
+        set_lines 0 0 abc => ok
+        start_selection => ok
+        lines 1
+        |abc
+        selection 0 0 0 0
+        cut => false
+        selection none
+    ",
     // What is selected goes alone, and isn't yanked; an empty text isn't cleared.
-    Row {
-        lines: &["abc"],
-        steps: &[
-            Do("move Forward"),
-            Do("select_all"),
-            Says("delete_char", true),
-            Lines(&[""]),
-            Yank(""),
-            Says("clear", false),
-        ],
-    },
+    "
+        set_lines 0 0 abc => ok
+        move Forward => ok
+        select_all => ok
+        delete_char => true
+        cursor 0 0
+        yank_text => text\x20
+        clear => false
+        cursor 0 0
+    ",
 ];
 
 #[test]
@@ -54,47 +64,49 @@ fn removals_over_selections(rt: HostRuntime) -> Result<(), Fail> {
     check(&rt, &REMOVALS_OVER_SELECTIONS)
 }
 
-static INSERTIONS_OVER_SELECTIONS: [Row<'static>; 3] = [
+static INSERTIONS_OVER_SELECTIONS: [&str; 3] = [
     // Two edits: the removal of what is selected, and the insertion.
-    Row {
-        lines: &["abc"],
-        steps: &[
-            Do("start_selection"),
-            Do("move Forward"),
-            Selected(Some(((0, 0), (0, 1)))),
-            Do("insert_char x"),
-            Lines(&["xbc"]),
-            Selected(None),
-            Says("undo", true),
-            Lines(&["bc"]),
-            Cursor(0, 0),
-            Says("undo", true),
-            Lines(&["abc"]),
-            Cursor(0, 1),
-        ],
-    },
+    r"
+        set_lines 0 0 abc => ok
+        start_selection => ok
+        move Forward => ok
+        lines 1
+        |abc
+        cursor 0 1
+        selection 0 0 0 1
+        insert_char x => ok
+        lines 1
+        |xbc
+        selection none
+        undo => true
+        lines 1
+        |bc
+        cursor 0 0
+        undo => true
+        lines 1
+        |abc
+        cursor 0 1
+    ",
     // With nothing yanked, what is selected goes all the same.
-    Row {
-        lines: &["abc"],
-        steps: &[
-            Do("start_selection"),
-            Do("move End"),
-            Says("paste", false),
-            Lines(&[""]),
-            Says("undo", true),
-            Lines(&["abc"]),
-            Cursor(0, 3),
-        ],
-    },
-    Row {
-        lines: &["abc"],
-        steps: &[
-            Do("set_tab_length 0"),
-            Do("select_all"),
-            Says("insert_tab", true),
-            Lines(&[""]),
-        ],
-    },
+    r"
+        set_lines 0 0 abc => ok
+        start_selection => ok
+        move End => ok
+        paste => false
+        cursor 0 0
+        undo => true
+        lines 1
+        |abc
+        cursor 0 3
+    ",
+    // With no tab to put in, what is selected goes all the same.
+    r"
+        set_lines 0 0 abc => ok
+        set_tab_length 0 => ok
+        select_all => ok
+        insert_tab => true
+        cursor 0 0
+    ",
 ];
 
 #[test]
@@ -102,38 +114,44 @@ fn insertions_over_selections(rt: HostRuntime) -> Result<(), Fail> {
     check(&rt, &INSERTIONS_OVER_SELECTIONS)
 }
 
-static YANKS: [Row<'static>; 2] = [
-    Row {
-        lines: &["ab"],
-        steps: &[
-            Do("start_selection"),
-            Do("move End"),
-            Do("copy"),
-            Selected(None),
-            Yank("ab"),
-            Says("paste", true),
-            Lines(&["abab"]),
-            Cursor(0, 4),
-            Do("copy"),
-            Yank("ab"),
-        ],
-    },
+static YANKS: [&str; 2] = [
+    // A copy drops the selection, and with nothing selected leaves the yank.
+    r"
+        set_lines 0 0 ab => ok
+        start_selection => ok
+        move End => ok
+        copy => ok
+        lines 1
+        |ab
+        cursor 0 2
+        yank_text => text ab
+        paste => true
+        lines 1
+        |abab
+        cursor 0 4
+        copy => ok
+        yank_text => text ab
+        cursor 0 4
+    ",
     // The ends in their order, though the cursor stands before.
-    Row {
-        lines: &["ab", "cd"],
-        steps: &[
-            Do("set_yank_text k"),
-            Do("jump 1 1"),
-            Do("start_selection"),
-            Selected(Some(((1, 1), (1, 1)))),
-            Do("jump 0 1"),
-            Selected(Some(((0, 1), (1, 1)))),
-            Do("cancel_selection"),
-            Selected(None),
-            Cursor(0, 1),
-            Yank("k"),
-        ],
-    },
+    r"
+        set_lines 0 0 ab\ncd => ok
+        set_yank_text k => ok
+        jump 1 1 => ok
+        start_selection => ok
+        lines 2
+        |ab
+        |cd
+        cursor 1 1
+        selection 1 1 1 1
+        jump 0 1 => ok
+        cursor 0 1
+        selection 0 1 1 1
+        cancel_selection => ok
+        selection none
+        yank_text => text k
+        cursor 0 1
+    ",
 ];
 
 #[test]

@@ -9,3 +9,4 @@ pub mod Befores
 pub mod Insides
 pub mod Touching
 pub mod EmptyTexts
+pub mod Copies

@@ -5,7 +5,7 @@ use Rattle.textarea_text.specs.Text.{Symbol, Character, Break, characters, follo
 use Rattle.textarea_text.specs.Place.{Place, end, index_of, place_of, inserted, removed, StandsAt, IsPlaceOf, IsPlace, IsSymbolBefore}
 use Rattle.textarea_text.specs.Splice.{Splice, Fits, Allows, applied, inverse, place_after}
 use Rattle.textarea_text.proofs.Splices.{whole, index_of_part, end_of_front, end-append, inserted_at, removed_at, stands_at}
-use Rattle.textarea_text.proofs.RowEdits.{rows_around, cut_line, row_inserted, rows_removed}
+use Rattle.textarea_text.proofs.RowEdits.{rows_around, cut_line}
 
 -- ---- each text is whole lines and the start of one more
 
@@ -149,23 +149,11 @@ head_character c [] [] e = absurd cc
 head_character c [] (next ∷ below) e = absurd cc
 head_character c (d ∷ line) below e = omega arith
 
-head_break : (line : List ℕ) (below : List (List ℕ)) → take 1 (characters line ++ following below) ≡ Break ∷ [] → (length line ≡ 0) × (0 < length below)
-head_break [] [] e = absurd cc
-head_break [] (next ∷ below) e = (refl, omega arith)
-head_break (c ∷ line) below e = absurd cc
-
 -- a character stands inside its line
 pub inside_line : (rows : List (List ℕ)) (row column c : ℕ) → IsPlaceOf rows (row, column) → StandsAt (joined rows) (row, column) (Character c ∷ []) → column < length (get_or rows row [])
 unfolding part_rows
 inside_line rows row column c place h =
     omega (arith, head_character c (drop column (get_or rows row [])) (drop (row + 1) rows) (standing (joined rows) (row, column) (Character c ∷ []) (part_rows rows row column place) h), length-drop column (get_or rows row []))
-
--- a break stands at its line's end, and a line follows
-pub at_line_end : (rows : List (List ℕ)) (row column : ℕ) → IsPlaceOf rows (row, column) → StandsAt (joined rows) (row, column) (Break ∷ []) → (column ≡ length (get_or rows row [])) × (row + 1 < length rows)
-unfolding part_rows
-at_line_end rows row column place h =
-    let found = head_break (drop column (get_or rows row [])) (drop (row + 1) rows) (standing (joined rows) (row, column) (Break ∷ []) (part_rows rows row column place) h) in
-    (omega (arith, found.0, place.1, length-drop column (get_or rows row [])), omega (arith, found.1, length-drop (row + 1) rows))
 
 -- ---- a change and its inverse
 
@@ -245,23 +233,3 @@ is_before text start symbol place h stands e =
     }
 
 -- ---- any symbols at once
-
-lines-some : (text : List Symbol) → 0 < length (lines text)
-lines-some [] = omega arith
-lines-some (Break ∷ text) = omega arith
-lines-some (Character c ∷ text) = some (lines text)
-  where
-    some : (rows : List (List ℕ)) → 0 < length (on_first c rows)
-    some [] = omega arith
-    some (line ∷ rest) = omega arith
-
--- one line is replaced by the lines of the text that it becomes
-pub symbols_inserted : (rows : List (List ℕ)) (row column : ℕ) (symbols : List Symbol) → row < length rows → column ≤ length (get_or rows row []) → joined (take row rows ++ (lines (characters (take column (get_or rows row [])) ++ (symbols ++ characters (drop column (get_or rows row [])))) ++ drop (row + 1) rows)) ≡ inserted (joined rows) (row, column) symbols
-symbols_inserted rows row column symbols within inside =
-    let text = characters (take column (get_or rows row [])) ++ (symbols ++ characters (drop column (get_or rows row []))) in
-    row_inserted rows (lines text) row column symbols within inside (lines-some text) (joined-lines text)
-
--- the lines that hold the symbols are replaced by the lines of what stays of them
-pub symbols_removed : (rows middle below : List (List ℕ)) (start : List ℕ) (row column : ℕ) (symbols rest : List Symbol) → row < length rows → rows ≡ take row rows ++ (middle ++ below) → length start ≡ column → 0 < length middle → joined middle ≡ characters start ++ (symbols ++ rest) → joined (take row rows ++ (lines (characters start ++ rest) ++ below)) ≡ removed (joined rows) (row, column) symbols
-symbols_removed rows middle below start row column symbols rest within parts at some was =
-    rows_removed rows middle (lines (characters start ++ rest)) below start row column symbols rest within parts at some (lines-some (characters start ++ rest)) was (joined-lines (characters start ++ rest))

@@ -4,7 +4,6 @@ use Rattle.std.proofs.lemmas.List.{take-append-drop, take_more, drop-drop, lengt
 use Rattle.std.proofs.lemmas.Str.{encodes-chars, IsUtf8-string_bytes}
 use Rattle.textarea_text.specs.Text.{Symbol, Character, Break, characters, characters_of, following, lines_of, text_of}
 use Rattle.textarea_text.specs.Place.{Place, StandsAt, index_of, inserted, removed}
-use Rattle.textarea_text.specs.Replaced.{replaced}
 use Rattle.textarea_text.specs.Size.{size_of, weight}
 use Rattle.textarea_text.proofs.Splices.{characters-append}
 
@@ -17,20 +16,6 @@ pub size_of_more : {Z : Type 0} (lines : List (String Z)) (i : ℕ) (line : Stri
 size_of_more lines i line within e =
     ap size_of (take_more lines i line within ∙ ap (λ s. take i lines ++ s ∷ []) (sym e))
     ∙ omega (arith, size_of-append (take i lines) (line ∷ []))
-
--- the lines that go are part of all lines
-pub size_of_parts : {Z : Type 0} (lines : List (String Z)) (row count : ℕ) → size_of lines ≡ size_of (take row lines) + size_of (take count (drop row lines)) + size_of (drop (row + count) lines)
-size_of_parts lines row count =
-    let middle = take count (drop row lines) in
-    let rest = drop count (drop row lines) in
-    let whole = sym (size_of-append (take row lines) (drop row lines)) ∙ ap size_of (take-append-drop row lines) in
-    let cut = sym (size_of-append middle rest) ∙ ap size_of (take-append-drop count (drop row lines)) in
-    let below = ap size_of (drop-drop count row lines) in
-    omega (arith, whole, cut, below)
-
-pub size_of-replaced : {Z : Type 0} (lines new : List (String Z)) (row count : ℕ) → size_of (replaced lines row count new) + size_of (take count (drop row lines)) ≡ size_of lines + size_of new
-size_of-replaced lines new row count =
-    omega (arith, size_of_parts lines row count, size_of-append (take row lines) (new ++ drop (row + count) lines), size_of-append new (drop (row + count) lines))
 
 -- there are no more lines than the size says
 pub length-le-size_of : {Z : Type 0} (lines : List (String Z)) → length lines ≤ size_of lines

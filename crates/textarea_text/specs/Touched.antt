@@ -1,7 +1,11 @@
--- The lines that a change of the text touches.
-use Rattle.std.specs.Prelude.{ℕ, ◌+◌, cond, List, [], ◌∷◌}
-use Rattle.textarea_text.specs.Text.{Symbol, Character, Break}
-use Rattle.textarea_text.specs.Splice.{Splice}
+-- The lines that a splice of the text touches.
+use Rattle.std.specs.Prelude.{◌≡◌, ◌≤◌, ℕ, ◌+◌, cond, List, [], ◌∷◌, String, length, vec_len}
+use Rattle.std.specs.declared.alloc.Global.{Global}
+use Rattle.textarea_text.specs.Text.{Symbol, Character, Break, text_of}
+use Rattle.textarea_text.specs.Place.{Place, changed}
+use Rattle.textarea_text.specs.Replaced.{replaced}
+use Rattle.textarea_text.specs.Splice.{Splice, applied}
+use Rattle.textarea_text.specs.declared.rows.Replacement.{Replacement}
 
 -- how many of the symbols are breaks
 abbrev pub breaks_of : List Symbol → ℕ
@@ -9,7 +13,7 @@ breaks_of [] = 0
 breaks_of (Character c ∷ symbols) = breaks_of symbols
 breaks_of (Break ∷ symbols) = breaks_of symbols + 1
 
--- How many lines, from the row of the change on, give place to others: one where symbols are put in, else those from the row
+-- How many lines, from the row of the splice on, give place to others: one where symbols are inserted, else those from the row
 -- where the symbols begin to that where they end.
 abbrev pub lines_going : Splice → ℕ
 lines_going splice = cond splice.inserts 1 (breaks_of splice.symbols + 1)
@@ -17,3 +21,20 @@ lines_going splice = cond splice.inserts 1 (breaks_of splice.symbols + 1)
 -- how many lines take their place
 abbrev pub lines_coming : Splice → ℕ
 lines_coming splice = cond splice.inserts (breaks_of splice.symbols + 1) 1
+
+-- the replacement puts the symbols in the place of what stands in these lines between two places
+pub record ReplacesPart (lines : List (String Global)) (start stop : Place) (symbols : List Symbol) (replacement : Replacement) : Type 0 where
+  pub row : replacement.row ≡ start.0
+  pub going : replacement.row + replacement.count ≡ stop.0 + 1
+  pub coming : vec_len replacement.lines ≡ breaks_of symbols + 1
+  pub within : replacement.row + replacement.count ≤ length lines
+  pub text : text_of (replaced lines replacement.row replacement.count replacement.lines.items) ≡ changed (text_of lines) start stop symbols
+
+-- the replacement makes the splice on these lines: its lines take the place of just those that the splice touches, and the text
+-- is then the one after the splice
+pub record IsReplacementFor (lines : List (String Global)) (splice : Splice) (replacement : Replacement) : Type 0 where
+  pub row : replacement.row ≡ splice.place.0
+  pub going : replacement.count ≡ lines_going splice
+  pub coming : vec_len replacement.lines ≡ lines_coming splice
+  pub within : replacement.row + replacement.count ≤ length lines
+  pub text : text_of (replaced lines replacement.row replacement.count replacement.lines.items) ≡ applied (text_of lines) splice

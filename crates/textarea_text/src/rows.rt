@@ -1,10 +1,11 @@
-//! Changes of the lines, made ready while the old lines stand, and put in without memory.
+//! Lines that take the place of others: made ready while the old lines stand, and put there without memory.
 ghost use Rattle.std.specs.Prelude.{◌≡◌, ◌+◌, ◌-◌, ◌<◌, ◌≤◌, ◌++◌, ◌∷◌, length, take, drop, MatchOption, encode_utf8_all, vec_len, vec_capacity, min, IfOk, OnOk, OnErr};
 ghost use Rattle.std.specs.Str.{chars};
 ghost use Rattle.textarea_text.specs.Text.{characters, following, lines_of, symbol_in, text_of};
 ghost use Rattle.textarea_text.specs.Place.{IsPlaceOf, IsSymbolBefore, ReplacesRows, changed, index_of};
 ghost use Rattle.textarea_text.specs.Replaced.{replaced};
 ghost use Rattle.textarea_text.specs.Size.{size_of};
+ghost use Rattle.textarea_text.specs.Touched.{ReplacesPart};
 
 use crate::replace::put_in;
 use std::alloc::{AllocError, Global};
@@ -109,7 +110,7 @@ impl Replacement {
 
 /// The lines that hold the text with the first piece, and each further one behind a break, in the place of what
 /// stands between the two places. They are as many as the pieces; the old lines stay until these are put in.
-pub fn prepare_change(
+pub fn prepare_replacement(
     alloc: Global,
     lines: &[String],
     from: (usize, usize),
@@ -120,12 +121,7 @@ pub fn prepare_change(
     requires from { IsPlaceOf (lines_of lines.now) from }
     requires to { IsPlaceOf (lines_of lines.now) to }
     requires ordered { from.0 ≤ to.0 }
-    ensures row { IfOk result (λ r. r.row ≡ from.0) }
-    ensures count { IfOk result (λ r. r.row + r.count ≡ to.0 + 1) }
-    ensures within { IfOk result (λ r. r.row + r.count ≤ length lines.now) }
-    ensures lines { IfOk result (λ r. vec_len r.lines ≡ length rest.now + 1) }
-    ensures text { IfOk result (λ r. text_of (replaced lines.now r.row r.count r.lines.items)
-        ≡ changed (text_of lines.now) from to (characters (chars first.now) ++ following (lines_of rest.now))) }
+    ensures { IfOk result (ReplacesPart lines.now from to (characters (chars first.now) ++ following (lines_of rest.now))) }
 {
     let new = new_rows(alloc, lines, from, to, first, rest)?;
     Ok(Replacement {
@@ -135,7 +131,7 @@ pub fn prepare_change(
     })
 }
 
-// The lines that stand, after the change, where those from the one row to the other stood.
+// The lines that stand, afterwards, where those from the one row to the other stood.
 fn new_rows(
     alloc: Global,
     lines: &[String],
@@ -178,6 +174,9 @@ fn end_offset(line: &str, end: (usize, usize), start: (usize, usize), offset: us
     }
     byte_offset(line, end.1)
 }
+
+/// The most bytes and lines together that a text may have: what would be more is answered as out of memory.
+pub const MAX_SIZE: usize = 0x1_0000_0000_0000;
 
 /// The bytes of the lines and their number, summed, or the greatest `usize` where that is less.
 pub fn size_of(lines: &[String]) -> usize

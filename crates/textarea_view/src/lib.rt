@@ -2,8 +2,8 @@
 //! and what is around the rows; each proved in a crate of its own and passed on here.
 #![tactic(auto)]
 
-pub use textarea_cursor::cursor;
-pub use textarea_frame::frame;
+pub use textarea_data::cursor;
 pub use textarea_highlight::highlight;
 pub use textarea_map::screen_map;
+pub use textarea_surround::surround;
 pub use textarea_target::target;

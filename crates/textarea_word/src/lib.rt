@@ -1,6 +1,4 @@
 //! The classes of characters, and searches for the words of a line.
 #![tactic(auto)]
 
-#[cfg(test)]
-mod tests;
 pub mod word;

@@ -4,6 +4,4 @@
 
 pub mod laws;
 pub mod layout;
-#[cfg(test)]
-mod tests;
 pub mod wrap;

@@ -1,8 +1,8 @@
 -- A move leads to one place, or nowhere, where up and down do.
 use Rattle.std.proofs.Common.{◌≡◌, Option, sym, ◌∙◌}
 use Rattle.textarea_text.specs.Place.{Place}
-use Rattle.textarea_move.specs.declared.cursor_move.CursorMove.{CursorMove}
-use Rattle.textarea_move.specs.declared.cursor_move.CursorMove.TheVariants as move
+use Rattle.textarea_data.specs.declared.cursor.CursorMove.{CursorMove}
+use Rattle.textarea_data.specs.declared.cursor.CursorMove.TheVariants as move
 use Rattle.textarea_document.specs.Rows.{IsAboveCursor, IsBelowCursor}
 use Rattle.textarea_document.specs.State.{DocumentState}
 use Rattle.tui_textarea.specs.Moves.{IsTarget}

@@ -1,24 +1,24 @@
 -- The height that is measured.
 use Rattle.std.specs.Prelude.{◌≡◌, ℕ, Bool, not}
 use Rattle.textarea_lines.specs.Screen.{is_cut_at}
-use Rattle.textarea_frame.specs.Measure.{measure_of, width_inside}
-use Rattle.textarea_frame.specs.declared.frame.measure.TextAreaMeasure.{TextAreaMeasure}
+use Rattle.textarea_surround.specs.Measure.{measure_of, width_inside}
+use Rattle.textarea_surround.specs.declared.surround.measure.TextAreaMeasure.{TextAreaMeasure}
 use Rattle.textarea_document.specs.Edits.{is_filled}
 use Rattle.textarea_document.specs.Rows.{HasRowsAt, laid_of}
 use Rattle.tui_textarea.specs.State.{State}
-use Rattle.textarea_frame.specs.State.{FrameState}
+use Rattle.textarea_surround.specs.State.{SurroundState}
 
--- the measure of an area of this width: that of the frame, for as many rows as the text has where it is laid out anew
+-- the measure of an area of this width: that of the surround, for as many rows as the text has where it is laid out anew
 -- inside of the block
 pub record IsMeasured (state : State) (width : ℕ) (measure : TextAreaMeasure) : Type 0 where
   pub rows : ℕ
-  pub rows_are : HasRowsAt state.document (width_inside state.frame.block width) rows
-  pub measure_is : measure ≡ measure_of state.frame rows (not (is_filled state.document.text))
+  pub rows_are : HasRowsAt state.document (width_inside state.surround.block width) rows
+  pub measure_is : measure ≡ measure_of state.surround rows (not (is_filled state.document.text))
 
--- the frame changes, and all else stays
-abbrev pub with_frame : State → FrameState → State
-with_frame state frame = record state { frame = frame }
+-- the surround changes, and all else stays
+abbrev pub with_surround : State → SurroundState → State
+with_surround state surround = record state { surround = surround }
 
 -- whether the rows that the text has as it is cut now are those that a measure at this width asks for
 abbrev pub reads_rows : State → ℕ → Bool
-reads_rows state width = is_cut_at (laid_of state.document) (width_inside state.frame.block width)
+reads_rows state width = is_cut_at (laid_of state.document) (width_inside state.surround.block width)

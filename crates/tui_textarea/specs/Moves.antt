@@ -1,11 +1,11 @@
 -- What the moves make of the state.
 use Rattle.std.specs.Prelude.{◌≡◌, List, Option, Some, None, option_map}
 use Rattle.textarea_text.specs.Place.{Place}
-use Rattle.textarea_move.specs.declared.cursor_move.CursorMove.{CursorMove}
-use Rattle.textarea_move.specs.declared.cursor_move.CursorMove.TheVariants as move
-use Rattle.textarea_atomic.specs.declared.atomic.AtomicRange.{AtomicRange}
-use Rattle.textarea_atomic.specs.declared.atomic.AtomicCursorBias.{AtomicCursorBias}
-use Rattle.textarea_atomic.specs.declared.atomic.AtomicCursorBias.TheVariants.{Backward, Forward}
+use Rattle.textarea_data.specs.declared.cursor.CursorMove.{CursorMove}
+use Rattle.textarea_data.specs.declared.cursor.CursorMove.TheVariants as move
+use Rattle.textarea_ranges.specs.declared.atomic.AtomicRange.{AtomicRange}
+use Rattle.textarea_ranges.specs.declared.atomic.AtomicCursorBias.{AtomicCursorBias}
+use Rattle.textarea_ranges.specs.declared.atomic.AtomicCursorBias.TheVariants.{Backward, Forward}
 use Rattle.textarea_ranges.specs.Held.{moved_out}
 use Rattle.textarea_document.specs.Outcomes.{moved}
 use Rattle.textarea_document.specs.Rows.{IsAboveCursor, IsBelowCursor}

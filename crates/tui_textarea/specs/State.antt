@@ -9,18 +9,18 @@ use Rattle.textarea_document.specs.Outcomes.{edited}
 use Rattle.textarea_wrap.specs.declared.wrap.WrapMode.TheVariants as mode
 use Rattle.textarea_lines.specs.declared.view.ViewSettings.{ViewSettings}
 use Rattle.textarea_screen.specs.Style.{empty_style}
-use Rattle.textarea_frame.specs.State.{FrameState, new_frame}
+use Rattle.textarea_surround.specs.State.{SurroundState, new_surround}
 use Rattle.tui_textarea.specs.declared.textarea.settings.Settings.{Settings}
 
 -- a text area as its callers see it: the document; what was yanked last; the settings; the moment that was handed in last,
--- in nanoseconds; the pattern that is searched for, by its bytes, if there is one; and the frame around the rows
+-- in nanoseconds; the pattern that is searched for, by its bytes, if there is one; and the surround around the rows
 pub record State : Type 0 where
   pub document : DocumentState
   pub yank : List Symbol
   pub settings : Settings
   pub moment : ℕ
   pub pattern : Option (List ℕ)
-  pub frame : FrameState
+  pub surround : SurroundState
 
 -- the settings at first: a tab made of spaces, no joining of typed edits, and line numbers in no style of their own
 abbrev pub default_settings : Settings
@@ -33,7 +33,7 @@ default_view = record { mode = mode.None; tab_len = 4; line_numbers = false; inn
 -- a new text area: the cursor at the start, nothing selected, at most 50 edits remembered and none yet, nothing yanked,
 -- no pattern, no block and no placeholder
 abbrev pub new_state : List Symbol → State
-new_state text = record { document = new_document text default_view 50; yank = []; settings = default_settings; moment = 0; pattern = None; frame = new_frame }
+new_state text = record { document = new_document text default_view 50; yank = []; settings = default_settings; moment = 0; pattern = None; surround = new_surround }
 
 -- the document changes, and all else stays
 abbrev pub with_document : State → DocumentState → State

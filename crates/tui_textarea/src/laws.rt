@@ -1,7 +1,7 @@
 //! Laws of text areas and their visual rows, each the contract of a function that does nothing.
 ghost use Rattle.std.specs.Prelude.{◌≡◌, ℕ};
-ghost use Rattle.textarea_frame.specs.declared.frame.measure.TextAreaMeasure.{TextAreaMeasure};
-ghost use Rattle.textarea_move.specs.declared.cursor_move.CursorMove.{CursorMove};
+ghost use Rattle.textarea_surround.specs.declared.surround.measure.TextAreaMeasure.{TextAreaMeasure};
+ghost use Rattle.textarea_data.specs.declared.cursor.CursorMove.{CursorMove};
 ghost use Rattle.tui_textarea.specs.Measure.{IsMeasured};
 ghost use Rattle.tui_textarea.specs.Moves.{IsMoved};
 ghost use Rattle.tui_textarea.specs.State.{State};

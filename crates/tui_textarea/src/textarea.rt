@@ -1,7 +1,6 @@
-//! The text area: a document, what was yanked, the settings, the clock, a pattern and a frame.
+//! The text area: a document, what was yanked, the settings, the clock, a pattern and a surround.
 mod constructors;
 mod edits;
-mod frame;
 mod laws;
 mod measure;
 mod moves;
@@ -11,6 +10,7 @@ mod removals;
 mod search;
 mod selection;
 pub mod settings;
+mod surround;
 mod view;
 
 ghost use Rattle.std.specs.Prelude.{◌≡◌, ◌<◌, ◌≤◌, ◌^◌, ◌↔◌, length, OnErr, OnOk, IfOk, IsTrue, [], vec_len};
@@ -27,9 +27,9 @@ use std::alloc::{AllocError, Global};
 use std::marker::Model;
 use std::time::Duration;
 use textarea_document::Document;
-use textarea_frame::frame::Frame;
 use textarea_lines::view::ViewSettings;
 use textarea_search::search::Search;
+use textarea_surround::surround::Surround;
 use textarea_wrap::wrap::WrapMode;
 
 /// How many edits a new text area remembers.
@@ -44,7 +44,7 @@ const DEFAULT_VIEW: ViewSettings = ViewSettings {
 };
 
 /// A multi-line text editor: lines of text, a cursor, a selection, a yanked text, settings, a pattern to search for, a
-/// history of edits, and a frame of a block, a placeholder and the least and the greatest height.
+/// history of edits, and a surround of a block, a placeholder and the least and the greatest height.
 ///
 /// Rows and columns count from 0, columns in characters. A call that runs out of memory leaves the text area as it was,
 /// or, where it inserts over a selection, as it is after what was selected was taken out.
@@ -55,7 +55,7 @@ pub struct TextArea<'a> {
     settings: Settings,
     moment: Duration,
     search: Search,
-    frame: Frame<'a>,
+    surround: Surround<'a>,
 }
 
 impl<'a> Model for TextArea<'a> {
@@ -65,7 +65,7 @@ impl<'a> Model for TextArea<'a> {
 
     ghost Value = { State };
 
-    ghost view = { λ area. record { document = area.document; yank = text_of area.yank.items; settings = area.settings; moment = as_nanos area.moment; pattern = area.search; frame = area.frame } };
+    ghost view = { λ area. record { document = area.document; yank = text_of area.yank.items; settings = area.settings; moment = as_nanos area.moment; pattern = area.search; surround = area.surround } };
 }
 
 impl<'a> Clone for TextArea<'a> {
@@ -79,7 +79,7 @@ impl<'a> Clone for TextArea<'a> {
             settings: self.settings,
             moment: self.moment,
             search: self.search.clone()?,
-            frame: self.frame.clone()?,
+            surround: self.surround.clone()?,
         })
     }
 }
@@ -96,7 +96,7 @@ impl<'a> TextArea<'a> {
             settings: Settings::default(),
             moment: Duration::ZERO,
             search: Search::default(),
-            frame: Frame::new(alloc),
+            surround: Surround::new(alloc),
         })
     }
 

@@ -9,14 +9,11 @@ ghost use Rattle.textarea_document.specs.Edits.{insertion, insertion_place, is_f
 use crate::document::Document;
 use std::alloc::AllocError;
 use std::time::Duration;
-use textarea_atomic::atomic::AtomicCursorBias;
-use textarea_history::history::{Edit, EditKind};
+use textarea_edit::edit::{Edit, EditKind};
 use textarea_pieces::places::end_of;
+use textarea_ranges::atomic::AtomicCursorBias;
 use textarea_ranges::held::moved_out;
 use textarea_text::rows;
-
-/// The most bytes and lines together that pieces may have; no document holds more.
-const MAX_SIZE: usize = 0x1_0000_0000_0000;
 
 impl Document {
     /// Where an insertion goes: to the cursor, or to the end of the atomic range that strictly holds it.
@@ -26,7 +23,7 @@ impl Document {
         ensures small { (result.0 < 2 ^ 48) × (result.1 ≤ 2 ^ 48) }
         ensures outside { All (λ range. ¬ IsInside result range) self.now.ranges }
     {
-        self.laid.places_are_small();
+        let _lines = self.laid.lines();
         moved_out(
             self.ranges.as_slice(),
             self.cursor,
@@ -87,7 +84,7 @@ impl Document {
             self.insert_nothing();
             return Ok(false);
         }
-        if MAX_SIZE < rows::size_of(pieces.as_slice()) {
+        if rows::MAX_SIZE < rows::size_of(pieces.as_slice()) {
             return Err(AllocError);
         }
         let start = self.insertion_place();

@@ -6,17 +6,17 @@ ghost use Rattle.textarea_text.specs.Place.{IsPlace, index_of};
 ghost use Rattle.textarea_ranges.specs.Held.{inside, start, stop};
 ghost use Rattle.textarea_ranges.specs.Rejected.{AreRefused};
 ghost use Rattle.textarea_ranges.specs.Valid.{AreValid};
-ghost use Rattle.textarea_atomic.specs.declared.atomic.AtomicDeleteDirection.TheVariants.{Backward, Forward};
+ghost use Rattle.textarea_ranges.specs.declared.atomic.AtomicDeleteDirection.TheVariants.{Backward, Forward};
 ghost use Rattle.textarea_document.specs.Edits.{hit_at_cursor, is_at_end, is_at_start};
 ghost use Rattle.textarea_document.specs.Ranges.{accepted, anchor_out, anchored, holding, normalized, unless_empty, without_range, without_ranges};
 
 use crate::document::Document;
 use std::alloc::AllocError;
 use std::time::Duration;
-use textarea_atomic::atomic::{
+use textarea_pieces::places::clipped;
+use textarea_ranges::atomic::{
     AtomicCursorBias, AtomicDeleteDirection, AtomicRange, AtomicRangeError,
 };
-use textarea_pieces::places::clipped;
 use textarea_ranges::held;
 use textarea_ranges::validate::validated;
 
@@ -26,7 +26,7 @@ impl Document {
         ensures value { result.now ≡ self.now.ranges }
         ensures valid { AreValid (lines self.now.text) result.now }
     {
-        self.ranges.as_slice() // valid for the text, by the invariant
+        self.ranges.as_slice()
     }
 
     /// Holds these ranges in place of the old ones, where they are valid for the text; else names the rejected ones, and

@@ -1,6 +1,7 @@
 /// Where in its row a text stands.
-#[derive(Clone, Copy, Debug, PartialEq, Eq)]
+#[derive(Clone, Copy, Debug, Default, PartialEq, Eq)]
 pub enum Alignment {
+    #[default]
     Left,
     Center,
     Right,

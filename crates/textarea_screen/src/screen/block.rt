@@ -1,4 +1,5 @@
-ghost use Rattle.std.specs.Prelude.{⊤, ◌≡◌, ◌+◌, ◌-◌, ℕ, [], ◌∷◌, codes, min, Some, IfOk, IsTrue};
+ghost use Rattle.std.specs.Prelude.{⊤, ◌≡◌, ◌==◌, ◌+◌, ◌-◌, ℕ, [], ◌∷◌, codes, min, Some, IfOk, IsTrue};
+ghost use Rattle.std.specs.Int.RustNames.{bit_and, bit_or};
 ghost use Rattle.textarea_screen.specs.Inset.{inset_of};
 
 use super::rect::{Padding, Rect};
@@ -8,7 +9,7 @@ use bitflags::{Flag, Flags, bitflag_items};
 use std::alloc::AllocError;
 
 /// The sides of a block that are drawn: a set, one bit each.
-#[derive(Clone, Copy, Debug, PartialEq, Eq)]
+#[derive(Clone, Copy, Debug, Default, PartialEq, Eq)]
 pub struct Borders(pub u8);
 
 bitflag_items! {
@@ -26,6 +27,20 @@ impl Borders {
 
     /// All four sides.
     pub const ALL: Borders = Borders(15);
+
+    /// The sides of either set.
+    pub fn union(self, other: Borders) -> Borders
+        ensures { result ≡ record { 0 = bit_or self.0 other.0 } }
+    {
+        Borders(self.0 | other.0)
+    }
+
+    /// Whether all sides of the other set are in this one.
+    pub fn contains(self, other: Borders) -> bool
+        ensures { result ≡ (bit_and self.0 other.0 == other.0) }
+    {
+        self.0 & other.0 == other.0
+    }
 }
 
 impl Flags for Borders {

@@ -1,50 +1,11 @@
-ghost use Rattle.std.specs.Prelude.{◌≡◌, ◌*◌, ◌<◌, ◌↔◌, ℕ, IsTrue, IsSome, None, Some, IfOk, if◌then◌else◌, vec_len};
+ghost use Rattle.std.specs.Prelude.{◌≡◌, ◌+◌, ◌*◌, ◌<◌, ◌≤◌, ◌==◌, ◌&&◌, ◌↔◌, ℕ, length, IsTrue, IsSome, IsOk, None, Some, IfOk, OnOk, OnErr, if◌then◌else◌, vec_len};
 ghost use Rattle.std.specs.Option.{option_map};
+ghost use Rattle.textarea_screen.specs.declared.screen.cell.TheConstants.{INLINE_BYTES};
 
-use super::color::Color;
-use super::modifier::Modifier;
+use super::cell::Cell;
 use super::rect::{Position, Rect};
 use super::style::Style;
-use bitflags::Flags;
 use std::alloc::{AllocError, Global};
-
-/// One cell of a screen: its text, mostly one character, and how that is shown.
-#[derive(Drop)]
-pub struct Cell {
-    pub symbol: String,
-    pub fg: Color,
-    pub bg: Color,
-    pub modifier: Modifier,
-}
-
-impl Cell {
-    ghost use Rattle.textarea_screen.specs.Cell.{shown_cell, styled, fresh_cell};
-
-    /// A fresh cell: one blank, in the terminal's colours, with no modifier.
-    pub fn fresh(alloc: Global) -> Result<Cell, AllocError>
-        ensures { IfOk result (λ cell. shown_cell cell ≡ fresh_cell) }
-    {
-        Ok(Cell {
-            symbol: String::from_str(alloc, " ")?,
-            fg: Color::Reset,
-            bg: Color::Reset,
-            modifier: Modifier(0),
-        })
-    }
-
-    /// Replaces the colours that the style sets, puts in the modifiers that it adds, and then takes
-    /// away those that it takes away. The text stays.
-    pub fn apply_style(&mut self, style: Style)
-        ensures { shown_cell self.new ≡ styled style (shown_cell self.old) }
-    {
-        self.fg = style.fg.unwrap_or(self.fg);
-        self.bg = style.bg.unwrap_or(self.bg);
-        self.modifier = self
-            .modifier
-            .union(style.add_modifier)
-            .difference(style.sub_modifier);
-    }
-}
 
 /// The cells of a rectangle, row after row.
 #[derive(Drop)]
@@ -55,11 +16,11 @@ pub struct Buffer {
 }
 
 impl Buffer {
-    ghost use Rattle.textarea_screen.specs.Rect.{contains};
-    ghost use Rattle.textarea_screen.specs.Cell.{shown_cell, fresh_cell};
-    ghost use Rattle.textarea_screen.specs.Buffer.{area_of, cell_at, place_in};
+    ghost use Rattle.textarea_screen.specs.Rect.{contains, is_in_row};
+    ghost use Rattle.textarea_screen.specs.Cell.{shown_cell, fresh_cell, styled, with_symbol};
+    ghost use Rattle.textarea_screen.specs.Buffer.{area_of, cell_at, place_in, Changes};
 
-    /// A buffer of fresh cells.
+    /// A buffer of fresh cells, which lie in one allocation.
     pub fn empty(alloc: Global, area: Rect) -> Result<Buffer, AllocError>
         ensures area { IfOk result (λ buffer. area_of buffer ≡ area) }
         ensures cells { IfOk result (λ buffer. (x y : ℕ) → cell_at buffer x y
@@ -68,7 +29,7 @@ impl Buffer {
         let count = usize::from(area.height) * usize::from(area.width);
         let mut cells = Vec::with_capacity(alloc, count)?;
         for _ in 0..count {
-            cells.push(Cell::fresh(alloc)?)?;
+            cells.push(Cell::fresh())?;
         }
         Ok(Buffer { area, cells })
     }
@@ -89,6 +50,56 @@ impl Buffer {
             Some(&self.cells[self.place(x, y)])
         } else {
             None
+        }
+    }
+
+    /// Puts a text into the cell at column `x` and row `y`, and applies a style to it. Outside of
+    /// the buffer's area nothing happens. Only a text of more than `INLINE_BYTES` bytes takes memory.
+    pub fn put(&mut self, x: u16, y: u16, text: &str, style: Style) -> Result<(), AllocError>
+        ensures ok { OnOk result (Changes self.old self.new (λ column row cell.
+            if (column == x) && (row == y) then with_symbol text.now style cell else cell)) }
+        ensures inline { length text.now ≤ INLINE_BYTES → IsOk result }
+        ensures err { OnErr result (self.new ≡ self.old) }
+    {
+        if self.area.contains(Position { x, y }) {
+            let alloc = *self.cells.allocator();
+            let place = self.place(x, y);
+            let cell = &mut self.cells[place];
+            cell.set_symbol(alloc, text)?;
+            cell.set_style(style);
+        }
+        Ok(())
+    }
+
+    /// Applies a style to the cells of an area, those outside of the buffer's left out.
+    pub fn set_style(&mut self, area: Rect, style: Style)
+        ensures { Changes self.old self.new (λ x y cell.
+            if contains area x y then styled style cell else cell) }
+    {
+        let area = self.area.intersection(area);
+        for y in area.y..area.y + area.height {
+            self.style_row(area, y, style);
+        }
+    }
+
+    /// Applies a style to the cells of one row of an area.
+    fn style_row(&mut self, area: Rect, row: u16, style: Style)
+        requires { (area.y ≤ row) × (row < area.y + area.height) }
+        ensures { Changes self.old self.new (λ x y cell.
+            if is_in_row area row x y then styled style cell else cell) }
+    {
+        for x in area.x..area.x + area.width {
+            self.style_cell(x, row, style);
+        }
+    }
+
+    fn style_cell(&mut self, x: u16, y: u16, style: Style)
+        ensures { Changes self.old self.new (λ column row cell.
+            if (column == x) && (row == y) then styled style cell else cell) }
+    {
+        if self.area.contains(Position { x, y }) {
+            let place = self.place(x, y);
+            self.cells[place].set_style(style);
         }
     }
 

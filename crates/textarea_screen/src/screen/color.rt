@@ -1,7 +1,8 @@
 /// A colour of a terminal.
-#[derive(Clone, Copy, Debug, PartialEq, Eq)]
+#[derive(Clone, Copy, Debug, Default, PartialEq, Eq)]
 pub enum Color {
     /// The terminal's own colour.
+    #[default]
     Reset,
     Black,
     Red,

@@ -1,9 +1,10 @@
-ghost use Rattle.std.specs.Prelude.{⊤, [], ◌∷◌, codes};
+ghost use Rattle.std.specs.Prelude.{⊤, ◌≡◌, ◌==◌, [], ◌∷◌, codes};
+ghost use Rattle.std.specs.Int.RustNames.{bit_and};
 
 use bitflags::{Flag, Flags, bitflag_items};
 
 /// How a terminal shows a text besides its colours: a set, one bit each.
-#[derive(Clone, Copy, Debug, PartialEq, Eq)]
+#[derive(Clone, Copy, Debug, Default, PartialEq, Eq)]
 pub struct Modifier(pub u16);
 
 bitflag_items! {
@@ -17,6 +18,31 @@ bitflag_items! {
         const REVERSED = 64;
         const HIDDEN = 128;
         const CROSSED_OUT = 256;
+    }
+}
+
+impl Modifier {
+    ghost use Rattle.textarea_screen.specs.Modifier.{union_of, difference_of};
+
+    /// The modifiers of either set.
+    pub fn union(self, other: Modifier) -> Modifier
+        ensures { result ≡ union_of self other }
+    {
+        Modifier(self.0 | other.0)
+    }
+
+    /// The modifiers of this set that are not in the other.
+    pub fn difference(self, other: Modifier) -> Modifier
+        ensures { result ≡ difference_of self other }
+    {
+        Modifier(self.0 & !other.0)
+    }
+
+    /// Whether all modifiers of the other set are in this one.
+    pub fn contains(self, other: Modifier) -> bool
+        ensures { result ≡ (bit_and self.0 other.0 == other.0) }
+    {
+        self.0 & other.0 == other.0
     }
 }
 

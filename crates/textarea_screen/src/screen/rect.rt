@@ -1,14 +1,14 @@
-ghost use Rattle.std.specs.Prelude.{◌≡◌, ◌+◌, ◌-◌, ◌≤◌, ◌⊎◌, ◌↔◌, ℕ, false, IsTrue, min};
+ghost use Rattle.std.specs.Prelude.{◌≡◌, ◌+◌, ◌-◌, ◌≤◌, ◌⊎◌, ◌↔◌, ◌&&◌, ℕ, false, IsTrue, min};
 
 /// The place of a cell, counted from 0: `x` columns from the left and `y` rows from the top.
-#[derive(Clone, Copy, Debug, PartialEq, Eq)]
+#[derive(Clone, Copy, Debug, Default, PartialEq, Eq)]
 pub struct Position {
     pub x: u16,
     pub y: u16,
 }
 
 /// Columns and rows that stay free at the four sides of a rectangle.
-#[derive(Clone, Copy, Debug, PartialEq, Eq)]
+#[derive(Clone, Copy, Debug, Default, PartialEq, Eq)]
 pub struct Padding {
     pub left: u16,
     pub right: u16,
@@ -111,5 +111,33 @@ impl Rect {
             && position.x < self.x + self.width
             && self.y <= position.y
             && position.y < self.y + self.height
+    }
+
+    /// The cells that both rectangles have. Where they have none in common, it is empty.
+    pub fn intersection(&self, other: Rect) -> Rect
+        ensures { (x y : ℕ) → contains result x y ≡ (contains self.now x y && contains other x y) }
+    {
+        let x = self.x.max(other.x);
+        let y = self.y.max(other.y);
+        let right = (self.x + self.width).min(other.x + other.width);
+        let bottom = (self.y + self.height).min(other.y + other.height);
+        Rect {
+            x,
+            y,
+            width: right.saturating_sub(x),
+            height: bottom.saturating_sub(y),
+        }
+    }
+}
+
+impl Default for Rect {
+    ghost use Rattle.std.specs.Prelude.{◌≡◌};
+
+    ghost is_default = { λ area. (area.x ≡ 0) × (area.y ≡ 0) × (area.width ≡ 0)
+        × (area.height ≡ 0) };
+
+    /// The rectangle with no cell at column 0 and row 0.
+    fn default() -> Rect {
+        Rect::new(0, 0, 0, 0)
     }
 }

@@ -1,7 +1,7 @@
 ghost use Rattle.std.specs.Prelude.{◌≡◌, [], ◌∷◌, IfOk, IsOk};
 
 use super::style::Style;
-use std::alloc::AllocError;
+use std::alloc::{AllocError, Global};
 
 /// A text that is lent or owned.
 #[derive(Drop)]
@@ -44,7 +44,26 @@ pub struct Span<'a> {
 }
 
 impl<'a> Span<'a> {
+    ghost use Rattle.textarea_screen.specs.declared.screen.text.SpanText.TheVariants.{Borrowed};
+    ghost use Rattle.textarea_screen.specs.Style.{empty_style};
     ghost use Rattle.textarea_screen.specs.Text.{IsBorrowed, shown_span};
+
+    /// A text that is lent, in the empty style. It takes no memory.
+    pub fn raw(text: &'a str) -> Span<'a>
+        ensures { result ≡ record { content = Borrowed text.entry; style = empty_style } }
+    {
+        Span::styled(text, Style::new())
+    }
+
+    /// A text that is lent, in a style. It takes no memory.
+    pub fn styled(text: &'a str, style: Style) -> Span<'a>
+        ensures { result ≡ record { content = Borrowed text.entry; style = style } }
+    {
+        Span {
+            content: SpanText::Borrowed(text),
+            style,
+        }
+    }
 
     /// The same span, its text copied where it is owned; a lent text takes no memory.
     pub fn clone(&self) -> Result<Span<'a>, AllocError>
@@ -69,6 +88,23 @@ impl<'a> Line<'a> {
     ghost use Rattle.textarea_screen.specs.declared.screen.text.SpanText.TheVariants.{Owned};
     ghost use Rattle.textarea_screen.specs.Style.{empty_style};
     ghost use Rattle.textarea_screen.specs.Text.{shown_line};
+
+    /// A line without spans, in the empty style. It takes no memory.
+    pub fn new(alloc: Global) -> Line<'a>
+        ensures { (result.spans.items ≡ []) × (result.style ≡ empty_style) }
+    {
+        Line::from_spans(Vec::new(alloc))
+    }
+
+    /// The spans one after another, in the empty style.
+    pub fn from_spans(spans: Vec<Span<'a>>) -> Line<'a>
+        ensures { result ≡ record { spans = spans.entry; style = empty_style } }
+    {
+        Line {
+            spans,
+            style: Style::new(),
+        }
+    }
 
     /// The whole text in one span, in no style of its own. A `\n` in it stays.
     pub fn raw(text: String) -> Result<Line<'a>, AllocError>
@@ -110,7 +146,25 @@ pub struct Text<'a> {
 }
 
 impl<'a> Text<'a> {
+    ghost use Rattle.textarea_screen.specs.Style.{empty_style};
     ghost use Rattle.textarea_screen.specs.Text.{shown_text};
+
+    /// A text without lines, in the empty style. It takes no memory.
+    pub fn new(alloc: Global) -> Text<'a>
+        ensures { (result.lines.items ≡ []) × (result.style ≡ empty_style) }
+    {
+        Text::from_lines(Vec::new(alloc))
+    }
+
+    /// The lines one below another, in the empty style.
+    pub fn from_lines(lines: Vec<Line<'a>>) -> Text<'a>
+        ensures { result ≡ record { lines = lines.entry; style = empty_style } }
+    {
+        Text {
+            lines,
+            style: Style::new(),
+        }
+    }
 
     /// The same lines, the texts copied that their spans own.
     pub fn clone(&self) -> Result<Text<'a>, AllocError>

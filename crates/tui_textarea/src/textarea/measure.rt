@@ -1,11 +1,11 @@
 //! The measured height.
 ghost use Rattle.std.specs.Prelude.{◌≡◌, ◌≤◌, IfOk, IsOk, true};
-ghost use Rattle.textarea_frame.specs.State.{AreBounds};
+ghost use Rattle.textarea_surround.specs.State.{AreBounds};
 ghost use Rattle.tui_textarea.specs.Measure.{IsMeasured, reads_rows};
 
 use crate::textarea::TextArea;
 use std::alloc::AllocError;
-use textarea_frame::frame::measure::TextAreaMeasure;
+use textarea_surround::surround::measure::TextAreaMeasure;
 
 impl TextArea<'_> {
     /// The height that an area of this width, in columns, needs for the block and all rows of the text, or of the
@@ -18,7 +18,12 @@ impl TextArea<'_> {
         ensures within { IfOk result (λ measure. (measure.min_rows ≤ measure.preferred_rows) × (measure.preferred_rows ≤ measure.max_rows)) }
         ensures no_memory { reads_rows self.old width ≡ true → IsOk result }
     {
-        let rows = self.document.rows_at_width(self.frame.inner_width(width))?;
-        Ok(self.frame.measured(width, rows, self.document.is_empty()))
+        let rows = self
+            .document
+            .rows_at_width(self.surround.inner_width(width))?;
+        Ok(
+            self.surround
+                .measured(width, rows, self.document.is_empty()),
+        )
     }
 }

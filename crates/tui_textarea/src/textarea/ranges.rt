@@ -9,7 +9,7 @@ ghost use Rattle.tui_textarea.specs.Ranges.{cursor_normalized, range_out, ranges
 
 use crate::textarea::TextArea;
 use std::alloc::AllocError;
-use textarea_atomic::atomic::{
+use textarea_ranges::atomic::{
     AtomicCursorBias, AtomicDeleteDirection, AtomicRange, AtomicRangeError,
 };
 
@@ -24,7 +24,8 @@ impl TextArea<'_> {
     {
         match self.document.try_set_ranges(ranges)? {
             Ok(()) => Ok(()),
-            Err(_) => unreachable!(), // valid ranges are not refused
+            // Valid ranges are not refused.
+            Err(_) => unreachable!(),
         }
     }
 

@@ -7,8 +7,8 @@ ghost use Rattle.tui_textarea.specs.Removals.{break_before_out, cleared, has_ahe
 
 use crate::textarea::TextArea;
 use std::alloc::AllocError;
-use textarea_atomic::atomic::AtomicDeleteDirection;
 use textarea_pieces::places::{ahead, line_end, text_end};
+use textarea_ranges::atomic::AtomicDeleteDirection;
 use textarea_target::ends::{word_end_after, word_start_before};
 
 impl TextArea<'_> {
@@ -41,7 +41,7 @@ impl TextArea<'_> {
             return Ok(true);
         }
         self.document
-            .remove_behind(self.settings.undo_coalescing, self.moment) // yanks nothing
+            .remove_behind(self.settings.undo_coalescing, self.moment)
     }
 
     /// Removes the line break before the cursor's line, and says whether something was removed. Where nothing is, it
@@ -87,7 +87,7 @@ impl TextArea<'_> {
         ensures nothing { removes_or self.old (has_line_behind self.old) ≡ false → IsOk result }
     {
         if self.document.remove_selection(self.moment)? {
-            return Ok(true); // and yanks nothing
+            return Ok(true);
         }
         let cursor = self.document.cursor();
         let end = line_end(self.document.lines(), cursor.0);

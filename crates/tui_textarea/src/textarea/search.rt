@@ -28,7 +28,7 @@ impl TextArea<'_> {
     pub fn search_pattern(&self) -> Option<&str>
         ensures { option_copied result ≡ self.now.pattern }
     {
-        self.search.pattern() // as it was set
+        self.search.pattern()
     }
 
     /// Moves the cursor to the next start of a match, and says whether there was one: the first behind the cursor or,

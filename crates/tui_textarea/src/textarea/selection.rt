@@ -24,7 +24,7 @@ impl TextArea<'_> {
     pub fn cancel_selection(&mut self)
         ensures { self.new ≡ dropped self.old }
     {
-        self.document.set_anchor(None); // a run of typing goes on
+        self.document.set_anchor(None);
     }
 
     /// Selects the whole text, and moves the cursor to its end.
@@ -58,7 +58,7 @@ impl TextArea<'_> {
         if let Some((start, end)) = self.document.selected() {
             self.yank = between(self.allocator(), self.document.lines(), start, end)?;
         }
-        self.document.set_anchor(None); // an empty selection too
+        self.document.set_anchor(None);
         Ok(())
     }
 

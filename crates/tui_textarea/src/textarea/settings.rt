@@ -40,14 +40,14 @@ impl TextArea<'_> {
     pub fn set_hard_tab_indent(&mut self, hard_tab_indent: bool)
         ensures { self.new ≡ record self.old { settings = record self.old.settings { hard_tab_indent = hard_tab_indent } } }
     {
-        self.settings.hard_tab_indent = hard_tab_indent; // the text stays as it is
+        self.settings.hard_tab_indent = hard_tab_indent;
     }
 
     /// Whether a tab is inserted as a tab character.
     pub fn hard_tab_indent(&self) -> bool
         ensures { result ≡ self.now.settings.hard_tab_indent }
     {
-        self.settings.hard_tab_indent // as it was set
+        self.settings.hard_tab_indent
     }
 
     /// What a tab at a line's start is: a tab character, or as many spaces as the tab length.
@@ -76,7 +76,7 @@ impl TextArea<'_> {
     pub fn undo_coalescing(&self) -> bool
         ensures { result ≡ self.now.settings.undo_coalescing }
     {
-        self.settings.undo_coalescing // as it was set
+        self.settings.undo_coalescing
     }
 
     /// Forgets all edits, and remembers so many from now on, done and undone together; at 0 none.
@@ -99,6 +99,6 @@ impl TextArea<'_> {
     pub fn set_now(&mut self, now: Duration)
         ensures { self.new ≡ record self.old { moment = as_nanos now } }
     {
-        self.moment = now; // no edit by itself
+        self.moment = now;
     }
 }

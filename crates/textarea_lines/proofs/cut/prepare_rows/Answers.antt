@@ -14,7 +14,7 @@ make_room-requires c =
 pub returns-then-is_same-clause-rows : goal.returns-then-is_same-clause-rows
 returns-then-is_same-clause-rows c =
     let items = c.args.lines.now in
-    let new = c.args.change.now in
+    let new = c.args.replacement.now in
     let same : is_same c.wrapping_for-after.result (wrapping_for c.args.view (length items)) ≡ true =
     ap (is_same c.wrapping_for-after.result) (sym c.wrapping_for-before.ensures) ∙ sym c.is_same.ensures ∙ c.if-is_same.true in
     let after = c.wrapping_for-after.ensures ∙ ap (λ n. wrapping_for c.args.view (length items - new.count + n)) c.as_slice-new.ensures.len in
@@ -25,7 +25,7 @@ returns-then-is_same-clause-rows c =
 pub returns-then-is_same-clause-screen : goal.returns-then-is_same-clause-screen
 returns-then-is_same-clause-screen c =
     let items = c.args.lines.now in
-    let new = c.args.change.now in
+    let new = c.args.replacement.now in
     let after = c.wrapping_for-after.ensures ∙ ap (λ n. wrapping_for c.args.view (length items - new.count + n)) c.as_slice-new.ensures.len in
     let same = ap (λ w. is_same w (wrapping_for c.args.view (length items))) (sym after) ∙ ap (is_same c.wrapping_for-after.result) (sym c.wrapping_for-before.ensures) ∙ sym c.is_same.ensures ∙ c.if-is_same.true in
     IfOk-from_three c.make_room.result _ _ _ _
@@ -39,7 +39,7 @@ make_room-requires-2 c =
 pub returns-clause-rows : goal.returns-clause-rows
 returns-clause-rows c =
     let items = c.args.lines.now in
-    let new = c.args.change.now in
+    let new = c.args.replacement.now in
     let long : length c.args.map.now.rows ≡ length items = length-AreRowsOf _ (lines_of items) c.args.map.now.rows c.requires.rows ∙ length-map items characters_of in
     let after = c.wrapping_for-after.ensures ∙ ap (λ n. wrapping_for c.args.view (length items - new.count + n)) c.as_slice-new.ensures.len in
     IfOk-from_three c.make_room-2.result _ _ _ _
@@ -49,7 +49,7 @@ returns-clause-rows c =
 pub returns-clause-screen : goal.returns-clause-screen
 returns-clause-screen c =
     let items = c.args.lines.now in
-    let new = c.args.change.now in
+    let new = c.args.replacement.now in
     let long : length c.args.map.now.rows ≡ length items = length-AreRowsOf _ (lines_of items) c.args.map.now.rows c.requires.rows ∙ length-map items characters_of in
     let after = c.wrapping_for-after.ensures ∙ ap (λ n. wrapping_for c.args.view (length items - new.count + n)) c.as_slice-new.ensures.len in
     let differs = ap (λ w. is_same w (wrapping_for c.args.view (length items))) (sym after) ∙ ap (is_same c.wrapping_for-after.result) (sym c.wrapping_for-before.ensures) ∙ sym c.is_same.ensures ∙ c.if-is_same.false in

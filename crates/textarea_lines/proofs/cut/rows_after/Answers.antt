@@ -8,7 +8,7 @@ use Rattle.textarea_lines.proofs.cut.rows_after.Goals as goal
 
 pub returns-clause-rows : goal.returns-clause-rows
 returns-clause-rows c =
-    let new = c.args.change.now in
+    let new = c.args.replacement.now in
     let items = c.args.lines.now in
     let at = new.row + new.count in
     let above = take new.row items in
@@ -21,7 +21,7 @@ returns-clause-rows c =
 
 pub returns-clause-ticks : goal.returns-clause-ticks
 returns-clause-ticks c =
-    let new = c.args.change.now in
+    let new = c.args.replacement.now in
     let items = c.args.lines.now in
     let at = new.row + new.count in
     let above = take new.row items in

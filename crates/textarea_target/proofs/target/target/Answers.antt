@@ -1,6 +1,6 @@
 use Rattle.std.proofs.Common.{◌≡◌, ◌∙◌, ap, refl, ℕ, Some}
 use Rattle.textarea_text.specs.Text.{lines_of}
-use Rattle.textarea_move.specs.declared.cursor_move.CursorMove.TheVariants.{End, Top, Bottom, WordForward, WordEnd, WordBack, ParagraphForward, ParagraphBack, Jump}
+use Rattle.textarea_data.specs.declared.cursor.CursorMove.TheVariants.{End, Top, Bottom, WordForward, WordEnd, WordBack, ParagraphForward, ParagraphBack, Jump}
 use Rattle.textarea_target.specs.Target.{clipped, last_row, paragraph_back, paragraph_forward, row_end, word_back, word_end, word_forward}
 use Rattle.textarea_pieces.specs.Part.{clip}
 use Rattle.textarea_target.proofs.Rows.{leads}

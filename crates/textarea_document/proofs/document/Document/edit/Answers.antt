@@ -1,19 +1,22 @@
 use Rattle.std.proofs.Common.{◌∙◌, ap, sym, subst}
 use Rattle.std.specs.Duration.{as_nanos}
-use Rattle.textarea_text.specs.Splice.{Fits}
+use Rattle.textarea_text.specs.Splice.{Fits, applied, place_after}
 use Rattle.textarea_history.specs.Log.{recorded}
 use Rattle.textarea_lines.specs.Screen.{LaidOut}
 use Rattle.textarea_document.specs.State.{DocumentState}
-use Rattle.textarea_document.proofs.Sounds.{sound_after}
+use Rattle.textarea_document.specs.Outcomes.{edited}
+use Rattle.textarea_document.proofs.Sounds.{document_of, sound_edited, sound_left}
 use Rattle.textarea_document.proofs.document.Document.edit.Goals as goal
 
 pub invariant_of-self-2 : goal.invariant_of-self-2
 invariant_of-self-2 c =
     let inside = c.self.inside in
     let splice = c.args.edit.splice in
-    let document : DocumentState = record { text = inside.laid.text; screen = inside.laid.screen; cursor = inside.cursor; anchor = inside.anchor; ranges = inside.ranges.items; log = inside.history.log } in
+    let moment = as_nanos c.args.now in
+    let document = document_of inside.laid inside.cursor inside.anchor inside.ranges.items inside.history.log in
     let fits = subst (λ (s : DocumentState). Fits s.text splice) (sym c.self.view_is) c.requires.fits in
-    sound_after document c.make.new.self.text c.make.new.self.screen c.cursor_after-self-inside.result c.change_ranges.new.ranges.items c.put.new.self.log splice c.args.typed (as_nanos c.args.now) c.self.invariant fits (ap (λ (l : LaidOut). l.text) c.in_ok-make.ensures.ok)
-    (c.cursor_after-self-inside.ensures.end c.requires.well_formed)
-    (c.put.ensures ∙ ap (λ l. recorded l splice c.args.typed (as_nanos c.args.now)) c.in_ok-reserve.ensures.same)
+    sound_left (edited document splice c.args.typed moment) c.apply.new.self.text c.apply.new.self.screen c.cursor_after-ahead.result c.change_ranges.new.ranges.items c.put.new.self.log (sound_edited document splice c.args.typed moment c.self.invariant fits)
+    (ap (λ (l : LaidOut). l.text) c.in_ok-apply.ensures.ok ∙ ap (applied inside.laid.text) c.change-change.ensures)
+    (c.cursor_after-ahead.ensures ∙ ap place_after c.change-change.ensures)
     c.change_ranges.ensures.none
+    (c.put.ensures ∙ ap (λ l. recorded l splice c.args.typed moment) c.in_ok-reserve.ensures.same)

@@ -9,7 +9,7 @@ valid : (c : goal.After-moved_out) → AreValid (lines c.self.inside.laid.text) 
 valid c = subst (AreValid (lines c.self.inside.laid.text)) (sym c.as_slice.ensures.value) c.self.invariant.ranges
 
 pub returns-clause-small : goal.returns-clause-small
-returns-clause-small c = c.places_are_small.ensures c.moved_out.result (c.moved_out.ensures.place (lines c.self.inside.laid.text) (valid c) c.self.invariant.cursor)
+returns-clause-small c = c.lines-lines.ensures.small c.moved_out.result (c.moved_out.ensures.place (lines c.self.inside.laid.text) (valid c) c.self.invariant.cursor)
 
 pub returns-clause-outside : goal.returns-clause-outside
 returns-clause-outside c =

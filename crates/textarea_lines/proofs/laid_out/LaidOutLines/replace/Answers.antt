@@ -18,21 +18,21 @@ put_in-requires-clause-within c =
 pub invariant_of-self-2 : goal.invariant_of-self-2
 invariant_of-self-2 c =
     let inside = c.self.inside in
-    let change = c.args.change in
-    let text = ap (λ (s : LaidOut). weight (joined (replaced (lines s.text) change.row change.count (lines_of change.lines.items))) + 1) c.self.view_is in
-    let within : change.row + change.count ≤ length inside.lines.items =
+    let replacement = c.args.replacement in
+    let text = ap (λ (s : LaidOut). weight (joined (replaced (lines s.text) replacement.row replacement.count (lines_of replacement.lines.items))) + 1) c.self.view_is in
+    let within : replacement.row + replacement.count ≤ length inside.lines.items =
     omega (arith, c.requires.within, ap (λ (s : LaidOut). length (lines s.text)) c.self.view_is, count_held inside.lines.items c.self.invariant.held.stored.some) in
-    let steps : Replacing inside.lines.items c.as_slice.result.now c.reserve.new.self.items c.put_in.new.lines.items change.lines.items change.row change.count =
+    let steps : Replacing inside.lines.items c.as_slice.result.now c.reserve.new.self.items c.put_in.new.lines.items replacement.lines.items replacement.row replacement.count =
     record {
       some = c.self.invariant.held.stored.some;
       lent_is = c.as_slice.ensures.value;
       kept_is = c.in_ok-reserve.ensures.items;
       now_is = c.put_in.ensures;
       within = within;
-      new_some = omega (arith, c.requires.some, change.lines.ok.0);
+      new_some = omega (arith, c.requires.some, replacement.lines.ok.0);
     } in
     record {
-      held = holds_replaced inside.view inside.lines.items c.as_slice.result.now c.reserve.new.self.items c.put_in.new.lines.items change.lines.items change.row change.count c.args.size _ _ c.put_in-2.new.self.rows steps change.lines.ok.0 c.in_ok-prepared.ensures.rows
+      held = holds_replaced inside.view inside.lines.items c.as_slice.result.now c.reserve.new.self.items c.put_in.new.lines.items replacement.lines.items replacement.row replacement.count c.args.size _ _ c.put_in-2.new.self.rows steps replacement.lines.ok.0 c.in_ok-prepared.ensures.rows
           (c.put_in-2.ensures ∙ ap (λ t. replaced t c.in_ok-prepared.prepared.row c.in_ok-prepared.prepared.count c.in_ok-prepared.prepared.rows.items) c.in_ok-prepared.ensures.same)
           (c.requires.size ∙ sym text) c.requires.limit;
       measured = tt;
@@ -41,18 +41,18 @@ invariant_of-self-2 c =
 pub returns-clause-ok : goal.returns-clause-ok
 returns-clause-ok c =
     let inside = c.self.inside in
-    let change = c.args.change in
-    let within : change.row + change.count ≤ length inside.lines.items =
+    let replacement = c.args.replacement in
+    let within : replacement.row + replacement.count ≤ length inside.lines.items =
     omega (arith, c.requires.within, ap (λ (s : LaidOut). length (lines s.text)) c.self.view_is, count_held inside.lines.items c.self.invariant.held.stored.some) in
-    let steps : Replacing inside.lines.items c.as_slice.result.now c.reserve.new.self.items c.put_in.new.lines.items change.lines.items change.row change.count =
+    let steps : Replacing inside.lines.items c.as_slice.result.now c.reserve.new.self.items c.put_in.new.lines.items replacement.lines.items replacement.row replacement.count =
     record {
       some = c.self.invariant.held.stored.some;
       lent_is = c.as_slice.ensures.value;
       kept_is = c.in_ok-reserve.ensures.items;
       now_is = c.put_in.ensures;
       within = within;
-      new_some = omega (arith, c.requires.some, change.lines.ok.0);
+      new_some = omega (arith, c.requires.some, replacement.lines.ok.0);
     } in
-    seen_replaced inside.view inside.lines.items c.as_slice.result.now c.reserve.new.self.items c.put_in.new.lines.items change.lines.items change.row change.count _ inside.count c.in_ok-count.count c.prepare_rows.new.count inside.map.rows c.put_in-2.new.self.rows _ steps change.lines.ok.0 c.in_ok-count.ensures.cases c.in_ok-prepared.ensures.screen
+    seen_replaced inside.view inside.lines.items c.as_slice.result.now c.reserve.new.self.items c.put_in.new.lines.items replacement.lines.items replacement.row replacement.count _ inside.count c.in_ok-count.count c.prepare_rows.new.count inside.map.rows c.put_in-2.new.self.rows _ steps replacement.lines.ok.0 c.in_ok-count.ensures.cases c.in_ok-prepared.ensures.screen
     (c.put_in-2.ensures ∙ ap (λ t. replaced t c.in_ok-prepared.prepared.row c.in_ok-prepared.prepared.count c.in_ok-prepared.prepared.rows.items) c.in_ok-prepared.ensures.same)
-    ∙ ap (λ (s : LaidOut). replaced_in s change.row change.count (lines_of change.lines.items)) c.self.view_is
+    ∙ ap (λ (s : LaidOut). replaced_in s replacement.row replacement.count (lines_of replacement.lines.items)) c.self.view_is

@@ -1,0 +1,21 @@
+//! Draws frames, and prints the first row of the last one.
+//!
+//! Each line of standard input is a job of four parts with one space between them: how many frames, a width, a height, and a
+//! text, which is repeated until a row has as many bytes as columns, or more. Each frame draws one line into each row.
+#![tactic(auto)]
+
+mod job;
+
+use anyhow::{Context, Result};
+use job::Job;
+
+fn main(rt: HostRuntime) -> Result<()> {
+    let alloc = rt.alloc();
+    for input in rt.lines(alloc) {
+        let input = input?;
+        let job = Job::parse(input.as_str()).context("a line that is no job")?;
+        let row = job.run(alloc)?;
+        println!(rt; "{row}")?;
+    }
+    Ok(())
+}

@@ -1,4 +1,0 @@
-//! Cursor moves and places.
-#![tactic(auto)]
-
-pub mod cursor;

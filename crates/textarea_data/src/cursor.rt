@@ -1,0 +1,63 @@
+//! Cursor moves and places.
+
+ghost use Rattle.std.specs.Prelude.{◌≡◌};
+ghost use Rattle.textarea_data.specs.Cursor.{cursor_of, place_of};
+
+use serde::{Deserialize, Serialize};
+
+/// A way to move the cursor.
+#[derive(Clone, Copy, Debug, PartialEq, Eq, Serialize, Deserialize)]
+pub enum CursorMove {
+    /// To the next place, over a line's end too.
+    Forward,
+    /// To the previous place, over a line's start too.
+    Back,
+    /// To the visual row above.
+    Up,
+    /// To the visual row below.
+    Down,
+    /// To the start of the cursor's line.
+    Head,
+    /// To the end of the cursor's line.
+    End,
+    /// To the first line.
+    Top,
+    /// To the last line.
+    Bottom,
+    /// To the start of the next word.
+    WordForward,
+    /// To the last character of a word.
+    WordEnd,
+    /// To the start of the previous word.
+    WordBack,
+    /// To the start of the next paragraph.
+    ParagraphForward,
+    /// To the start of the previous paragraph.
+    ParagraphBack,
+    /// To a row and a column, counted from 0.
+    Jump(u16, u16),
+    /// Into what was last drawn, as far as the cursor lies outside.
+    InViewport,
+}
+
+/// A place in a text: a row and a column in characters, both counted from 0.
+#[derive(Clone, Copy, Debug, PartialEq, Eq)]
+pub struct DataCursor(pub usize, pub usize);
+
+/// The row and the column, in this order.
+impl From<(usize, usize)> for DataCursor {
+    ghost from_gives = { λ place cursor. (cursor ≡ cursor_of place) × (place_of cursor ≡ place) };
+
+    fn from(place: (usize, usize)) -> DataCursor {
+        DataCursor(place.0, place.1)
+    }
+}
+
+/// The row and the column, in this order.
+impl From<DataCursor> for (usize, usize) {
+    ghost from_gives = { λ cursor place. (place ≡ place_of cursor) × (cursor_of place ≡ cursor) };
+
+    fn from(cursor: DataCursor) -> (usize, usize) {
+        (cursor.0, cursor.1)
+    }
+}

@@ -1,0 +1,3 @@
+pub mod Edit
+pub mod Run
+pub mod Law

@@ -1,7 +1,0 @@
-use Rattle.std.proofs.Common.{lit<}
-use Rattle.std.proofs.lemmas.Fmt.{length-decimal-le}
-use Rattle.textarea_highlight.proofs.highlight.tests.line_numbers.Goals as goal
-
--- 124 has at most five digits
-pub line_number-requires-clause-fits : goal.line_number-requires-clause-fits
-line_number-requires-clause-fits g c = length-decimal-le 5 124 (lit< tt) (lit< tt) (lit< tt)

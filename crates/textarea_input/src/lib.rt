@@ -1,4 +1,0 @@
-//! Key inputs, whatever terminal library they come from.
-#![tactic(auto)]
-
-pub mod input;

@@ -1,9 +1,0 @@
-use Rattle.std.proofs.Common.{sym, subst}
-use Rattle.textarea_text.specs.Place.{IsPlace}
-use Rattle.textarea_lines.specs.Screen.{LaidOut}
-use Rattle.textarea_lines.proofs.Stores.{small_place}
-use Rattle.textarea_lines.proofs.laid_out.LaidOutLines.places_are_small.Goals as goal
-
-pub returns : goal.returns
-returns c = λ place h.
-    small_place c.self.inside.lines.items c.self.inside.size place c.self.invariant.held.stored (subst (λ (s : LaidOut). IsPlace s.text place) (sym c.self.view_is) h)

@@ -1,4 +1,0 @@
-//! The ways to move a cursor.
-#![tactic(auto)]
-
-pub mod cursor_move;

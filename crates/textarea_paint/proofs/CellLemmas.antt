@@ -1,0 +1,216 @@
+-- The cells of a row, cluster by cluster.
+use Rattle.std.proofs.Common.{◌≡◌, ℕ, ◌+◌, ◌-◌, ◌<◌, ◌≤◌, min, Bool, true, false, cond, eqb, ◌&&◌, List, [], ◌∷◌, Option, None, Some, refl, sym, ap, ◌∙◌, ⊎_elim, arith}
+use Rattle.std.specs.List.{find}
+use Rattle.std.proofs.lemmas.Bool.Decides.{nat_tests}
+use Rattle.std.proofs.lemmas.Bool.{ltb-true, leb-true, eqb-true, eq-eqb, and_parts, and_from, and_left, cases_Bool, cond-true, cond-false, false≢true, le-leb, lt-ltb, lt-leb}
+use Rattle.textarea_screen.specs.Cell.{ShownCell, with_symbol}
+use Rattle.textarea_screen.specs.declared.screen.style.Style.{Style}
+use Rattle.textarea_paint.specs.Cells.{Placed, placed_at, place_from, covers, is_between, is_in_cells, is_whole, symbol_of, symbol_in, covered, row_change, IsPenAt}
+use Rattle.textarea_paint.specs.Clusters.{Cluster}
+use Rattle.textarea_paint.specs.Columns.{columns_of}
+use Rattle.textarea_paint.specs.declared.paint.cells.Pen.{Pen}
+use Rattle.textarea_paint.specs.declared.paint.cells.RowCells.{RowCells}
+
+-- ---- tests
+
+pub bool_ext : (a b : Bool) → (a ≡ true → b ≡ true) → (b ≡ true → a ≡ true) → a ≡ b
+bool_ext true b to from = sym (to refl)
+bool_ext false true to from = from refl
+bool_ext false false to from = refl
+
+pub record IsBetween (row from to x y : ℕ) : Type 0 where
+  pub at : y ≡ row
+  pub behind : from ≤ x
+  pub before : x < to
+
+pub between : (row from to x y : ℕ) → is_between row from to x y ≡ true → IsBetween row from to x y
+between row from to x y h =
+    let p = and_parts _ _ h in
+    let q = and_parts _ _ p.1 in
+    record { at = eqb-true y row p.0; behind = leb-true from x q.0; before = ltb-true x to q.1 }
+
+between_test : (row from to x y : ℕ) → y ≡ row → from ≤ x → x < to → is_between row from to x y ≡ true
+between_test row from to x y at left right = and_from _ _ (eq-eqb y row at) (and_from _ _ (le-leb from x left) (lt-ltb x to right))
+
+covers_parts : (column : ℕ) (placed : Placed) → covers column placed ≡ true → (placed.start ≤ column) × (column < placed.start + columns_of placed.text)
+covers_parts column placed h =
+    let p = and_parts _ _ h in
+    (leb-true placed.start column p.0, ltb-true column (placed.start + columns_of placed.text) p.1)
+
+-- ---- one cluster in front of others
+
+-- a column before the first cluster is taken by none
+find-before : (column start : ℕ) (clusters : List Cluster) → column < start → find (covers column) (place_from start clusters) ≡ None
+find-before column start [] before = refl
+find-before column start (cluster ∷ clusters) before =
+    cond-false _ _ _ (and_left _ _ (lt-leb start column before)) ∙ find-before column (start + columns_of cluster.text) clusters (omega arith)
+
+covered-then : (cells : RowCells) (left column : ℕ) (here : Bool) (placed : Placed) (behind : Option Placed) (cell : ShownCell) → (here ≡ true → behind ≡ None) →
+    covered cells left column behind (covered cells left column (cond here (Some placed) None) cell) ≡ covered cells left column (cond here (Some placed) behind) cell
+covered-then cells left column true placed behind cell none = rw (none refl) refl
+covered-then cells left column false placed behind cell none = refl
+
+cond-then : (inside : Bool) (f g both : ShownCell → ShownCell) (cell : ShownCell) → ((c : ShownCell) → g (f c) ≡ both c) →
+    cond inside (g (cond inside (f cell) cell)) (cond inside (f cell) cell) ≡ cond inside (both cell) cell
+cond-then true f g both cell same = same cell
+cond-then false f g both cell same = refl
+
+-- a cluster, and then those behind it, are the row of all
+pub row_change-cons : (cells : RowCells) (left start : ℕ) (cluster : Cluster) (clusters : List Cluster) (x y : ℕ) (cell : ShownCell) →
+    row_change cells left (place_from (start + columns_of cluster.text) clusters) x y (row_change cells left (placed_at start cluster ∷ []) x y cell)
+    ≡ row_change cells left (place_from start (cluster ∷ clusters)) x y cell
+unfolding row_change
+row_change-cons cells left start cluster clusters x y cell =
+    let column = left + (x - cells.x) in
+    let behind = find (covers column) (place_from (start + columns_of cluster.text) clusters) in
+    cond-then (is_in_cells cells x y)
+    (λ c. covered cells left column (cond (covers column (placed_at start cluster)) (Some (placed_at start cluster)) None) c)
+    (λ c. covered cells left column behind c)
+    (λ c. covered cells left column (cond (covers column (placed_at start cluster)) (Some (placed_at start cluster)) behind) c) cell
+    (λ c.
+    covered-then cells left column (covers column (placed_at start cluster)) (placed_at start cluster) behind c
+    (λ here. find-before column (start + columns_of cluster.text) clusters (covers_parts column (placed_at start cluster) here).1))
+
+-- no cluster leaves the cells as they are
+pub row_change-nil : (cells : RowCells) (left x y : ℕ) (cell : ShownCell) → row_change cells left [] x y cell ≡ cell
+unfolding row_change
+row_change-nil cells left x y cell = elim (is_in_cells cells x y) as (λ inside. cond inside cell cell ≡ cell) [ true ↦ refl | false ↦ refl ]
+
+cond-none : (cells : RowCells) (left column : ℕ) (inside : Bool) (found : Option Placed) (cell : ShownCell) → (inside ≡ true → found ≡ None) →
+    cond inside (covered cells left column found cell) cell ≡ cell
+cond-none cells left column true found cell none = rw (none refl) refl
+cond-none cells left column false found cell none = refl
+
+-- and so do clusters that stand behind them
+pub row_change-past : (cells : RowCells) (left start : ℕ) (clusters : List Cluster) (x y : ℕ) (cell : ShownCell) → cells.width ≤ start - left →
+    row_change cells left (place_from start clusters) x y cell ≡ cell
+unfolding row_change
+row_change-past cells left start clusters x y cell past =
+    cond-none cells left (left + (x - cells.x)) (is_in_cells cells x y) (find (covers (left + (x - cells.x))) (place_from start clusters)) cell
+    (λ inside.
+    let b = between cells.y cells.x (cells.x + cells.width) x y inside in
+    find-before (left + (x - cells.x)) start clusters (omega (arith, b.behind, b.before)))
+
+-- cells that are not of the row stay
+pub row_change-outside : (cells : RowCells) (left : ℕ) (row : List Placed) (x y : ℕ) (cell : ShownCell) → is_in_cells cells x y ≡ false → row_change cells left row x y cell ≡ cell
+unfolding row_change
+row_change-outside cells left row x y cell outside = cond-false _ _ _ outside
+
+-- ---- one cluster
+
+-- where a cluster of so many columns is drawn: `hidden` of them are not shown, and `shown` of the others
+pub record IsDrawnAt (cells : RowCells) (pen : Pen) (columns hidden shown : ℕ) : Type 0 where
+  pub left_of : hidden ≡ min columns pen.hidden
+  pub inside : shown ≡ min (columns - hidden) ((cells.x + cells.width) - pen.x)
+
+module _ (cells : RowCells) (pen : Pen) (left column hidden shown : ℕ) (cluster : Cluster) (at : IsPenAt cells left column pen) (drawn : IsDrawnAt cells pen (columns_of cluster.text) hidden shown) where
+  pub pen_moved : IsPenAt cells left (column + columns_of cluster.text) (record { hidden = pen.hidden - hidden; x = pen.x + shown })
+  pen_moved = record {
+    hidden = omega (arith, at.hidden, drawn.left_of);
+    x = omega (arith, at.hidden, at.x, drawn.left_of, drawn.inside);
+  }
+
+  -- the cells that are drawn are those whose columns the cluster takes
+  drawn_test : (x y : ℕ) → is_between cells.y pen.x (pen.x + shown) x y ≡ (is_in_cells cells x y && covers (left + (x - cells.x)) (placed_at column cluster))
+  drawn_test x y = bool_ext _ _
+      (λ h.
+      let b = between cells.y pen.x (pen.x + shown) x y h in
+      and_from _ _
+      (between_test cells.y cells.x (cells.x + cells.width) x y b.at (omega (arith, b.behind, at.x)) (omega (arith, b.before, at.x, drawn.inside)))
+      (and_from _ _
+      (le-leb column (left + (x - cells.x)) (omega (arith, b.behind, b.before, at.hidden, at.x, drawn.left_of, drawn.inside)))
+      (lt-ltb (left + (x - cells.x)) (column + columns_of cluster.text) (omega (arith, b.behind, b.before, at.hidden, at.x, drawn.left_of, drawn.inside)))))
+      (λ h.
+      let p = and_parts _ _ h in
+      let b = between cells.y cells.x (cells.x + cells.width) x y p.0 in
+      let c = covers_parts (left + (x - cells.x)) (placed_at column cluster) p.1 in
+      between_test cells.y pen.x (pen.x + shown) x y b.at
+      (omega (arith, b.behind, b.before, c.0, c.1, at.x))
+      (omega (arith, b.behind, b.before, c.0, c.1, at.hidden, at.x, drawn.left_of, drawn.inside)))
+
+  -- it is whole where all of its columns are drawn
+  drawn_whole : (x y : ℕ) → is_between cells.y pen.x (pen.x + shown) x y ≡ true → eqb shown (columns_of cluster.text) ≡ is_whole cells left (placed_at column cluster)
+  drawn_whole x y h =
+      let b = between cells.y pen.x (pen.x + shown) x y h in
+      bool_ext _ _
+      (λ all.
+      let e : shown ≡ columns_of cluster.text = eqb-true shown (columns_of cluster.text) all in
+      and_from _ _
+      (le-leb left column (omega (arith, e, b.behind, b.before, at.hidden, drawn.left_of, drawn.inside)))
+      (le-leb (column + columns_of cluster.text) (left + cells.width) (omega (arith, e, b.behind, b.before, at.hidden, at.x, drawn.left_of, drawn.inside))))
+      (λ whole.
+      let p = and_parts _ _ whole in
+      let q : left ≤ column = leb-true left column p.0 in
+      let r : column + columns_of cluster.text ≤ left + cells.width = leb-true (column + columns_of cluster.text) (left + cells.width) p.1 in
+      eq-eqb shown (columns_of cluster.text) (omega (arith, at.hidden, at.x, drawn.left_of, drawn.inside)))
+
+  -- its first cell shows its first column
+  drawn_first : (x y : ℕ) → is_between cells.y pen.x (pen.x + shown) x y ≡ true → is_whole cells left (placed_at column cluster) ≡ true →
+      eqb x pen.x ≡ eqb (left + (x - cells.x)) column
+  drawn_first x y h whole =
+      let b = between cells.y pen.x (pen.x + shown) x y h in
+      let p = and_parts _ _ whole in
+      let q : left ≤ column = leb-true left column p.0 in
+      let r : column + columns_of cluster.text ≤ left + cells.width = leb-true (column + columns_of cluster.text) (left + cells.width) p.1 in
+      bool_ext _ _
+      (λ first. let e : x ≡ pen.x = eqb-true x pen.x first in eq-eqb (left + (x - cells.x)) column (omega (arith, b.before, at.hidden, at.x, drawn.left_of, drawn.inside)))
+      (λ first. let e : left + (x - cells.x) ≡ column = eqb-true (left + (x - cells.x)) column first in eq-eqb x pen.x (omega (arith, b.behind, b.before, at.hidden, at.x, drawn.left_of, drawn.inside)))
+
+symbol_of-same : (whole whole' first first' : Bool) (text : List ℕ) → whole ≡ whole' → (whole' ≡ true → first ≡ first') → symbol_of whole first text ≡ symbol_of whole' first' text
+symbol_of-same whole true first first' text same at = ap (λ w. symbol_of w first text) same ∙ ap (λ f. cond f text []) (at refl)
+symbol_of-same whole false first first' text same at = ap (λ w. symbol_of w first text) same
+
+cond-one : (cells : RowCells) (left column : ℕ) (placed : Placed) (test inside here : Bool) (symbol : List ℕ) (cell : ShownCell) → test ≡ (inside && here) →
+    (test ≡ true → symbol ≡ symbol_in cells left placed column) →
+    cond test (with_symbol symbol placed.style cell) cell ≡ cond inside (covered cells left column (cond here (Some placed) None) cell) cell
+cond-one cells left column placed test true true symbol cell is same = cond-true test _ _ is ∙ ap (λ s. with_symbol s placed.style cell) (same is)
+cond-one cells left column placed test true false symbol cell is same = cond-false test _ _ is
+cond-one cells left column placed test false here symbol cell is same = cond-false test _ _ is
+
+-- what is drawn is the row of this cluster alone
+pub row_change-one : (cells : RowCells) (pen : Pen) (left column hidden shown : ℕ) (cluster : Cluster) → IsPenAt cells left column pen →
+    IsDrawnAt cells pen (columns_of cluster.text) hidden shown → (x y : ℕ) (cell : ShownCell) →
+    cond (is_between cells.y pen.x (pen.x + shown) x y) (with_symbol (symbol_of (eqb shown (columns_of cluster.text)) (eqb x pen.x) cluster.text) cluster.style cell) cell
+    ≡ row_change cells left (placed_at column cluster ∷ []) x y cell
+unfolding row_change
+row_change-one cells pen left column hidden shown cluster at drawn x y cell =
+    cond-one cells left (left + (x - cells.x)) (placed_at column cluster) (is_between cells.y pen.x (pen.x + shown) x y) (is_in_cells cells x y)
+    (covers (left + (x - cells.x)) (placed_at column cluster)) (symbol_of (eqb shown (columns_of cluster.text)) (eqb x pen.x) cluster.text) cell
+    (drawn_test cells pen left column hidden shown cluster at drawn x y)
+    (λ h.
+    symbol_of-same (eqb shown (columns_of cluster.text)) (is_whole cells left (placed_at column cluster)) (eqb x pen.x) (eqb (left + (x - cells.x)) column) cluster.text
+    (drawn_whole cells pen left column hidden shown cluster at drawn x y h) (drawn_first cells pen left column hidden shown cluster at drawn x y h))
+
+-- the cells that are drawn are of the row
+pub between_outside : (cells : RowCells) (from to x y : ℕ) → cells.x ≤ from → to ≤ cells.x + cells.width → is_in_cells cells x y ≡ false → is_between cells.y from to x y ≡ false
+between_outside cells from to x y left right outside =
+    ⊎_elim
+    (λ inside.
+    let b = between cells.y from to x y inside in
+    absurd (false≢true (sym outside ∙ between_test cells.y cells.x (cells.x + cells.width) x y b.at (omega (arith, b.behind)) (omega (arith, b.before)))))
+    (λ h. h)
+    (cases_Bool (is_between cells.y from to x y))
+
+-- ---- one column after another
+
+cond-more : (here before after : Bool) (f g : ShownCell → ShownCell) (cell : ShownCell) → (here ≡ true → (before ≡ false) × (after ≡ true) × (f cell ≡ g cell)) →
+    (here ≡ false → after ≡ before) → cond here (f (cond before (g cell) cell)) (cond before (g cell) cell) ≡ cond after (g cell) cell
+cond-more true before after f g cell now later = let h = now refl in rw (h.0, h.1) h.2
+cond-more false before after f g cell now later = ap (λ b. cond b (g cell) cell) (sym (later refl))
+
+-- the cells up to a column, and then that of the column
+pub between_more : (row from at : ℕ) (whole : Bool) (text symbol : List ℕ) (style : Style) (x y : ℕ) (cell : ShownCell) → from ≤ at → symbol ≡ symbol_of whole (eqb at from) text →
+    cond (eqb x at && eqb y row) (with_symbol symbol style (cond (is_between row from at x y) (with_symbol (symbol_of whole (eqb x from) text) style cell) cell))
+    (cond (is_between row from at x y) (with_symbol (symbol_of whole (eqb x from) text) style cell) cell)
+    ≡ cond (is_between row from (at + 1) x y) (with_symbol (symbol_of whole (eqb x from) text) style cell) cell
+between_more row from at whole text symbol style x y cell begun is =
+    cond-more (eqb x at && eqb y row) (is_between row from at x y) (is_between row from (at + 1) x y) (with_symbol symbol style) (with_symbol (symbol_of whole (eqb x from) text) style) cell
+    (λ here.
+    let p = and_parts _ _ here in
+    let at_x : x ≡ at = eqb-true x at p.0 in
+    let at_y : y ≡ row = eqb-true y row p.1 in (
+      grind (arith, nat_tests),
+      between_test row from (at + 1) x y at_y (omega arith) (omega arith),
+      ap (λ s. with_symbol s style cell) (is ∙ ap (λ k. symbol_of whole (eqb k from) text) (sym at_x)),
+    ))
+    (λ elsewhere. grind (arith, nat_tests))

@@ -1,0 +1,6 @@
+mod BlockLemmas
+mod CellLemmas
+mod ClusterLemmas
+mod ColumnLemmas
+mod RowAreaLemmas
+mod RowLemmas

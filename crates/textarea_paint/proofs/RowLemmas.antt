@@ -1,0 +1,126 @@
+-- A row that is drawn cluster by cluster, and the clusters that fit it.
+use Rattle.std.proofs.Common.{◌≡◌, ℕ, ◌+◌, ◌-◌, ◌<◌, ◌≤◌, nat_le, List, [], ◌∷◌, filter, refl, ap, ◌∙◌, arith}
+use Rattle.std.proofs.lemmas.Bool.{cond-true, cond-false, le-leb, lt-leb}
+use Rattle.std.proofs.lemmas.List.Sums.{sum_by-cons}
+use Rattle.textarea_screen.specs.Buffer.{Changes, KeepsOutside}
+use Rattle.textarea_screen.proofs.ChangeLemmas.{Changes-none, Changes-then, KeepsOutside-from_changes, KeepsOutside-then, KeepsOutside-same}
+use Rattle.textarea_screen.specs.declared.screen.buffer.Buffer.{Buffer}
+use Rattle.textarea_paint.specs.Cells.{Placed, placed_at, place_from, is_in_cells, row_change, IsPenAt}
+use Rattle.textarea_paint.specs.Clusters.{Cluster}
+use Rattle.textarea_paint.specs.Columns.{columns_of}
+use Rattle.textarea_paint.specs.Row.{front_within, is_narrow, fitting, row_width}
+use Rattle.textarea_paint.specs.declared.paint.cells.Pen.{Pen}
+use Rattle.textarea_paint.specs.declared.paint.cells.RowCells.{RowCells}
+use Rattle.textarea_paint.proofs.CellLemmas.{row_change-cons, row_change-nil, row_change-past, row_change-outside}
+
+-- ---- a row that is drawn so far
+
+-- the buffer was `old`, and is `now`; the clusters `ahead` are still to be drawn where the pen stands, and then the row is
+pub record IsDrawing (cells : RowCells) (left : ℕ) (row : List Placed) (old now : Buffer) (pen : Pen) (ahead : List Cluster) : Type 0 where
+  pub column : ℕ
+  pub at : IsPenAt cells left column pen
+  pub rest : (new : Buffer) → Changes now new (row_change cells left (place_from column ahead)) → Changes old new (row_change cells left row)
+  pub kept : KeepsOutside (is_in_cells cells) old now
+
+pub drawing_start : (cells : RowCells) (left start : ℕ) (row : List Cluster) (buffer : Buffer) (pen : Pen) (ahead : List Cluster) → IsPenAt cells left start pen → ahead ≡ row →
+    IsDrawing cells left (place_from start row) buffer buffer pen ahead
+drawing_start cells left start row buffer pen ahead at all = record {
+  column = start;
+  at = at;
+  rest = λ new drawn. rw (← all) drawn;
+  kept = KeepsOutside-same (is_in_cells cells) refl;
+}
+
+pub drawing_next : {cells : RowCells} {left : ℕ} {row : List Placed} {old now next : Buffer} {pen moved : Pen} {ahead behind : List Cluster} (cluster : Cluster) →
+    (d : IsDrawing cells left row old now pen ahead) → ahead ≡ cluster ∷ behind → IsPenAt cells left (d.column + columns_of cluster.text) moved →
+    Changes now next (row_change cells left (placed_at d.column cluster ∷ [])) → IsDrawing cells left row old next moved behind
+drawing_next {cells} {left} {row} {old} {now} {next} {pen} {moved} {ahead} {behind} cluster d taken at drawn = record {
+  column = d.column + columns_of cluster.text;
+  at = at;
+  rest = λ new others.
+      d.rest new (rw taken (Changes-then (row_change cells left (place_from d.column (cluster ∷ behind))) drawn others
+      (λ x y cell. row_change-cons cells left d.column cluster behind x y cell)));
+  kept = KeepsOutside-then d.kept (KeepsOutside-from_changes (is_in_cells cells) drawn
+      (λ x y cell outside. row_change-outside cells left (placed_at d.column cluster ∷ []) x y cell outside));
+}
+
+-- a cluster is left out, with those that are still to be drawn the same
+pub drawing_same : {cells : RowCells} {left : ℕ} {row : List Placed} {old now : Buffer} {pen : Pen} {ahead : List Cluster} (behind : List Cluster) →
+    IsDrawing cells left row old now pen ahead → ahead ≡ behind → IsDrawing cells left row old now pen behind
+drawing_same {cells} {left} {row} {old} {now} {pen} {ahead} behind d same = rw (← same) d
+
+pub drawing_end : {cells : RowCells} {left : ℕ} {row : List Placed} {old now : Buffer} {pen : Pen} {ahead : List Cluster} → IsDrawing cells left row old now pen ahead → ahead ≡ [] →
+    Changes old now (row_change cells left row)
+drawing_end {cells} {left} {row} {old} {now} {pen} {ahead} d none =
+    d.rest now (rw none (Changes-none now (row_change cells left []) (λ x y cell. row_change-nil cells left x y cell)))
+
+-- the pen stands at the end of the cells
+pub drawing_past : {cells : RowCells} {left : ℕ} {row : List Placed} {old now : Buffer} {pen : Pen} {ahead : List Cluster} → IsDrawing cells left row old now pen ahead →
+    pen.x ≡ cells.x + cells.width → Changes old now (row_change cells left row)
+drawing_past {cells} {left} {row} {old} {now} {pen} {ahead} d end =
+    d.rest now (Changes-none now (row_change cells left (place_from d.column ahead))
+    (λ x y cell. row_change-past cells left d.column ahead x y cell (omega (arith, d.at.x))))
+
+-- ---- the clusters that fit
+
+-- those that are still to be drawn where there is room for so many columns
+abbrev pub fitting_ahead : ℕ → ℕ → List Cluster → List Cluster
+fitting_ahead width room clusters = front_within room (filter (is_narrow width) clusters)
+
+pub fitting_ahead-wide : (width room : ℕ) (cluster : Cluster) (clusters : List Cluster) → width < columns_of cluster.text →
+    fitting_ahead width room (cluster ∷ clusters) ≡ fitting_ahead width room clusters
+fitting_ahead-wide width room cluster clusters wide =
+    ap (front_within room) (cond-false (is_narrow width cluster) (cluster ∷ filter (is_narrow width) clusters) (filter (is_narrow width) clusters) (lt-leb (columns_of cluster.text) width wide))
+
+fitting_ahead-narrow : (width room : ℕ) (cluster : Cluster) (clusters : List Cluster) → columns_of cluster.text ≤ width →
+    fitting_ahead width room (cluster ∷ clusters) ≡ front_within room (cluster ∷ filter (is_narrow width) clusters)
+fitting_ahead-narrow width room cluster clusters narrow =
+    ap (front_within room) (cond-true (is_narrow width cluster) (cluster ∷ filter (is_narrow width) clusters) (filter (is_narrow width) clusters) (le-leb (columns_of cluster.text) width narrow))
+
+pub fitting_ahead-full : (width room : ℕ) (cluster : Cluster) (clusters : List Cluster) → columns_of cluster.text ≤ width → room < columns_of cluster.text →
+    fitting_ahead width room (cluster ∷ clusters) ≡ []
+fitting_ahead-full width room cluster clusters narrow full =
+    fitting_ahead-narrow width room cluster clusters narrow ∙ cond-false (nat_le (columns_of cluster.text) room) _ _ (lt-leb (columns_of cluster.text) room full)
+
+pub fitting_ahead-fits : (width room : ℕ) (cluster : Cluster) (clusters : List Cluster) → columns_of cluster.text ≤ width → columns_of cluster.text ≤ room →
+    fitting_ahead width room (cluster ∷ clusters) ≡ cluster ∷ fitting_ahead width (room - columns_of cluster.text) clusters
+fitting_ahead-fits width room cluster clusters narrow fits =
+    fitting_ahead-narrow width room cluster clusters narrow ∙ cond-true (nat_le (columns_of cluster.text) room) _ _ (le-leb (columns_of cluster.text) room fits)
+
+-- ---- their columns
+
+-- so many columns are left of `width` behind the clusters that were looked at; those `ahead` and the ones before take as many as all
+pub record IsMeasuring (width : ℕ) (row : List Cluster) (room : ℕ) (ahead : List Cluster) : Type 0 where
+  pub bound : room ≤ width
+  pub sum : (width - room) + row_width (fitting_ahead width room ahead) ≡ row_width (fitting width row)
+
+pub measuring_start : (width : ℕ) (row ahead : List Cluster) → ahead ≡ row → IsMeasuring width row width ahead
+measuring_start width row ahead all = record {
+  bound = omega arith;
+  sum = let same = ap (λ cs. row_width (fitting width cs)) all in omega (arith, same);
+}
+
+pub measuring_wide : {width room : ℕ} {row ahead behind : List Cluster} (cluster : Cluster) → IsMeasuring width row room ahead → ahead ≡ cluster ∷ behind →
+    width < columns_of cluster.text → IsMeasuring width row room behind
+measuring_wide {width} {room} {row} {ahead} {behind} cluster m taken wide = record {
+  bound = m.bound;
+  sum = let same = ap row_width (ap (fitting_ahead width room) taken ∙ fitting_ahead-wide width room cluster behind wide) in omega (arith, same, m.sum);
+}
+
+pub measuring_fits : {width room : ℕ} {row ahead behind : List Cluster} (cluster : Cluster) (left : ℕ) → IsMeasuring width row room ahead → ahead ≡ cluster ∷ behind →
+    columns_of cluster.text ≤ width → columns_of cluster.text ≤ room → left ≡ room - columns_of cluster.text → IsMeasuring width row left behind
+measuring_fits {width} {room} {row} {ahead} {behind} cluster left m taken narrow fits is =
+    let same = ap row_width (ap (fitting_ahead width room) taken ∙ fitting_ahead-fits width room cluster behind narrow fits) in
+    let sum = sum_by-cons (λ (c : Cluster). columns_of c.text) cluster (fitting_ahead width (room - columns_of cluster.text) behind) in
+    rw is (record { bound = omega (arith, m.bound); sum = omega (arith, same, sum, m.sum, m.bound) })
+
+pub measuring_full : {width room : ℕ} {row ahead behind : List Cluster} (cluster : Cluster) → IsMeasuring width row room ahead → ahead ≡ cluster ∷ behind →
+    columns_of cluster.text ≤ width → room < columns_of cluster.text → width - room ≡ row_width (fitting width row)
+measuring_full {width} {room} {row} {ahead} {behind} cluster m taken narrow full =
+    let none = ap row_width (ap (fitting_ahead width room) taken ∙ fitting_ahead-full width room cluster behind narrow full) in
+    omega (arith, none, m.sum)
+
+pub measuring_end : {width room : ℕ} {row ahead : List Cluster} → IsMeasuring width row room ahead → ahead ≡ [] → width - room ≡ row_width (fitting width row)
+measuring_end {width} {room} {row} {ahead} m none =
+    let same = ap (λ cs. row_width (fitting_ahead width room cs)) none in
+    omega (arith, same, m.sum)

@@ -1,0 +1,69 @@
+-- Clusters that stand in a row, and the cells that show the row from one of its columns on.
+use Rattle.std.specs.Prelude.{◌≡◌, ℕ, ◌+◌, ◌-◌, min, Bool, ◌&&◌, ◌==◌, nat_lt, nat_le, List, [], ◌∷◌, Option, None, Some, if◌then◌else◌}
+use Rattle.std.specs.List.{find}
+use Rattle.textarea_screen.specs.Buffer.{Change}
+use Rattle.textarea_screen.specs.Cell.{ShownCell, with_symbol}
+use Rattle.textarea_screen.specs.declared.screen.style.Style.{Style}
+use Rattle.textarea_paint.specs.Clusters.{Cluster}
+use Rattle.textarea_paint.specs.Columns.{columns_of}
+use Rattle.textarea_paint.specs.declared.paint.cells.Pen.{Pen}
+use Rattle.textarea_paint.specs.declared.paint.cells.RowCells.{RowCells}
+
+-- ---- the row
+
+-- a cluster whose first column is the column `start` of the row
+pub record Placed : Type 0 where
+  pub text : List ℕ
+  pub style : Style
+  pub start : ℕ
+
+abbrev pub placed_at : ℕ → Cluster → Placed
+placed_at start cluster = record { text = cluster.text; style = cluster.style; start = start }
+
+-- the clusters one after another, the first at the column `start`: each stands at the sum of the widths before it
+abbrev pub place_from : ℕ → List Cluster → List Placed
+place_from start [] = []
+place_from start (cluster ∷ clusters) = placed_at start cluster ∷ place_from (start + columns_of cluster.text) clusters
+
+-- the cluster takes the column; one of no columns takes none
+abbrev pub covers : ℕ → Placed → Bool
+covers column placed = nat_le placed.start column && nat_lt column (placed.start + columns_of placed.text)
+
+-- ---- the cells
+
+-- the cell in column x and row y stands in this row, from the column `from` up to the column `to`
+abbrev pub is_between : ℕ → ℕ → ℕ → ℕ → ℕ → Bool
+is_between row from to x y = (y == row) && (nat_le from x && nat_lt x to)
+
+-- it is one of these cells
+abbrev pub is_in_cells : RowCells → ℕ → ℕ → Bool
+is_in_cells cells = is_between cells.y cells.x (cells.x + cells.width)
+
+-- no edge of the cells cuts the cluster, where they show the row from the column `left` on
+abbrev pub is_whole : RowCells → ℕ → Placed → Bool
+is_whole cells left placed = nat_le left placed.start && nat_le (placed.start + columns_of placed.text) (left + cells.width)
+
+-- what a cluster leaves in a column that it takes: its text in its first column and the empty text in the others, or a blank in
+-- each where an edge cuts it
+abbrev pub symbol_of : Bool → Bool → List ℕ → List ℕ
+symbol_of whole first text = if whole then (if first then text else []) else 32 ∷ []
+
+abbrev pub symbol_in : RowCells → ℕ → Placed → ℕ → List ℕ
+symbol_in cells left placed column = symbol_of (is_whole cells left placed) (column == placed.start) placed.text
+
+-- a cell that shows this column, after the cluster that takes the column is drawn, if there is one
+abbrev pub covered : RowCells → ℕ → ℕ → Option Placed → ShownCell → ShownCell
+covered cells left column None cell = cell
+covered cells left column (Some placed) cell = with_symbol (symbol_in cells left placed column) placed.style cell
+
+-- what a row makes of a cell: of one of these cells by the cluster that takes the column which it shows, of another nothing
+unfoldable pub row_change : RowCells → ℕ → List Placed → Change
+row_change cells left row x y cell =
+    if is_in_cells cells x y then covered cells left (left + (x - cells.x)) (find (covers (left + (x - cells.x))) row) cell else cell
+
+-- ---- the pen
+
+-- the pen stands at the column of the row: left of the cells, in one of them, or at their end where it is past that
+pub record IsPenAt (cells : RowCells) (left column : ℕ) (pen : Pen) : Type 0 where
+  pub hidden : pen.hidden ≡ left - column
+  pub x : pen.x ≡ cells.x + min (column - left) cells.width

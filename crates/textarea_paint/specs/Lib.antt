@@ -1,0 +1,6 @@
+pub mod Block
+pub mod Cells
+pub mod Clusters
+pub mod Columns
+pub mod LineClusters
+pub mod Row

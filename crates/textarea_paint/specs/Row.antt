@@ -1,0 +1,61 @@
+-- A line drawn in a row of an area.
+use Rattle.std.specs.Prelude.{ℕ, ◌-◌, ◌/◌, Bool, nat_le, List, [], ◌∷◌, filter, sum_by, if◌then◌else◌}
+use Rattle.textarea_screen.specs.Buffer.{Change}
+use Rattle.textarea_screen.specs.Rect.{is_in_row}
+use Rattle.textarea_screen.specs.Text.{ShownLine}
+use Rattle.textarea_screen.specs.declared.screen.alignment.Alignment.{Alignment}
+use Rattle.textarea_screen.specs.declared.screen.alignment.Alignment.TheVariants.{Left, Center, Right}
+use Rattle.textarea_screen.specs.declared.screen.rect.Rect.{Rect}
+use Rattle.textarea_paint.specs.Cells.{Placed, place_from, row_change}
+use Rattle.textarea_paint.specs.Clusters.{Cluster, row_clusters}
+use Rattle.textarea_paint.specs.Columns.{columns_of}
+use Rattle.textarea_paint.specs.declared.paint.cells.RowCells.{RowCells}
+use Rattle.textarea_paint.specs.declared.paint.row.RowArea.{RowArea}
+
+-- ---- the clusters that are drawn in the middle or at the right
+
+-- as many clusters from the first on as there is room for
+abbrev pub front_within : ℕ → List Cluster → List Cluster
+front_within room [] = []
+front_within room (cluster ∷ clusters) =
+    if nat_le (columns_of cluster.text) room then cluster ∷ front_within (room - columns_of cluster.text) clusters else []
+
+-- the cluster is no wider than the area
+abbrev pub is_narrow : ℕ → Cluster → Bool
+is_narrow width cluster = nat_le (columns_of cluster.text) width
+
+-- each cluster that is wider than the area is skipped, and the first of the others that finds no room ends the row
+abbrev pub fitting : ℕ → List Cluster → List Cluster
+fitting width clusters = front_within width (filter (is_narrow width) clusters)
+
+-- the columns of clusters together
+abbrev pub row_width : List Cluster → ℕ
+row_width clusters = sum_by (λ cluster. columns_of cluster.text) clusters
+
+-- ---- where they stand
+
+-- the clusters of a line as they stand in a row of so many columns
+abbrev pub placed_row : Alignment → ℕ → List Cluster → List Placed
+placed_row Left width clusters = place_from 0 clusters
+placed_row Center width clusters =
+    let row = fitting width clusters in
+    place_from (width / 2 - row_width row / 2) row
+placed_row Right width clusters =
+    let row = fitting width clusters in
+    place_from (width - row_width row) row
+
+-- the first column of the row that is shown
+abbrev pub first_shown : Alignment → ℕ → ℕ
+first_shown Left left = left
+first_shown Center left = 0
+first_shown Right left = 0
+
+abbrev pub cells_of_row : Rect → ℕ → RowCells
+cells_of_row area y = record { x = area.x; y = y; width = area.width }
+
+-- what a line makes of a cell, drawn in row y of an area
+unfoldable pub row_cell : RowArea → ℕ → ShownLine → Change
+row_cell rows y line column row cell = if is_in_row rows.area y column row
+    then row_change (cells_of_row rows.area y) (first_shown rows.alignment rows.left)
+    (placed_row rows.alignment rows.area.width (row_clusters rows.style line)) column row cell
+    else cell

@@ -1,0 +1,10 @@
+//! What is drawn into the cells of a buffer.
+
+pub mod block;
+mod cells;
+mod clusters;
+mod columns;
+pub mod row;
+
+pub use block::draw_block;
+pub use row::{RowArea, draw_row};

@@ -1,0 +1,206 @@
+//! A block: its sides, its corners and its title.
+ghost use Rattle.std.specs.Prelude.{◌≡◌, ◌+◌, ◌<◌, ◌≤◌, ◌&&◌, ℕ, length, IsOk, IfSome, OnOk, OnErr, if◌then◌else◌};
+ghost use Rattle.textarea_screen.specs.Block.{shown_block};
+ghost use Rattle.textarea_screen.specs.Buffer.{Changes, KeepsOutside};
+ghost use Rattle.textarea_screen.specs.Cell.{with_symbol};
+ghost use Rattle.textarea_screen.specs.Inset.{inset_of};
+ghost use Rattle.textarea_screen.specs.Rect.{contains, is_in_row};
+ghost use Rattle.textarea_screen.specs.Style.{empty_style};
+ghost use Rattle.textarea_screen.specs.declared.screen.cell.TheConstants.{INLINE_BYTES};
+ghost use Rattle.textarea_paint.specs.Block.{in_area, in_turn, side_changes, corner_changes, title_change, block_cell};
+ghost use Rattle.textarea_paint.specs.Clusters.{row_clusters, AreInline};
+
+use super::cells::RowCells;
+use super::row::draw_left;
+use std::alloc::AllocError;
+use textarea_screen::screen::{Block, Borders, Buffer, Rect, Style};
+
+/// Draws a block over an area, or nothing where the area has no cell: its style, its sides, its
+/// corners, and its title, each over what came before.
+///
+/// Only a cluster of the title of more than `INLINE_BYTES` bytes takes memory. Where there is none,
+/// cells of the area may be drawn already.
+pub fn draw_block(buffer: &mut Buffer, area: Rect, block: &Block) -> Result<(), AllocError>
+    ensures ok { OnOk result
+        (Changes buffer.old buffer.new (block_cell (shown_block block.now) area)) }
+    ensures inline { IfSome (shown_block block.now).title (λ title.
+        AreInline (row_clusters empty_style title)) → IsOk result }
+    ensures err { OnErr result (KeepsOutside (contains area) buffer.old buffer.new) }
+{
+    if area.is_empty() {
+        return Ok(());
+    }
+    buffer.set_style(area, block.style);
+    draw_sides(buffer, area, block.borders, block.border_style)?;
+    draw_corners(buffer, area, block.borders, block.border_style)?;
+    draw_title(buffer, area, block)
+}
+
+fn draw_sides(
+    buffer: &mut Buffer,
+    area: Rect,
+    borders: Borders,
+    style: Style,
+) -> Result<(), AllocError>
+    requires columns { 0 < area.width }
+    requires rows { 0 < area.height }
+    ensures ok { OnOk result
+        (Changes buffer.old buffer.new (in_area area (in_turn (side_changes borders style area)))) }
+    ensures inline { IsOk result }
+    ensures err { OnErr result (KeepsOutside (contains area) buffer.old buffer.new) }
+{
+    let right = area.x + area.width - 1;
+    let bottom = area.y + area.height - 1;
+    let has_left = borders.contains(Borders::LEFT);
+    draw_border(
+        buffer,
+        has_left,
+        Rect::new(area.x, area.y, 1, area.height),
+        "│",
+        style,
+    )?;
+    let has_top = borders.contains(Borders::TOP);
+    draw_border(
+        buffer,
+        has_top,
+        Rect::new(area.x, area.y, area.width, 1),
+        "─",
+        style,
+    )?;
+    let has_right = borders.contains(Borders::RIGHT);
+    draw_border(
+        buffer,
+        has_right,
+        Rect::new(right, area.y, 1, area.height),
+        "│",
+        style,
+    )?;
+    let has_bottom = borders.contains(Borders::BOTTOM);
+    draw_border(
+        buffer,
+        has_bottom,
+        Rect::new(area.x, bottom, area.width, 1),
+        "─",
+        style,
+    )
+}
+
+fn draw_corners(
+    buffer: &mut Buffer,
+    area: Rect,
+    borders: Borders,
+    style: Style,
+) -> Result<(), AllocError>
+    requires columns { 0 < area.width }
+    requires rows { 0 < area.height }
+    ensures ok { OnOk result
+        (Changes buffer.old buffer.new (in_area area (in_turn (corner_changes borders style area)))) }
+    ensures inline { IsOk result }
+    ensures err { OnErr result (KeepsOutside (contains area) buffer.old buffer.new) }
+{
+    let right = area.x + area.width - 1;
+    let bottom = area.y + area.height - 1;
+    let has_left = borders.contains(Borders::LEFT);
+    let has_top = borders.contains(Borders::TOP);
+    let has_right = borders.contains(Borders::RIGHT);
+    let has_bottom = borders.contains(Borders::BOTTOM);
+    draw_border(
+        buffer,
+        has_right & has_bottom,
+        Rect::new(right, bottom, 1, 1),
+        "┘",
+        style,
+    )?;
+    draw_border(
+        buffer,
+        has_right & has_top,
+        Rect::new(right, area.y, 1, 1),
+        "┐",
+        style,
+    )?;
+    draw_border(
+        buffer,
+        has_left & has_bottom,
+        Rect::new(area.x, bottom, 1, 1),
+        "└",
+        style,
+    )?;
+    draw_border(
+        buffer,
+        has_left & has_top,
+        Rect::new(area.x, area.y, 1, 1),
+        "┌",
+        style,
+    )
+}
+
+fn draw_title(buffer: &mut Buffer, area: Rect, block: &Block) -> Result<(), AllocError>
+    requires columns { 0 < area.width }
+    requires rows { 0 < area.height }
+    ensures ok { OnOk result
+        (Changes buffer.old buffer.new (in_area area (title_change (shown_block block.now) area))) }
+    ensures inline { IfSome (shown_block block.now).title (λ title.
+        AreInline (row_clusters empty_style title)) → IsOk result }
+    ensures err { OnErr result (KeepsOutside (contains area) buffer.old buffer.new) }
+{
+    let left = side_width(block.borders.contains(Borders::LEFT));
+    let right = side_width(block.borders.contains(Borders::RIGHT));
+    match &block.title {
+        Some(title) => {
+            let cells = RowCells {
+                x: area.x + left,
+                y: area.y,
+                width: area.width.saturating_sub(left).saturating_sub(right),
+            };
+            draw_left(buffer, cells, 0, title, Style::new())
+        }
+        None => Ok(()),
+    }
+}
+
+/// The columns of a side.
+fn side_width(is_drawn: bool) -> u16
+    ensures { result ≡ inset_of is_drawn 0 }
+{
+    u16::from(is_drawn)
+}
+
+/// Puts a text into each cell of an area, if it is to be drawn.
+fn draw_border(
+    buffer: &mut Buffer,
+    is_drawn: bool,
+    area: Rect,
+    text: &str,
+    style: Style,
+) -> Result<(), AllocError>
+    ensures ok { OnOk result (Changes buffer.old buffer.new (λ x y cell.
+        if is_drawn && contains area x y then with_symbol text.now style cell else cell)) }
+    ensures inline { length text.now ≤ INLINE_BYTES → IsOk result }
+    ensures err { OnErr result (KeepsOutside (contains area) buffer.old buffer.new) }
+{
+    if is_drawn {
+        for y in area.y..area.y + area.height {
+            draw_border_row(buffer, area, y, text, style)?;
+        }
+    }
+    Ok(())
+}
+
+fn draw_border_row(
+    buffer: &mut Buffer,
+    area: Rect,
+    row: u16,
+    text: &str,
+    style: Style,
+) -> Result<(), AllocError>
+    requires { (area.y ≤ row) × (row < area.y + area.height) }
+    ensures ok { OnOk result (Changes buffer.old buffer.new (λ x y cell.
+        if is_in_row area row x y then with_symbol text.now style cell else cell)) }
+    ensures inline { length text.now ≤ INLINE_BYTES → IsOk result }
+    ensures err { OnErr result (KeepsOutside (contains area) buffer.old buffer.new) }
+{
+    for x in area.x..area.x + area.width {
+        buffer.put(x, row, text, style)?;
+    }
+    Ok(())
+}

@@ -1,0 +1,99 @@
+//! Clusters in the cells of a row, from left to right.
+ghost use Rattle.std.specs.Prelude.{◌≡◌, ◌+◌, ◌≤◌, ◌==◌, ℕ, max, length, [], ◌∷◌, IfOk, IsOk, OnOk, OnErr, if◌then◌else◌};
+ghost use Rattle.textarea_screen.specs.Buffer.{Changes, KeepsOutside};
+ghost use Rattle.textarea_screen.specs.Cell.{with_symbol};
+ghost use Rattle.textarea_screen.specs.declared.screen.cell.TheConstants.{INLINE_BYTES};
+ghost use Rattle.textarea_paint.specs.Cells.{IsPenAt, row_change, is_in_cells, is_between, placed_at, symbol_of};
+ghost use Rattle.textarea_paint.specs.Columns.{columns_of};
+ghost use Rattle.textarea_paint.specs.LineClusters.{styled_cluster};
+
+use super::clusters::StyledCluster;
+use super::columns::cluster_columns;
+use std::alloc::AllocError;
+use textarea_screen::screen::{Buffer, Style};
+
+/// Cells of one row of a screen: `width` of them, from column `x` on.
+#[derive(Clone, Copy)]
+pub(crate) struct RowCells {
+    pub(crate) x: u16,
+    pub(crate) y: u16,
+    pub(crate) width: u16,
+}
+
+/// The place of the next cluster in a row of cells: so many of its columns are not shown, left of
+/// the cells, and the others begin in column `x` of the screen.
+#[derive(Clone, Copy)]
+pub(crate) struct Pen {
+    pub(crate) hidden: usize,
+    pub(crate) x: u16,
+}
+
+/// Draws a cluster where the pen stands, and moves the pen behind it, at most to the end of the cells.
+pub(crate) fn draw_cluster(
+    buffer: &mut Buffer,
+    cells: RowCells,
+    pen: Pen,
+    cluster: StyledCluster,
+) -> Result<Pen, AllocError>
+    requires edge { cells.x + cells.width ≤ 65535 }
+    requires within { (cells.x ≤ pen.x) × (pen.x ≤ cells.x + cells.width) }
+    ensures moved { (left column : ℕ) → IsPenAt cells left column pen
+        → IfOk result (IsPenAt cells left (column + columns_of cluster.entry.text.now)) }
+    ensures drawn { (left column : ℕ) → IsPenAt cells left column pen
+        → OnOk result (Changes buffer.old buffer.new
+        (row_change cells left (placed_at column (styled_cluster cluster.entry) ∷ []))) }
+    ensures within { IfOk result (λ moved. (cells.x ≤ moved.x) × (moved.x ≤ cells.x + cells.width)) }
+    ensures inline { length cluster.entry.text.now ≤ INLINE_BYTES → IsOk result }
+    ensures err { OnErr result (KeepsOutside (is_in_cells cells) buffer.old buffer.new) }
+{
+    let columns = cluster_columns(cluster.text);
+    let hidden = columns.min(pen.hidden);
+    let room = usize::from(cells.x + cells.width - pen.x);
+    let shown = (columns - hidden).min(room);
+    let end = pen.x + shown as u16;
+    draw_columns(buffer, cells.y, pen.x, end, cluster, shown == columns)?;
+    Ok(Pen {
+        hidden: pen.hidden - hidden,
+        x: end,
+    })
+}
+
+/// Draws a cluster into the cells from column `x` up to column `end`.
+fn draw_columns(
+    buffer: &mut Buffer,
+    y: u16,
+    x: u16,
+    end: u16,
+    cluster: StyledCluster,
+    is_whole: bool,
+) -> Result<(), AllocError>
+    requires { x ≤ end }
+    ensures drawn { OnOk result (Changes buffer.old buffer.new (λ column row cell.
+        if is_between y x end column row
+        then with_symbol (symbol_of is_whole (column == x) cluster.entry.text.now)
+        cluster.entry.style cell
+        else cell)) }
+    ensures inline { length cluster.entry.text.now ≤ INLINE_BYTES → IsOk result }
+    ensures err { OnErr result (KeepsOutside (is_between y x end) buffer.old buffer.new) }
+{
+    for column in x..end {
+        let symbol = symbol_of(is_whole, column == x, cluster.text);
+        buffer.put(column, y, symbol, cluster.style)?;
+    }
+    Ok(())
+}
+
+/// What a cluster leaves in a cell: its text in its first one and the empty text in the others, or a
+/// blank in each where an edge cuts it.
+fn symbol_of<'a>(is_whole: bool, is_first: bool, text: &'a str) -> &'a str
+    ensures value { result.now ≡ symbol_of is_whole is_first text.now }
+    ensures len { length result.now ≤ max (length text.now) 1 }
+{
+    if !is_whole {
+        " "
+    } else if is_first {
+        text
+    } else {
+        ""
+    }
+}

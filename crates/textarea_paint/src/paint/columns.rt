@@ -1,0 +1,32 @@
+//! The columns that a cluster takes.
+ghost use Rattle.std.specs.Prelude.{◌≡◌, ◌^◌, ◌<◌, chars, sum_by};
+ghost use Rattle.std.specs.Char.{is_control};
+ghost use Rattle.std.specs.List.{list_any};
+ghost use Rattle.textarea_paint.specs.Columns.{columns_of, char_columns};
+
+use unicode_width::UnicodeWidthChar;
+
+/// The columns that a cluster takes: those of its characters together, or none where it has a
+/// control character.
+pub(crate) fn cluster_columns(cluster: &str) -> usize
+    ensures { result ≡ columns_of cluster.now }
+{
+    if has_control(cluster) {
+        0
+    } else {
+        sum_of_columns(cluster)
+    }
+}
+
+fn has_control(text: &str) -> bool
+    ensures { result ≡ list_any is_control (chars text.now) }
+{
+    text.chars().any(|c| c.is_control())
+}
+
+fn sum_of_columns(text: &str) -> usize
+    requires { sum_by char_columns (chars text.now) < 2 ^ 64 }
+    ensures { result ≡ sum_by char_columns (chars text.now) }
+{
+    text.chars().map(|c| c.width().unwrap_or(0)).sum()
+}

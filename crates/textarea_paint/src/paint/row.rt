@@ -1,0 +1,143 @@
+//! A line drawn in a row of cells.
+ghost use Rattle.std.specs.Prelude.{◌≡◌, ◌+◌, ◌≤◌, ℕ, IsOk, OnOk, OnErr};
+ghost use Rattle.textarea_screen.specs.Buffer.{Changes, KeepsOutside};
+ghost use Rattle.textarea_screen.specs.Rect.{is_in_row};
+ghost use Rattle.textarea_screen.specs.Text.{shown_line};
+ghost use Rattle.textarea_paint.specs.Cells.{is_in_cells, place_from, row_change};
+ghost use Rattle.textarea_paint.specs.Clusters.{row_clusters, AreInline};
+ghost use Rattle.textarea_paint.specs.Row.{fitting, row_width, row_cell};
+
+use super::cells::{Pen, RowCells, draw_cluster};
+use super::clusters::LineClusters;
+use super::columns::cluster_columns;
+use std::alloc::AllocError;
+use textarea_screen::screen::{Alignment, Buffer, Line, Rect, Style};
+
+/// Where lines are drawn, one in each row of an area, and how.
+#[derive(Clone, Copy, Debug, PartialEq, Eq)]
+pub struct RowArea {
+    pub area: Rect,
+    pub alignment: Alignment,
+    /// The first column of a line that is shown, with `Alignment::Left` alone.
+    pub left: usize,
+    /// The style under those of lines and spans.
+    pub style: Style,
+}
+
+/// Draws a line in row `y` of an area, or nothing where the area has no such row.
+///
+/// A cell on which no cluster stands is left as it is. Only a cluster of more than `INLINE_BYTES`
+/// bytes takes memory. Where there is none, cells of the row may be drawn already.
+pub fn draw_row(buffer: &mut Buffer, rows: RowArea, y: u16, line: &Line) -> Result<(), AllocError>
+    ensures ok { OnOk result
+        (Changes buffer.old buffer.new (row_cell rows y (shown_line line.now))) }
+    ensures inline { AreInline (row_clusters rows.style (shown_line line.now)) → IsOk result }
+    ensures err { OnErr result (KeepsOutside (is_in_row rows.area y) buffer.old buffer.new) }
+{
+    let area = rows.area;
+    if y < area.y || area.y + area.height <= y {
+        return Ok(());
+    }
+    let cells = RowCells {
+        x: area.x,
+        y,
+        width: area.width,
+    };
+    match rows.alignment {
+        Alignment::Left => draw_left(buffer, cells, rows.left, line, rows.style),
+        Alignment::Center => {
+            let columns = fitting_columns(line, rows.style, cells.width);
+            draw_fitting(
+                buffer,
+                cells,
+                cells.width / 2 - columns / 2,
+                line,
+                rows.style,
+            )
+        }
+        Alignment::Right => {
+            let columns = fitting_columns(line, rows.style, cells.width);
+            draw_fitting(buffer, cells, cells.width - columns, line, rows.style)
+        }
+    }
+}
+
+/// Draws a line whose column `left` stands in the first of the cells.
+pub(super) fn draw_left(
+    buffer: &mut Buffer,
+    cells: RowCells,
+    left: usize,
+    line: &Line,
+    style: Style,
+) -> Result<(), AllocError>
+    requires edge { cells.x + cells.width ≤ 65535 }
+    ensures ok { OnOk result (Changes buffer.old buffer.new
+        (row_change cells left (place_from 0 (row_clusters style (shown_line line.now))))) }
+    ensures inline { AreInline (row_clusters style (shown_line line.now)) → IsOk result }
+    ensures err { OnErr result (KeepsOutside (is_in_cells cells) buffer.old buffer.new) }
+{
+    let end = cells.x + cells.width;
+    let mut pen = Pen {
+        hidden: left,
+        x: cells.x,
+    };
+    for cluster in LineClusters::new(line, style) {
+        if pen.x == end {
+            break;
+        }
+        pen = draw_cluster(buffer, cells, pen, cluster)?;
+    }
+    Ok(())
+}
+
+/// How many columns the clusters take that are drawn where there is room for `width`.
+fn fitting_columns(line: &Line, style: Style, width: u16) -> u16
+    ensures value { result ≡ row_width (fitting width (row_clusters style (shown_line line.now))) }
+    ensures bound { result ≤ width }
+{
+    let mut room = width;
+    for cluster in LineClusters::new(line, style) {
+        let columns = cluster_columns(cluster.text);
+        if columns <= usize::from(width) {
+            if columns > usize::from(room) {
+                break;
+            }
+            room -= columns as u16;
+        }
+    }
+    width - room
+}
+
+/// Draws the clusters of a line that are drawn where there is room for so many columns as there are
+/// cells. The first stands `start` columns behind the first of the cells.
+fn draw_fitting(
+    buffer: &mut Buffer,
+    cells: RowCells,
+    start: u16,
+    line: &Line,
+    style: Style,
+) -> Result<(), AllocError>
+    requires edge { cells.x + cells.width ≤ 65535 }
+    requires within { start ≤ cells.width }
+    ensures ok { OnOk result (Changes buffer.old buffer.new (row_change cells 0
+        (place_from start (fitting cells.width (row_clusters style (shown_line line.now)))))) }
+    ensures inline { AreInline (row_clusters style (shown_line line.now)) → IsOk result }
+    ensures err { OnErr result (KeepsOutside (is_in_cells cells) buffer.old buffer.new) }
+{
+    let mut room = cells.width;
+    let mut pen = Pen {
+        hidden: 0,
+        x: cells.x + start,
+    };
+    for cluster in LineClusters::new(line, style) {
+        let columns = cluster_columns(cluster.text);
+        if columns <= usize::from(cells.width) {
+            if columns > usize::from(room) {
+                break;
+            }
+            room -= columns as u16;
+            pen = draw_cluster(buffer, cells, pen, cluster)?;
+        }
+    }
+    Ok(())
+}

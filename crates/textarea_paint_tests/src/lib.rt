@@ -1,0 +1,5 @@
+//! Worked drawings of rows and blocks.
+#![tactic(auto)]
+
+#[cfg(test)]
+mod tests;

@@ -1,0 +1,295 @@
+//! Lines and their rows over some edits: numbers worked by hand from the rules, and the same rows as those of lines that are
+//! laid out anew.
+ghost use Rattle.std.specs.Prelude.{◌≡◌, false, IfOk, OnOk};
+ghost use Rattle.textarea_text.specs.Place.{IsPlace};
+ghost use Rattle.textarea_text.specs.Splice.{Fits, inverse};
+ghost use Rattle.textarea_edit.specs.Edit.{IsWellFormed};
+ghost use Rattle.textarea_lines.specs.Wrappings.{is_wrapped};
+
+use crate::texts::strings;
+use std::alloc::{AllocError, Global};
+use std::process::Abort;
+use std::test::Fail;
+use textarea_edit::edit::{Edit, EditKind};
+use textarea_lines::laid_out::LaidOutLines;
+use textarea_lines::view::{ViewSettings, is_wrapped};
+use textarea_text::rows::column_count;
+use textarea_wrap::wrap::WrapMode;
+
+const NINE_LINES: [&str; 9] = ["abcdefg"; 9];
+
+fn end_of(laid: &LaidOutLines) -> (usize, usize)
+    ensures { IsPlace laid.now.text result }
+{
+    let lines = laid.lines();
+    let row = lines.len() - 1;
+    (row, column_count(lines[row].as_str()))
+}
+
+fn put_in_break(laid: &mut LaidOutLines, place: (usize, usize)) -> Result<Edit, AllocError>
+    requires { IsPlace laid.old.text place }
+    ensures well_formed { IfOk result (λ edit. IsWellFormed edit) }
+    ensures fits { IfOk result (λ edit. Fits laid.new.text (inverse edit.splice)) }
+{
+    let _lines = laid.lines();
+    let edit = Edit::between(EditKind::InsertNewline, place, (place.0 + 1, 0));
+    laid.apply(edit.change())?;
+    Ok(edit)
+}
+
+fn type_and_take_back(
+    rt: &(impl Abort + AllocGlobal),
+    laid: &mut LaidOutLines,
+    place: (usize, usize),
+) -> Result<(), AllocError>
+    requires { IsPlace laid.old.text place }
+{
+    let _lines = laid.lines();
+    let edit = Edit::between(EditKind::InsertChar('x'), place, (place.0, place.1 + 1));
+    laid.apply(edit.change())?;
+    expect_as_anew(rt, laid)?;
+    laid.apply(edit.inverse())?;
+    expect_as_anew(rt, laid)
+}
+
+// A place that the test gives, once it is found in the lines.
+fn place_of(rt: &impl Abort, laid: &LaidOutLines, place: (usize, usize)) -> (usize, usize)
+    ensures { IsPlace laid.now.text result }
+{
+    let lines = laid.lines();
+    assert!(rt; place.0 < lines.len());
+    assert!(rt; place.1 <= column_count(lines[place.0].as_str()));
+    place
+}
+
+// Where a place that the test gives is seen.
+fn seen(rt: &impl Abort, laid: &LaidOutLines, place: (usize, usize)) -> (usize, usize) {
+    let found = place_of(rt, laid, place);
+    laid.seen_at(found)
+}
+
+fn expect_seen_alike(
+    rt: &impl Abort,
+    laid: &LaidOutLines,
+    anew: &LaidOutLines,
+    row: usize,
+    end: usize,
+) {
+    for column in 0..=end {
+        assert!(rt; seen(rt, laid, (row, column)) == seen(rt, anew, (row, column)));
+    }
+}
+
+// Each place is seen where it would be if the lines were laid out now.
+fn expect_as_anew(rt: &(impl Abort + AllocGlobal), laid: &LaidOutLines) -> Result<(), AllocError> {
+    let mut lines = Vec::new(rt.alloc());
+    for line in laid.lines() {
+        lines.push(line.clone()?)?;
+    }
+    let anew = LaidOutLines::new(rt.alloc(), lines, laid.view())?;
+    assert_eq!(rt; laid.row_count(), anew.row_count());
+    for (row, line) in laid.lines().iter().enumerate() {
+        expect_seen_alike(rt, laid, &anew, row, column_count(line.as_str()));
+    }
+    Ok(())
+}
+
+#[test]
+fn a_tenth_line_makes_all_rows_narrower(rt: HostRuntime) -> Result<(), Fail> {
+    let alloc = rt.alloc();
+    let view = ViewSettings {
+        mode: WrapMode::Glyph,
+        tab_len: 4,
+        line_numbers: true,
+        inner_width: 11,
+    };
+    let mut laid = LaidOutLines::new(alloc, strings(alloc, &NINE_LINES)?, view)?;
+    assert_eq!(rt; laid.row_count(), 9);
+    let end = end_of(&laid);
+    assert!(rt; laid.seen_at(end) == (8, 7));
+    let edit = put_in_break(&mut laid, end)?;
+    assert_eq!(rt; laid.row_count(), 19);
+    assert!(rt; laid.seen_at(end_of(&laid)) == (18, 0));
+    laid.apply(edit.inverse())?;
+    assert_eq!(rt; laid.row_count(), 9);
+    Ok(())
+}
+
+fn edit_under(
+    rt: &(impl Abort + AllocGlobal),
+    view: ViewSettings,
+    other: ViewSettings,
+) -> Result<(), AllocError> {
+    let alloc = rt.alloc();
+    let mut laid = LaidOutLines::new(alloc, strings(alloc, &NINE_LINES)?, view)?;
+    expect_as_anew(rt, &laid)?;
+    let end = end_of(&laid);
+    type_and_take_back(rt, &mut laid, end)?;
+    let end = end_of(&laid);
+    let edit = put_in_break(&mut laid, end)?;
+    expect_as_anew(rt, &laid)?;
+    laid.apply(edit.inverse())?;
+    expect_as_anew(rt, &laid)?;
+    laid.set_view(other)?;
+    expect_as_anew(rt, &laid)?;
+    let end = end_of(&laid);
+    type_and_take_back(rt, &mut laid, end)?;
+    let mut others = LaidOutLines::new(alloc, Vec::new(alloc), view)?;
+    others.set_lines(laid.into_lines())?;
+    expect_as_anew(rt, &others)
+}
+
+#[test]
+fn rows_are_those_of_lines_laid_out_anew(rt: HostRuntime) -> Result<(), Fail> {
+    let wrapped = ViewSettings {
+        mode: WrapMode::Glyph,
+        tab_len: 4,
+        line_numbers: true,
+        inner_width: 11,
+    };
+    let narrow = ViewSettings {
+        mode: WrapMode::Word,
+        inner_width: 4,
+        line_numbers: false,
+        ..wrapped
+    };
+    let whole = ViewSettings {
+        mode: WrapMode::None,
+        ..wrapped
+    };
+    let hidden = ViewSettings {
+        inner_width: 0,
+        ..wrapped
+    };
+    edit_under(&rt, wrapped, whole)?;
+    edit_under(&rt, whole, hidden)?;
+    edit_under(&rt, narrow, wrapped)?;
+    edit_under(&rt, hidden, narrow)?;
+    Ok(())
+}
+
+#[test]
+fn lines_are_held(rt: HostRuntime) -> Result<(), Fail> {
+    let alloc = rt.alloc();
+    let view = ViewSettings {
+        mode: WrapMode::None,
+        tab_len: 4,
+        line_numbers: false,
+        inner_width: 20,
+    };
+    let mut laid = LaidOutLines::new(alloc, Vec::new(alloc), view)?;
+    assert!(rt; laid.is_empty());
+    assert!(rt; laid.view() == view);
+    assert_eq!(rt; laid.row_count(), 1);
+    assert!(rt; laid.seen_at(end_of(&laid)) == (0, 0));
+    // A line made where the lines are takes their place.
+    let line = String::from_str(laid.allocator(), "abc")?;
+    laid.set_lines(vec![in laid.allocator(); line]?)?;
+    assert!(rt; !laid.is_empty());
+    assert!(rt; laid.seen_at(end_of(&laid)) == (0, 3));
+    let lines = laid.into_lines();
+    assert_eq!(rt; (lines.len(), lines[0].as_str()), (1, "abc"));
+    Ok(())
+}
+
+#[test]
+fn a_cursor_goes_up_and_down(rt: HostRuntime) -> Result<(), Fail> {
+    let alloc = rt.alloc();
+    let whole = ViewSettings {
+        mode: WrapMode::None,
+        tab_len: 4,
+        line_numbers: false,
+        inner_width: 4,
+    };
+    let wrapped = ViewSettings {
+        mode: WrapMode::Glyph,
+        ..whole
+    };
+    let laid = LaidOutLines::new(alloc, strings(alloc, &["犬犬", "abcd"])?, whole)?;
+    assert!(rt; laid.below(place_of(&rt, &laid, (0, 1))) == Some((1, 2)));
+    assert!(rt; laid.above(place_of(&rt, &laid, (1, 1))) == Some((0, 0)));
+    assert!(rt; laid.above(place_of(&rt, &laid, (0, 1))).is_none());
+    assert!(rt; laid.below(place_of(&rt, &laid, (1, 1))).is_none());
+    let laid = LaidOutLines::new(alloc, strings(alloc, &["abcdef"])?, wrapped)?;
+    assert!(rt; laid.below(place_of(&rt, &laid, (0, 1))) == Some((0, 4)));
+    assert!(rt; laid.above(place_of(&rt, &laid, (0, 4))) == Some((0, 1)));
+    Ok(())
+}
+
+fn expect_rows_at(
+    rt: &impl Abort,
+    laid: &mut LaidOutLines,
+    inner_width: u16,
+    rows: usize,
+) -> Result<(), AllocError> {
+    assert!(rt; laid.rows_at_width(inner_width)? == rows);
+    Ok(())
+}
+
+#[test]
+fn rows_are_counted_at_a_width(rt: HostRuntime) -> Result<(), Fail> {
+    let alloc = rt.alloc();
+    let hidden = ViewSettings {
+        mode: WrapMode::Glyph,
+        tab_len: 4,
+        line_numbers: false,
+        inner_width: 0,
+    };
+    for (text, mode, inner_width, rows) in [
+        ("abc", WrapMode::Glyph, 0, 3),
+        ("abcdef", WrapMode::WordOrGlyph, 5, 2),
+        ("abcdef", WrapMode::None, 1, 1),
+    ] {
+        let lines = strings(alloc, &[text])?;
+        let mut laid = LaidOutLines::new(alloc, lines, ViewSettings { mode, ..hidden })?;
+        expect_rows_at(&rt, &mut laid, inner_width, rows)?;
+    }
+    Ok(())
+}
+
+#[test]
+fn a_tenth_line_counts_at_a_width(rt: HostRuntime) -> Result<(), Fail> {
+    let alloc = rt.alloc();
+    let hidden = ViewSettings {
+        mode: WrapMode::Glyph,
+        tab_len: 4,
+        line_numbers: true,
+        inner_width: 0,
+    };
+    let mut laid = LaidOutLines::new(alloc, strings(alloc, &NINE_LINES)?, hidden)?;
+    expect_rows_at(&rt, &mut laid, 11, 9)?;
+    let end = end_of(&laid);
+    put_in_break(&mut laid, end)?;
+    expect_rows_at(&rt, &mut laid, 11, 19)?;
+    expect_rows_at(&rt, &mut laid, 11, 19)?;
+    assert_eq!(rt; laid.row_count(), 10);
+    Ok(())
+}
+
+// Other tab stops, where lines aren't wrapped: no line is cut.
+fn set_tab_len(laid: &mut LaidOutLines, tab_len: u8) -> Result<(), AllocError>
+    requires { is_wrapped laid.old.screen.view ≡ false }
+    ensures { OnOk result (laid.new.screen.count ≡ laid.old.screen.count) }
+{
+    let view = laid.view();
+    laid.set_view(ViewSettings { tab_len, ..view })
+}
+
+#[test]
+fn tab_stops_cut_no_whole_line(rt: HostRuntime) -> Result<(), Fail> {
+    let alloc = rt.alloc();
+    let view = ViewSettings {
+        mode: WrapMode::None,
+        tab_len: 4,
+        line_numbers: false,
+        inner_width: 20,
+    };
+    let lines = strings(alloc, &["\ta", "abcdef"])?;
+    let mut laid = LaidOutLines::new(alloc, lines, view)?;
+    assert!(rt; laid.seen_at(place_of(&rt, &laid, (0, 1))) == (0, 4));
+    assert!(rt; !is_wrapped(laid.view()));
+    set_tab_len(&mut laid, 2)?;
+    assert!(rt; laid.seen_at(place_of(&rt, &laid, (0, 1))) == (0, 2));
+    assert_eq!(rt; laid.rows_at_width(1)?, 2);
+    Ok(())
+}

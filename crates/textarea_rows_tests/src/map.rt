@@ -1,0 +1,339 @@
+//! Worked cases of the look-ups, by hand from the rules, and maps that follow hundreds of replacements.
+ghost use Rattle.std.specs.Prelude.{◌≡◌, ◌+◌, ◌<◌, ◌≤◌, length, vec_len, IsTrue, OnOk};
+ghost use Rattle.textarea_text.specs.Text.{lines_of};
+ghost use Rattle.textarea_text.specs.Place.{IsPlaceOf};
+
+use crate::texts::strings;
+use std::alloc::{AllocError, Global};
+use std::process::Abort;
+use std::test::Fail;
+use textarea_map::layout::Wrapping;
+use textarea_map::screen_map::ScreenMap;
+use textarea_text::rows::{Replacement, column_count};
+use textarea_wrap::wrap::{WrapCount, WrapMode};
+
+const ONE_ROW_A_LINE: Wrapping = Wrapping {
+    mode: WrapMode::None,
+    width: 0,
+    tab_len: 4,
+};
+
+fn wrapped(mode: WrapMode, width: usize) -> Wrapping {
+    Wrapping {
+        mode,
+        width,
+        tab_len: 4,
+    }
+}
+
+fn is_place(lines: &[String], place: (usize, usize)) -> bool
+    ensures { IsTrue result → IsPlaceOf (lines_of lines.now) place }
+{
+    place.0 < lines.len() && place.1 <= column_count(lines[place.0].as_str())
+}
+
+// What a place of the lines is seen at, and where a cursor goes from it.
+#[derive(Clone, Copy)]
+struct Case {
+    wrapping: Wrapping,
+    place: (usize, usize),
+    seen: (usize, usize),
+    above: Option<(usize, usize)>,
+    below: Option<(usize, usize)>,
+}
+
+fn expect_moves(
+    rt: &(impl Abort + AllocGlobal),
+    given: &[&str],
+    cases: &[Case],
+) -> Result<(), AllocError> {
+    let lines = strings(rt.alloc(), given)?;
+    let mut counter = WrapCount::new();
+    for case in cases {
+        let map = ScreenMap::new(rt.alloc(), lines.as_slice(), case.wrapping, &mut counter)?;
+        assert!(rt; is_place(lines.as_slice(), case.place));
+        let seen = map.seen_at(lines.as_slice(), case.wrapping, case.place);
+        assert_eq!(rt; seen, case.seen);
+        let above = map.above(lines.as_slice(), case.wrapping, case.place);
+        assert_eq!(rt; above, case.above);
+        let below = map.below(lines.as_slice(), case.wrapping, case.place);
+        assert_eq!(rt; below, case.below);
+    }
+    Ok(())
+}
+
+fn moves(
+    wrapping: Wrapping,
+    place: (usize, usize),
+    seen: (usize, usize),
+    above: Option<(usize, usize)>,
+    below: Option<(usize, usize)>,
+) -> Case {
+    Case {
+        wrapping,
+        place,
+        seen,
+        above,
+        below,
+    }
+}
+
+#[test]
+fn up_and_down(rt: HostRuntime) -> Result<(), Fail> {
+    let plain = ONE_ROW_A_LINE;
+    expect_moves(
+        &rt,
+        &["犬犬", "abcd"],
+        &[
+            moves(plain, (0, 1), (0, 2), None, Some((1, 2))),
+            moves(plain, (1, 1), (1, 1), Some((0, 0)), None),
+            moves(plain, (1, 4), (1, 4), Some((0, 2)), None),
+        ],
+    )?;
+    expect_moves(
+        &rt,
+        &["🐱", "🐶", "🐰", "🐮"],
+        &[
+            moves(plain, (0, 0), (0, 0), None, Some((1, 0))),
+            moves(plain, (2, 1), (2, 2), Some((1, 1)), Some((3, 1))),
+        ],
+    )?;
+    let glyph = wrapped(WrapMode::Glyph, 4);
+    expect_moves(
+        &rt,
+        &["abcdefgh", "x"],
+        &[
+            moves(glyph, (0, 3), (0, 3), None, Some((0, 7))),
+            moves(glyph, (0, 4), (1, 0), Some((0, 0)), Some((1, 0))),
+            moves(glyph, (0, 8), (1, 4), Some((0, 3)), Some((1, 1))),
+            moves(glyph, (1, 1), (2, 1), Some((0, 5)), None),
+        ],
+    )?;
+    let word = wrapped(WrapMode::Word, 6);
+    expect_moves(
+        &rt,
+        &["abcdef ghi", "0123456"],
+        &[
+            moves(word, (0, 6), (0, 6), None, Some((0, 10))),
+            moves(word, (0, 7), (1, 0), Some((0, 0)), Some((1, 0))),
+            moves(word, (1, 6), (3, 0), Some((1, 0)), None),
+        ],
+    )?;
+    Ok(())
+}
+
+#[test]
+fn tabs(rt: HostRuntime) -> Result<(), Fail> {
+    let plain = ONE_ROW_A_LINE;
+    let mut without_stops = ONE_ROW_A_LINE;
+    without_stops.tab_len = 0;
+    expect_moves(
+        &rt,
+        &["a\tb", "xyzwvu"],
+        &[
+            moves(plain, (0, 2), (0, 4), None, Some((1, 4))),
+            moves(plain, (1, 2), (1, 2), Some((0, 1)), None),
+            moves(plain, (1, 4), (1, 4), Some((0, 2)), None),
+            moves(plain, (1, 6), (1, 6), Some((0, 3)), None),
+            moves(without_stops, (0, 2), (0, 2), None, Some((1, 2))),
+        ],
+    )?;
+    Ok(())
+}
+
+// The width and the greatest cursor column of each visual row.
+fn expect_columns(
+    rt: &(impl Abort + AllocGlobal),
+    given: &[&str],
+    wrapping: Wrapping,
+    expected: &[(usize, usize)],
+) -> Result<(), AllocError> {
+    let lines = strings(rt.alloc(), given)?;
+    let mut counter = WrapCount::new();
+    let map = ScreenMap::new(rt.alloc(), lines.as_slice(), wrapping, &mut counter)?;
+    assert_eq!(rt; map.row_count(), expected.len());
+    for (row, columns) in expected.iter().enumerate() {
+        assert!(rt; row < map.row_count());
+        let width = map.row_width(lines.as_slice(), wrapping, row);
+        let greatest = map.greatest_column(lines.as_slice(), wrapping, row);
+        assert_eq!(rt; (width, greatest), *columns);
+    }
+    Ok(())
+}
+
+#[test]
+fn widths(rt: HostRuntime) -> Result<(), Fail> {
+    expect_columns(
+        &rt,
+        &["abcdef ghi", ""],
+        wrapped(WrapMode::Word, 6),
+        &[(7, 6), (3, 3), (0, 0)],
+    )?;
+    expect_columns(
+        &rt,
+        &["ab犬猫"],
+        wrapped(WrapMode::Glyph, 4),
+        &[(4, 2), (2, 2)],
+    )?;
+    expect_columns(&rt, &["a\tb"], ONE_ROW_A_LINE, &[(5, 5)])?;
+    Ok(())
+}
+
+// Which place each visual row and display column lead back to.
+fn expect_places(
+    rt: &(impl Abort + AllocGlobal),
+    given: &[&str],
+    wrapping: Wrapping,
+    expected: &[((usize, usize), (usize, usize))],
+) -> Result<(), AllocError> {
+    let lines = strings(rt.alloc(), given)?;
+    let mut counter = WrapCount::new();
+    let map = ScreenMap::new(rt.alloc(), lines.as_slice(), wrapping, &mut counter)?;
+    for (seen, place) in expected {
+        assert!(rt; seen.0 < map.row_count());
+        let found = map.place_at(lines.as_slice(), wrapping, *seen);
+        assert_eq!(rt; found, *place);
+    }
+    Ok(())
+}
+
+#[test]
+fn back(rt: HostRuntime) -> Result<(), Fail> {
+    expect_places(
+        &rt,
+        &["e\u{301}x犬"],
+        ONE_ROW_A_LINE,
+        &[
+            ((0, 0), (0, 0)),
+            ((0, 1), (0, 1)),
+            ((0, 2), (0, 3)),
+            ((0, 3), (0, 3)),
+            ((0, 4), (0, 4)),
+            ((0, 9), (0, 4)),
+        ],
+    )?;
+    expect_places(
+        &rt,
+        &["abcdef"],
+        wrapped(WrapMode::Glyph, 4),
+        &[
+            ((0, 3), (0, 3)),
+            ((0, 4), (0, 4)),
+            ((0, 9), (0, 4)),
+            ((1, 1), (0, 5)),
+            ((1, 2), (0, 6)),
+        ],
+    )?;
+    Ok(())
+}
+
+// Numbers that look random, each made from the one before it.
+#[derive(Drop)]
+struct Numbers {
+    state: u64,
+}
+
+impl Numbers {
+    fn below(&mut self, limit: usize) -> usize
+        requires { 0 < limit }
+        ensures { result < limit }
+    {
+        self.state = self
+            .state
+            .wrapping_mul(6_364_136_223_846_793_005)
+            .wrapping_add(1_442_695_040_888_963_407);
+        (self.state >> 33) as usize % limit
+    }
+}
+
+fn some_line(alloc: Global, numbers: &mut Numbers) -> Result<String, AllocError> {
+    let pieces = ["a", " ", "\t", "犬", "e\u{301}", "word ", "🐶", "-"];
+    let mut line = String::new(alloc);
+    for _piece in 0..numbers.below(24) {
+        line.push_str(pieces[numbers.below(8)])?;
+    }
+    Ok(line)
+}
+
+fn some_lines(alloc: Global, numbers: &mut Numbers) -> Result<Vec<String>, AllocError> {
+    let mut lines = Vec::new(alloc);
+    for _line in 0..numbers.below(5) {
+        let line = some_line(alloc, numbers)?;
+        lines.push(line)?;
+    }
+    Ok(lines)
+}
+
+// Lines take the place of others, and their rows in the map.
+fn replace(
+    alloc: Global,
+    map: &mut ScreenMap,
+    lines: &mut Vec<String>,
+    change: Replacement,
+    wrapping: Wrapping,
+    counter: &mut WrapCount,
+) -> Result<(), AllocError>
+    requires rows { length map.old.rows ≡ vec_len lines.old }
+    requires within { change.row + change.count ≤ vec_len lines.old }
+    ensures { OnOk result (length map.new.rows ≡ vec_len lines.new) }
+{
+    let prepared = map.prepare(
+        alloc,
+        change.row,
+        change.count,
+        change.lines.as_slice(),
+        wrapping,
+        counter,
+    )?;
+    change.apply(lines)?;
+    map.put_in(prepared);
+    Ok(())
+}
+
+fn expect_same(rt: &impl Abort, map: &ScreenMap, other: &ScreenMap, lines: usize)
+    requires map { length map.now.rows ≡ lines }
+    requires other { length other.now.rows ≡ lines }
+{
+    assert_eq!(rt; map.row_count(), other.row_count());
+    for line in 0..lines {
+        assert_eq!(rt; map.rows_of(line), other.rows_of(line));
+        assert_eq!(rt; map.first_row(line), other.first_row(line));
+    }
+}
+
+fn follow(
+    rt: &(impl Abort + AllocGlobal),
+    seed: u64,
+    wrapping: Wrapping,
+) -> Result<(), AllocError> {
+    let alloc = rt.alloc();
+    let mut numbers = Numbers { state: seed };
+    let mut counter = WrapCount::new();
+    let mut lines = some_lines(alloc, &mut numbers)?;
+    let mut map = ScreenMap::new(alloc, lines.as_slice(), wrapping, &mut counter)?;
+    for _step in 0..150 {
+        let row = numbers.below(lines.len() + 1);
+        let count = numbers.below(lines.len() - row + 1).min(4);
+        let change = Replacement {
+            row,
+            count,
+            lines: some_lines(alloc, &mut numbers)?,
+        };
+        replace(alloc, &mut map, &mut lines, change, wrapping, &mut counter)?;
+        let fresh = ScreenMap::new(alloc, lines.as_slice(), wrapping, &mut counter)?;
+        expect_same(rt, &map, &fresh, lines.len());
+    }
+    let copy = map.clone()?;
+    expect_same(rt, &map, &copy, lines.len());
+    Ok(())
+}
+
+#[test]
+fn follows_replacements(rt: HostRuntime) -> Result<(), Fail> {
+    follow(&rt, 1, ONE_ROW_A_LINE)?;
+    follow(&rt, 2, wrapped(WrapMode::Word, 9))?;
+    follow(&rt, 3, wrapped(WrapMode::Glyph, 5))?;
+    follow(&rt, 4, wrapped(WrapMode::WordOrGlyph, 1))?;
+    follow(&rt, 5, wrapped(WrapMode::Word, 200))?;
+    Ok(())
+}

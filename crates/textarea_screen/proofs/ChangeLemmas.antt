@@ -1,0 +1,102 @@
+-- How changes of a buffer compose. Each lemma is over the words of specs/Buffer.antt alone, so crates above may cite it.
+use Rattle.std.proofs.Common.{◌≡◌, ℕ, Bool, true, false, Option, None, Some, refl, sym, ap, ◌∙◌, ⊎_elim}
+use Rattle.std.specs.Option.{option_map}
+use Rattle.std.proofs.lemmas.Bool.{cases_Bool, cond-false}
+use Rattle.textarea_screen.specs.Buffer.{area_of, cell_at, Change, Changes, KeepsOutside}
+use Rattle.textarea_screen.specs.Cell.{ShownCell}
+use Rattle.textarea_screen.specs.Rect.{contains}
+use Rattle.textarea_screen.specs.declared.screen.buffer.Buffer.{Buffer}
+
+-- ---- the cell at one place
+
+option_map-same : (f : ShownCell → ShownCell) (o : Option ShownCell) → ((cell : ShownCell) → f cell ≡ cell) → option_map f o ≡ o
+option_map-same f None same = refl
+option_map-same f (Some cell) same = ap Some (same cell)
+
+option_map-like : (f g : ShownCell → ShownCell) (o : Option ShownCell) → ((cell : ShownCell) → f cell ≡ g cell) → option_map f o ≡ option_map g o
+option_map-like f g None same = refl
+option_map-like f g (Some cell) same = ap Some (same cell)
+
+option_map-then : (f g : ShownCell → ShownCell) (o : Option ShownCell) → option_map g (option_map f o) ≡ option_map (λ cell. g (f cell)) o
+option_map-then f g None = refl
+option_map-then f g (Some cell) = refl
+
+-- the buffer has no cell outside of its area
+pub cell_at-outside : (buffer : Buffer) (x y : ℕ) → contains (area_of buffer) x y ≡ false → cell_at buffer x y ≡ None
+unfolding cell_at
+cell_at-outside buffer x y outside = cond-false _ _ _ outside
+
+-- ---- changes
+
+-- a change of no cell
+pub Changes-none : (buffer : Buffer) (change : Change) → ((x y : ℕ) (cell : ShownCell) → change x y cell ≡ cell) → Changes buffer buffer change
+Changes-none buffer change same = record {
+  area = refl;
+  cells = λ x y. sym (option_map-same (change x y) (cell_at buffer x y) (same x y));
+}
+
+-- one change after another is any change that does to each cell what the two do
+pub Changes-then : {a b c : Buffer} {f g : Change} (h : Change) → Changes a b f → Changes b c g →
+    ((x y : ℕ) (cell : ShownCell) → g x y (f x y cell) ≡ h x y cell) → Changes a c h
+Changes-then {a} {b} {c} {f} {g} h first second same = record {
+  area = second.area ∙ first.area;
+  cells = λ x y. second.cells x y ∙ ap (option_map (g x y)) (first.cells x y) ∙ option_map-then (f x y) (g x y) (cell_at a x y)
+      ∙ option_map-like (λ cell. g x y (f x y cell)) (h x y) (cell_at a x y) (same x y);
+}
+
+-- the same change in other words
+pub Changes-as : {a b : Buffer} {f : Change} (g : Change) → Changes a b f → ((x y : ℕ) (cell : ShownCell) → f x y cell ≡ g x y cell) → Changes a b g
+Changes-as {a} {b} {f} g change same = record {
+  area = change.area;
+  cells = λ x y. change.cells x y ∙ option_map-like (f x y) (g x y) (cell_at a x y) (same x y);
+}
+
+-- the same change in words that differ on cells which the buffer does not have
+pub Changes-inside : {a b : Buffer} {f : Change} (g : Change) → Changes a b f →
+    ((x y : ℕ) (cell : ShownCell) → contains (area_of a) x y ≡ true → f x y cell ≡ g x y cell) → Changes a b g
+Changes-inside {a} {b} {f} g change same = record {
+  area = change.area;
+  cells = λ x y.
+      change.cells x y
+      ∙ ⊎_elim
+      (λ inside. option_map-like (f x y) (g x y) (cell_at a x y) (λ cell. same x y cell inside))
+      (λ outside.
+      let none = cell_at-outside a x y outside in
+      ap (option_map (f x y)) none ∙ sym (ap (option_map (g x y)) none))
+      (cases_Bool (contains (area_of a) x y));
+}
+
+-- the same change of the same buffers
+pub Changes-at : {a b a' b' : Buffer} {f : Change} → Changes a b f → a' ≡ a → b' ≡ b → Changes a' b' f
+Changes-at {a} {b} {a'} {b'} {f} change is_a is_b = rw (is_a, is_b) change
+
+-- ---- cells that stay
+
+-- a change keeps the cells that it leaves as they are
+pub KeepsOutside-from_changes : {a b : Buffer} {f : Change} (test : ℕ → ℕ → Bool) → Changes a b f →
+    ((x y : ℕ) (cell : ShownCell) → test x y ≡ false → f x y cell ≡ cell) → KeepsOutside test a b
+KeepsOutside-from_changes {a} {b} {f} test change same = record {
+  area = change.area;
+  cells = λ x y outside. change.cells x y ∙ option_map-same (f x y) (cell_at a x y) (λ cell. same x y cell outside);
+}
+
+pub KeepsOutside-then : {a b c : Buffer} {test : ℕ → ℕ → Bool} → KeepsOutside test a b → KeepsOutside test b c → KeepsOutside test a c
+KeepsOutside-then first second = record {
+  area = second.area ∙ first.area;
+  cells = λ x y outside. second.cells x y outside ∙ first.cells x y outside;
+}
+
+-- a buffer that is as it was
+pub KeepsOutside-same : {a b : Buffer} (test : ℕ → ℕ → Bool) → b ≡ a → KeepsOutside test a b
+KeepsOutside-same {a} {b} test same = record {
+  area = ap area_of same;
+  cells = λ x y _. ap (λ buffer. cell_at buffer x y) same;
+}
+
+-- cells outside of more places are fewer cells
+pub KeepsOutside-wider : {a b : Buffer} {test : ℕ → ℕ → Bool} (wider : ℕ → ℕ → Bool) → KeepsOutside test a b →
+    ((x y : ℕ) → wider x y ≡ false → test x y ≡ false) → KeepsOutside wider a b
+KeepsOutside-wider wider keeps within = record {
+  area = keeps.area;
+  cells = λ x y outside. keeps.cells x y (within x y outside);
+}

@@ -1,0 +1,140 @@
+ghost use Rattle.std.specs.Prelude.{◌≡◌, ◌≤◌, length, IfOk, IsOk, OnOk, OnErr};
+
+use super::color::Color;
+use super::modifier::Modifier;
+use super::style::Style;
+use arrayvec::ArrayString;
+use std::alloc::{AllocError, Global};
+
+/// The length in bytes up to which a cell's text lies in the cell; a longer one takes memory.
+pub const INLINE_BYTES: usize = 24;
+
+/// The text of a cell.
+#[derive(Drop)]
+enum CellText {
+    Inline(ArrayString<INLINE_BYTES>),
+    Owned(String),
+}
+
+impl CellText {
+    ghost use Rattle.textarea_screen.specs.Cell.{cell_text};
+
+    /// The text, in memory of its own where it is longer than `INLINE_BYTES`.
+    fn new(alloc: Global, text: &str) -> Result<CellText, AllocError>
+        ensures value { IfOk result (λ kept. cell_text kept ≡ text.now) }
+        ensures inline { length text.now ≤ INLINE_BYTES → IsOk result }
+    {
+        match ArrayString::from(text) {
+            Ok(inline) => Ok(CellText::Inline(inline)),
+            Err(_) => Ok(CellText::Owned(String::from_str(alloc, text)?)),
+        }
+    }
+
+    /// Replaces the text, in the same place where both lie in the cell.
+    fn replace(&mut self, alloc: Global, text: &str) -> Result<(), AllocError>
+        ensures value { OnOk result (cell_text self.new ≡ text.now) }
+        ensures inline { length text.now ≤ INLINE_BYTES → IsOk result }
+        ensures err { OnErr result (self.new ≡ self.old) }
+    {
+        match self {
+            CellText::Inline(kept) if text.len() <= INLINE_BYTES => {
+                kept.clear();
+                kept.push_str(text);
+            }
+            _ => *self = CellText::new(alloc, text)?,
+        }
+        Ok(())
+    }
+
+    fn as_str(&self) -> &str
+        ensures { result.now ≡ cell_text self.now }
+    {
+        match self {
+            CellText::Inline(text) => text.as_str(),
+            CellText::Owned(text) => text.as_str(),
+        }
+    }
+}
+
+/// One cell of a screen: its text, mostly one character, and how that is shown.
+///
+/// A text of up to `INLINE_BYTES` bytes lies in the cell itself, and takes no memory.
+#[derive(Drop)]
+pub struct Cell {
+    text: CellText,
+    pub fg: Color,
+    pub bg: Color,
+    pub modifier: Modifier,
+}
+
+impl Cell {
+    ghost use Rattle.textarea_screen.specs.Cell.{shown_cell, styled, style_of, fresh_cell};
+
+    /// A fresh cell: one blank, in the terminal's colours, with no modifier. It takes no memory.
+    pub fn fresh() -> Cell
+        ensures { shown_cell result ≡ fresh_cell }
+    {
+        let mut blank = ArrayString::new();
+        blank.push(' ');
+        Cell {
+            text: CellText::Inline(blank),
+            fg: Color::Reset,
+            bg: Color::Reset,
+            modifier: Modifier(0),
+        }
+    }
+
+    /// The text.
+    pub fn symbol(&self) -> &str
+        ensures { result.now ≡ (shown_cell self.now).symbol }
+    {
+        self.text.as_str()
+    }
+
+    /// Replaces the text, and leaves colours and modifiers. A text of up to `INLINE_BYTES` bytes
+    /// takes no memory.
+    pub fn set_symbol(&mut self, alloc: Global, text: &str) -> Result<(), AllocError>
+        ensures ok { OnOk result
+            (shown_cell self.new ≡ record (shown_cell self.old) { symbol = text.now }) }
+        ensures inline { length text.now ≤ INLINE_BYTES → IsOk result }
+        ensures err { OnErr result (self.new ≡ self.old) }
+    {
+        self.text.replace(alloc, text)
+    }
+
+    /// The style that brings any cell to these colours, and adds these modifiers.
+    pub fn style(&self) -> Style
+        ensures { result ≡ style_of (shown_cell self.now) }
+    {
+        Style {
+            fg: Some(self.fg),
+            bg: Some(self.bg),
+            add_modifier: self.modifier,
+            sub_modifier: Modifier(0),
+        }
+    }
+
+    /// Replaces the colours that the style sets, puts in the modifiers that it adds, and then takes
+    /// away those that it takes away. The text stays.
+    pub fn set_style(&mut self, style: Style)
+        ensures { shown_cell self.new ≡ styled style (shown_cell self.old) }
+    {
+        self.fg = style.fg.unwrap_or(self.fg);
+        self.bg = style.bg.unwrap_or(self.bg);
+        self.modifier = self
+            .modifier
+            .union(style.add_modifier)
+            .difference(style.sub_modifier);
+    }
+}
+
+impl Default for Cell {
+    ghost use Rattle.textarea_screen.specs.Cell.{shown_cell, fresh_cell};
+
+    ghost is_default = { λ cell. shown_cell cell ≡ fresh_cell };
+
+    /// A fresh cell.
+    fn default() -> Cell {
+        Cell::fresh()
+    }
+}

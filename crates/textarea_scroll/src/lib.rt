@@ -1,4 +1,0 @@
-//! How far to scroll.
-#![tactic(auto)]
-
-pub mod scroll;

@@ -1,0 +1,12 @@
+-- Copies of some lines hold the same characters.
+use Rattle.std.proofs.Common.{◌≡◌, List, [], ◌∷◌, ap, refl, ◌∙◌, String, string_bytes}
+use Rattle.std.specs.List.{AllZip}
+use Rattle.std.specs.Str.{chars}
+use Rattle.textarea_text.specs.Text.{lines_of}
+
+pub lines_copied : {Z : Type 0} (pieces copies : List (String Z)) → AllZip (λ s t. string_bytes t ≡ string_bytes s) pieces copies → lines_of copies ≡ lines_of pieces
+lines_copied [] [] h = refl
+lines_copied [] (copy ∷ copies) h = absurd h
+lines_copied (piece ∷ pieces) [] h = absurd h
+lines_copied (piece ∷ pieces) (copy ∷ copies) h =
+    ap (λ t. chars t ∷ lines_of copies) h.0 ∙ ap (λ t. chars (string_bytes piece) ∷ t) (lines_copied pieces copies h.1)

@@ -1,0 +1,4 @@
+pub mod Viewport
+pub mod Scrolled
+pub mod Shown
+pub mod Caret
