@@ -1,5 +1,5 @@
 use Rattle.std.proofs.Common.{ap, arith, subst, sym}
-use Rattle.textarea_text.specs.Splice.{Fits, inverse}
+use Rattle.textarea_text.specs.Splice.{Fits, applied, inverse}
 use Rattle.textarea_text.proofs.Places.{takes_back}
 use Rattle.textarea_lines.specs.Screen.{LaidOut}
 use Rattle.textarea_rows_tests.proofs.lines.put_in_break.Goals as goal
@@ -9,4 +9,5 @@ returns-clause-fits c =
     let text = c.args.laid.now.text in
     let splice = c.between-edit.result.splice in
     let fits : Fits text splice = subst (Fits text) (sym c.between-edit.ensures.splice) (record { some = omega arith; is_place = c.requires; allowed = tt }) in
-    subst (λ t. Fits t (inverse splice)) (sym (ap (λ (l : LaidOut). l.text) c.in_ok-make.ensures.ok)) (takes_back text splice fits).fits
+    let back = subst (λ s. Fits (applied text s) (inverse splice)) (sym c.change.ensures) (takes_back text splice fits).fits in
+    subst (λ t. Fits t (inverse splice)) (sym (ap (λ (l : LaidOut). l.text) c.in_ok-apply.ensures.ok)) back
