@@ -1,4 +1,5 @@
 // Text areas of given lines and copies of them, and README's program.
+use crate::unprinted::make;
 use std::alloc::AllocError;
 use std::process::Abort;
 use std::test::Fail;
@@ -55,25 +56,13 @@ fn a_text_area_of_no_line(rt: HostRuntime) -> Result<(), Fail> {
 #[test]
 fn a_copy_stands_alone(rt: HostRuntime) -> Result<(), Fail> {
     let mut area = TextArea::try_default(rt.alloc())?;
-    set_up(&mut area)?;
+    make(&rt, &mut area, "insert_char c\nset_search_pattern c")?;
     let copy = area.clone()?;
-    take_back(&mut area)?;
+    make(&rt, &mut area, "undo\nset_search_pattern")?;
     compare_lines(&rt, &area, &[""]);
     assert!(rt; area.search_pattern() == None);
     compare_lines(&rt, &copy, &["c"]);
     assert!(rt; copy.search_pattern() == Some("c"));
-    Ok(())
-}
-
-fn set_up(area: &mut TextArea<'_>) -> Result<(), Fail> {
-    area.insert_char('c')?;
-    area.set_search_pattern("c")?;
-    Ok(())
-}
-
-fn take_back(area: &mut TextArea<'_>) -> Result<(), Fail> {
-    area.undo()?;
-    area.set_search_pattern("")?;
     Ok(())
 }
 
@@ -88,11 +77,14 @@ fn quick_start(rt: HostRuntime) -> Result<(), Fail> {
 fn quick_start_on(rt: &impl Abort, area: &mut TextArea<'_>) -> Result<(), AllocError> {
     area.insert_str("one two\nthree")?;
     assert!(rt; area.delete_word()?);
+    assert!(rt; area.yank_text()?.as_str() == "three");
     assert!(rt; area.undo()?);
+    assert!(rt; area.cursor() == (1, 5));
     area.move_cursor(CursorMove::WordBack);
     area.start_selection();
     area.move_cursor(CursorMove::End);
     assert!(rt; area.cut()?);
+    assert!(rt; area.yank_text()?.as_str() == "three");
     area.set_wrap_mode(WrapMode::Word)?;
     assert!(rt; area.measure(5)?.content_rows == 3);
     Ok(())

@@ -29,7 +29,7 @@ static SCRIPTS: [(&str, &str); 6] = [
 
 #[test]
 fn lines_of_scripts(rt: HostRuntime) -> Result<(), Fail> {
-    for (script, printed) in SCRIPTS {
+    for (script, printed) in &SCRIPTS {
         check_script(&rt, script, printed)?;
     }
     Ok(())
@@ -262,7 +262,7 @@ static NO_COMMANDS: [&str; 76] = [
 
 #[test]
 fn lines_that_are_no_command(rt: HostRuntime) -> Result<(), Fail> {
-    for line in NO_COMMANDS {
+    for line in &NO_COMMANDS {
         check_end(
             &rt,
             line.as_bytes(),

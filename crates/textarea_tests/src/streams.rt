@@ -3,11 +3,35 @@ use std::alloc::Global;
 use std::io;
 use std::io::{ErrorKind, Read, Write};
 use std::test::Fail;
-use textarea_script::serve::serve;
+use textarea_script::serve::{DONE, LINE_NOT_READ, OUT_OF_MEMORY, STREAM_FAILED, serve};
 
-const SCRIPT: &str = "insert_char a\ninsert_newline\nundo\n";
+const SCRIPT: &str = "insert_char a
+insert_newline
+set_search_pattern a
+search_back false
+set_wrap_mode Glyph
+measure 2
+ranges 0 0 2
+set_yank_text b
+yank_text
+undo
+";
 
-const PRINTED: &str = "1 ok\n2 ok\n3 true\nlines 1\n|a\ncursor 0 1\nselection none\n";
+const PRINTED: &str = "1 ok
+2 ok
+3 ok
+4 true
+5 ok
+6 2 2 1 65535
+7 rejected 0:0..2 ColumnOutOfBounds
+8 ok
+9 text b
+10 true
+lines 1
+|a
+cursor 0 1
+selection none
+";
 
 // Gives its text in pieces, and then fails.
 #[derive(Drop)]
@@ -79,7 +103,8 @@ fn readers_that_fail(rt: HostRuntime) -> Result<(), Fail> {
         };
         let mut output = Vec::new(rt.alloc());
         let mut errors = Vec::new(rt.alloc());
-        assert_eq!(rt; serve(rt.alloc(), &mut reader, &mut output, &mut errors), 1);
+        let status = serve(rt.alloc(), &mut reader, &mut output, &mut errors);
+        assert!(rt; status == STREAM_FAILED);
         assert!(rt; output.is_empty());
         assert!(rt; errors.is_empty());
     }
@@ -95,10 +120,9 @@ fn writers_that_fail(rt: HostRuntime) -> Result<(), Fail> {
             let mut errors = Vec::new(rt.alloc());
             let status = serve(rt.alloc(), &mut SCRIPT.as_bytes(), &mut output, &mut errors);
             // One write more than the text takes is left for the flush.
-            assert_eq!(rt; status == 0, writes > all);
-            assert_eq!(rt; status == 1, writes <= all);
+            assert!(rt; status == if writes > all { DONE } else { STREAM_FAILED });
             assert!(rt; PRINTED.as_bytes().starts_with(output.text()));
-            assert_eq!(rt; output.text().len(), PRINTED.len().min(writes * piece));
+            assert!(rt; output.text().len() == PRINTED.len().min(writes * piece));
             assert!(rt; errors.is_empty());
         }
     }
@@ -110,34 +134,75 @@ fn failing_errors_change_no_status(rt: HostRuntime) -> Result<(), Fail> {
     for writes in 0..20 {
         let mut output = Vec::new(rt.alloc());
         let mut errors = BrokenWriter::new(rt.alloc(), 1, writes);
-        assert_eq!(rt;
-            serve(
-                rt.alloc(),
-                &mut b"nothing".as_slice(),
-                &mut output,
-                &mut errors
-            ),
-            2
+        let status = serve(
+            rt.alloc(),
+            &mut b"nothing".as_slice(),
+            &mut output,
+            &mut errors,
         );
+        assert!(rt; status == LINE_NOT_READ);
         assert!(rt; output.is_empty());
         assert!(rt; b"line 1: not read\n".starts_with(errors.text()));
     }
     Ok(())
 }
 
-// With ample memory this is one more run. Each allocation that is refused in turn gives one of the
-// other two ends.
+// Gives its text, and notes that it was read to its end.
+#[derive(Drop)]
+struct WholeReader<'a> {
+    text: &'a [u8],
+    ended: bool,
+}
+
+impl Read for WholeReader<'_> {
+    fn read(&mut self, buf: &mut [u8]) -> io::Result<usize> {
+        let count = self.text.len().min(buf.len());
+        let (piece, rest) = self.text.split_at(count);
+        buf[..count].copy_from_slice(piece);
+        self.text = rest;
+        self.ended = count == 0;
+        Ok(count)
+    }
+}
+
+// Takes the text that it waits for, and no other, without memory of its own.
+#[derive(Drop)]
+struct WaitingWriter<'a> {
+    text: &'a [u8],
+}
+
+impl Write for WaitingWriter<'_> {
+    fn write(&mut self, buf: &[u8]) -> io::Result<usize> {
+        let Some(rest) = self.text.strip_prefix(buf) else {
+            return Err(io::Error::from(ErrorKind::InvalidData));
+        };
+        self.text = rest;
+        Ok(buf.len())
+    }
+
+    fn flush(&mut self) -> io::Result<()> {
+        Ok(())
+    }
+}
+
+// With ample memory this is one more run. With an allocation refused there are two ends: the script wasn't read to its end, or
+// it was and `no memory` is told. Nothing is printed then, whichever call was refused.
 #[test]
 fn refused_memory(rt: HostRuntime) {
-    let mut output = BrokenWriter::new(rt.alloc(), 128, 100);
-    let mut errors = BrokenWriter::new(rt.alloc(), 128, 100);
-    let status = serve(rt.alloc(), &mut SCRIPT.as_bytes(), &mut output, &mut errors);
-    let (printed, told) = match status {
-        0 => (PRINTED, ""),
-        1 => ("", ""),
-        _ => ("", "no memory\n"),
+    let mut reader = WholeReader {
+        text: SCRIPT.as_bytes(),
+        ended: false,
     };
-    assert!(rt; status == 0 || status == 1 || status == 3);
-    assert!(rt; output.text() == printed.as_bytes());
-    assert!(rt; errors.text() == told.as_bytes());
+    let mut output = WaitingWriter {
+        text: PRINTED.as_bytes(),
+    };
+    let mut errors = WaitingWriter {
+        text: b"no memory\n",
+    };
+    let status = serve(rt.alloc(), &mut reader, &mut output, &mut errors);
+    assert!(rt; status == DONE || status == STREAM_FAILED || status == OUT_OF_MEMORY);
+    assert!(rt; reader.ended == (status != STREAM_FAILED));
+    let printed = if status == DONE { "" } else { PRINTED };
+    assert!(rt; output.text == printed.as_bytes());
+    assert!(rt; errors.text.is_empty() == (status == OUT_OF_MEMORY));
 }
