@@ -16,7 +16,7 @@ use Rattle.textarea_edit.specs.Edit.{inserts_of, splice_of, symbols_of}
 use Rattle.textarea_edit.specs.declared.edit.EditKind.{EditKind}
 use Rattle.textarea_document.specs.State.{DocumentState}
 use Rattle.textarea_document.specs.Outcomes.{edited, unanchored}
-use Rattle.textarea_document.specs.Edits.{IsSymbolBehind, break_removal, symbol_removal, without_symbol_behind, without_break_before}
+use Rattle.textarea_document.specs.Edits.{IsSymbolBehind, break_removal, symbol_removal, symbol_removed_behind, break_removed_before}
 use Rattle.textarea_text.proofs.Places.{place_of-index}
 use Rattle.std.proofs.lemmas.Bool.Decides.{nat_tests}
 
@@ -70,14 +70,14 @@ break_removal_is items text row column line e within read column_is =
     let at : column ≡ length (get_or (lines text) row []) = column_is ∙ ap length (sym (line_at items row line within read)) ∙ ap (λ rows. length (get_or rows row [])) e in
     ap (λ (n : ℕ). record { place = (row, n); symbols = Break ∷ []; inserts = false }) at
 
-pub without_break_in : (document : DocumentState) (row now : ℕ) → row ≢ 0 → without_break_before document row now ≡ edited document (break_removal document.text (row - 1)) false now
-without_break_in document zero now apart = absurd (apart refl)
-without_break_in document (suc row) now apart = ap (λ n. edited document (break_removal document.text n) false now) (let same : row ≡ suc row - 1 = omega arith in same)
+pub break_removed_in : (document : DocumentState) (row now : ℕ) → row ≢ 0 → break_removed_before document row now ≡ edited document (break_removal document.text (row - 1)) false now
+break_removed_in document zero now apart = absurd (apart refl)
+break_removed_in document (suc row) now apart = ap (λ n. edited document (break_removal document.text n) false now) (let same : row ≡ suc row - 1 = omega arith in same)
 
 -- ---- the symbol behind the cursor
 
-pub without_symbol_behind_is : (document : DocumentState) (stop : Place) (symbol : Symbol) (typed : Bool) (now : ℕ) → IsPlace document.text document.cursor → IsSymbolBehind document.text document.cursor stop symbol → edited document (record { place = document.cursor; symbols = symbol ∷ []; inserts = false }) typed now ≡ without_symbol_behind document typed now
-without_symbol_behind_is document stop symbol typed now h behind =
+pub symbol_removed_behind_is : (document : DocumentState) (to : Place) (symbol : Symbol) (typed : Bool) (now : ℕ) → IsPlace document.text document.cursor → IsSymbolBehind document.text document.cursor to symbol → edited document (record { place = document.cursor; symbols = symbol ∷ []; inserts = false }) typed now ≡ symbol_removed_behind document typed now
+symbol_removed_behind_is document to symbol typed now h behind =
     let index = index_of document.text document.cursor in
     ap (λ (s : List Symbol). edited document (record { place = document.cursor; symbols = s; inserts = false }) typed now) (sym behind.symbol_is)
     ∙ ap (λ (p : Place). edited document (record { place = p; symbols = take 1 (drop index document.text); inserts = false }) typed now) (sym (place_of-index document.text document.cursor h))

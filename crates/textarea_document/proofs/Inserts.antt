@@ -1,4 +1,4 @@
--- Symbols put in at the cursor.
+-- Symbols inserted at the cursor.
 use Rattle.std.proofs.Common.{◌≡◌, ◌≢◌, ℕ, Bool, true, false, List, [], ◌∷◌, length, refl, sym, ◌==◌, not, get_or, String, eq-eqb}
 use Rattle.std.specs.String.{string_len}
 use Rattle.std.proofs.lemmas.Bool.{eqb-true}

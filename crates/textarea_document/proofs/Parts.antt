@@ -41,7 +41,7 @@ pub removal_fits : (text : List Symbol) (from to : Place) → IsPlace text from 
 removal_fits text from to h h' ordered = record { some = part_some text from to h' ordered; is_place = h; allowed = part_stands text from to h' (omega arith) }
 
 -- an edit of this change with these ends is well formed
-pub well_formed : (edit : Stored) (splice : Splice) → edit.splice ≡ splice → 0 < length splice.symbols → edit.stop ≡ end splice.place splice.symbols → IfSome edit.pieces (λ n. 2 ≤ n) → IsWellFormed edit
+pub well_formed : (edit : Stored) (splice : Splice) → edit.splice ≡ splice → 0 < length splice.symbols → edit.end ≡ end splice.place splice.symbols → IfSome edit.pieces (λ n. 2 ≤ n) → IsWellFormed edit
 well_formed edit splice is some ends pieces = record {
   some = subst (λ (s : Splice). 0 < length s.symbols) (sym is) some;
   pieces = pieces;

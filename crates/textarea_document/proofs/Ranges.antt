@@ -18,7 +18,7 @@ use Rattle.textarea_ranges.specs.declared.atomic.AtomicCursorBias.TheVariants.{B
 use Rattle.textarea_ranges.specs.declared.atomic.AtomicDeleteDirection.{AtomicDeleteDirection}
 use Rattle.textarea_document.specs.Ranges.{CutsNone, anchor_out, is_same, unless_empty}
 use Rattle.textarea_ranges.specs.declared.atomic.AtomicDeleteDirection.TheVariants.{Backward as DeleteBackward, Forward as DeleteForward}
-use Rattle.textarea_ranges.specs.Held.{IsHit, IsInside, IsUpTo, TakesWhole, hit, moved_out, start, stop}
+use Rattle.textarea_ranges.specs.Held.{IsHit, IsInside, IsUpTo, TakesWhole, hit, moved_out, range_start, range_end}
 use Rattle.textarea_ranges.specs.Valid.{AreValid, IsPart}
 use Rattle.textarea_ranges.proofs.HeldLemmas.{IsPlaceOf-moved_out, MatchOption-hit, taken}
 
@@ -60,28 +60,28 @@ widened_ordered text from to wide h h' w w' starts ends ordered =
 
 -- its ends are places of the text, the first one first
 pub record IsHeld (text : List Symbol) (range : AtomicRange) : Type 0 where
-  pub start_is : IsPlace text (start range)
-  pub stop_is : IsPlace text (stop range)
-  pub ordered : index_of text (start range) < index_of text (stop range)
+  pub start_is : IsPlace text (range_start range)
+  pub end_is : IsPlace text (range_end range)
+  pub ordered : index_of text (range_start range) < index_of text (range_end range)
 
 hit_some : (text : List Symbol) (ranges : List AtomicRange) (place : Place) (direction : AtomicDeleteDirection) (found : Option AtomicRange) → AreValid (lines text) ranges → MatchOption found (All (λ range. ¬ IsHit place direction range) ranges) (λ range. Contains ranges range × IsHit place direction range) → IfSome found (IsHeld text)
 hit_some text ranges place direction None valid h = tt
 hit_some text ranges place direction (Some range) valid h =
     let part : IsPart (lines text) range = All-contains (IsPart (lines text)) ranges range valid.parts h.0 in
-    record { start_is = (part.0, omega arith); stop_is = (part.0, part.2); ordered = omega arith }
+    record { start_is = (part.0, omega arith); end_is = (part.0, part.2); ordered = omega arith }
 
 pub hit_is_held : (text : List Symbol) (ranges : List AtomicRange) (place : Place) (direction : AtomicDeleteDirection) → AreValid (lines text) ranges → IfSome (hit ranges place direction) (IsHeld text)
 hit_is_held text ranges place direction valid = hit_some text ranges place direction (hit ranges place direction) valid (MatchOption-hit ranges place direction)
 
-pub held_start : (text : List Symbol) (found : Option AtomicRange) → IfSome found (IsHeld text) → IfSome found (λ range. IsPlace text (start range))
+pub held_start : (text : List Symbol) (found : Option AtomicRange) → IfSome found (IsHeld text) → IfSome found (λ range. IsPlace text (range_start range))
 held_start text None h = tt
 held_start text (Some range) h = h.start_is
 
-pub held_stop : (text : List Symbol) (found : Option AtomicRange) → IfSome found (IsHeld text) → IfSome found (λ range. IsPlace text (stop range))
-held_stop text None h = tt
-held_stop text (Some range) h = h.stop_is
+pub held_end : (text : List Symbol) (found : Option AtomicRange) → IfSome found (IsHeld text) → IfSome found (λ range. IsPlace text (range_end range))
+held_end text None h = tt
+held_end text (Some range) h = h.end_is
 
-pub held_ordered : (text : List Symbol) (found : Option AtomicRange) → IfSome found (IsHeld text) → IfSome found (λ range. index_of text (start range) < index_of text (stop range))
+pub held_ordered : (text : List Symbol) (found : Option AtomicRange) → IfSome found (IsHeld text) → IfSome found (λ range. index_of text (range_start range) < index_of text (range_end range))
 held_ordered text None h = tt
 held_ordered text (Some range) h = h.ordered
 
@@ -105,7 +105,7 @@ hit_behind_end text ranges place (Some range) valid e =
     let h : Contains ranges range × IsHit place DeleteForward range = subst (λ o. MatchOption o (All (λ range. ¬ IsHit place DeleteForward range) ranges) (λ range. Contains ranges range × IsHit place DeleteForward range)) e (MatchOption-hit ranges place DeleteForward) in
     let held : IsHeld text range = subst (λ o. IfSome o (IsHeld text)) e (hit_is_held text ranges place DeleteForward valid) in
     let row : index_of text place ≡ index_of text (range.row, place.1) = ap (λ n. index_of text (n, place.1)) (sym h.1.0) in
-    let before : index_of text place < length text = omega (arith, index_within text (stop range) held.stop_is, h.1.2, row) in
+    let before : index_of text place < length text = omega (arith, index_within text (range_end range) held.end_is, h.1.2, row) in
     not_equal (index_of text place) (length text) before
 
 -- ---- ends of a removal that are strictly inside no range
@@ -182,11 +182,11 @@ anchor_place text ranges None cursor valid h = tt
 anchor_place text ranges (Some place) cursor valid h =
     unless_empty_place text (Some (moved_out ranges place Backward)) cursor (IsPlaceOf-moved_out (lines text) ranges place Backward valid h)
 
--- a break that is taken out cuts no range
+-- a break that is removed cuts no range
 pub whole_break : (text : List Symbol) (ranges : List AtomicRange) (place : Place) → AreValid (lines text) ranges → Fits text (record { place = place; symbols = Break ∷ []; inserts = false }) → CutsNone ranges (record { place = place; symbols = Break ∷ []; inserts = false })
 whole_break text ranges place valid fits =
     whole_from_ends ranges place (place.0 + 1, 0) (outside_end (lines text) ranges place valid (break_at_end text place fits.is_place fits.allowed)) (outside_start ranges (place.0 + 1, 0) refl)
 
 -- copies of ranges are the same ranges
-pub ranges_copied : (ranges copies : List AtomicRange) → AllZip (λ range copy. copy ≡ range) ranges copies → copies ≡ ranges
-ranges_copied ranges copies h = AllZip-map (λ range. range) ranges copies h ∙ map-id ranges
+pub copy_ranges : (ranges copies : List AtomicRange) → AllZip (λ range copy. copy ≡ range) ranges copies → copies ≡ ranges
+copy_ranges ranges copies h = AllZip-map (λ range. range) ranges copies h ∙ map-id ranges

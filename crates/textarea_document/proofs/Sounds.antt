@@ -14,11 +14,11 @@ use Rattle.textarea_history.proofs.UndoLaws.{CanTakeBack-merged, inverse-inverse
 use Rattle.textarea_text.proofs.Places.{IsPlace-end, takes_back}
 use Rattle.textarea_ranges.specs.declared.atomic.AtomicRange.{AtomicRange}
 use Rattle.textarea_document.proofs.Ranges.{valid_none}
-use Rattle.textarea_lines.specs.declared.view.ViewSettings.{ViewSettings}
-use Rattle.textarea_lines.specs.Screen.{LaidOut, Screen, all_cut, laid_anew, seen_with, wrapping_of}
+use Rattle.textarea_lines.specs.declared.settings.LayoutSettings.{LayoutSettings}
+use Rattle.textarea_lines.specs.Layout.{LaidOut, Layout, all_cut, laid_out_anew, laid_out_with, wrapping_of}
 use Rattle.textarea_lines.specs.Wrappings.{is_same, wrapping_for}
 use Rattle.textarea_document.specs.State.{DocumentState, fresh_document}
-use Rattle.textarea_document.specs.Outcomes.{edited, redone_by, screen_after, undone, undone_by}
+use Rattle.textarea_document.specs.Outcomes.{edited, redone_by, layout_after, undone, undone_by}
 use Rattle.textarea_document.specs.Sound.{IsSound}
 
 -- ---- lists of changes
@@ -91,7 +91,7 @@ sound_edited document splice typed now h fits = by (document.log.maximum == 0) r
     log : Log
     log = document.log
 
-    by : (none : Bool) → (log.maximum == 0) ≡ none → IsSound (record { text = applied document.text splice; screen = screen_after document splice; cursor = place_after splice; anchor = None; ranges = []; log = cond none log (with_done log (done_after log splice (joins log splice typed now)) (is_typed splice typed) now) })
+    by : (none : Bool) → (log.maximum == 0) ≡ none → IsSound (record { text = applied document.text splice; layout = layout_after document splice; cursor = place_after splice; anchor = None; ranges = []; log = cond none log (with_done log (done_after log splice (joins log splice typed now)) (is_typed splice typed) now) })
     by true e =
         let zero_maximum : log.maximum ≡ 0 = eqb-true log.maximum 0 e in
         let no_done : log.done ≡ [] = nil_from_length log.done (omega (arith, h.bounded)) in
@@ -110,12 +110,12 @@ sound_edited document splice typed now h fits = by (document.log.maximum == 0) r
         record { cursor = (takes_back document.text splice fits).is_place; anchor = tt; ranges = valid_none (lines (applied document.text splice)); undo = done.0; redo = tt; bounded = omega (arith, done.1) }
 
 -- what is seen of the text changes nothing of this
-pub resound : (document : DocumentState) (screen : Screen) → IsSound document → IsSound (record document { screen = screen })
-resound document screen h = record { cursor = h.cursor; anchor = h.anchor; ranges = h.ranges; undo = h.undo; redo = h.redo; bounded = h.bounded }
+pub resound : (document : DocumentState) (layout : Layout) → IsSound document → IsSound (record document { layout = layout })
+resound document layout h = record { cursor = h.cursor; anchor = h.anchor; ranges = h.ranges; undo = h.undo; redo = h.redo; bounded = h.bounded }
 
 -- the same, of what a step left that has nothing selected and no ranges
-pub sound_left : (outcome : DocumentState) (text : List Symbol) (screen : Screen) (cursor : Place) (held : List AtomicRange) (log : Log) → IsSound outcome → text ≡ outcome.text → cursor ≡ outcome.cursor → held ≡ [] → log ≡ outcome.log → IsSound (record { text = text; screen = screen; cursor = cursor; anchor = None; ranges = held; log = log })
-sound_left outcome text screen cursor held log h text_is cursor_is held_is log_is = record {
+pub sound_left : (outcome : DocumentState) (text : List Symbol) (layout : Layout) (cursor : Place) (held : List AtomicRange) (log : Log) → IsSound outcome → text ≡ outcome.text → cursor ≡ outcome.cursor → held ≡ [] → log ≡ outcome.log → IsSound (record { text = text; layout = layout; cursor = cursor; anchor = None; ranges = held; log = log })
+sound_left outcome text layout cursor held log h text_is cursor_is held_is log_is = record {
   cursor = rw (text_is, cursor_is) h.cursor;
   anchor = tt;
   ranges = rw held_is (valid_none (lines text));
@@ -169,25 +169,25 @@ sound_redone document splice h e =
     }
 
 -- a document without a past
-pub sound_fresh : (text : List Symbol) (view : ViewSettings) (count : ℕ) (cursor : Place) (maximum : ℕ) → IsPlace text cursor → IsSound (fresh_document text view count cursor maximum)
-sound_fresh text view count cursor maximum h = record { cursor = h; anchor = tt; ranges = valid_none (lines text); undo = tt; redo = tt; bounded = omega arith }
+pub sound_fresh : (text : List Symbol) (settings : LayoutSettings) (count : ℕ) (cursor : Place) (maximum : ℕ) → IsPlace text cursor → IsSound (fresh_document text settings count cursor maximum)
+sound_fresh text settings count cursor maximum h = record { cursor = h; anchor = tt; ranges = valid_none (lines text); undo = tt; redo = tt; bounded = omega arith }
 
-pub fresh_is : (text : List Symbol) (view : ViewSettings) (count : ℕ) (cursor : Place) (maximum : ℕ) (laid : LaidOut) (held : List AtomicRange) (log : Log) → laid ≡ laid_anew view count text → held ≡ [] → log ≡ empty_log maximum → record { text = laid.text; screen = laid.screen; cursor = cursor; anchor = None; ranges = held; log = log } ≡ fresh_document text view count cursor maximum
-fresh_is text view count cursor maximum laid held log laid_is held_is log_is =
-    ap (λ (l : LaidOut). record { text = l.text; screen = l.screen; cursor = cursor; anchor = None; ranges = held; log = log }) laid_is
-    ∙ ap (λ (r : List AtomicRange). record { text = text; screen = all_cut view count (length (lines text)); cursor = cursor; anchor = None; ranges = r; log = log }) held_is
-    ∙ ap (λ (l : Log). record { text = text; screen = all_cut view count (length (lines text)); cursor = cursor; anchor = None; ranges = []; log = l }) log_is
+pub fresh_is : (text : List Symbol) (settings : LayoutSettings) (count : ℕ) (cursor : Place) (maximum : ℕ) (laid : LaidOut) (held : List AtomicRange) (log : Log) → laid ≡ laid_out_anew settings count text → held ≡ [] → log ≡ empty_log maximum → record { text = laid.text; layout = laid.layout; cursor = cursor; anchor = None; ranges = held; log = log } ≡ fresh_document text settings count cursor maximum
+fresh_is text settings count cursor maximum laid held log laid_is held_is log_is =
+    ap (λ (l : LaidOut). record { text = l.text; layout = l.layout; cursor = cursor; anchor = None; ranges = held; log = log }) laid_is
+    ∙ ap (λ (r : List AtomicRange). record { text = text; layout = all_cut settings count (length (lines text)); cursor = cursor; anchor = None; ranges = r; log = log }) held_is
+    ∙ ap (λ (l : Log). record { text = text; layout = all_cut settings count (length (lines text)); cursor = cursor; anchor = None; ranges = []; log = l }) log_is
 
-pub sound_laid : (text : List Symbol) (view : ViewSettings) (count : ℕ) (cursor : Place) (maximum : ℕ) (laid : LaidOut) (held : List AtomicRange) (log : Log) → laid ≡ laid_anew view count text → held ≡ [] → log ≡ empty_log maximum → IsPlace text cursor → IsSound (record { text = laid.text; screen = laid.screen; cursor = cursor; anchor = None; ranges = held; log = log })
-sound_laid text view count cursor maximum laid held log laid_is held_is log_is h =
-    subst IsSound (sym (fresh_is text view count cursor maximum laid held log laid_is held_is log_is)) (sound_fresh text view count cursor maximum h)
+pub sound_laid : (text : List Symbol) (settings : LayoutSettings) (count : ℕ) (cursor : Place) (maximum : ℕ) (laid : LaidOut) (held : List AtomicRange) (log : Log) → laid ≡ laid_out_anew settings count text → held ≡ [] → log ≡ empty_log maximum → IsPlace text cursor → IsSound (record { text = laid.text; layout = laid.layout; cursor = cursor; anchor = None; ranges = held; log = log })
+sound_laid text settings count cursor maximum laid held log laid_is held_is log_is h =
+    subst IsSound (sym (fresh_is text settings count cursor maximum laid held log laid_is held_is log_is)) (sound_fresh text settings count cursor maximum h)
 
 pub start_is_place : (text : List Symbol) → IsPlace text (0, 0)
 start_is_place text = IsPlace-end [] text
 
 -- a document of equal parts
 abbrev pub document_of : LaidOut → Place → Option Place → List AtomicRange → Log → DocumentState
-document_of laid cursor anchor ranges log = record { text = laid.text; screen = laid.screen; cursor = cursor; anchor = anchor; ranges = ranges; log = log }
+document_of laid cursor anchor ranges log = record { text = laid.text; layout = laid.layout; cursor = cursor; anchor = anchor; ranges = ranges; log = log }
 
 pub same_document : (laid other : LaidOut) (cursor : Place) (anchor : Option Place) (ranges copies : List AtomicRange) (log copy : Log) → other ≡ laid → copies ≡ ranges → copy ≡ log → document_of other cursor anchor copies copy ≡ document_of laid cursor anchor ranges log
 same_document laid other cursor anchor ranges copies log copy laid_is ranges_are log_is =
@@ -198,21 +198,21 @@ same_document laid other cursor anchor ranges copies log copy laid_is ranges_are
 -- ---- other settings
 
 -- the text is the same, however it is seen
-text_seen : (laid : LaidOut) (view : ViewSettings) → (seen_with laid view).text ≡ laid.text
-text_seen laid view = by (is_same (wrapping_for view (length (lines laid.text))) (wrapping_of laid))
+text_seen : (laid : LaidOut) (settings : LayoutSettings) → (laid_out_with laid settings).text ≡ laid.text
+text_seen laid settings = by (is_same (wrapping_for settings (length (lines laid.text))) (wrapping_of laid))
   where
     as_it_was : LaidOut
-    as_it_was = record { text = laid.text; screen = record { view = view; count = laid.screen.count; ticks = laid.screen.ticks } }
+    as_it_was = record { text = laid.text; layout = record { settings = settings; count = laid.layout.count; ticks = laid.layout.ticks } }
 
-    by : (b : Bool) → (cond b as_it_was (laid_anew view laid.screen.count laid.text)).text ≡ laid.text
+    by : (b : Bool) → (cond b as_it_was (laid_out_anew settings laid.layout.count laid.text)).text ≡ laid.text
     by true = refl
     by false = refl
 
-text_viewed : {T E : Type 0} (r : Result T E) (laid new : LaidOut) (view : ViewSettings) → OnOk r (new ≡ seen_with laid view) → OnErr r (new ≡ laid) → new.text ≡ laid.text
-text_viewed (Ok x) laid new view ok err = ap (λ (l : LaidOut). l.text) ok ∙ text_seen laid view
-text_viewed (Err e) laid new view ok err = ap (λ (l : LaidOut). l.text) err
+text_viewed : {T E : Type 0} (r : Result T E) (laid new : LaidOut) (settings : LayoutSettings) → OnOk r (new ≡ laid_out_with laid settings) → OnErr r (new ≡ laid) → new.text ≡ laid.text
+text_viewed (Ok x) laid new settings ok err = ap (λ (l : LaidOut). l.text) ok ∙ text_seen laid settings
+text_viewed (Err e) laid new settings ok err = ap (λ (l : LaidOut). l.text) err
 
-pub sound_viewed : {T E : Type 0} (r : Result T E) (laid new : LaidOut) (view : ViewSettings) (cursor : Place) (anchor : Option Place) (ranges : List AtomicRange) (log : Log) → OnOk r (new ≡ seen_with laid view) → OnErr r (new ≡ laid) → IsSound (document_of laid cursor anchor ranges log) → IsSound (document_of new cursor anchor ranges log)
-sound_viewed r laid new view cursor anchor ranges log ok err h =
-    subst (λ (t : List Symbol). IsSound (record { text = t; screen = new.screen; cursor = cursor; anchor = anchor; ranges = ranges; log = log })) (sym (text_viewed r laid new view ok err))
-    (resound (document_of laid cursor anchor ranges log) new.screen h)
+pub sound_viewed : {T E : Type 0} (r : Result T E) (laid new : LaidOut) (settings : LayoutSettings) (cursor : Place) (anchor : Option Place) (ranges : List AtomicRange) (log : Log) → OnOk r (new ≡ laid_out_with laid settings) → OnErr r (new ≡ laid) → IsSound (document_of laid cursor anchor ranges log) → IsSound (document_of new cursor anchor ranges log)
+sound_viewed r laid new settings cursor anchor ranges log ok err h =
+    subst (λ (t : List Symbol). IsSound (record { text = t; layout = new.layout; cursor = cursor; anchor = anchor; ranges = ranges; log = log })) (sym (text_viewed r laid new settings ok err))
+    (resound (document_of laid cursor anchor ranges log) new.layout h)

@@ -1,7 +1,7 @@
 -- What an edit, an undo, a redo and a move make of a document.
 use Rattle.std.specs.Prelude.{Bool, false, ℕ, List, [], length, Option, Some, None}
 use Rattle.textarea_text.specs.Text.{lines}
-use Rattle.textarea_lines.specs.Screen.{Screen, relaid}
+use Rattle.textarea_lines.specs.Layout.{Layout, after_splice}
 use Rattle.textarea_text.specs.Place.{Place}
 use Rattle.textarea_text.specs.Splice.{Splice, applied, inverse, place_after}
 use Rattle.textarea_history.specs.Log.{Log, recorded, newest, next, taken_back, made_again}
@@ -14,15 +14,15 @@ ranges_after ranges splice = []
 
 -- what is seen of the text after a change: the lines that it touches are cut, each once, and all others keep their rows; all
 -- lines are cut where their number changes how they are cut
-abbrev pub screen_after : DocumentState → Splice → Screen
-screen_after document splice = relaid document.screen (length (lines document.text)) splice
+abbrev pub layout_after : DocumentState → Splice → Layout
+layout_after document splice = after_splice document.layout (length (lines document.text)) splice
 
 -- a change is made, and this is the log then: the cursor stands behind what was inserted, or where what was removed began, and
 -- nothing is selected
 abbrev pub after_change : DocumentState → Splice → Log → DocumentState
 after_change document splice log = record {
   text = applied document.text splice;
-  screen = screen_after document splice;
+  layout = layout_after document splice;
   cursor = place_after splice;
   anchor = None;
   ranges = ranges_after document.ranges splice;

@@ -7,15 +7,15 @@ use Rattle.textarea_pieces.specs.Part.{clip}
 use Rattle.textarea_ranges.specs.declared.atomic.AtomicRange.{AtomicRange}
 use Rattle.textarea_ranges.specs.declared.atomic.AtomicCursorBias.{AtomicCursorBias}
 use Rattle.textarea_ranges.specs.declared.atomic.AtomicCursorBias.TheVariants.{Backward, Forward}
-use Rattle.textarea_ranges.specs.Held.{IsInside, TakesWhole, moved_out, start, stop}
+use Rattle.textarea_ranges.specs.Held.{IsInside, TakesWhole, moved_out, range_start, range_end}
 use Rattle.textarea_ranges.specs.Order.{in_order}
 use Rattle.textarea_document.specs.State.{DocumentState}
-use Rattle.textarea_document.specs.Edits.{without_part}
+use Rattle.textarea_document.specs.Edits.{part_removed}
 
--- a change cuts no range: what is put in goes strictly inside none, and what is taken out takes each whole or not at all
+-- a change cuts no range: what is inserted goes strictly inside none, and what is removed takes each whole or not at all
 abbrev pub CutsNoneBy : Bool → List AtomicRange → Place → Place → Type 0
-CutsNoneBy true ranges place stop = All (λ range. ¬ IsInside place range) ranges
-CutsNoneBy false ranges place stop = TakesWhole ranges place stop
+CutsNoneBy true ranges place to = All (λ range. ¬ IsInside place range) ranges
+CutsNoneBy false ranges place to = TakesWhole ranges place to
 
 abbrev pub CutsNone : List AtomicRange → Splice → Type 0
 CutsNone ranges splice = CutsNoneBy splice.inserts ranges splice.place (end splice.place splice.symbols)
@@ -47,8 +47,8 @@ abbrev pub accepted : DocumentState → List AtomicRange → DocumentState
 accepted document ranges = holding document (in_order ranges)
 
 -- no range is held any more
-abbrev pub without_ranges : DocumentState → DocumentState
-without_ranges document = record document { ranges = [] }
+abbrev pub ranges_forgotten : DocumentState → DocumentState
+ranges_forgotten document = record document { ranges = [] }
 
 -- the cursor goes out of the range that strictly holds it, and all else stays
 abbrev pub normalized : DocumentState → AtomicCursorBias → DocumentState
@@ -58,7 +58,7 @@ normalized document bias = record document { cursor = moved_out document.ranges 
 abbrev pub anchored : DocumentState → Option Place → DocumentState
 anchored document anchor = record document { anchor = option_map (clip (lines document.text)) anchor }
 
--- the range is taken out, where one was hit, and the selection kept
-abbrev pub without_range : Option AtomicRange → DocumentState → ℕ → DocumentState
-without_range None document now = document
-without_range (Some range) document now = anchored (without_part document (start range) (stop range) now) document.anchor
+-- the range is removed, where one was hit, and the selection kept
+abbrev pub range_removed : Option AtomicRange → DocumentState → ℕ → DocumentState
+range_removed None document now = document
+range_removed (Some range) document now = anchored (part_removed document (range_start range) (range_end range) now) document.anchor

@@ -4,7 +4,7 @@ use Rattle.textarea_text.specs.Text.{Symbol}
 use Rattle.textarea_text.specs.Place.{Place}
 use Rattle.textarea_pieces.specs.Part.{part}
 use Rattle.textarea_document.specs.State.{DocumentState}
-use Rattle.textarea_document.specs.Edits.{without_part}
+use Rattle.textarea_document.specs.Edits.{part_removed}
 
 -- a place before another: in a row above, or in the same row and a column before
 abbrev pub is_before : Place → Place → Bool
@@ -37,7 +37,7 @@ is_selected document = is_before (selection_start document) (selection_end docum
 abbrev pub selected : DocumentState → List Symbol
 selected document = part document.text (selection_start document) (selection_end document)
 
--- what is selected is taken out, if a symbol is
-abbrev pub without_selected : DocumentState → ℕ → DocumentState
-without_selected document now =
-    if is_selected document then without_part document (selection_start document) (selection_end document) now else document
+-- what is selected is removed, if a symbol is
+abbrev pub selected_removed : DocumentState → ℕ → DocumentState
+selected_removed document now =
+    if is_selected document then part_removed document (selection_start document) (selection_end document) now else document

@@ -3,25 +3,25 @@ use Rattle.std.specs.Prelude.{ℕ, List, [], length, Option, None}
 use Rattle.textarea_text.specs.Text.{Symbol, lines}
 use Rattle.textarea_text.specs.Place.{Place}
 use Rattle.textarea_history.specs.Log.{Log, empty_log}
-use Rattle.textarea_lines.specs.declared.view.ViewSettings.{ViewSettings}
-use Rattle.textarea_lines.specs.Screen.{Screen, all_cut}
+use Rattle.textarea_lines.specs.declared.settings.LayoutSettings.{LayoutSettings}
+use Rattle.textarea_lines.specs.Layout.{Layout, all_cut}
 use Rattle.textarea_ranges.specs.declared.atomic.AtomicRange.{AtomicRange}
 
 -- the text as one flat list of symbols; what is seen of it, with the ticks of its lines' rows; where the cursor stands; where
 -- the selection began, if there is one; the atomic ranges; and the changes made and taken back
 pub record DocumentState : Type 0 where
   pub text : List Symbol
-  pub screen : Screen
+  pub layout : Layout
   pub cursor : Place
   pub anchor : Option Place
   pub ranges : List AtomicRange
   pub log : Log
 
 -- a document without a past and without ranges, the cursor at this place; all lines are cut, where the count stood at this one
-abbrev pub fresh_document : List Symbol → ViewSettings → ℕ → Place → ℕ → DocumentState
-fresh_document text view count cursor maximum = record {
+abbrev pub fresh_document : List Symbol → LayoutSettings → ℕ → Place → ℕ → DocumentState
+fresh_document text settings count cursor maximum = record {
   text = text;
-  screen = all_cut view count (length (lines text));
+  layout = all_cut settings count (length (lines text));
   cursor = cursor;
   anchor = None;
   ranges = [];
@@ -29,5 +29,5 @@ fresh_document text view count cursor maximum = record {
 }
 
 -- a new document: the cursor at the start
-abbrev pub new_document : List Symbol → ViewSettings → ℕ → DocumentState
-new_document text view maximum = fresh_document text view 0 (0, 0) maximum
+abbrev pub new_document : List Symbol → LayoutSettings → ℕ → DocumentState
+new_document text settings maximum = fresh_document text settings 0 (0, 0) maximum

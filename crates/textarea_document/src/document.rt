@@ -26,7 +26,7 @@ use std::time::Duration;
 use textarea_edit::edit::Edit;
 use textarea_history::history::History;
 use textarea_lines::laid_out::LaidOutLines;
-use textarea_lines::view::ViewSettings;
+use textarea_lines::settings::LayoutSettings;
 use textarea_pieces::places::clipped;
 use textarea_ranges::atomic::AtomicRange;
 
@@ -49,9 +49,9 @@ impl Model for Document {
 
     ghost use Rattle.textarea_document.specs.Sound.{IsSound};
 
-    ghost view = { λ document. record { text = document.laid.text; screen = document.laid.screen; cursor = document.cursor; anchor = document.anchor; ranges = document.ranges.items; log = document.history.log } };
+    ghost view = { λ document. record { text = document.laid.text; layout = document.laid.layout; cursor = document.cursor; anchor = document.anchor; ranges = document.ranges.items; log = document.history.log } };
 
-    ghost invariant = { λ document. IsSound (record { text = document.laid.text; screen = document.laid.screen; cursor = document.cursor; anchor = document.anchor; ranges = document.ranges.items; log = document.history.log }) };
+    ghost invariant = { λ document. IsSound (record { text = document.laid.text; layout = document.laid.layout; cursor = document.cursor; anchor = document.anchor; ranges = document.ranges.items; log = document.history.log }) };
 }
 
 impl Clone for Document {
@@ -75,13 +75,13 @@ impl Document {
     pub fn new(
         alloc: Global,
         lines: Vec<String>,
-        view: ViewSettings,
+        settings: LayoutSettings,
         max_histories: usize,
     ) -> Result<Self, AllocError>
-        ensures { IfOk result (λ document. document ≡ new_document (text_of lines.items) view max_histories) }
+        ensures { IfOk result (λ document. document ≡ new_document (text_of lines.items) settings max_histories) }
     {
         Ok(Document {
-            laid: LaidOutLines::new(alloc, lines, view)?,
+            laid: LaidOutLines::new(alloc, lines, settings)?,
             cursor: (0, 0),
             anchor: None,
             ranges: Vec::new(alloc),
@@ -234,7 +234,7 @@ impl Document {
         cursor: (usize, usize),
     ) -> Result<(), AllocError>
         requires some { 0 < vec_len lines }
-        ensures ok { OnOk result (self.new ≡ fresh_document (text_of lines.items) self.old.screen.view self.old.screen.count (clip (lines_of lines.items) cursor) self.old.log.maximum) }
+        ensures ok { OnOk result (self.new ≡ fresh_document (text_of lines.items) self.old.layout.settings self.old.layout.count (clip (lines_of lines.items) cursor) self.old.log.maximum) }
         ensures err { OnErr result (self.new ≡ self.old) }
     {
         let place = clipped(lines.as_slice(), cursor);

@@ -20,38 +20,38 @@ use Rattle.textarea_edit.specs.declared.edit.Content.TheVariants as content
 -- ---- symbols
 
 -- a change has the symbols of its edit's content
-pub symbols_of_change : (kept : Content) (inserts told : Bool) (start stop : Place) (edit : Stored) (now : Splice) → stored_of kept inserts start stop ≡ edit → directed edit.splice told ≡ now → symbols_in inserts kept ≡ now.symbols
-symbols_of_change kept inserts told start stop edit now view view' = ap (λ (s : Stored). s.splice.symbols) view ∙ ap (λ (s : Splice). s.symbols) view'
+pub symbols_of_change : (kept : Content) (inserts told : Bool) (start to : Place) (edit : Stored) (now : Splice) → stored_of kept inserts start to ≡ edit → directed edit.splice told ≡ now → symbols_in inserts kept ≡ now.symbols
+symbols_of_change kept inserts told start to edit now view view' = ap (λ (s : Stored). s.splice.symbols) view ∙ ap (λ (s : Splice). s.symbols) view'
 
 -- a character, encoded
 pub characters_of_one : (bs : List ℕ) (c : ℕ) → IsUtf8 bs → bs ≡ encode_utf8 c → characters (chars bs) ≡ characters (c ∷ [])
 characters_of_one bs c text e = ap characters (chars_from_bytes bs (c ∷ []) text (e ∙ sym (append-nil (encode_utf8 c))))
 
 -- a break, and pieces of which there are at least two, don't stay within a line
-pub has_break : (kept : Content) (inserts told : Bool) (start stop : Place) (edit : Stored) (now : Splice) → stored_of kept inserts start stop ≡ edit → directed edit.splice told ≡ now → IsWellFormed edit → breaks_of now.symbols ≡ 0 → (kept ≡ content.Break) ⊎ ((pieces : Vec (String Global) Global) × kept ≡ content.Chunk pieces) → ⊥
-has_break kept inserts told start stop edit now view view' h none (inl is) =
-    omega (arith, none, ap breaks_of (symbols_of_change kept inserts told start stop edit now view view'), ap (λ k. breaks_of (symbols_in inserts k)) is)
-has_break kept inserts told start stop edit now view view' h none (inr found) =
+pub has_break : (kept : Content) (inserts told : Bool) (start to : Place) (edit : Stored) (now : Splice) → stored_of kept inserts start to ≡ edit → directed edit.splice told ≡ now → IsWellFormed edit → breaks_of now.symbols ≡ 0 → (kept ≡ content.Break) ⊎ ((pieces : Vec (String Global) Global) × kept ≡ content.Chunk pieces) → ⊥
+has_break kept inserts told start to edit now view view' h none (inl is) =
+    omega (arith, none, ap breaks_of (symbols_of_change kept inserts told start to edit now view view'), ap (λ k. breaks_of (symbols_in inserts k)) is)
+has_break kept inserts told start to edit now view view' h none (inr found) =
     let pieces = found.0.items in
     let many : 2 ≤ length pieces = pieces_as found.1 (subst (λ (s : Stored). IfSome s.pieces (λ n. 2 ≤ n)) (sym view) h.pieces) in
     let long = length-map pieces characters_of in
-    omega (arith, none, many, long, ap breaks_of (symbols_of_change kept inserts told start stop edit now view view'), ap (λ k. breaks_of (symbols_in inserts k)) found.1, breaks_of-joined (lines_of pieces) (omega (arith, many, long)))
+    omega (arith, none, many, long, ap breaks_of (symbols_of_change kept inserts told start to edit now view view'), ap (λ k. breaks_of (symbols_in inserts k)) found.1, breaks_of-joined (lines_of pieces) (omega (arith, many, long)))
 
 -- an edit whose places are in one row has no break
-pub stays_in_row : (edit : Stored) → IsWellFormed edit → edit.stop.0 ≡ edit.splice.place.0 → breaks_of edit.splice.symbols ≡ 0
+pub stays_in_row : (edit : Stored) → IsWellFormed edit → edit.end.0 ≡ edit.splice.place.0 → breaks_of edit.splice.symbols ≡ 0
 stays_in_row edit h same = omega (arith, same, ap (λ (p : Place). p.0) h.ends, end_row edit.splice.place edit.splice.symbols)
 
 -- ---- removals
 
 -- the two ends are places, in order, and the text without what stands between them is the one after the splice
-pub record Removing {Z : Type 0} (items : List (String Z)) (splice : Splice) (start stop : Place) : Type 0 where
+pub record Removing {Z : Type 0} (items : List (String Z)) (splice : Splice) (start to : Place) : Type 0 where
   pub from : IsPlaceOf (lines_of items) start
-  pub to : IsPlaceOf (lines_of items) stop
-  pub rows : start.0 ≤ stop.0
-  pub text : (none : List Symbol) → none ≡ [] → changed (text_of items) start stop none ≡ applied (text_of items) splice
+  pub end_place : IsPlaceOf (lines_of items) to
+  pub rows : start.0 ≤ to.0
+  pub text : (none : List Symbol) → none ≡ [] → changed (text_of items) start to none ≡ applied (text_of items) splice
 
-pub removing : {Z : Type 0} (items : List (String Z)) (splice : Splice) (start stop : Place) → 0 < length items → Fits (text_of items) splice → splice.inserts ≡ false → start ≡ splice.place → stop ≡ end splice.place splice.symbols → Removing items splice start stop
-removing items splice start stop some fits removes begins ends =
+pub removing : {Z : Type 0} (items : List (String Z)) (splice : Splice) (start to : Place) → 0 < length items → Fits (text_of items) splice → splice.inserts ≡ false → start ≡ splice.place → to ≡ end splice.place splice.symbols → Removing items splice start to
+removing items splice start to some fits removes begins ends =
     let text = text_of items in
     let stands : StandsAt text splice.place splice.symbols = subst (λ (b : Bool). Allows b text splice.place splice.symbols) removes fits.allowed in
     let until = stands_until text splice.place splice.symbols fits.is_place stands in
@@ -59,23 +59,23 @@ removing items splice start stop some fits removes begins ends =
     ap (λ (b : Bool). cond b (inserted text splice.place splice.symbols) (removed text splice.place splice.symbols)) removes in
     record {
       from = rows_place items start some (subst (IsPlace text) (sym begins) fits.is_place);
-      to = rows_place items stop some (subst (IsPlace text) (sym ends) until.0);
+      end_place = rows_place items to some (subst (IsPlace text) (sym ends) until.0);
       rows = omega (arith, ap (λ (p : Place). p.0) begins, ap (λ (p : Place). p.0) ends, rows_ordered splice.place splice.symbols);
       text = λ none is.
-          ap (λ (p : Place). changed text p stop none) begins ∙ changed_by_none text splice.place stop splice.symbols none fits.is_place stands ends is ∙ sym gone;
+          ap (λ (p : Place). changed text p to none) begins ∙ changed_by_none text splice.place to splice.symbols none fits.is_place stands ends is ∙ sym gone;
     }
 
 -- where they have no break, they end in the row where they begin
-pub ends_inside : (splice : Splice) (start stop : Place) → breaks_of splice.symbols ≡ 0 → start ≡ splice.place → stop ≡ end splice.place splice.symbols → ((start.0, stop.1) ≡ end splice.place splice.symbols) × (start.1 ≤ stop.1)
-ends_inside splice start stop none begins ends =
-    let row : start.0 ≡ stop.0 = omega (arith, none, ap (λ (p : Place). p.0) begins, ap (λ (p : Place). p.0) ends, end_row splice.place splice.symbols) in
+pub ends_inside : (splice : Splice) (start to : Place) → breaks_of splice.symbols ≡ 0 → start ≡ splice.place → to ≡ end splice.place splice.symbols → ((start.0, to.1) ≡ end splice.place splice.symbols) × (start.1 ≤ to.1)
+ends_inside splice start to none begins ends =
+    let row : start.0 ≡ to.0 = omega (arith, none, ap (λ (p : Place). p.0) begins, ap (λ (p : Place). p.0) ends, end_row splice.place splice.symbols) in
     let same : (end splice.place splice.symbols).0 ≡ splice.place.0 = omega (arith, none, end_row splice.place splice.symbols) in (
-      ap (λ n. (n, stop.1)) row ∙ ends,
+      ap (λ n. (n, to.1)) row ∙ ends,
       omega (arith, ap (λ (p : Place). p.1) begins, ap (λ (p : Place). p.1) ends, columns_ordered splice.place splice.symbols same),
     )
 
-pub removed_by : (items : List (String Global)) (splice : Splice) (start stop : Place) (none : List Symbol) (r : Replacement) → 0 < length items → Fits (text_of items) splice → splice.inserts ≡ false → start ≡ splice.place → stop ≡ end splice.place splice.symbols → none ≡ [] → ReplacesPart items start stop none r → IsReplacementFor items splice r
-removed_by items splice start stop none r some fits removes begins ends is k =
+pub removed_by : (items : List (String Global)) (splice : Splice) (start to : Place) (none : List Symbol) (r : Replacement) → 0 < length items → Fits (text_of items) splice → splice.inserts ≡ false → start ≡ splice.place → to ≡ end splice.place splice.symbols → none ≡ [] → ReplacesPart items start to none r → IsReplacementFor items splice r
+removed_by items splice start to none r some fits removes begins ends is k =
     let going : lines_going splice ≡ breaks_of splice.symbols + 1 = ap (λ (b : Bool). cond b 1 (breaks_of splice.symbols + 1)) removes in
     let coming : lines_coming splice ≡ 1 = ap (λ (b : Bool). cond b (breaks_of splice.symbols + 1) 1) removes in
     let row = ap (λ (p : Place). p.0) begins in
@@ -84,7 +84,7 @@ removed_by items splice start stop none r some fits removes begins ends is k =
       going = omega (arith, k.row, k.going, row, going, ap (λ (p : Place). p.0) ends, end_row splice.place splice.symbols);
       coming = omega (arith, k.coming, coming, ap breaks_of is);
       within = k.within;
-      text = k.text ∙ (removing items splice start stop some fits removes begins ends).text none is;
+      text = k.text ∙ (removing items splice start to some fits removes begins ends).text none is;
     }
 
 -- ---- insertions

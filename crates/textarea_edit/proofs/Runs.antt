@@ -32,17 +32,17 @@ pub characters_of-first : {Z : Type 0} (new : String Z) (c : ℕ) → string_byt
 characters_of-first new c e =
     chars_from_bytes (string_bytes new) (c ∷ []) (IsUtf8-string_bytes new) (e ∙ sym (append-nil (encode_utf8 c)))
 
--- the symbols of a typed text that grew: at the end if it was put in, at the front if it was taken out
+-- the symbols of a typed text that grew: at the end if it was inserted, at the front if it was removed
 symbols_grown : (inserts : Bool) (old new : String Global) (c : ℕ) → characters_of new ≡ characters_of old ++ c ∷ [] → symbols_in inserts (Typed new) ≡ cond inserts (symbols_in inserts (Typed old) ++ Character c ∷ []) (Character c ∷ symbols_in inserts (Typed old))
 symbols_grown true old new c e = ap characters e ∙ characters-append (characters_of old) (c ∷ [])
 symbols_grown false old new c e = ap (λ t. characters (reverse t)) e ∙ ap characters (reverse-append (characters_of old) (c ∷ []))
 
 -- the grown run is the run and the edit as one change
-pub grown_splice : (kept : Content) (inserts : Bool) (start stop edit_start : Place) (old new : String Global) (c : ℕ) (self : Stored) (edit : Splice) → stored_of kept inserts start stop ≡ self → kept ≡ Typed old → characters_of new ≡ characters_of old ++ c ∷ [] → edit.symbols ≡ Character c ∷ [] → edit.place ≡ edit_start → record { place = cond inserts start edit_start; symbols = symbols_in inserts (Typed new); inserts = inserts } ≡ merged self.splice edit
-grown_splice kept inserts start stop edit_start old new c self edit view is e one at =
-    by inserts ∙ ap (λ (s : Stored). merged s.splice edit) (ap (λ k. stored_of k inserts start stop) (sym is) ∙ view)
+pub grown_splice : (kept : Content) (inserts : Bool) (start to edit_start : Place) (old new : String Global) (c : ℕ) (self : Stored) (edit : Splice) → stored_of kept inserts start to ≡ self → kept ≡ Typed old → characters_of new ≡ characters_of old ++ c ∷ [] → edit.symbols ≡ Character c ∷ [] → edit.place ≡ edit_start → record { place = cond inserts start edit_start; symbols = symbols_in inserts (Typed new); inserts = inserts } ≡ merged self.splice edit
+grown_splice kept inserts start to edit_start old new c self edit view is e one at =
+    by inserts ∙ ap (λ (s : Stored). merged s.splice edit) (ap (λ k. stored_of k inserts start to) (sym is) ∙ view)
   where
-    by : (b : Bool) → record { place = cond b start edit_start; symbols = symbols_in b (Typed new); inserts = b } ≡ merged (stored_of (Typed old) b start stop).splice edit
+    by : (b : Bool) → record { place = cond b start edit_start; symbols = symbols_in b (Typed new); inserts = b } ≡ merged (stored_of (Typed old) b start to).splice edit
     by true =
         ap (λ (s : List Symbol). record { place = start; symbols = s; inserts = true }) (symbols_grown true old new c e ∙ ap (λ (s : List Symbol). symbols_in true (Typed old) ++ s) (sym one))
     by false =
@@ -50,12 +50,12 @@ grown_splice kept inserts start stop edit_start old new c self edit view is e on
         ∙ ap (λ (p : Place). record { place = p; symbols = edit.symbols ++ symbols_in false (Typed old); inserts = false }) (sym at)
 
 -- and its ends are those of its symbols
-pub grown_kept : (kept : Content) (inserts : Bool) (start stop edit_start edit_stop : Place) (old new : String Global) (c : ℕ) (self : Stored) (edit : Splice) → IsWellFormed (stored_of kept inserts start stop) → stored_of kept inserts start stop ≡ self → kept ≡ Typed old → characters_of new ≡ characters_of old ++ c ∷ [] → edit.symbols ≡ Character c ∷ [] → edit.place ≡ edit_start → edit_stop ≡ end edit_start edit.symbols → edit.inserts ≡ self.splice.inserts → place_after self.splice ≡ place_before edit → IsWellFormed (stored_of (Typed new) inserts (cond inserts start edit_start) (cond inserts edit_stop stop))
-grown_kept kept inserts start stop edit_start edit_stop old new c self edit h view is e one at stops same meets =
-    by inserts (subst (λ k. IsWellFormed (stored_of k inserts start stop)) is h) (same ∙ ap (λ (s : Stored). s.splice.inserts) (sym view))
-    (ap (λ (s : Stored). place_after s.splice) (ap (λ k. stored_of k inserts start stop) (sym is) ∙ view) ∙ meets)
+pub grown_kept : (kept : Content) (inserts : Bool) (start to edit_start edit_end : Place) (old new : String Global) (c : ℕ) (self : Stored) (edit : Splice) → IsWellFormed (stored_of kept inserts start to) → stored_of kept inserts start to ≡ self → kept ≡ Typed old → characters_of new ≡ characters_of old ++ c ∷ [] → edit.symbols ≡ Character c ∷ [] → edit.place ≡ edit_start → edit_end ≡ end edit_start edit.symbols → edit.inserts ≡ self.splice.inserts → place_after self.splice ≡ place_before edit → IsWellFormed (stored_of (Typed new) inserts (cond inserts start edit_start) (cond inserts edit_end to))
+grown_kept kept inserts start to edit_start edit_end old new c self edit h view is e one at stops same meets =
+    by inserts (subst (λ k. IsWellFormed (stored_of k inserts start to)) is h) (same ∙ ap (λ (s : Stored). s.splice.inserts) (sym view))
+    (ap (λ (s : Stored). place_after s.splice) (ap (λ k. stored_of k inserts start to) (sym is) ∙ view) ∙ meets)
   where
-    by : (b : Bool) → IsWellFormed (stored_of (Typed old) b start stop) → edit.inserts ≡ b → place_after (stored_of (Typed old) b start stop).splice ≡ place_before edit → IsWellFormed (stored_of (Typed new) b (cond b start edit_start) (cond b edit_stop stop))
+    by : (b : Bool) → IsWellFormed (stored_of (Typed old) b start to) → edit.inserts ≡ b → place_after (stored_of (Typed old) b start to).splice ≡ place_before edit → IsWellFormed (stored_of (Typed new) b (cond b start edit_start) (cond b edit_end to))
     by true h same meets =
         let begins : place_before edit ≡ edit_start = ap (λ (b : Bool). place_before (record edit { inserts = b })) same ∙ at in
         record {
@@ -119,31 +119,31 @@ only_pieces (first ∷ second ∷ rest) h = by first
 
 -- ---- what is known of an edit, once its content is known
 
-pub symbols_as : {kept same : Content} {inserts : Bool} (start stop : Place) {now : Stored} → stored_of kept inserts start stop ≡ now → kept ≡ same → symbols_in inserts same ≡ now.splice.symbols
-symbols_as {inserts = inserts} start stop view is = ap (symbols_in inserts) (sym is) ∙ ap (λ (s : Stored). s.splice.symbols) view
+pub symbols_as : {kept same : Content} {inserts : Bool} (start to : Place) {now : Stored} → stored_of kept inserts start to ≡ now → kept ≡ same → symbols_in inserts same ≡ now.splice.symbols
+symbols_as {inserts = inserts} start to view is = ap (symbols_in inserts) (sym is) ∙ ap (λ (s : Stored). s.splice.symbols) view
 
 pub pieces_as : {kept same : Content} → kept ≡ same → IfSome (pieces_in kept) (λ n. 2 ≤ n) → IfSome (pieces_in same) (λ n. 2 ≤ n)
 pieces_as is h = subst (λ k. IfSome (pieces_in k) (λ n. 2 ≤ n)) is h
 
 -- the content is written again with the same symbols
-pub kept_again : {kept : Content} (inserts : Bool) (start stop : Place) (c : ℕ) (new : String Global) → IsWellFormed (stored_of kept inserts start stop) → kept ≡ content.Character c → characters_of new ≡ c ∷ [] → IsWellFormed (stored_of (Typed new) inserts start stop)
-kept_again {kept = kept} inserts start stop c new h is e =
+pub kept_again : {kept : Content} (inserts : Bool) (start to : Place) (c : ℕ) (new : String Global) → IsWellFormed (stored_of kept inserts start to) → kept ≡ content.Character c → characters_of new ≡ c ∷ [] → IsWellFormed (stored_of (Typed new) inserts start to)
+kept_again {kept = kept} inserts start to c new h is e =
     let same : symbols_in inserts (Typed new) ≡ symbols_in inserts kept = symbols_first inserts new c e ∙ ap (symbols_in inserts) (sym is) in
     record { ends = h.ends ∙ ap (end start) (sym same); some = omega (arith, h.some, ap length same); pieces = tt }
 
-pub splice_again : {kept : Content} (inserts : Bool) (start stop : Place) (c : ℕ) (new : String Global) {now : Stored} → stored_of kept inserts start stop ≡ now → kept ≡ content.Character c → characters_of new ≡ c ∷ [] → record { place = start; symbols = symbols_in inserts (Typed new); inserts = inserts } ≡ now.splice
-splice_again inserts start stop c new view is e =
+pub splice_again : {kept : Content} (inserts : Bool) (start to : Place) (c : ℕ) (new : String Global) {now : Stored} → stored_of kept inserts start to ≡ now → kept ≡ content.Character c → characters_of new ≡ c ∷ [] → record { place = start; symbols = symbols_in inserts (Typed new); inserts = inserts } ≡ now.splice
+splice_again inserts start to c new view is e =
     ap (λ (s : List Symbol). record { place = start; symbols = s; inserts = inserts }) (symbols_first inserts new c e ∙ ap (symbols_in inserts) (sym is))
     ∙ ap (λ (s : Stored). s.splice) view
 
-pub spare_as : {kept : Content} (inserts : Bool) (start stop : Place) (old : String Global) {now : Stored} → stored_of kept inserts start stop ≡ now → kept ≡ Typed old → now.spare ≡ string_capacity old - string_len old
-spare_as inserts start stop old view is = ap (λ (s : Stored). s.spare) (sym view ∙ ap (λ k. stored_of k inserts start stop) is)
+pub spare_as : {kept : Content} (inserts : Bool) (start to : Place) (old : String Global) {now : Stored} → stored_of kept inserts start to ≡ now → kept ≡ Typed old → now.spare ≡ string_capacity old - string_len old
+spare_as inserts start to old view is = ap (λ (s : Stored). s.spare) (sym view ∙ ap (λ k. stored_of k inserts start to) is)
 
 -- a character was pushed where there was room for it
-pub pushed_in_room : {kept : Content} {T E : Type 0} (inserts : Bool) (start stop : Place) (old new : String Global) (c : ℕ) {now : Stored} (done : Result T E) → stored_of kept inserts start stop ≡ now → kept ≡ Typed old → 4 ≤ now.spare → length (encode_utf8 c) ≤ 4 → (string_len old + length (encode_utf8 c) ≤ string_capacity old → is_ok done ≡ true) → string_bytes new ≡ cond (is_ok done) (string_bytes old ++ encode_utf8 c) (string_bytes old) → characters_of new ≡ characters_of old ++ c ∷ []
-pushed_in_room inserts start stop old new c done view is room few succeeds e =
+pub pushed_in_room : {kept : Content} {T E : Type 0} (inserts : Bool) (start to : Place) (old new : String Global) (c : ℕ) {now : Stored} (done : Result T E) → stored_of kept inserts start to ≡ now → kept ≡ Typed old → 4 ≤ now.spare → length (encode_utf8 c) ≤ 4 → (string_len old + length (encode_utf8 c) ≤ string_capacity old → is_ok done ≡ true) → string_bytes new ≡ cond (is_ok done) (string_bytes old ++ encode_utf8 c) (string_bytes old) → characters_of new ≡ characters_of old ++ c ∷ []
+pushed_in_room inserts start to old new c done view is room few succeeds e =
     characters_of-pushed old new c
-    (e ∙ ap (λ b. cond b (string_bytes old ++ encode_utf8 c) (string_bytes old)) (succeeds (omega (arith, spare_as inserts start stop old view is))))
+    (e ∙ ap (λ b. cond b (string_bytes old ++ encode_utf8 c) (string_bytes old)) (succeeds (omega (arith, spare_as inserts start to old view is))))
 
 -- ---- a text written backwards
 

@@ -47,14 +47,14 @@ abbrev pub splice_of : EditKind → Place → Place → Splice
 splice_of kind before after = record { place = cond (inserts_of kind) before after; symbols = symbols_of kind; inserts = inserts_of kind }
 
 -- the place that is handed in as the end of the symbols
-abbrev pub stop_of : EditKind → Place → Place → Place
-stop_of kind before after = cond (inserts_of kind) after before
+abbrev pub end_of_kind : EditKind → Place → Place → Place
+end_of_kind kind before after = cond (inserts_of kind) after before
 
 -- an edit as others see it: its splice, the place handed in as the end of the splice's symbols, the number of a
 -- chunk's pieces, and how a run of typing can grow in it
 pub record Stored : Type 0 where
   pub splice : Splice
-  pub stop : Place
+  pub end : Place
   pub pieces : Option ℕ
   pub grows : Bool
   pub spare : ℕ
@@ -64,7 +64,7 @@ pub record Stored : Type 0 where
 pub record IsWellFormed (edit : Stored) : Type 0 where
   pub some : 0 < length edit.splice.symbols
   pub pieces : IfSome edit.pieces (λ n. 2 ≤ n)
-  pub ends : edit.stop ≡ end edit.splice.place edit.splice.symbols
+  pub ends : edit.end ≡ end edit.splice.place edit.splice.symbols
 
 -- the splice in a direction of its own: an edit's splice as it is made, and as it is taken back
 abbrev pub directed : Splice → Bool → Splice
@@ -72,16 +72,16 @@ directed splice inserts = record splice { inserts = inserts }
 
 -- the cursor's places before and after the edit, as they were handed in
 abbrev pub before_of : Stored → Place
-before_of edit = cond edit.splice.inserts edit.splice.place edit.stop
+before_of edit = cond edit.splice.inserts edit.splice.place edit.end
 
 abbrev pub after_of : Stored → Place
-after_of edit = cond edit.splice.inserts edit.stop edit.splice.place
+after_of edit = cond edit.splice.inserts edit.end edit.splice.place
 
 -- a copy of an edit has the same splice between the same places, and grows where it does; the memory that it has for
 -- that may be another
 pub record IsCopyOfEdit (edit copy : Stored) : Type 0 where
   pub splice : copy.splice ≡ edit.splice
-  pub stop : copy.stop ≡ edit.stop
+  pub end : copy.end ≡ edit.end
   pub pieces : copy.pieces ≡ edit.pieces
   pub grows : copy.grows ≡ edit.grows
 
@@ -111,9 +111,9 @@ spare_of (content.Typed s) = string_capacity s - string_len s
 spare_of other = 0
 
 abbrev pub stored_of : Content → Bool → Place → Place → Stored
-stored_of kept inserts start stop = record {
+stored_of kept inserts start to = record {
   splice = record { place = start; symbols = symbols_in inserts kept; inserts = inserts };
-  stop = stop;
+  end = to;
   pieces = pieces_in kept;
   grows = grows_of kept;
   spare = spare_of kept;

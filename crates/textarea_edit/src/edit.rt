@@ -108,13 +108,13 @@ impl Clone for Edit {
 }
 
 impl Edit {
-    ghost use Rattle.textarea_edit.specs.Edit.{IsWellFormed, after_of, before_of, pieces_of, splice_of, stop_of, stored_of};
+    ghost use Rattle.textarea_edit.specs.Edit.{IsWellFormed, after_of, before_of, pieces_of, splice_of, end_of_kind, stored_of};
 
     /// An edit between the cursor's positions before and after it. Their byte offsets are for the caller: no rule
     /// reads them.
     pub fn new(kind: EditKind, before: Pos, after: Pos) -> Self
         ensures splice { result.splice ≡ splice_of kind (before.row, before.col) (after.row, after.col) }
-        ensures stop { result.stop ≡ stop_of kind (before.row, before.col) (after.row, after.col) }
+        ensures end { result.end ≡ end_of_kind kind (before.row, before.col) (after.row, after.col) }
         ensures pieces { result.pieces ≡ pieces_of kind }
     {
         Edit::between(kind, (before.row, before.col), (after.row, after.col))
@@ -123,7 +123,7 @@ impl Edit {
     /// An edit between the cursor's places, as (row, column), before and after it.
     pub fn between(kind: EditKind, before: (usize, usize), after: (usize, usize)) -> Self
         ensures splice { result.splice ≡ splice_of kind before after }
-        ensures stop { result.stop ≡ stop_of kind before after }
+        ensures end { result.end ≡ end_of_kind kind before after }
         ensures pieces { result.pieces ≡ pieces_of kind }
     {
         match kind {
@@ -206,7 +206,7 @@ impl Edit {
         ensures ok { OnOk result (text_of lines.new.items ≡ applied (text_of lines.old.items) self.now.splice) }
         ensures err { OnErr result (lines.new.items ≡ lines.old.items) }
         ensures nonempty { 0 < vec_len lines.new }
-        ensures no_memory { self.now.splice.inserts ≡ false → self.now.stop.0 ≡ self.now.splice.place.0 → IsOk result }
+        ensures no_memory { self.now.splice.inserts ≡ false → self.now.end.0 ≡ self.now.splice.place.0 → IsOk result }
     {
         self.change().apply(lines)
     }
@@ -219,7 +219,7 @@ impl Edit {
         ensures ok { OnOk result (text_of lines.new.items ≡ applied (text_of lines.old.items) (inverse self.now.splice)) }
         ensures err { OnErr result (lines.new.items ≡ lines.old.items) }
         ensures nonempty { 0 < vec_len lines.new }
-        ensures no_memory { self.now.splice.inserts ≡ true → self.now.stop.0 ≡ self.now.splice.place.0 → IsOk result }
+        ensures no_memory { self.now.splice.inserts ≡ true → self.now.end.0 ≡ self.now.splice.place.0 → IsOk result }
     {
         self.inverse().apply(lines)
     }

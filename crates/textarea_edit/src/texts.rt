@@ -7,7 +7,7 @@ ghost use Rattle.textarea_edit.specs.Run.{character_of};
 use std::alloc::{AllocError, Global};
 
 /// The characters of the text, the last one first.
-pub fn reversed(alloc: Global, text: &str) -> Result<String, AllocError>
+pub fn reverse_text(alloc: Global, text: &str) -> Result<String, AllocError>
     ensures { IfOk result (λ s. chars (string_bytes s) ≡ reverse (chars text.now)) }
 {
     let mut result_text = String::new(alloc);

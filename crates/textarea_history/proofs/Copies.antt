@@ -20,7 +20,7 @@ formed_copied : (edit copy : Stored) → IsCopyOfEdit edit copy → IsWellFormed
 formed_copied edit copy same h = record {
   some = omega (arith, h.some, ap (λ (s : Splice). length s.symbols) same.splice);
   pieces = subst (λ (o : Option ℕ). IfSome o (λ n. 2 ≤ n)) (sym same.pieces) h.pieces;
-  ends = same.stop ∙ h.ends ∙ ap (λ (s : Splice). end s.place s.symbols) (sym same.splice);
+  ends = same.end ∙ h.ends ∙ ap (λ (s : Splice). end s.place s.symbols) (sym same.splice);
 }
 
 run_copied : (edge : ℕ) (items copies : List Stored) (n : ℕ) → AllZip IsCopyOfEdit items copies → IfSome (slice_get items n) (λ edit. IsRun edit edge) → IfSome (slice_get copies n) (λ edit. IsRun edit edge)

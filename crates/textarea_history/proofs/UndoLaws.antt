@@ -65,8 +65,8 @@ held text place symbols h stands =
     }
 
 -- the text with its parts grouped the other way, and where the first two end
-behind : (front symbols : List Symbol) (place stop : Place) → end (0, 0) front ≡ place → end place symbols ≡ stop → end (0, 0) (front ++ symbols) ≡ stop
-behind front symbols place stop e e' = end-append (0, 0) front symbols ∙ ap (λ (p : Place). end p symbols) e ∙ e'
+behind : (front symbols : List Symbol) (place to : Place) → end (0, 0) front ≡ place → end place symbols ≡ to → end (0, 0) (front ++ symbols) ≡ to
+behind front symbols place to e e' = end-append (0, 0) front symbols ∙ ap (λ (p : Place). end p symbols) e ∙ e'
 
 merges_inserted : (text : List Symbol) (p q : Place) (s c : List Symbol) → 0 < length s → IsPlace text p → StandsAt text p s → end p s ≡ q → Merges text (record { place = p; symbols = s; inserts = true }) (record { place = q; symbols = c; inserts = true })
 merges_inserted text p q s c some h stands e =

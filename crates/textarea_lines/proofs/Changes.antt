@@ -14,8 +14,8 @@ use Rattle.textarea_text.proofs.Sizes.{size_of_text, weight_inserted, weight_rem
 use Rattle.textarea_wrap.specs.RowsView.{RowsView}
 use Rattle.textarea_map.specs.declared.layout.Wrapping.{Wrapping}
 use Rattle.textarea_map.specs.Layout.{AreRowsOf, ticks_behind, ticks_of}
-use Rattle.textarea_lines.specs.declared.view.ViewSettings.{ViewSettings}
-use Rattle.textarea_lines.specs.Screen.{LaidOut, Screen, changed_by, laid_anew, recut, replaced_in, seen_with, wrapping_of}
+use Rattle.textarea_lines.specs.declared.settings.LayoutSettings.{LayoutSettings}
+use Rattle.textarea_lines.specs.Layout.{LaidOut, Layout, applied_to, laid_out_anew, after_replacement, replaced_in, laid_out_with, wrapping_of}
 use Rattle.textarea_lines.specs.Stored.{IsStored, HoldsRows}
 use Rattle.textarea_lines.specs.Wrappings.{is_same, wrapping_for}
 use Rattle.textarea_lines.proofs.Layouts.{lines_of-replaced}
@@ -42,22 +42,22 @@ now_as old lent kept now new row count h = h.now_is ∙ ap (λ t. replaced t row
 pub text_now : {Z : Type 0} (old lent kept now new : List (String Z)) (row count : ℕ) → Replacing old lent kept now new row count → text_of now ≡ joined (replaced (lines (text_of old)) row count (lines_of new))
 text_now old lent kept now new row count h = ap text_of (now_as old lent kept now new row count h) ∙ text_replaced old new row count h.some
 
-pub holds_replaced : {Z : Type 0} (view : ViewSettings) (old lent kept now new : List (String Z)) (row count size n : ℕ) (was rows : List RowsView) → Replacing old lent kept now new row count → n ≡ length new → AreRowsOf (wrapping_for view (length lent - count + n)) (lines_of (replaced lent row count new)) was → rows ≡ was → size ≡ weight (joined (replaced (lines (text_of old)) row count (lines_of new))) + 1 → size ≤ 2 ^ 48 → HoldsRows view now size rows
-holds_replaced view old lent kept now new row count size n was rows h n_is k rows_is size_is limit =
+pub holds_replaced : {Z : Type 0} (settings : LayoutSettings) (old lent kept now new : List (String Z)) (row count size n : ℕ) (was rows : List RowsView) → Replacing old lent kept now new row count → n ≡ length new → AreRowsOf (wrapping_for settings (length lent - count + n)) (lines_of (replaced lent row count new)) was → rows ≡ was → size ≡ weight (joined (replaced (lines (text_of old)) row count (lines_of new))) + 1 → size ≤ 2 ^ 48 → HoldsRows settings now size rows
+holds_replaced settings old lent kept now new row count size n was rows h n_is k rows_is size_is limit =
     let is = now_as old lent kept now new row count h in
     let long : length now ≡ length lent - count + n = omega (arith, ap length is, length-replaced old row count new h.within, h.within, n_is, ap length h.lent_is) in
     let some : 0 < length now = omega (arith, ap length is, length-replaced old row count new h.within, h.within, h.new_some) in
     record {
       stored = record { some = some; size_is = omega (arith, size_is, size_of_text now some, ap weight (text_now old lent kept now new row count h)); limit = limit };
-      laid_out = subst (λ (t : List RowsView). AreRowsOf (wrapping_for view (length now)) (lines_of now) t) (sym rows_is)
-          (subst (λ m. AreRowsOf (wrapping_for view m) (lines_of now) was) (sym long)
-          (subst (λ (t : List (String _)). AreRowsOf (wrapping_for view (length lent - count + n)) (lines_of t) was) (ap (λ t. replaced t row count new) h.lent_is ∙ sym is) k));
+      laid_out = subst (λ (t : List RowsView). AreRowsOf (wrapping_for settings (length now)) (lines_of now) t) (sym rows_is)
+          (subst (λ m. AreRowsOf (wrapping_for settings m) (lines_of now) was) (sym long)
+          (subst (λ (t : List (String _)). AreRowsOf (wrapping_for settings (length lent - count + n)) (lines_of t) was) (ap (λ t. replaced t row count new) h.lent_is ∙ sym is) k));
     }
 
-pub seen_replaced : {Z : Type 0} (view : ViewSettings) (old lent kept now new : List (String Z)) (row count n before was after : ℕ) (first rows prepared : List RowsView) → Replacing old lent kept now new row count → n ≡ length new → was ≡ before → record { view = view; count = after; ticks = ticks_of prepared } ≡ recut (record { view = view; count = was; ticks = ticks_of first }) (length lent) row count n → rows ≡ prepared → seen view now after rows ≡ replaced_in (seen view old before first) row count (lines_of new)
-seen_replaced view old lent kept now new row count n before was after first rows prepared h n_is was_is screen rows_is =
-    ap (λ (t : List Symbol). record { text = t; screen = record { view = view; count = after; ticks = ticks_of rows } }) (text_now old lent kept now new row count h)
-    ∙ ap (λ (s : Screen). record { text = text; screen = s }) screen_is
+pub layout_replaced : {Z : Type 0} (settings : LayoutSettings) (old lent kept now new : List (String Z)) (row count n before was after : ℕ) (first rows prepared : List RowsView) → Replacing old lent kept now new row count → n ≡ length new → was ≡ before → record { settings = settings; count = after; ticks = ticks_of prepared } ≡ after_replacement (record { settings = settings; count = was; ticks = ticks_of first }) (length lent) row count n → rows ≡ prepared → seen settings now after rows ≡ replaced_in (seen settings old before first) row count (lines_of new)
+layout_replaced settings old lent kept now new row count n before was after first rows prepared h n_is was_is layout rows_is =
+    ap (λ (t : List Symbol). record { text = t; layout = record { settings = settings; count = after; ticks = ticks_of rows } }) (text_now old lent kept now new row count h)
+    ∙ ap (λ (s : Layout). record { text = text; layout = s }) screen_is
   where
     text : List Symbol
     text = joined (replaced (lines (text_of old)) row count (lines_of new))
@@ -68,18 +68,18 @@ seen_replaced view old lent kept now new row count n before was after first rows
     coming : n ≡ length (lines_of new)
     coming = n_is ∙ sym (length-map new characters_of)
 
-    screen_is : record { view = view; count = after; ticks = ticks_of rows } ≡ recut (record { view = view; count = before; ticks = ticks_of first }) (length (lines (text_of old))) row count (length (lines_of new))
+    screen_is : record { settings = settings; count = after; ticks = ticks_of rows } ≡ after_replacement (record { settings = settings; count = before; ticks = ticks_of first }) (length (lines (text_of old))) row count (length (lines_of new))
     screen_is =
-        ap (λ (t : List RowsView). record { view = view; count = after; ticks = ticks_of t }) rows_is
-        ∙ screen
-        ∙ ap (λ (m : ℕ). recut (record { view = view; count = m; ticks = ticks_of first }) (length lent) row count n) was_is
-        ∙ ap (λ (m : ℕ). recut (record { view = view; count = before; ticks = ticks_of first }) m row count n) long
-        ∙ ap (λ (m : ℕ). recut (record { view = view; count = before; ticks = ticks_of first }) (length (lines (text_of old))) row count m) coming
+        ap (λ (t : List RowsView). record { settings = settings; count = after; ticks = ticks_of t }) rows_is
+        ∙ layout
+        ∙ ap (λ (m : ℕ). after_replacement (record { settings = settings; count = m; ticks = ticks_of first }) (length lent) row count n) was_is
+        ∙ ap (λ (m : ℕ). after_replacement (record { settings = settings; count = before; ticks = ticks_of first }) m row count n) long
+        ∙ ap (λ (m : ℕ). after_replacement (record { settings = settings; count = before; ticks = ticks_of first }) (length (lines (text_of old))) row count m) coming
 
 -- ---- an edit
 
 -- a replacement that makes a splice of the lines is the splice of the text
-pub made : (laid : LaidOut) (items lent : List (String Global)) (replacement : Replacement) (splice : Splice) → 0 < length items → text_of items ≡ laid.text → lent ≡ items → IsReplacementFor lent splice replacement → replaced_in laid replacement.row replacement.count (lines_of replacement.lines.items) ≡ changed_by laid splice
+pub made : (laid : LaidOut) (items lent : List (String Global)) (replacement : Replacement) (splice : Splice) → 0 < length items → text_of items ≡ laid.text → lent ≡ items → IsReplacementFor lent splice replacement → replaced_in laid replacement.row replacement.count (lines_of replacement.lines.items) ≡ applied_to laid splice
 made laid items lent replacement splice some is lent_is h =
     let row = replacement.row in
     let count = replacement.count in
@@ -92,10 +92,10 @@ made laid items lent replacement splice some is lent_is h =
     ∙ h.text
     ∙ ap (λ t. applied (text_of t) splice) lent_is
     ∙ ap (λ t. applied t splice) is in
-    ap (λ (t : List Symbol). record { text = t; screen = recut laid.screen (length (lines laid.text)) row count (length (lines_of new)) }) text_is
-    ∙ ap (λ (m : ℕ). record { text = applied laid.text splice; screen = recut laid.screen (length (lines laid.text)) m count (length (lines_of new)) }) h.row
-    ∙ ap (λ (m : ℕ). record { text = applied laid.text splice; screen = recut laid.screen (length (lines laid.text)) splice.place.0 m (length (lines_of new)) }) h.going
-    ∙ ap (λ (m : ℕ). record { text = applied laid.text splice; screen = recut laid.screen (length (lines laid.text)) splice.place.0 (lines_going splice) m }) coming_is
+    ap (λ (t : List Symbol). record { text = t; layout = after_replacement laid.layout (length (lines laid.text)) row count (length (lines_of new)) }) text_is
+    ∙ ap (λ (m : ℕ). record { text = applied laid.text splice; layout = after_replacement laid.layout (length (lines laid.text)) m count (length (lines_of new)) }) h.row
+    ∙ ap (λ (m : ℕ). record { text = applied laid.text splice; layout = after_replacement laid.layout (length (lines laid.text)) splice.place.0 m (length (lines_of new)) }) h.going
+    ∙ ap (λ (m : ℕ). record { text = applied laid.text splice; layout = after_replacement laid.layout (length (lines laid.text)) splice.place.0 (lines_going splice) m }) coming_is
 
 -- the size after a change
 pub size_made : {Z : Type 0} (items : List (String Z)) (text : List Symbol) (size after : ℕ) (splice : Splice) → IsStored items size → text_of items ≡ text → Fits text splice → after ≡ cond splice.inserts (size + weight splice.symbols) (size - weight splice.symbols) → after ≡ weight (applied text splice) + 1
@@ -111,40 +111,40 @@ size_made items text size after splice stored is fits after_is = by splice.inser
 -- ---- all lines
 
 -- some lines, all of which were cut
-pub laid_new : {Z : Type 0} (view : ViewSettings) (items lent : List (String Z)) (old count : ℕ) (rows : List RowsView) → 0 < length items → lent ≡ items → count ≡ old + length lent → ticks_of rows ≡ ticks_behind old (length lent) → seen view items count rows ≡ laid_anew view old (text_of items)
-laid_new view items lent old count rows some lent_is counted ticks =
+pub laid_new : {Z : Type 0} (settings : LayoutSettings) (items lent : List (String Z)) (old count : ℕ) (rows : List RowsView) → 0 < length items → lent ≡ items → count ≡ old + length lent → ticks_of rows ≡ ticks_behind old (length lent) → seen settings items count rows ≡ laid_out_anew settings old (text_of items)
+laid_new settings items lent old count rows some lent_is counted ticks =
     let long : length lent ≡ length (lines (text_of items)) = ap length lent_is ∙ sym (count_held items some) in
-    ap (λ (n : ℕ). record { text = text_of items; screen = record { view = view; count = n; ticks = ticks_of rows } }) (counted ∙ ap (λ n. old + n) long)
-    ∙ ap (λ (t : List ℕ). record { text = text_of items; screen = record { view = view; count = old + length (lines (text_of items)); ticks = t } }) (ticks ∙ ap (ticks_behind old) long)
+    ap (λ (n : ℕ). record { text = text_of items; layout = record { settings = settings; count = n; ticks = ticks_of rows } }) (counted ∙ ap (λ n. old + n) long)
+    ∙ ap (λ (t : List ℕ). record { text = text_of items; layout = record { settings = settings; count = old + length (lines (text_of items)); ticks = t } }) (ticks ∙ ap (ticks_behind old) long)
 
 -- how lines are cut before and after other settings
-pub record Reviewing {Z : Type 0} (old view : ViewSettings) (items : List (String Z)) (count : ℕ) (rows : List RowsView) (laid : LaidOut) (before after : Wrapping) : Type 0 where
+pub record Reviewing {Z : Type 0} (old settings : LayoutSettings) (items : List (String Z)) (count : ℕ) (rows : List RowsView) (laid : LaidOut) (before after : Wrapping) : Type 0 where
   pub some : 0 < length items
   pub is : seen old items count rows ≡ laid
   pub before_is : before ≡ wrapping_for old (length items)
-  pub after_is : after ≡ wrapping_for view (length items)
+  pub after_is : after ≡ wrapping_for settings (length items)
 
-pub test_is : {Z : Type 0} (old view : ViewSettings) (items : List (String Z)) (count : ℕ) (rows : List RowsView) (laid : LaidOut) (before after : Wrapping) → Reviewing old view items count rows laid before after → is_same (wrapping_for view (length (lines laid.text))) (wrapping_of laid) ≡ is_same after before
-test_is old view items count rows laid before after h =
-    ap (λ (l : LaidOut). is_same (wrapping_for view (length (lines l.text))) (wrapping_of l)) (sym h.is)
-    ∙ ap (λ n. is_same (wrapping_for view n) (wrapping_for old n)) (count_held items h.some)
+pub test_is : {Z : Type 0} (old settings : LayoutSettings) (items : List (String Z)) (count : ℕ) (rows : List RowsView) (laid : LaidOut) (before after : Wrapping) → Reviewing old settings items count rows laid before after → is_same (wrapping_for settings (length (lines laid.text))) (wrapping_of laid) ≡ is_same after before
+test_is old settings items count rows laid before after h =
+    ap (λ (l : LaidOut). is_same (wrapping_for settings (length (lines l.text))) (wrapping_of l)) (sym h.is)
+    ∙ ap (λ n. is_same (wrapping_for settings n) (wrapping_for old n)) (count_held items h.some)
     ∙ ap (λ w. is_same w (wrapping_for old (length items))) (sym h.after_is)
     ∙ ap (is_same after) (sym h.before_is)
 
-pub viewed_same : {Z : Type 0} (old view : ViewSettings) (items : List (String Z)) (count : ℕ) (rows : List RowsView) (laid : LaidOut) (before after : Wrapping) → Reviewing old view items count rows laid before after → is_same after before ≡ true → seen view items count rows ≡ seen_with laid view
-viewed_same old view items count rows laid before after h same =
-    ap (λ (l : LaidOut). record { text = l.text; screen = record { view = view; count = l.screen.count; ticks = l.screen.ticks } }) h.is
-    ∙ ap (λ (b : Bool). cond b (record { text = laid.text; screen = record { view = view; count = laid.screen.count; ticks = laid.screen.ticks } }) (laid_anew view laid.screen.count laid.text)) (sym (test_is old view items count rows laid before after h ∙ same))
+pub viewed_same : {Z : Type 0} (old settings : LayoutSettings) (items : List (String Z)) (count : ℕ) (rows : List RowsView) (laid : LaidOut) (before after : Wrapping) → Reviewing old settings items count rows laid before after → is_same after before ≡ true → seen settings items count rows ≡ laid_out_with laid settings
+viewed_same old settings items count rows laid before after h same =
+    ap (λ (l : LaidOut). record { text = l.text; layout = record { settings = settings; count = l.layout.count; ticks = l.layout.ticks } }) h.is
+    ∙ ap (λ (b : Bool). cond b (record { text = laid.text; layout = record { settings = settings; count = laid.layout.count; ticks = laid.layout.ticks } }) (laid_out_anew settings laid.layout.count laid.text)) (sym (test_is old settings items count rows laid before after h ∙ same))
 
-pub viewed_anew : {Z : Type 0} (old view : ViewSettings) (items : List (String Z)) (count now : ℕ) (rows new : List RowsView) (laid : LaidOut) (before after : Wrapping) → Reviewing old view items count rows laid before after → is_same after before ≡ false → seen view items now new ≡ laid_anew view count (text_of items) → seen view items now new ≡ seen_with laid view
-viewed_anew old view items count now rows new laid before after h differs e =
+pub viewed_anew : {Z : Type 0} (old settings : LayoutSettings) (items : List (String Z)) (count now : ℕ) (rows new : List RowsView) (laid : LaidOut) (before after : Wrapping) → Reviewing old settings items count rows laid before after → is_same after before ≡ false → seen settings items now new ≡ laid_out_anew settings count (text_of items) → seen settings items now new ≡ laid_out_with laid settings
+viewed_anew old settings items count now rows new laid before after h differs e =
     e
-    ∙ ap (λ (l : LaidOut). laid_anew view l.screen.count l.text) h.is
-    ∙ ap (λ (b : Bool). cond b (record { text = laid.text; screen = record { view = view; count = laid.screen.count; ticks = laid.screen.ticks } }) (laid_anew view laid.screen.count laid.text)) (sym (test_is old view items count rows laid before after h ∙ differs))
+    ∙ ap (λ (l : LaidOut). laid_out_anew settings l.layout.count l.text) h.is
+    ∙ ap (λ (b : Bool). cond b (record { text = laid.text; layout = record { settings = settings; count = laid.layout.count; ticks = laid.layout.ticks } }) (laid_out_anew settings laid.layout.count laid.text)) (sym (test_is old settings items count rows laid before after h ∙ differs))
 
 -- where the lines are cut as before, their rows stay right
-pub holds_viewed : {Z : Type 0} (old view : ViewSettings) (items : List (String Z)) (size count : ℕ) (rows : List RowsView) (laid : LaidOut) (before after : Wrapping) → Reviewing old view items count rows laid before after → is_same after before ≡ true → HoldsRows old items size rows → HoldsRows view items size rows
-holds_viewed old view items size count rows laid before after h same k =
-    let test : is_same (wrapping_for view (length items)) (wrapping_for old (length items)) ≡ true =
+pub holds_viewed : {Z : Type 0} (old settings : LayoutSettings) (items : List (String Z)) (size count : ℕ) (rows : List RowsView) (laid : LaidOut) (before after : Wrapping) → Reviewing old settings items count rows laid before after → is_same after before ≡ true → HoldsRows old items size rows → HoldsRows settings items size rows
+holds_viewed old settings items size count rows laid before after h same k =
+    let test : is_same (wrapping_for settings (length items)) (wrapping_for old (length items)) ≡ true =
     ap (λ w. is_same w (wrapping_for old (length items))) (sym h.after_is) ∙ ap (is_same after) (sym h.before_is) ∙ same in
-    record { stored = k.stored; laid_out = AreRowsOf-same (wrapping_for view (length items)) (wrapping_for old (length items)) (lines_of items) rows test k.laid_out }
+    record { stored = k.stored; laid_out = AreRowsOf-same (wrapping_for settings (length items)) (wrapping_for old (length items)) (lines_of items) rows test k.laid_out }

@@ -7,8 +7,8 @@ use Rattle.textarea_wrap.specs.RowsView.{RowsView}
 use Rattle.textarea_map.specs.declared.layout.Wrapping.{Wrapping}
 use Rattle.textarea_map.specs.Layout.{AreRowsOf, ticks_behind, ticks_of}
 use Rattle.textarea_map.proofs.Layouts.{AreRowsOf-replaced}
-use Rattle.textarea_lines.specs.declared.view.ViewSettings.{ViewSettings}
-use Rattle.textarea_lines.specs.Screen.{Screen, all_cut, recut, some_cut}
+use Rattle.textarea_lines.specs.declared.settings.LayoutSettings.{LayoutSettings}
+use Rattle.textarea_lines.specs.Layout.{Layout, all_cut, after_replacement, some_cut}
 use Rattle.textarea_lines.specs.Wrappings.{is_same, wrapping_for}
 use Rattle.textarea_lines.proofs.Layouts.{lines_of-replaced, map-replaced, replaced_whole}
 use Rattle.textarea_lines.proofs.SameCuts.{AreRowsOf-same}
@@ -40,25 +40,25 @@ rows_of_all now after lines n at number rows cut others size is k at_is number_i
 
 -- ---- what clauses see of them
 
-abbrev screen_at : ViewSettings → ℕ → List ℕ → Screen
-screen_at view count ticks = record { view = view; count = count; ticks = ticks }
+abbrev screen_at : LayoutSettings → ℕ → List ℕ → Layout
+screen_at settings count ticks = record { settings = settings; count = count; ticks = ticks }
 
-screen_is : (view : ViewSettings) (count count' : ℕ) (ticks ticks' : List ℕ) → count ≡ count' → ticks ≡ ticks' → screen_at view count ticks ≡ screen_at view count' ticks'
-screen_is view count count' ticks ticks' e e' = ap (λ (n : ℕ). screen_at view n ticks) e ∙ ap (λ (t : List ℕ). screen_at view count' t) e'
+screen_is : (settings : LayoutSettings) (count count' : ℕ) (ticks ticks' : List ℕ) → count ≡ count' → ticks ≡ ticks' → screen_at settings count ticks ≡ screen_at settings count' ticks'
+screen_is settings count count' ticks ticks' e e' = ap (λ (n : ℕ). screen_at settings n ticks) e ∙ ap (λ (t : List ℕ). screen_at settings count' t) e'
 
-pub screen_of_some : (view : ViewSettings) (old count n row going coming size at number : ℕ) (rows cut others : List RowsView) → is_same (wrapping_for view (n - going + coming)) (wrapping_for view n) ≡ true → count ≡ old + size → size ≡ coming → ticks_of cut ≡ ticks_behind old size → at ≡ row → number ≡ going → others ≡ cut → screen_at view count (ticks_of (replaced rows at number others)) ≡ recut (screen_at view old (ticks_of rows)) n row going coming
-screen_of_some view old count n row going coming size at number rows cut others same counted size_is ticks at_is number_is others_is =
-    screen_is view count (old + coming) (ticks_of (replaced rows at number others)) (replaced (ticks_of rows) row going (ticks_behind old coming))
+pub screen_of_some : (settings : LayoutSettings) (old count n row going coming size at number : ℕ) (rows cut others : List RowsView) → is_same (wrapping_for settings (n - going + coming)) (wrapping_for settings n) ≡ true → count ≡ old + size → size ≡ coming → ticks_of cut ≡ ticks_behind old size → at ≡ row → number ≡ going → others ≡ cut → screen_at settings count (ticks_of (replaced rows at number others)) ≡ after_replacement (screen_at settings old (ticks_of rows)) n row going coming
+screen_of_some settings old count n row going coming size at number rows cut others same counted size_is ticks at_is number_is others_is =
+    screen_is settings count (old + coming) (ticks_of (replaced rows at number others)) (replaced (ticks_of rows) row going (ticks_behind old coming))
     (counted ∙ ap (λ m. old + m) size_is)
     (ap ticks_of (prepared_as rows others cut at number row going at_is number_is others_is)
     ∙ map-replaced (λ (r : RowsView). r.tick) rows cut row going
     ∙ ap (replaced (ticks_of rows) row going) (ticks ∙ ap (ticks_behind old) size_is))
-    ∙ ap (λ (b : Bool). cond b (some_cut (screen_at view old (ticks_of rows)) row going coming) (all_cut view old (n - going + coming))) (sym same)
+    ∙ ap (λ (b : Bool). cond b (some_cut (screen_at settings old (ticks_of rows)) row going coming) (all_cut settings old (n - going + coming))) (sym same)
 
-pub screen_of_all : (view : ViewSettings) (old count n row going coming size at number : ℕ) (rows cut others : List RowsView) → is_same (wrapping_for view (n - going + coming)) (wrapping_for view n) ≡ false → length rows ≡ n → count ≡ old + size → size ≡ n - going + coming → ticks_of cut ≡ ticks_behind old size → at ≡ 0 → number ≡ n → others ≡ cut → screen_at view count (ticks_of (replaced rows at number others)) ≡ recut (screen_at view old (ticks_of rows)) n row going coming
-screen_of_all view old count n row going coming size at number rows cut others differs long counted size_is ticks at_is number_is others_is =
-    screen_is view count (old + (n - going + coming)) (ticks_of (replaced rows at number others)) (ticks_behind old (n - going + coming))
+pub screen_of_all : (settings : LayoutSettings) (old count n row going coming size at number : ℕ) (rows cut others : List RowsView) → is_same (wrapping_for settings (n - going + coming)) (wrapping_for settings n) ≡ false → length rows ≡ n → count ≡ old + size → size ≡ n - going + coming → ticks_of cut ≡ ticks_behind old size → at ≡ 0 → number ≡ n → others ≡ cut → screen_at settings count (ticks_of (replaced rows at number others)) ≡ after_replacement (screen_at settings old (ticks_of rows)) n row going coming
+screen_of_all settings old count n row going coming size at number rows cut others differs long counted size_is ticks at_is number_is others_is =
+    screen_is settings count (old + (n - going + coming)) (ticks_of (replaced rows at number others)) (ticks_behind old (n - going + coming))
     (counted ∙ ap (λ m. old + m) size_is)
     (ap ticks_of (prepared_as rows others cut at number 0 n at_is number_is others_is ∙ replaced_whole rows cut n long)
     ∙ ticks ∙ ap (ticks_behind old) size_is)
-    ∙ ap (λ (b : Bool). cond b (some_cut (screen_at view old (ticks_of rows)) row going coming) (all_cut view old (n - going + coming))) (sym differs)
+    ∙ ap (λ (b : Bool). cond b (some_cut (screen_at settings old (ticks_of rows)) row going coming) (all_cut settings old (n - going + coming))) (sym differs)

@@ -5,9 +5,9 @@ use Rattle.textarea_text.specs.Text.{lines}
 use Rattle.textarea_wrap.specs.RowsView.{RowsView}
 use Rattle.textarea_map.specs.declared.layout.Wrapping.{Wrapping}
 use Rattle.textarea_map.specs.Layout.{AreRowsOf}
-use Rattle.textarea_map.specs.Seen.{IsAbove, IsBelow, IsInFirstRow, IsInLastRow, IsSeenAt}
+use Rattle.textarea_map.specs.Seen.{IsAbove, IsBelow, IsInFirstRow, IsInLastRow, IsVisualPosition}
 use Rattle.textarea_lines.specs.Rows.{IsLaidOutAs, OfRows}
-use Rattle.textarea_lines.specs.Screen.{LaidOut, wrapping_of}
+use Rattle.textarea_lines.specs.Layout.{LaidOut, wrapping_of}
 use Rattle.textarea_lines.proofs.Stores.{tab_len_of}
 
 -- ---- steps, and places from which there is none, in rows at some tab stops
@@ -21,7 +21,7 @@ Step = ℕ → List (List ℕ) → List RowsView → Place → Place → Type 0
 
 -- a place is seen in one visual row at one column
 abbrev pub IsSeenOnce : Type 0
-IsSeenOnce = (wrapping : Wrapping) (lines : List (List ℕ)) (rows : List RowsView) (place seen other : Place) → AreRowsOf wrapping lines rows → IsSeenAt wrapping.tab_len lines rows place seen → IsSeenAt wrapping.tab_len lines rows place other → seen ≡ other
+IsSeenOnce = (wrapping : Wrapping) (lines : List (List ℕ)) (rows : List RowsView) (place seen other : Place) → AreRowsOf wrapping lines rows → IsVisualPosition wrapping.tab_len lines rows place seen → IsVisualPosition wrapping.tab_len lines rows place other → seen ≡ other
 
 -- the step leads from a place to one place
 abbrev pub LeadsToOne : Step → Type 0
@@ -33,11 +33,11 @@ EndsAt Ends Goes = (wrapping : Wrapping) (lines : List (List ℕ)) (rows : List 
 
 pub none_above : IsSeenOnce → EndsAt IsInFirstRow IsAbove
 none_above once w lines rows place target kept first h =
-    omega (arith, ap (λ (seen : Place). seen.0) (once w lines rows place first.0 h.seen kept first.1 h.seen_at), first.2, h.not_first)
+    omega (arith, ap (λ (seen : Place). seen.0) (once w lines rows place first.0 h.seen kept first.1 h.visual_position), first.2, h.not_first)
 
 pub none_below : IsSeenOnce → EndsAt IsInLastRow IsBelow
 none_below once w lines rows place target kept final h =
-    omega (arith, ap (λ (seen : Place). seen.0) (once w lines rows place final.0 h.seen kept final.1 h.seen_at), final.2, h.near.row)
+    omega (arith, ap (λ (seen : Place). seen.0) (once w lines rows place final.0 h.seen kept final.1 h.visual_position), final.2, h.near.row)
 
 -- ---- what is found
 
@@ -50,15 +50,15 @@ one_found Nothing Goes (Some target) (Some more) ends one h k = ap Some (one tar
 
 -- what the rows of a text as it is laid out say is found from a place
 abbrev pub Finds : Edge → Step → LaidOut → Place → Option Place → Type 0
-Finds Ends Goes laid place found = OfRows laid (λ (rows : List RowsView). MatchOption found (Ends laid.screen.view.tab_len (lines laid.text) rows place) (Goes laid.screen.view.tab_len (lines laid.text) rows place))
+Finds Ends Goes laid place found = OfRows laid (λ (rows : List RowsView). MatchOption found (Ends laid.layout.settings.tab_len (lines laid.text) rows place) (Goes laid.layout.settings.tab_len (lines laid.text) rows place))
 
 pub finds_once : (Ends : Edge) (Goes : Step) (laid : LaidOut) (place : Place) (found other : Option Place) → ((rows others : List RowsView) → IsLaidOutAs laid rows → IsLaidOutAs laid others → rows ≡ others) → EndsAt Ends Goes → LeadsToOne Goes → Finds Ends Goes laid place found → Finds Ends Goes laid place other → found ≡ other
 finds_once Ends Goes laid place found other one_list ends one h k =
     let text = lines laid.text in
     let wrapping = wrapping_of laid in
-    let tab : wrapping.tab_len ≡ laid.screen.view.tab_len = tab_len_of laid.screen.view (length text) in
-    one_found (Ends laid.screen.view.tab_len text h.0 place) (Goes laid.screen.view.tab_len text h.0 place) found other
+    let tab : wrapping.tab_len ≡ laid.layout.settings.tab_len = tab_len_of laid.layout.settings (length text) in
+    one_found (Ends laid.layout.settings.tab_len text h.0 place) (Goes laid.layout.settings.tab_len text h.0 place) found other
     (λ target. subst (λ n. Ends n text h.0 place → Goes n text h.0 place target → ⊥) tab (ends wrapping text h.0 place target h.1.laid_out))
     (λ target more. subst (λ n. Goes n text h.0 place target → Goes n text h.0 place more → target ≡ more) tab (one wrapping text h.0 place target more h.1.laid_out))
     h.2
-    (subst (λ (rows : List RowsView). MatchOption other (Ends laid.screen.view.tab_len text rows place) (Goes laid.screen.view.tab_len text rows place)) (one_list k.0 h.0 k.1 h.1) k.2)
+    (subst (λ (rows : List RowsView). MatchOption other (Ends laid.layout.settings.tab_len text rows place) (Goes laid.layout.settings.tab_len text rows place)) (one_list k.0 h.0 k.1 h.1) k.2)

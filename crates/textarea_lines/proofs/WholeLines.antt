@@ -20,9 +20,9 @@ use Rattle.textarea_map.specs.Layout.{AreRowsOf, AreRowsOfLine, ticks_behind, ti
 use Rattle.textarea_map.specs.Map.{ranges_at, row_total}
 use Rattle.textarea_map.proofs.Layouts.{AreRowsOf-replaced, length-AreRowsOf}
 use Rattle.textarea_map.proofs.Numbers.{row_total-replaced}
-use Rattle.textarea_lines.specs.declared.view.ViewSettings.{ViewSettings}
+use Rattle.textarea_lines.specs.declared.settings.LayoutSettings.{LayoutSettings}
 use Rattle.textarea_lines.specs.Rows.{CanStayWhole, HasWholeLine}
-use Rattle.textarea_lines.specs.Screen.{Screen, all_cut, changed_by, recut, some_cut}
+use Rattle.textarea_lines.specs.Layout.{Layout, all_cut, applied_to, after_replacement, some_cut}
 use Rattle.textarea_lines.specs.Stored.{IsStored, HoldsRows}
 use Rattle.textarea_lines.specs.Wrappings.{cut_at_width, is_same, is_wrapped, whole_lines, wrapping_for}
 use Rattle.textarea_lines.proofs.Layouts.{map-replaced}
@@ -34,18 +34,18 @@ pub whole_ranges : (tab_len width : ℕ) (line : List ℕ) (ranges : List (ℕ �
 whole_ranges tab_len width [] ranges h = ap length h.ranges_are ∙ ap (λ t. length (ranges_from 0 t)) h.cut
 whole_ranges tab_len width (b ∷ line) ranges h = ap length h.ranges_are ∙ ap (λ t. length (ranges_from 0 t)) h.cut
 
-total_whole : (view : ViewSettings) (lines : List (List ℕ)) (rows : List RowsView) → AreRowsOf (whole_lines view) lines rows → row_total rows ≡ length lines
-total_whole view [] [] h = refl
-total_whole view [] (r ∷ rows) h = absurd h
-total_whole view (line ∷ lines) [] h = absurd h
-total_whole view (line ∷ lines) (r ∷ rows) h =
-    omega (arith, whole_ranges view.tab_len 1 (encode_utf8_all line) r.ranges h.0.cut, total_whole view lines rows h.1)
+total_whole : (settings : LayoutSettings) (lines : List (List ℕ)) (rows : List RowsView) → AreRowsOf (whole_lines settings) lines rows → row_total rows ≡ length lines
+total_whole settings [] [] h = refl
+total_whole settings [] (r ∷ rows) h = absurd h
+total_whole settings (line ∷ lines) [] h = absurd h
+total_whole settings (line ∷ lines) (r ∷ rows) h =
+    omega (arith, whole_ranges settings.tab_len 1 (encode_utf8_all line) r.ranges h.0.cut, total_whole settings lines rows h.1)
 
-one_range : (view : ViewSettings) (lines : List (List ℕ)) (rows : List RowsView) (i : ℕ) → AreRowsOf (whole_lines view) lines rows → i < length lines → length (ranges_at rows i) ≡ 1
-one_range view [] rows i h within = absurd (omega arith)
-one_range view (line ∷ lines) [] i h within = absurd h
-one_range view (line ∷ lines) (r ∷ rows) zero h within = whole_ranges view.tab_len 1 (encode_utf8_all line) r.ranges h.0.cut
-one_range view (line ∷ lines) (r ∷ rows) (suc i) h within = one_range view lines rows i h.1 (omega arith)
+one_range : (settings : LayoutSettings) (lines : List (List ℕ)) (rows : List RowsView) (i : ℕ) → AreRowsOf (whole_lines settings) lines rows → i < length lines → length (ranges_at rows i) ≡ 1
+one_range settings [] rows i h within = absurd (omega arith)
+one_range settings (line ∷ lines) [] i h within = absurd h
+one_range settings (line ∷ lines) (r ∷ rows) zero h within = whole_ranges settings.tab_len 1 (encode_utf8_all line) r.ranges h.0.cut
+one_range settings (line ∷ lines) (r ∷ rows) (suc i) h within = one_range settings lines rows i h.1 (omega arith)
 
 total_next : (rows : List RowsView) (i : ℕ) → i < length rows → row_total (take (i + 1) rows) ≡ row_total (take i rows) + length (ranges_at rows i)
 total_next [] i within = absurd (omega arith)
@@ -71,17 +71,17 @@ pushed (Err v) old new x e h none = absurd cc
 pub row_before : (splice : Splice) → breaks_of splice.symbols ≡ 0 → (place_before splice).0 ≡ splice.place.0
 row_before splice none = by splice.inserts
   where
-    stop : Place
-    stop = end splice.place splice.symbols
+    to : Place
+    to = end splice.place splice.symbols
 
-    by : (b : Bool) → (cond (not b) stop splice.place).0 ≡ splice.place.0
+    by : (b : Bool) → (cond (not b) to splice.place).0 ≡ splice.place.0
     by true = refl
     by false = omega (arith, end_row splice.place splice.symbols, none)
 
 -- an edit without a break was made in lines that aren't wrapped
-pub record Inside {Z : Type 0} (view : ViewSettings) (old now lent : List (String Z)) (size after : ℕ) (rows : List RowsView) (splice : Splice) (row : ℕ) : Type 0 where
-  pub holds : HoldsRows view old size rows
-  pub whole : is_wrapped view ≡ false
+pub record Inside {Z : Type 0} (settings : LayoutSettings) (old now lent : List (String Z)) (size after : ℕ) (rows : List RowsView) (splice : Splice) (row : ℕ) : Type 0 where
+  pub holds : HoldsRows settings old size rows
+  pub whole : is_wrapped settings ≡ false
   pub none : breaks_of splice.symbols ≡ 0
   pub fits : Fits (text_of old) splice
   pub now_some : 0 < length now
@@ -91,93 +91,93 @@ pub record Inside {Z : Type 0} (view : ViewSettings) (old now lent : List (Strin
   pub after_is : after ≡ weight (applied (text_of old) splice) + 1
   pub limit : after ≤ 2 ^ 48
 
-whole_is : (view : ViewSettings) (n : ℕ) → is_wrapped view ≡ false → wrapping_for view n ≡ whole_lines view
-whole_is view n e = ap (λ (b : Bool). cond b (cut_at_width view view.inner_width n) (whole_lines view)) e
+whole_is : (settings : LayoutSettings) (n : ℕ) → is_wrapped settings ≡ false → wrapping_for settings n ≡ whole_lines settings
+whole_is settings n e = ap (λ (b : Bool). cond b (cut_at_width settings settings.inner_width n) (whole_lines settings)) e
 
-inside_line : {Z : Type 0} (view : ViewSettings) (old now lent : List (String Z)) (size after : ℕ) (rows : List RowsView) (splice : Splice) (row : ℕ) → Inside view old now lent size after rows splice row → ChangesLine (lines_of old) (lines_of now) row
-inside_line view old now lent size after rows splice row h =
+inside_line : {Z : Type 0} (settings : LayoutSettings) (old now lent : List (String Z)) (size after : ℕ) (rows : List RowsView) (splice : Splice) (row : ℕ) → Inside settings old now lent size after rows splice row → ChangesLine (lines_of old) (lines_of now) row
+inside_line settings old now lent size after rows splice row h =
     subst (ChangesLine (lines_of old) (lines_of now)) (sym h.row_is)
     (changes_line (lines_of old) (lines_of now) splice (omega (arith, h.holds.stored.some, length-map old characters_of)) (omega (arith, h.now_some, length-map now characters_of)) h.fits h.none h.now_is)
 
-inside_rows : {Z : Type 0} (view : ViewSettings) (old now lent : List (String Z)) (size after : ℕ) (rows : List RowsView) (splice : Splice) (row : ℕ) → Inside view old now lent size after rows splice row → AreRowsOf (whole_lines view) (lines_of old) rows
-inside_rows view old now lent size after rows splice row h =
-    subst (λ (w : Wrapping). AreRowsOf w (lines_of old) rows) (whole_is view (length old) h.whole) h.holds.laid_out
+inside_rows : {Z : Type 0} (settings : LayoutSettings) (old now lent : List (String Z)) (size after : ℕ) (rows : List RowsView) (splice : Splice) (row : ℕ) → Inside settings old now lent size after rows splice row → AreRowsOf (whole_lines settings) (lines_of old) rows
+inside_rows settings old now lent size after rows splice row h =
+    subst (λ (w : Wrapping). AreRowsOf w (lines_of old) rows) (whole_is settings (length old) h.whole) h.holds.laid_out
 
 -- there are as many lines
-as_many : {Z : Type 0} (view : ViewSettings) (old now lent : List (String Z)) (size after : ℕ) (rows : List RowsView) (splice : Splice) (row : ℕ) → Inside view old now lent size after rows splice row → length now ≡ length old
-as_many view old now lent size after rows splice row h =
-    let line = inside_line view old now lent size after rows splice row h in
+as_many : {Z : Type 0} (settings : LayoutSettings) (old now lent : List (String Z)) (size after : ℕ) (rows : List RowsView) (splice : Splice) (row : ℕ) → Inside settings old now lent size after rows splice row → length now ≡ length old
+as_many settings old now lent size after rows splice row h =
+    let line = inside_line settings old now lent size after rows splice row h in
     omega (arith, length-map old characters_of, length-map now characters_of, ap length line.new_is, length-replaced (lines_of old) row 1 (line.line ∷ []) (omega (arith, line.within)))
 
-inside_stored : {Z : Type 0} (view : ViewSettings) (old now lent : List (String Z)) (size after : ℕ) (rows : List RowsView) (splice : Splice) (row : ℕ) → Inside view old now lent size after rows splice row → IsStored now after
-inside_stored view old now lent size after rows splice row h = record {
+inside_stored : {Z : Type 0} (settings : LayoutSettings) (old now lent : List (String Z)) (size after : ℕ) (rows : List RowsView) (splice : Splice) (row : ℕ) → Inside settings old now lent size after rows splice row → IsStored now after
+inside_stored settings old now lent size after rows splice row h = record {
   some = h.now_some;
   size_is = omega (arith, h.after_is, size_of_text now h.now_some, ap weight h.now_is);
   limit = h.limit;
 }
 
 -- the line can be cut
-pub can_cut : {Z : Type 0} (view : ViewSettings) (old now lent : List (String Z)) (size after : ℕ) (rows : List RowsView) (splice : Splice) (row : ℕ) → Inside view old now lent size after rows splice row → CanStayWhole lent rows row
-can_cut view old now lent size after rows splice row h =
-    let line = inside_line view old now lent size after rows splice row h in
-    let right = inside_rows view old now lent size after rows splice row h in
-    let many = as_many view old now lent size after rows splice row h in
-    let stored = inside_stored view old now lent size after rows splice row h in
+pub can_cut : {Z : Type 0} (settings : LayoutSettings) (old now lent : List (String Z)) (size after : ℕ) (rows : List RowsView) (splice : Splice) (row : ℕ) → Inside settings old now lent size after rows splice row → CanStayWhole lent rows row
+can_cut settings old now lent size after rows splice row h =
+    let line = inside_line settings old now lent size after rows splice row h in
+    let right = inside_rows settings old now lent size after rows splice row h in
+    let many = as_many settings old now lent size after rows splice row h in
+    let stored = inside_stored settings old now lent size after rows splice row h in
     let there : row < length now = omega (arith, line.within, many, length-map old characters_of) in
     record {
       within = omega (arith, there, ap length h.lent_is);
       short = omega (arith, bytes_in_size now row there, stored.size_is, stored.limit, ap (λ t. length (encode_utf8_all (get_or (lines_of t) row []))) h.lent_is);
-      same = omega (arith, length-AreRowsOf (whole_lines view) (lines_of old) rows right, length-map old characters_of, many, ap length h.lent_is);
-      one = one_range view (lines_of old) rows row right line.within;
-      few = omega (arith, total_whole view (lines_of old) rows right, length-map old characters_of, length-le-size_of old, h.holds.stored.size_is, h.holds.stored.limit);
+      same = omega (arith, length-AreRowsOf (whole_lines settings) (lines_of old) rows right, length-map old characters_of, many, ap length h.lent_is);
+      one = one_range settings (lines_of old) rows row right line.within;
+      few = omega (arith, total_whole settings (lines_of old) rows right, length-map old characters_of, length-le-size_of old, h.holds.stored.size_is, h.holds.stored.limit);
     }
 
-pub holds_inside : {Z : Type 0} (view : ViewSettings) (old now lent : List (String Z)) (size after : ℕ) (rows new : List RowsView) (splice : Splice) (row tick : ℕ) → Inside view old now lent size after rows splice row → HasWholeLine view.tab_len (get_or (lines_of lent) row []) row tick rows new → HoldsRows view now after new
-holds_inside view old now lent size after rows new splice row tick h k =
-    let line = inside_line view old now lent size after rows splice row h in
-    let right = inside_rows view old now lent size after rows splice row h in
+pub holds_inside : {Z : Type 0} (settings : LayoutSettings) (old now lent : List (String Z)) (size after : ℕ) (rows new : List RowsView) (splice : Splice) (row tick : ℕ) → Inside settings old now lent size after rows splice row → HasWholeLine settings.tab_len (get_or (lines_of lent) row []) row tick rows new → HoldsRows settings now after new
+holds_inside settings old now lent size after rows new splice row tick h k =
+    let line = inside_line settings old now lent size after rows splice row h in
+    let right = inside_rows settings old now lent size after rows splice row h in
     let above : length (take row (lines_of old)) ≡ row = length-take-le row (lines_of old) (omega (arith, line.within)) in
     let first : row - row ≡ 0 = omega arith in
     let here : get_or (lines_of lent) row [] ≡ line.line =
     ap (λ t. get_or (lines_of t) row []) h.lent_is ∙ ap (λ t. get_or t row []) line.new_is
     ∙ get_or-append_right (take row (lines_of old)) (line.line ∷ drop (row + 1) (lines_of old)) row row [] above (omega arith)
     ∙ ap (λ n. get_or (line.line ∷ drop (row + 1) (lines_of old)) n []) first in
-    let cut : AreRowsOfLine (whole_lines view) line.line k.cut =
-    subst (λ (t : List ℕ). AreRowsOfLine (whole_lines view) t k.cut) here (record { characters = k.characters; short = k.short; cut = k.right }) in
-    let all : AreRowsOf (whole_lines view) (replaced (lines_of old) row 1 (line.line ∷ [])) (replaced rows row 1 (k.cut ∷ [])) =
-    AreRowsOf-replaced (whole_lines view) (lines_of old) (line.line ∷ []) rows (k.cut ∷ []) row 1 right (cut, tt) in
+    let cut : AreRowsOfLine (whole_lines settings) line.line k.cut =
+    subst (λ (t : List ℕ). AreRowsOfLine (whole_lines settings) t k.cut) here (record { characters = k.characters; short = k.short; cut = k.right }) in
+    let all : AreRowsOf (whole_lines settings) (replaced (lines_of old) row 1 (line.line ∷ [])) (replaced rows row 1 (k.cut ∷ [])) =
+    AreRowsOf-replaced (whole_lines settings) (lines_of old) (line.line ∷ []) rows (k.cut ∷ []) row 1 right (cut, tt) in
     record {
-      stored = inside_stored view old now lent size after rows splice row h;
-      laid_out = subst (λ (w : Wrapping). AreRowsOf w (lines_of now) new) (sym (whole_is view (length now) h.whole))
-          (subst (λ (t : List (List ℕ)). AreRowsOf (whole_lines view) t new) (sym line.new_is)
-          (subst (λ (t : List RowsView). AreRowsOf (whole_lines view) (replaced (lines_of old) row 1 (line.line ∷ [])) t) (sym k.new_is) all));
+      stored = inside_stored settings old now lent size after rows splice row h;
+      laid_out = subst (λ (w : Wrapping). AreRowsOf w (lines_of now) new) (sym (whole_is settings (length now) h.whole))
+          (subst (λ (t : List (List ℕ)). AreRowsOf (whole_lines settings) t new) (sym line.new_is)
+          (subst (λ (t : List RowsView). AreRowsOf (whole_lines settings) (replaced (lines_of old) row 1 (line.line ∷ [])) t) (sym k.new_is) all));
     }
 
 -- where lines aren't wrapped, one line is cut
-recut_one : (screen : Screen) (n row going coming : ℕ) → is_wrapped screen.view ≡ false → going ≡ 1 → coming ≡ 1 → recut screen n row going coming ≡ some_cut screen row 1 1
-recut_one screen n row going coming whole one one' =
-    let view = screen.view in
+recut_one : (layout : Layout) (n row going coming : ℕ) → is_wrapped layout.settings ≡ false → going ≡ 1 → coming ≡ 1 → after_replacement layout n row going coming ≡ some_cut layout row 1 1
+recut_one layout n row going coming whole one one' =
+    let settings = layout.settings in
     let after : ℕ = n - going + coming in
-    let same : is_same (wrapping_for view after) (wrapping_for view n) ≡ true =
-    ap (λ w. is_same w (wrapping_for view n)) (whole_is view after whole) ∙ ap (is_same (whole_lines view)) (whole_is view n whole) in
-    ap (λ (b : Bool). cond b (some_cut screen row going coming) (all_cut view screen.count after)) same
-    ∙ ap (λ m. some_cut screen row m coming) one ∙ ap (some_cut screen row 1) one'
+    let same : is_same (wrapping_for settings after) (wrapping_for settings n) ≡ true =
+    ap (λ w. is_same w (wrapping_for settings n)) (whole_is settings after whole) ∙ ap (is_same (whole_lines settings)) (whole_is settings n whole) in
+    ap (λ (b : Bool). cond b (some_cut layout row going coming) (all_cut settings layout.count after)) same
+    ∙ ap (λ m. some_cut layout row m coming) one ∙ ap (some_cut layout row 1) one'
 
 going_one : (b : Bool) (breaks : ℕ) → breaks ≡ 0 → (cond b 1 (breaks + 1) ≡ 1) × (cond b (breaks + 1) 1 ≡ 1)
 going_one true breaks e = (refl, omega arith)
 going_one false breaks e = (omega arith, refl)
 
-pub seen_inside : {Z : Type 0} (view : ViewSettings) (old now lent : List (String Z)) (size after count counted : ℕ) (rows new : List RowsView) (splice : Splice) (row : ℕ) → Inside view old now lent size after rows splice row → HasWholeLine view.tab_len (get_or (lines_of lent) row []) row (count + 1) rows new → counted ≡ count + 1 → seen view now counted new ≡ changed_by (seen view old count rows) splice
-seen_inside view old now lent size after count counted rows new splice row h k counted_is =
+pub layout_inside : {Z : Type 0} (settings : LayoutSettings) (old now lent : List (String Z)) (size after count counted : ℕ) (rows new : List RowsView) (splice : Splice) (row : ℕ) → Inside settings old now lent size after rows splice row → HasWholeLine settings.tab_len (get_or (lines_of lent) row []) row (count + 1) rows new → counted ≡ count + 1 → seen settings now counted new ≡ applied_to (seen settings old count rows) splice
+layout_inside settings old now lent size after count counted rows new splice row h k counted_is =
     let n = length (lines (text_of old)) in
     let numbers = going_one splice.inserts (breaks_of splice.symbols) h.none in
-    let screen : Screen = record { view = view; count = count; ticks = ticks_of rows } in
+    let layout : Layout = record { settings = settings; count = count; ticks = ticks_of rows } in
     let ticks : ticks_of new ≡ replaced (ticks_of rows) row 1 (ticks_behind count 1) =
     ap ticks_of k.new_is ∙ map-replaced (λ (r : RowsView). r.tick) rows (k.cut ∷ []) row 1 ∙ ap (λ (m : ℕ). replaced (ticks_of rows) row 1 (m ∷ [])) k.tick_is in
-    let recut_is : record { view = view; count = counted; ticks = ticks_of new } ≡ recut screen n splice.place.0 (lines_going splice) (lines_coming splice) =
-    ap (λ (m : ℕ). record { view = view; count = m; ticks = ticks_of new }) counted_is
-    ∙ ap (λ (t : List ℕ). record { view = view; count = count + 1; ticks = t }) ticks
-    ∙ ap (λ m. some_cut screen m 1 1) h.row_is
-    ∙ sym (recut_one screen n splice.place.0 (lines_going splice) (lines_coming splice) h.whole numbers.0 numbers.1) in
-    ap (λ (t : List Symbol). record { text = t; screen = record { view = view; count = counted; ticks = ticks_of new } }) h.now_is
-    ∙ ap (λ (s : Screen). record { text = applied (text_of old) splice; screen = s }) recut_is
+    let recut_is : record { settings = settings; count = counted; ticks = ticks_of new } ≡ after_replacement layout n splice.place.0 (lines_going splice) (lines_coming splice) =
+    ap (λ (m : ℕ). record { settings = settings; count = m; ticks = ticks_of new }) counted_is
+    ∙ ap (λ (t : List ℕ). record { settings = settings; count = count + 1; ticks = t }) ticks
+    ∙ ap (λ m. some_cut layout m 1 1) h.row_is
+    ∙ sym (recut_one layout n splice.place.0 (lines_going splice) (lines_coming splice) h.whole numbers.0 numbers.1) in
+    ap (λ (t : List Symbol). record { text = t; layout = record { settings = settings; count = counted; ticks = ticks_of new } }) h.now_is
+    ∙ ap (λ (s : Layout). record { text = applied (text_of old) splice; layout = s }) recut_is

@@ -1,4 +1,4 @@
 pub mod Wrappings
-pub mod Screen
+pub mod Layout
 pub mod Stored
 pub mod Rows

@@ -10,12 +10,12 @@ use Rattle.textarea_wrap.specs.declared.wrap.WrapMode.TheVariants as mode
 use Rattle.textarea_map.specs.Layout.{AreRowsOf, ticks_of}
 use Rattle.textarea_map.specs.Map.{IsRowCount, ranges_at, row_total}
 use Rattle.textarea_map.specs.Seen.{IsAbove, IsBelow, IsInFirstRow, IsInLastRow}
-use Rattle.textarea_lines.specs.Screen.{LaidOut, wrapping_at, wrapping_of}
+use Rattle.textarea_lines.specs.Layout.{LaidOut, wrapping_at, wrapping_of}
 
--- these are right rows of the text as it stands, cut when the screen says
+-- these are right rows of the text as it stands, cut when the layout says
 pub record IsLaidOutAs (laid : LaidOut) (rows : List RowsView) : Type 0 where
   pub laid_out : AreRowsOf (wrapping_of laid) (lines laid.text) rows
-  pub ticks : ticks_of rows ≡ laid.screen.ticks
+  pub ticks : ticks_of rows ≡ laid.layout.ticks
 
 -- the fact holds of the text's rows
 abbrev pub OfRows : LaidOut → (List RowsView → Type 0) → Type 0
@@ -25,14 +25,14 @@ OfRows laid Fact = (rows : List RowsView) × IsLaidOutAs laid rows × Fact rows
 -- visual row
 abbrev pub IsFoundAbove : LaidOut → Place → Option Place → Type 0
 IsFoundAbove laid place found = OfRows laid (λ rows. MatchOption found
-    (IsInFirstRow laid.screen.view.tab_len (lines laid.text) rows place)
-    (IsAbove laid.screen.view.tab_len (lines laid.text) rows place))
+    (IsInFirstRow laid.layout.settings.tab_len (lines laid.text) rows place)
+    (IsAbove laid.layout.settings.tab_len (lines laid.text) rows place))
 
 -- where it goes one visual row down; none from the last visual row
 abbrev pub IsFoundBelow : LaidOut → Place → Option Place → Type 0
 IsFoundBelow laid place found = OfRows laid (λ rows. MatchOption found
-    (IsInLastRow laid.screen.view.tab_len (lines laid.text) rows place)
-    (IsBelow laid.screen.view.tab_len (lines laid.text) rows place))
+    (IsInLastRow laid.layout.settings.tab_len (lines laid.text) rows place)
+    (IsBelow laid.layout.settings.tab_len (lines laid.text) rows place))
 
 -- the text has this many visual rows in all where it is laid out anew in an inner area of this width
 abbrev pub IsRowCountAt : LaidOut → ℕ → ℕ → Type 0

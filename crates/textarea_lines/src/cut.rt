@@ -5,10 +5,10 @@ ghost use Rattle.textarea_text.specs.Text.{lines_of};
 ghost use Rattle.textarea_map.specs.Layout.{AreRowsOf, ticks_behind, ticks_of};
 ghost use Rattle.textarea_map.specs.Map.{IsReady, ranges_at, row_total};
 ghost use Rattle.textarea_lines.specs.Rows.{CanStayWhole, HasWholeLine};
-ghost use Rattle.textarea_lines.specs.Screen.{recut};
+ghost use Rattle.textarea_lines.specs.Layout.{after_replacement};
 ghost use Rattle.textarea_lines.specs.Wrappings.{wrapping_for};
 
-use crate::view::{ViewSettings, is_same, wrapping_for};
+use crate::settings::{LayoutSettings, is_same, wrapping_for};
 use std::alloc::{AllocError, Global};
 use textarea_map::layout::{Wrapping, push_rows, rows_of};
 use textarea_map::screen_map::{PreparedRows, ScreenMap};
@@ -46,26 +46,26 @@ pub(crate) fn prepare_rows(
     map: &mut ScreenMap,
     lines: &[String],
     replacement: &Replacement,
-    view: ViewSettings,
+    settings: LayoutSettings,
     count: &mut WrapCount,
 ) -> Result<PreparedRows, AllocError>
-    requires rows { AreRowsOf (wrapping_for view (length lines.now)) (lines_of lines.now) map.old.rows }
+    requires rows { AreRowsOf (wrapping_for settings (length lines.now)) (lines_of lines.now) map.old.rows }
     requires within { replacement.now.row + replacement.now.count ≤ length lines.now }
     requires few { length lines.now + vec_len replacement.now.lines < 2 ^ 63 }
     ensures same { map.new.rows ≡ map.old.rows }
     ensures ready { IfOk result (λ prepared. IsReady map.new prepared) }
     ensures rows { IfOk result (λ prepared.
-        AreRowsOf (wrapping_for view (length lines.now - replacement.now.count + vec_len replacement.now.lines))
+        AreRowsOf (wrapping_for settings (length lines.now - replacement.now.count + vec_len replacement.now.lines))
         (lines_of (replaced lines.now replacement.now.row replacement.now.count replacement.now.lines.items))
         (replaced map.old.rows prepared.row prepared.count prepared.rows.items)) }
-    ensures screen { IfOk result (λ prepared.
-        (record { view = view; count = count.new; ticks = ticks_of (replaced map.old.rows prepared.row prepared.count prepared.rows.items) })
-        ≡ recut (record { view = view; count = count.old; ticks = ticks_of map.old.rows })
+    ensures layout { IfOk result (λ prepared.
+        (record { settings = settings; count = count.new; ticks = ticks_of (replaced map.old.rows prepared.row prepared.count prepared.rows.items) })
+        ≡ after_replacement (record { settings = settings; count = count.old; ticks = ticks_of map.old.rows })
         (length lines.now) replacement.now.row replacement.now.count (vec_len replacement.now.lines)) }
 {
     let new = replacement.lines.as_slice();
-    let before = wrapping_for(view, lines.len());
-    let after = wrapping_for(view, lines.len() - replacement.count + new.len());
+    let before = wrapping_for(settings, lines.len());
+    let after = wrapping_for(settings, lines.len() - replacement.count + new.len());
     if is_same(after, before) {
         let rows = rows_of(alloc, new, after, count)?;
         return map.make_room(replacement.row, replacement.count, rows);
@@ -94,7 +94,7 @@ pub(crate) fn put_whole_line(
     let line = lines[row].as_str();
     let cut = line_ranges(alloc, line, WrapMode::None, 1, tab_len, count).unwrap();
     let _ = rows.push(cut);
-    map.put_in(PreparedRows {
+    map.replace(PreparedRows {
         row,
         count: 1,
         rows,

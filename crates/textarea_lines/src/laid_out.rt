@@ -6,14 +6,14 @@ ghost use Rattle.textarea_text.specs.Splice.{Fits, applied};
 ghost use Rattle.textarea_text.specs.Text.{lines, lines_of, text_of};
 ghost use Rattle.textarea_text.specs.Touched.{breaks_of};
 ghost use Rattle.textarea_map.specs.Map.{row_total};
-ghost use Rattle.textarea_map.specs.Seen.{IsSeenAt};
+ghost use Rattle.textarea_map.specs.Seen.{IsVisualPosition};
 ghost use Rattle.textarea_lines.specs.Rows.{IsFoundAbove, IsFoundBelow, IsRowCountAt, OfRows};
-ghost use Rattle.textarea_lines.specs.Screen.{changed_by, is_cut_at, laid_anew, replaced_in, seen_with, stays_cut};
+ghost use Rattle.textarea_lines.specs.Layout.{applied_to, is_cut_at, laid_out_anew, replaced_in, laid_out_with, stays_cut};
 ghost use Rattle.textarea_lines.specs.Wrappings.{is_wrapped};
 
 use crate::cut::{prepare_rows, put_whole_line};
 use crate::measured::Measured;
-use crate::view::{ViewSettings, is_same, is_wrapped, wrapping_at, wrapping_for};
+use crate::settings::{LayoutSettings, is_same, is_wrapped, wrapping_at, wrapping_for};
 use std::alloc::{AllocError, Global};
 use std::marker::Model;
 use textarea_edit::edit::Change;
@@ -33,22 +33,22 @@ pub struct LaidOutLines {
     size: usize,
     map: ScreenMap,
     count: WrapCount,
-    view: ViewSettings,
+    settings: LayoutSettings,
     measured: Option<Measured>,
 }
 
 impl Model for LaidOutLines {
     ghost use Rattle.textarea_text.specs.Text.{text_of};
-    ghost use Rattle.textarea_lines.specs.Screen.{LaidOut};
+    ghost use Rattle.textarea_lines.specs.Layout.{LaidOut};
 
     ghost Value = { LaidOut };
 
     ghost use Rattle.textarea_map.specs.Layout.{ticks_of};
     ghost use Rattle.textarea_lines.specs.Stored.{KeepsRows};
 
-    ghost view = { λ laid. record { text = text_of laid.lines.items; screen = record { view = laid.view; count = laid.count; ticks = ticks_of laid.map.rows } } };
+    ghost view = { λ laid. record { text = text_of laid.lines.items; layout = record { settings = laid.settings; count = laid.count; ticks = ticks_of laid.map.rows } } };
 
-    ghost invariant = { λ laid. KeepsRows laid.view laid.lines.items laid.size laid.map.rows laid.measured };
+    ghost invariant = { λ laid. KeepsRows laid.settings laid.lines.items laid.size laid.map.rows laid.measured };
 }
 
 impl Clone for LaidOutLines {
@@ -61,7 +61,7 @@ impl Clone for LaidOutLines {
             size: self.size,
             map: self.map.clone()?,
             count: self.count.clone()?,
-            view: self.view,
+            settings: self.settings,
             measured: self.measured,
         })
     }
@@ -73,30 +73,30 @@ impl LaidOutLines {
     pub fn new(
         alloc: Global,
         mut lines: Vec<String>,
-        view: ViewSettings,
+        settings: LayoutSettings,
     ) -> Result<LaidOutLines, AllocError>
-        ensures { IfOk result (λ laid. laid ≡ laid_anew view 0 (text_of lines.items)) }
+        ensures { IfOk result (λ laid. laid ≡ laid_out_anew settings 0 (text_of lines.items)) }
     {
         if lines.is_empty() {
             lines.push(String::new(alloc))?;
         }
-        LaidOutLines::lay_out(lines, view, WrapCount::new())
+        LaidOutLines::lay_out(lines, settings, WrapCount::new())
     }
 
     // The lines, cut anew where the count stands.
     fn lay_out(
         lines: Vec<String>,
-        view: ViewSettings,
+        settings: LayoutSettings,
         mut count: WrapCount,
     ) -> Result<LaidOutLines, AllocError>
         requires { 0 < vec_len lines }
-        ensures { IfOk result (λ laid. laid ≡ laid_anew view count (text_of lines.items)) }
+        ensures { IfOk result (λ laid. laid ≡ laid_out_anew settings count (text_of lines.items)) }
     {
         let size = rows::size_of(lines.as_slice());
         if MAX_SIZE < size {
             return Err(AllocError);
         }
-        let wrapping = wrapping_for(view, lines.len());
+        let wrapping = wrapping_for(settings, lines.len());
         let alloc = *lines.allocator();
         let map = ScreenMap::new(alloc, lines.as_slice(), wrapping, &mut count)?;
         Ok(LaidOutLines {
@@ -104,7 +104,7 @@ impl LaidOutLines {
             size,
             map,
             count,
-            view,
+            settings,
             measured: None,
         })
     }
@@ -127,10 +127,10 @@ impl LaidOutLines {
     }
 
     /// What decides how the lines are cut and seen.
-    pub fn view(&self) -> ViewSettings
-        ensures { result ≡ self.now.screen.view }
+    pub fn layout_settings(&self) -> LayoutSettings
+        ensures { result ≡ self.now.layout.settings }
     {
-        self.view
+        self.settings
     }
 
     /// Whether the text is one empty line.
@@ -152,31 +152,31 @@ impl LaidOutLines {
     /// Holds these lines in place of the others, seen under the same settings. Each is cut once.
     pub fn set_lines(&mut self, lines: Vec<String>) -> Result<(), AllocError>
         requires { 0 < vec_len lines }
-        ensures ok { OnOk result (self.new ≡ laid_anew self.old.screen.view self.old.screen.count (text_of lines.items)) }
+        ensures ok { OnOk result (self.new ≡ laid_out_anew self.old.layout.settings self.old.layout.count (text_of lines.items)) }
         ensures err { OnErr result (self.new ≡ self.old) }
     {
-        *self = LaidOutLines::lay_out(lines, self.view, self.count.clone()?)?;
+        *self = LaidOutLines::lay_out(lines, self.settings, self.count.clone()?)?;
         Ok(())
     }
 
     /// Sets what decides how the lines are cut and seen. They are cut anew, each once, only where they are cut in another
     /// way, and only then memory is taken.
-    pub fn set_view(&mut self, view: ViewSettings) -> Result<(), AllocError>
-        ensures ok { OnOk result (self.new ≡ seen_with self.old view) }
+    pub fn set_layout_settings(&mut self, settings: LayoutSettings) -> Result<(), AllocError>
+        ensures ok { OnOk result (self.new ≡ laid_out_with self.old settings) }
         ensures err { OnErr result (self.new ≡ self.old) }
-        ensures no_memory { stays_cut self.old view ≡ true → IsOk result }
+        ensures no_memory { stays_cut self.old settings ≡ true → IsOk result }
     {
-        let before = wrapping_for(self.view, self.lines.len());
-        let after = wrapping_for(view, self.lines.len());
+        let before = wrapping_for(self.settings, self.lines.len());
+        let after = wrapping_for(settings, self.lines.len());
         if is_same(after, before) {
-            self.view = view;
+            self.settings = settings;
             return Ok(());
         }
         let mut count = self.count.clone()?;
         let alloc = *self.lines.allocator();
         self.map = ScreenMap::new(alloc, self.lines.as_slice(), after, &mut count)?;
         self.count = count;
-        self.view = view;
+        self.settings = settings;
         Ok(())
     }
 
@@ -188,13 +188,13 @@ impl LaidOutLines {
     }
 
     /// The visual row in which a place of the text is seen, and its display column there.
-    pub fn seen_at(&self, place: (usize, usize)) -> (usize, usize)
+    pub fn visual_position(&self, place: (usize, usize)) -> (usize, usize)
         requires { IsPlace self.now.text place }
-        ensures { OfRows self.now (λ rows. IsSeenAt self.now.screen.view.tab_len (lines self.now.text) rows place result) }
+        ensures { OfRows self.now (λ rows. IsVisualPosition self.now.layout.settings.tab_len (lines self.now.text) rows place result) }
     {
         let lines = self.lines.as_slice();
-        let wrapping = wrapping_for(self.view, lines.len());
-        self.map.seen_at(lines, wrapping, place)
+        let wrapping = wrapping_for(self.settings, lines.len());
+        self.map.visual_position(lines, wrapping, place)
     }
 
     /// Where a cursor goes from a place of the text, one visual row up; none from the first visual row.
@@ -204,7 +204,7 @@ impl LaidOutLines {
         ensures above { IsFoundAbove self.now place result }
     {
         let lines = self.lines.as_slice();
-        let wrapping = wrapping_for(self.view, lines.len());
+        let wrapping = wrapping_for(self.settings, lines.len());
         self.map.above(lines, wrapping, place)
     }
 
@@ -215,7 +215,7 @@ impl LaidOutLines {
         ensures below { IsFoundBelow self.now place result }
     {
         let lines = self.lines.as_slice();
-        let wrapping = wrapping_for(self.view, lines.len());
+        let wrapping = wrapping_for(self.settings, lines.len());
         self.map.below(lines, wrapping, place)
     }
 
@@ -228,8 +228,8 @@ impl LaidOutLines {
         ensures no_memory { is_cut_at self.old inner_width ≡ true → IsOk result }
     {
         let lines = self.lines.as_slice();
-        let wrapping = wrapping_at(self.view, inner_width, lines.len());
-        if is_same(wrapping, wrapping_for(self.view, lines.len())) {
+        let wrapping = wrapping_at(self.settings, inner_width, lines.len());
+        if is_same(wrapping, wrapping_for(self.settings, lines.len())) {
             return Ok(self.map.row_count());
         }
         if let Some(measured) = self.measured {
@@ -245,11 +245,11 @@ impl LaidOutLines {
     /// Makes a change that fits the text.
     pub fn apply(&mut self, change: Change<'_>) -> Result<(), AllocError>
         requires { Fits self.old.text change }
-        ensures ok { OnOk result (self.new ≡ changed_by self.old change.entry) }
+        ensures ok { OnOk result (self.new ≡ applied_to self.old change.entry) }
         ensures err { OnErr result (self.new ≡ self.old) }
     {
         let size = size_after(self.size, &change)?;
-        if !is_wrapped(self.view) && change.is_inside_line() {
+        if !is_wrapped(self.settings) && change.is_inside_line() {
             return self.apply_inside(change, size);
         }
         let alloc = *self.lines.allocator();
@@ -262,10 +262,10 @@ impl LaidOutLines {
     fn apply_inside(&mut self, change: Change<'_>, size: usize) -> Result<(), AllocError>
         requires fits { Fits self.old.text change }
         requires inside { breaks_of change.symbols ≡ 0 }
-        requires whole { is_wrapped self.old.screen.view ≡ false }
+        requires whole { is_wrapped self.old.layout.settings ≡ false }
         requires size { size ≡ weight (applied self.old.text change) + 1 }
         requires limit { size ≤ 2 ^ 48 }
-        ensures ok { OnOk result (self.new ≡ changed_by self.old change.entry) }
+        ensures ok { OnOk result (self.new ≡ applied_to self.old change.entry) }
         ensures err { OnErr result (self.new ≡ self.old) }
     {
         let alloc = *self.lines.allocator();
@@ -278,7 +278,7 @@ impl LaidOutLines {
             rows,
             self.lines.as_slice(),
             row,
-            self.view.tab_len,
+            self.settings.tab_len,
             &mut self.count,
         );
         self.size = size;
@@ -303,12 +303,12 @@ impl LaidOutLines {
             &mut self.map,
             self.lines.as_slice(),
             &replacement,
-            self.view,
+            self.settings,
             &mut count,
         )?;
         self.lines.reserve(replacement.lines.len())?;
-        replacement.put_in(&mut self.lines);
-        self.map.put_in(prepared);
+        replacement.replace_in(&mut self.lines);
+        self.map.replace(prepared);
         self.size = size;
         self.measured = None;
         self.count = count;

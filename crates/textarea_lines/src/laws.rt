@@ -3,7 +3,7 @@ ghost use Rattle.std.specs.Prelude.{◌≡◌, List, Option};
 ghost use Rattle.textarea_text.specs.Place.{Place};
 ghost use Rattle.textarea_wrap.specs.RowsView.{RowsView};
 ghost use Rattle.textarea_lines.specs.Rows.{IsFoundAbove, IsFoundBelow, IsLaidOutAs};
-ghost use Rattle.textarea_lines.specs.Screen.{LaidOut};
+ghost use Rattle.textarea_lines.specs.Layout.{LaidOut};
 
 use textarea_map::laws::{one_map, seen_once};
 

@@ -5,4 +5,4 @@ mod cut;
 pub mod laid_out;
 pub mod laws;
 mod measured;
-pub mod view;
+pub mod settings;

@@ -9,7 +9,7 @@ use Rattle.textarea_map.specs.declared.layout.Wrapping.{Wrapping}
 use Rattle.textarea_map.specs.Layout.{AreRowsOf}
 use Rattle.textarea_map.specs.Map.{ranges_at, range_at, row_total}
 use Rattle.textarea_map.specs.Rows.{row_at, column_at, greatest_column}
-use Rattle.textarea_map.specs.Seen.{IsAbove, IsBelow, IsPlaceNear, IsSeenAt}
+use Rattle.textarea_map.specs.Seen.{IsAbove, IsBelow, IsPlaceNear, IsVisualPosition}
 use Rattle.textarea_map.proofs.Holding.{cut_at}
 use Rattle.textarea_map.proofs.Parts.{offset_less, row_within}
 use Rattle.textarea_map.proofs.ThereAndBack.{one_place}
@@ -45,13 +45,13 @@ apart w lines rows a b p q h same less =
       p.more (omega (arith, less, there)),
     )
 
-not_before : (w : Wrapping) (lines : List (List ℕ)) (rows : List RowsView) (t : ℕ) (place a b : Place) (p : IsCutOut lines rows a.0) (q : IsCutOut lines rows b.0) → AreRowsOf w lines rows → IsSeenAt t lines rows place a → IsSeenAt t lines rows place b → p.number < q.number → ⊥
+not_before : (w : Wrapping) (lines : List (List ℕ)) (rows : List RowsView) (t : ℕ) (place a b : Place) (p : IsCutOut lines rows a.0) (q : IsCutOut lines rows b.0) → AreRowsOf w lines rows → IsVisualPosition t lines rows place a → IsVisualPosition t lines rows place b → p.number < q.number → ⊥
 not_before w lines rows t place a b p q h s u less =
     let same : q.line ≡ p.line = sym q.line_is ∙ sym u.holds.line ∙ s.holds.line ∙ p.line_is in
     let parted = apart w lines rows a.0 b.0 p q h same less in
     omega (arith, parted.0, s.holds.before_next parted.1, u.holds.from)
 
-pub seen_once : (w : Wrapping) (lines : List (List ℕ)) (rows : List RowsView) (place a b : Place) → AreRowsOf w lines rows → IsSeenAt w.tab_len lines rows place a → IsSeenAt w.tab_len lines rows place b → a ≡ b
+pub seen_once : (w : Wrapping) (lines : List (List ℕ)) (rows : List RowsView) (place a b : Place) → AreRowsOf w lines rows → IsVisualPosition w.tab_len lines rows place a → IsVisualPosition w.tab_len lines rows place b → a ≡ b
 seen_once w lines rows place a b h s u =
     let p = cut_out w lines rows a.0 h s.row in
     let q = cut_out w lines rows b.0 h u.row in
@@ -72,9 +72,9 @@ near_one w lines rows a b target other same p q =
 pub one_above : (w : Wrapping) (lines : List (List ℕ)) (rows : List RowsView) (place target other : Place) → AreRowsOf w lines rows → IsAbove w.tab_len lines rows place target → IsAbove w.tab_len lines rows place other → target ≡ other
 one_above w lines rows place target other h p q =
     near_one w lines rows (p.seen.0 - 1, p.seen.1) (q.seen.0 - 1, q.seen.1) target other
-    (ap (λ (s : Place). (s.0 - 1, s.1)) (seen_once w lines rows place p.seen q.seen h p.seen_at q.seen_at)) p.near q.near
+    (ap (λ (s : Place). (s.0 - 1, s.1)) (seen_once w lines rows place p.seen q.seen h p.visual_position q.visual_position)) p.near q.near
 
 pub one_below : (w : Wrapping) (lines : List (List ℕ)) (rows : List RowsView) (place target other : Place) → AreRowsOf w lines rows → IsBelow w.tab_len lines rows place target → IsBelow w.tab_len lines rows place other → target ≡ other
 one_below w lines rows place target other h p q =
     near_one w lines rows (p.seen.0 + 1, p.seen.1) (q.seen.0 + 1, q.seen.1) target other
-    (ap (λ (s : Place). (s.0 + 1, s.1)) (seen_once w lines rows place p.seen q.seen h p.seen_at q.seen_at)) p.near q.near
+    (ap (λ (s : Place). (s.0 + 1, s.1)) (seen_once w lines rows place p.seen q.seen h p.visual_position q.visual_position)) p.near q.near

@@ -8,7 +8,7 @@ use Rattle.textarea_map.specs.declared.layout.Wrapping.{Wrapping}
 use Rattle.textarea_map.specs.Layout.{AreRowsOf}
 use Rattle.textarea_map.specs.Map.{row_total}
 use Rattle.textarea_map.specs.Rows.{VisualRow, visual_rows, row_at, column_at, greatest_column}
-use Rattle.textarea_map.specs.Seen.{HasNoZeroWidth, IsPlaceAt, IsPlaceNear, IsSeenAt, LeadsTo}
+use Rattle.textarea_map.specs.Seen.{HasNoZeroWidth, IsPlaceAt, IsPlaceNear, IsVisualPosition, LeadsTo}
 use Rattle.textarea_map.proofs.RowColumns.{column_at-le, column_at-less}
 use Rattle.textarea_map.proofs.VisualRows.{row_count, row_of}
 
@@ -52,7 +52,7 @@ same_place a b first rows from from' e =
     let columns : a.1 ≡ b.1 = omega arith in
     ap (λ (n : ℕ). (n, a.1)) rows ∙ ap (λ (n : ℕ). (b.0, n)) columns
 
-pub found_again : (t : ℕ) (lines : List (List ℕ)) (rows : List RowsView) (place seen found : Place) → IsSeenAt t lines rows place seen → HasNoZeroWidth (row_at lines rows seen.0).text → IsPlaceAt t lines rows seen found → found ≡ place
+pub found_again : (t : ℕ) (lines : List (List ℕ)) (rows : List RowsView) (place seen found : Place) → IsVisualPosition t lines rows place seen → HasNoZeroWidth (row_at lines rows seen.0).text → IsPlaceAt t lines rows seen found → found ≡ place
 found_again t lines rows place seen found s all f =
     let row = row_at lines rows seen.0 in
     let back : LeadsTo t row.text seen.1 (place.1 - row.first) =
@@ -80,7 +80,7 @@ inside_row t row column index h small some e =
       | inr more ↦ absurd (omega (arith, small, greatest, some e, before_it t row.text column index (length row.text - 1) h (omega (arith, some e, more))))
     ]
 
-pub seen_there : (w : Wrapping) (lines : List (List ℕ)) (rows : List RowsView) (seen place : Place) → AreRowsOf w lines rows → IsPlaceAt w.tab_len lines rows seen place → seen.1 ≤ greatest_column w.tab_len (row_at lines rows seen.0) → (column : ℕ) × (column ≤ seen.1) × IsSeenAt w.tab_len lines rows place (seen.0, column)
+pub seen_there : (w : Wrapping) (lines : List (List ℕ)) (rows : List RowsView) (seen place : Place) → AreRowsOf w lines rows → IsPlaceAt w.tab_len lines rows seen place → seen.1 ≤ greatest_column w.tab_len (row_at lines rows seen.0) → (column : ℕ) × (column ≤ seen.1) × IsVisualPosition w.tab_len lines rows place (seen.0, column)
 seen_there w lines rows seen place h p small =
     let known = row_of w lines rows seen.0 h p.row in
     let row = row_at lines rows seen.0 in
@@ -99,7 +99,7 @@ seen_there w lines rows seen place h p small =
       },
     )
 
-pub seen_near : (w : Wrapping) (lines : List (List ℕ)) (rows : List RowsView) (seen place : Place) → AreRowsOf w lines rows → IsPlaceNear w.tab_len lines rows seen place → (column : ℕ) × (column ≤ seen.1) × IsSeenAt w.tab_len lines rows place (seen.0, column)
+pub seen_near : (w : Wrapping) (lines : List (List ℕ)) (rows : List RowsView) (seen place : Place) → AreRowsOf w lines rows → IsPlaceNear w.tab_len lines rows seen place → (column : ℕ) × (column ≤ seen.1) × IsVisualPosition w.tab_len lines rows place (seen.0, column)
 seen_near w lines rows seen place h p =
     let greatest = greatest_column w.tab_len (row_at lines rows seen.0) in
     let found = seen_there w lines rows (seen.0, min seen.1 greatest) place h p (omega arith) in

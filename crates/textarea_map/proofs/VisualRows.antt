@@ -14,7 +14,7 @@ use Rattle.textarea_map.specs.declared.layout.Wrapping.{Wrapping}
 use Rattle.textarea_map.specs.Layout.{AreRowsOf}
 use Rattle.textarea_map.specs.Map.{ranges_at, range_at, row_total}
 use Rattle.textarea_map.specs.Rows.{VisualRow, rows_of_line, rows_from, visual_rows, row_at}
-use Rattle.textarea_map.specs.Seen.{IsSeenAt}
+use Rattle.textarea_map.specs.Seen.{IsVisualPosition}
 use Rattle.textarea_map.proofs.Holding.{cut_at, holds_offset, range_is, rows_at, some_bytes}
 use Rattle.textarea_map.proofs.Layouts.{length-AreRowsOf}
 use Rattle.textarea_map.proofs.Parts.{Parts, characters_between, column_before, column_from, column_to, parts_of, row_within}
@@ -187,7 +187,7 @@ rows_below (r ∷ rows) zero k within there = omega arith
 rows_below (r ∷ rows) (suc i) k within there = omega (arith, rows_below rows i k (omega arith) there)
 
 -- a place is seen in the last row of its line that begins at its offset or before it
-pub seen_in : (w : Wrapping) (lines : List (List ℕ)) (rows : List RowsView) (place : Place) (k offset first column : ℕ) (slice : List ℕ) → AreRowsOf w lines rows → IsPlaceOf lines place → k < length (ranges_at rows place.0) → (range_at (ranges_at rows place.0) k).0 ≤ offset → (k + 1 < length (ranges_at rows place.0) → offset < (range_at (ranges_at rows place.0) (k + 1)).0) → offset ≡ offset_in (get_or lines place.0 []) place.1 → offset ≤ length (encode_utf8_all (get_or lines place.0 [])) → first ≡ row_total (take place.0 rows) → IsUtf8 slice → slice ≡ take (offset - (range_at (ranges_at rows place.0) k).0) (drop (range_at (ranges_at rows place.0) k).0 (encode_utf8_all (get_or lines place.0 []))) → column ≡ display_end_column w.tab_len 0 (chars slice) → (first + k < row_total rows) × IsSeenAt w.tab_len lines rows place (first + k, column)
+pub seen_in : (w : Wrapping) (lines : List (List ℕ)) (rows : List RowsView) (place : Place) (k offset first column : ℕ) (slice : List ℕ) → AreRowsOf w lines rows → IsPlaceOf lines place → k < length (ranges_at rows place.0) → (range_at (ranges_at rows place.0) k).0 ≤ offset → (k + 1 < length (ranges_at rows place.0) → offset < (range_at (ranges_at rows place.0) (k + 1)).0) → offset ≡ offset_in (get_or lines place.0 []) place.1 → offset ≤ length (encode_utf8_all (get_or lines place.0 [])) → first ≡ row_total (take place.0 rows) → IsUtf8 slice → slice ≡ take (offset - (range_at (ranges_at rows place.0) k).0) (drop (range_at (ranges_at rows place.0) k).0 (encode_utf8_all (get_or lines place.0 []))) → column ≡ display_end_column w.tab_len 0 (chars slice) → (first + k < row_total rows) × IsVisualPosition w.tab_len lines rows place (first + k, column)
 seen_in w lines rows place k offset first column slice h is_place there from next offset_is short first_is valid slice_is column_is =
     let line = get_or lines place.0 [] in
     let ranges = ranges_at rows place.0 in

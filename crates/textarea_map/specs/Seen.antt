@@ -15,7 +15,7 @@ pub record IsInRow (row : VisualRow) (place : Place) : Type 0 where
   pub before_next : row.is_last ≡ false → place.1 < row.first + length row.text
 
 -- the place is seen in the visual row that it belongs to, at the display column of the characters before it in that row
-pub record IsSeenAt (tab_len : ℕ) (lines : List (List ℕ)) (rows : List RowsView) (place seen : Place) : Type 0 where
+pub record IsVisualPosition (tab_len : ℕ) (lines : List (List ℕ)) (rows : List RowsView) (place seen : Place) : Type 0 where
   pub row : seen.0 < length (visual_rows lines rows)
   pub holds : IsInRow (row_at lines rows seen.0) place
   pub column : seen.1 ≡ column_at tab_len (row_at lines rows seen.0).text (place.1 - (row_at lines rows seen.0).first)
@@ -66,20 +66,20 @@ IsPlaceNear tab_len lines rows seen place =
 -- one visual row up from a place
 pub record IsAbove (tab_len : ℕ) (lines : List (List ℕ)) (rows : List RowsView) (place target : Place) : Type 0 where
   pub seen : Place
-  pub seen_at : IsSeenAt tab_len lines rows place seen
+  pub visual_position : IsVisualPosition tab_len lines rows place seen
   pub not_first : 0 < seen.0
   pub near : IsPlaceNear tab_len lines rows (seen.0 - 1, seen.1) target
 
 -- one visual row down from a place
 pub record IsBelow (tab_len : ℕ) (lines : List (List ℕ)) (rows : List RowsView) (place target : Place) : Type 0 where
   pub seen : Place
-  pub seen_at : IsSeenAt tab_len lines rows place seen
+  pub visual_position : IsVisualPosition tab_len lines rows place seen
   pub near : IsPlaceNear tab_len lines rows (seen.0 + 1, seen.1) target
 
 -- the place is seen in the first visual row
 abbrev pub IsInFirstRow : ℕ → List (List ℕ) → List RowsView → Place → Type 0
-IsInFirstRow tab_len lines rows place = (seen : Place) × IsSeenAt tab_len lines rows place seen × (seen.0 ≡ 0)
+IsInFirstRow tab_len lines rows place = (seen : Place) × IsVisualPosition tab_len lines rows place seen × (seen.0 ≡ 0)
 
 -- the place is seen in the last visual row
 abbrev pub IsInLastRow : ℕ → List (List ℕ) → List RowsView → Place → Type 0
-IsInLastRow tab_len lines rows place = (seen : Place) × IsSeenAt tab_len lines rows place seen × (seen.0 + 1 ≡ length (visual_rows lines rows))
+IsInLastRow tab_len lines rows place = (seen : Place) × IsVisualPosition tab_len lines rows place seen × (seen.0 + 1 ≡ length (visual_rows lines rows))

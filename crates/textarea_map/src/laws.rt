@@ -6,14 +6,14 @@ ghost use Rattle.textarea_map.specs.declared.layout.Wrapping.{Wrapping};
 ghost use Rattle.textarea_map.specs.Layout.{AreRowsOf};
 ghost use Rattle.textarea_map.specs.Map.{IsRowCount};
 ghost use Rattle.textarea_map.specs.Rows.{greatest_column, row_at};
-ghost use Rattle.textarea_map.specs.Seen.{HasNoZeroWidth, IsAbove, IsBelow, IsPlaceAt, IsPlaceNear, IsSeenAt};
+ghost use Rattle.textarea_map.specs.Seen.{HasNoZeroWidth, IsAbove, IsBelow, IsPlaceAt, IsPlaceNear, IsVisualPosition};
 
 use textarea_wrap::laws::one_cutting;
 
 /// A place whose visual row has no character of display width 0 is found again from that row and its display column.
 pub fn found_again()
     ensures { (tab_len : ℕ) (lines : List (List ℕ)) (rows : List RowsView) (place seen found : Place) →
-        IsSeenAt tab_len lines rows place seen → HasNoZeroWidth (row_at lines rows seen.0).text →
+        IsVisualPosition tab_len lines rows place seen → HasNoZeroWidth (row_at lines rows seen.0).text →
         IsPlaceAt tab_len lines rows seen found → found ≡ place }
 {}
 
@@ -25,10 +25,10 @@ pub fn seen_where_looked_up()
     ensures seen { (wrapping : Wrapping) (lines : List (List ℕ)) (rows : List RowsView) (seen place : Place) →
         AreRowsOf wrapping lines rows → IsPlaceAt wrapping.tab_len lines rows seen place →
         seen.1 ≤ greatest_column wrapping.tab_len (row_at lines rows seen.0) →
-        ((column : ℕ) × (column ≤ seen.1) × IsSeenAt wrapping.tab_len lines rows place (seen.0, column)) }
+        ((column : ℕ) × (column ≤ seen.1) × IsVisualPosition wrapping.tab_len lines rows place (seen.0, column)) }
     ensures near { (wrapping : Wrapping) (lines : List (List ℕ)) (rows : List RowsView) (seen place : Place) →
         AreRowsOf wrapping lines rows → IsPlaceNear wrapping.tab_len lines rows seen place →
-        ((column : ℕ) × (column ≤ seen.1) × IsSeenAt wrapping.tab_len lines rows place (seen.0, column)) }
+        ((column : ℕ) × (column ≤ seen.1) × IsVisualPosition wrapping.tab_len lines rows place (seen.0, column)) }
 {}
 
 /// A visual row and a display column lead back to one place.
@@ -40,8 +40,8 @@ pub fn one_place()
 /// A place is seen in one visual row at one column, and a cursor goes from it to one place up and to one place down.
 pub fn seen_once()
     ensures seen { (wrapping : Wrapping) (lines : List (List ℕ)) (rows : List RowsView) (place seen other : Place) →
-        AreRowsOf wrapping lines rows → IsSeenAt wrapping.tab_len lines rows place seen →
-        IsSeenAt wrapping.tab_len lines rows place other → seen ≡ other }
+        AreRowsOf wrapping lines rows → IsVisualPosition wrapping.tab_len lines rows place seen →
+        IsVisualPosition wrapping.tab_len lines rows place other → seen ≡ other }
     ensures above { (wrapping : Wrapping) (lines : List (List ℕ)) (rows : List RowsView) (place target other : Place) →
         AreRowsOf wrapping lines rows → IsAbove wrapping.tab_len lines rows place target →
         IsAbove wrapping.tab_len lines rows place other → target ≡ other }

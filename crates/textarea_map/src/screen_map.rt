@@ -9,13 +9,13 @@ ghost use Rattle.textarea_map.specs.Map.{IsReady, firsts_from, ranges_at, row_to
 use crate::layout::{MAX_ROWS, Wrapping, count_rows, rows_of};
 use std::alloc::{AllocError, Global};
 use std::marker::Model;
-use textarea_text::replace::put_in;
+use textarea_text::replace::replace_items;
 use textarea_wrap::wrap::{Rows, WrapCount};
 
 mod look_up;
 
 /// The rows of all lines. They change in two steps: `prepare`, which may find no memory and leaves them as they are, and
-/// `put_in`, which takes no memory and wraps nothing.
+/// `replace`, which takes no memory and wraps nothing.
 #[derive(Drop)]
 pub struct ScreenMap {
     rows: Vec<Rows>,
@@ -78,7 +78,7 @@ impl ScreenMap {
             total: 0,
         };
         let prepared = map.prepare(alloc, 0, 0, lines, wrapping, counter)?;
-        map.put_in(prepared);
+        map.replace(prepared);
         Ok(map)
     }
 
@@ -137,9 +137,9 @@ impl ScreenMap {
         })
     }
 
-    /// Puts the rows in, without memory; no line is cut. Where lines and rows stay as many as they were, no other line is
+    /// Has the rows take their place, without memory; no line is cut. Where lines and rows stay as many as they were, no other line is
     /// touched; otherwise the lines behind are numbered anew.
-    pub fn put_in(&mut self, prepared: PreparedRows)
+    pub fn replace(&mut self, prepared: PreparedRows)
         requires { IsReady self.old prepared }
         ensures { self.new.rows ≡ replaced self.old.rows prepared.row prepared.count prepared.rows.items }
     {
@@ -152,7 +152,7 @@ impl ScreenMap {
         let len = rows.len();
         let first = self.first_row(row);
         let old = self.first_row(row + count) - first;
-        put_in(&mut self.rows, row, count, rows);
+        replace_items(&mut self.rows, row, count, rows);
         self.total = self.total - old + total;
         let lines = self.rows.as_slice();
         if len == count && old == total {

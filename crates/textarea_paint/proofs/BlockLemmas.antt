@@ -13,7 +13,7 @@ use Rattle.textarea_screen.specs.declared.screen.block.Borders.{Borders}
 use Rattle.textarea_screen.specs.declared.screen.buffer.Buffer.{Buffer}
 use Rattle.textarea_screen.specs.declared.screen.rect.Rect.{Rect}
 use Rattle.textarea_screen.specs.declared.screen.style.Style.{Style}
-use Rattle.textarea_paint.specs.Block.{in_area, put_where, title_cells}
+use Rattle.textarea_paint.specs.Block.{in_area, drawn_where, title_cells}
 use Rattle.textarea_paint.specs.Cells.{Placed, is_in_cells, row_change}
 use Rattle.textarea_paint.specs.declared.paint.cells.RowCells.{RowCells}
 use Rattle.textarea_paint.proofs.CellLemmas.{bool_ext, between, row_change-outside}
@@ -101,18 +101,18 @@ contains-cell area part at_x at_y is_x is_width is_y is_height left right top bo
 
 -- ---- a side or a corner
 
-put_inside : (drawn part inside test : Bool) (f cell : ShownCell) → part ≡ (inside && test) → cond (drawn && part) f cell ≡ cond inside (cond (drawn && test) f cell) cell
-put_inside drawn part true test f cell is = ap (λ b. cond (drawn && b) f cell) is
-put_inside true part false test f cell is = cond-false part f cell is
-put_inside false part false test f cell is = refl
+drawn_inside : (drawn part inside test : Bool) (f cell : ShownCell) → part ≡ (inside && test) → cond (drawn && part) f cell ≡ cond inside (cond (drawn && test) f cell) cell
+drawn_inside drawn part true test f cell is = ap (λ b. cond (drawn && b) f cell) is
+drawn_inside true part false test f cell is = cond-false part f cell is
+drawn_inside false part false test f cell is = refl
 
 pub Changes-border : {old new : Buffer} (area part : Rect) (drawn drawn' : Bool) (test : ℕ → ℕ → Bool) (text text' : List ℕ) (style : Style) →
     Changes old new (λ x y cell. cond (drawn && contains part x y) (with_symbol text style cell) cell) → drawn ≡ drawn' → text ≡ text' →
-    ((x y : ℕ) → contains part x y ≡ (contains area x y && test x y)) → Changes old new (in_area area (put_where drawn' test text' style))
+    ((x y : ℕ) → contains part x y ≡ (contains area x y && test x y)) → Changes old new (in_area area (drawn_where drawn' test text' style))
 Changes-border area part drawn drawn' test text text' style change is_drawn is_text where_it_is =
-    Changes-as (in_area area (put_where drawn' test text' style)) change
+    Changes-as (in_area area (drawn_where drawn' test text' style)) change
     (λ x y cell.
-    put_inside drawn (contains part x y) (contains area x y) (test x y) (with_symbol text style cell) cell (where_it_is x y)
+    drawn_inside drawn (contains part x y) (contains area x y) (test x y) (with_symbol text style cell) cell (where_it_is x y)
     ∙ ap₂ (λ d t. cond (contains area x y) (cond (d && test x y) (with_symbol t style cell) cell) cell) is_drawn is_text)
 
 -- ---- the bytes of the lines

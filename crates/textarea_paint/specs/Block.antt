@@ -26,8 +26,8 @@ in_turn [] x y cell = cell
 in_turn (change ∷ changes) x y cell = in_turn changes x y (change x y cell)
 
 -- a text in a style, put into the cells that pass the test, if it is drawn
-abbrev pub put_where : Bool → (ℕ → ℕ → Bool) → List ℕ → Style → Change
-put_where is_drawn test text style x y cell = if is_drawn && test x y then with_symbol text style cell else cell
+abbrev pub drawn_where : Bool → (ℕ → ℕ → Bool) → List ℕ → Style → Change
+drawn_where is_drawn test text style x y cell = if is_drawn && test x y then with_symbol text style cell else cell
 
 -- ---- the cells of the area at its four sides
 
@@ -52,18 +52,18 @@ on_both side other x y = side x y && other x y
 -- the sides, in this order: left, top, right, bottom
 abbrev pub side_changes : Borders → Style → Rect → List Change
 side_changes borders style area =
-    put_where (has_border borders left_side) (on_left area) (encode_utf8 0x2502) style
-    ∷ put_where (has_border borders top_side) (on_top area) (encode_utf8 0x2500) style
-    ∷ put_where (has_border borders right_side) (on_right area) (encode_utf8 0x2502) style
-    ∷ put_where (has_border borders bottom_side) (on_bottom area) (encode_utf8 0x2500) style ∷ []
+    drawn_where (has_border borders left_side) (on_left area) (encode_utf8 0x2502) style
+    ∷ drawn_where (has_border borders top_side) (on_top area) (encode_utf8 0x2500) style
+    ∷ drawn_where (has_border borders right_side) (on_right area) (encode_utf8 0x2502) style
+    ∷ drawn_where (has_border borders bottom_side) (on_bottom area) (encode_utf8 0x2500) style ∷ []
 
 -- the corners of sides that are both drawn, in this order: bottom right, top right, bottom left, top left
 abbrev pub corner_changes : Borders → Style → Rect → List Change
 corner_changes borders style area =
-    put_where (has_border borders right_side && has_border borders bottom_side) (on_both (on_right area) (on_bottom area)) (encode_utf8 0x2518) style
-    ∷ put_where (has_border borders right_side && has_border borders top_side) (on_both (on_right area) (on_top area)) (encode_utf8 0x2510) style
-    ∷ put_where (has_border borders left_side && has_border borders bottom_side) (on_both (on_left area) (on_bottom area)) (encode_utf8 0x2514) style
-    ∷ put_where (has_border borders left_side && has_border borders top_side) (on_both (on_left area) (on_top area)) (encode_utf8 0x250C) style ∷ []
+    drawn_where (has_border borders right_side && has_border borders bottom_side) (on_both (on_right area) (on_bottom area)) (encode_utf8 0x2518) style
+    ∷ drawn_where (has_border borders right_side && has_border borders top_side) (on_both (on_right area) (on_top area)) (encode_utf8 0x2510) style
+    ∷ drawn_where (has_border borders left_side && has_border borders bottom_side) (on_both (on_left area) (on_bottom area)) (encode_utf8 0x2514) style
+    ∷ drawn_where (has_border borders left_side && has_border borders top_side) (on_both (on_left area) (on_top area)) (encode_utf8 0x250C) style ∷ []
 
 -- the cells of the top row between the left and the right side, where these are drawn
 abbrev pub title_cells : Borders → Rect → RowCells

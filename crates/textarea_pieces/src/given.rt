@@ -33,7 +33,7 @@ fn first_line(text: &str) -> Option<(&str, &str)>
 }
 
 /// The pieces as one text, with a line feed between each two; the empty text where there are none.
-pub fn joined_with_line_feeds(alloc: Global, pieces: &[String]) -> Result<String, AllocError>
+pub fn join_with_line_feeds(alloc: Global, pieces: &[String]) -> Result<String, AllocError>
     ensures { IfOk result (λ s. chars (string_bytes s) ≡ written (text_of pieces.now)) }
 {
     let Some((first, rest)) = pieces.split_first() else {
@@ -48,7 +48,7 @@ pub fn joined_with_line_feeds(alloc: Global, pieces: &[String]) -> Result<String
 }
 
 /// Pieces with the same texts in memory of their own, in the same order.
-pub fn copied(alloc: Global, pieces: &[String]) -> Result<Vec<String>, AllocError>
+pub fn copy_pieces(alloc: Global, pieces: &[String]) -> Result<Vec<String>, AllocError>
     ensures same { IfOk result (λ copy. lines_of copy.items ≡ lines_of pieces.now) }
     ensures len { IfOk result (λ copy. vec_len copy ≡ length pieces.now) }
 {

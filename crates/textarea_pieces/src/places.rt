@@ -60,7 +60,7 @@ pub fn clipped(lines: &[String], place: (usize, usize)) -> (usize, usize)
     (end.0, place.1.min(end.1))
 }
 
-/// The place where the pieces end, put in at `place`.
+/// The place where the pieces end, inserted at `place`.
 pub fn end_of(place: (usize, usize), pieces: &[String]) -> (usize, usize)
     requires some { 0 < length pieces.now }
     requires room { place.0 + place.1 + size_of pieces.now ≤ usize.MAX }

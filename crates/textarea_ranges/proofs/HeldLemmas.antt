@@ -10,7 +10,7 @@ use Rattle.textarea_ranges.specs.declared.atomic.AtomicCursorBias.{AtomicCursorB
 use Rattle.textarea_ranges.specs.declared.atomic.AtomicCursorBias.TheVariants.{Backward, Forward}
 use Rattle.textarea_ranges.specs.declared.atomic.AtomicDeleteDirection.{AtomicDeleteDirection}
 use Rattle.textarea_ranges.specs.declared.atomic.AtomicDeleteDirection.TheVariants.{Backward as DeleteBackward, Forward as DeleteForward}
-use Rattle.textarea_ranges.specs.Held.{IsHit, hit, is_hit, IsInside, is_inside, start, stop, inside, border, border_or, moved_out, IsUpTo, IsBefore, IsWithin, IsBeside, Overlaps, TakesWhole, widened, IsWidened}
+use Rattle.textarea_ranges.specs.Held.{IsHit, hit, is_hit, IsInside, is_inside, range_start, range_end, inside, border, border_or, moved_out, IsUpTo, IsBefore, IsWithin, IsBeside, Overlaps, TakesWhole, widened, IsWidened}
 use Rattle.textarea_ranges.specs.Valid.{IsPart, AreDisjoint, AreValid}
 use Rattle.textarea_ranges.proofs.Finds.{Found, Found-find, fails-find}
 
@@ -91,7 +91,7 @@ order one other =
       ]
     ]
 
-between : (place : Place) (range : AtomicRange) → IsBefore (start range) place → IsBefore place (stop range) → IsInside place range
+between : (place : Place) (range : AtomicRange) → IsBefore (range_start range) place → IsBefore place (range_end range) → IsInside place range
 between place range behind before =
     let same : range.row ≡ place.0 = omega arith in
     (same, behind.1 same, before.1 (sym same))
@@ -99,12 +99,12 @@ between place range behind before =
 -- ends that are strictly inside no range leave none in half
 pub taken : (from to : Place) (range : AtomicRange) → ¬ IsInside from range → ¬ IsInside to range → IsWithin from to range ⊎ IsBeside from to range
 taken from to range from_out to_out =
-    elim (order from (start range)) [
-      | inl starts ↦ elim (order (stop range) to) [
+    elim (order from (range_start range)) [
+      | inl starts ↦ elim (order (range_end range) to) [
         | inl ends ↦ inl (starts, ends)
-        | inr before ↦ elim (order to (start range)) [ inl beside ↦ inr (inl beside) | inr behind ↦ absurd (to_out (between to range behind before)) ]
+        | inr before ↦ elim (order to (range_start range)) [ inl beside ↦ inr (inl beside) | inr behind ↦ absurd (to_out (between to range behind before)) ]
       ]
-      | inr behind ↦ elim (order (stop range) from) [ inl beside ↦ inr (inr beside) | inr before ↦ absurd (from_out (between from range behind before)) ]
+      | inr behind ↦ elim (order (range_end range) from) [ inl beside ↦ inr (inr beside) | inr before ↦ absurd (from_out (between from range behind before)) ]
     ]
 
 up_to_before : (one two three : Place) → IsUpTo one two → IsBefore two three → IsBefore one three
@@ -122,11 +122,11 @@ never one other h k =
 
 -- what is beside a removal does not overlap it
 not_beside : (from to : Place) (range : AtomicRange) → Overlaps from to range → IsBeside from to range → ⊥
-not_beside from to range h (inl up) = never (start range) to h.0 up
-not_beside from to range h (inr up) = never from (stop range) h.1 up
+not_beside from to range h (inl up) = never (range_start range) to h.0 up
+not_beside from to range h (inr up) = never from (range_end range) h.1 up
 
 overlaps_more : (from to first last : Place) (range : AtomicRange) → IsUpTo first from → IsUpTo to last → Overlaps from to range → Overlaps first last range
-overlaps_more from to first last range starts ends h = (before_up_to (start range) to last h.0 ends, up_to_before first from (stop range) starts h.1)
+overlaps_more from to first last range starts ends h = (before_up_to (range_start range) to last h.0 ends, up_to_before first from (range_end range) starts h.1)
 
 -- a removal that takes a range whole or not at all, and overlaps it, takes it whole
 within_from : (from to : Place) (range : AtomicRange) → Overlaps from to range → IsWithin from to range ⊎ IsBeside from to range → IsWithin from to range
@@ -151,13 +151,13 @@ ends_of ranges to (Some range) e =
 -- an end of a removal that is strictly inside a range makes the two overlap
 overlaps_at_start : (from to : Place) (range : AtomicRange) → IsUpTo from to → IsInside from range → Overlaps from to range
 overlaps_at_start from to range up h =
-    let behind : IsBefore (start range) from = (omega arith, λ same. omega arith) in
-    (before_up_to (start range) from to behind up, (omega arith, λ same. omega arith))
+    let behind : IsBefore (range_start range) from = (omega arith, λ same. omega arith) in
+    (before_up_to (range_start range) from to behind up, (omega arith, λ same. omega arith))
 
 overlaps_at_end : (from to : Place) (range : AtomicRange) → IsUpTo from to → IsInside to range → Overlaps from to range
 overlaps_at_end from to range up h =
-    let before : IsBefore to (stop range) = (omega arith, λ same. omega arith) in
-    ((omega arith, λ same. omega arith), up_to_before from to (stop range) up before)
+    let before : IsBefore to (range_end range) = (omega arith, λ same. omega arith) in
+    ((omega arith, λ same. omega arith), up_to_before from to (range_end range) up before)
 
 least_start : (ranges : List AtomicRange) (from to first last : Place) → IsUpTo from to → IsUpTo first from → IsUpTo to last → TakesWhole ranges first last → (found : Option AtomicRange) → inside ranges from ≡ found → IsUpTo first (border_or found from Backward)
 least_start ranges from to first last up starts ends whole None e = starts

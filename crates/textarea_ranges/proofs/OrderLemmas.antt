@@ -7,38 +7,38 @@ use Rattle.std.specs.List.{AllByRecursion}
 use Rattle.std.specs.Cmp.{IsStrictWeakOrder, nat_cmp_total, on_total, then_total}
 use Rattle.std.specs.List.Sorted.{IsStableBy, ties}
 use Rattle.textarea_ranges.specs.declared.atomic.AtomicRange.{AtomicRange}
-use Rattle.textarea_ranges.specs.Order.{IsInOrder, in_order, is_before, put_among}
+use Rattle.textarea_ranges.specs.Order.{IsInOrder, in_order, is_before, insert_among}
 use Rattle.textarea_ranges.proofs.Lists.{EachLater}
 use Rattle.textarea_ranges.proofs.Sorts.{NotBefore, IsSortedBy-later, each_from_put, each_put, later-IsSortedBy, later_from_put, later_put, put, same_sorted, sorted_put, stable_put}
 
 pub order_of_ranges : IsStrictWeakOrder is_before
 order_of_ranges = ranks_by (then_total (on_total (λ (r : AtomicRange). r.row) nat_cmp_total) (on_total (λ (r : AtomicRange). r.start_col) nat_cmp_total)) (λ r. r)
 
-pub put_among-put : (range : AtomicRange) (ranges : List AtomicRange) → put_among range ranges ≡ put is_before range ranges
-put_among-put range [] = refl
-put_among-put range (first ∷ rest) = ap (λ (l : List AtomicRange). cond (is_before first range) (first ∷ l) (range ∷ first ∷ rest)) (put_among-put range rest)
+pub insert_among-put : (range : AtomicRange) (ranges : List AtomicRange) → insert_among range ranges ≡ put is_before range ranges
+insert_among-put range [] = refl
+insert_among-put range (first ∷ rest) = ap (λ (l : List AtomicRange). cond (is_before first range) (first ∷ l) (range ∷ first ∷ rest)) (insert_among-put range rest)
 
 pub sorted-in_order : (ranges : List AtomicRange) → EachLater (NotBefore is_before) (in_order ranges)
 sorted-in_order [] = tt
-sorted-in_order (range ∷ rest) = rw (put_among-put range (in_order rest)) (sorted_put is_before order_of_ranges range (in_order rest) (sorted-in_order rest))
+sorted-in_order (range ∷ rest) = rw (insert_among-put range (in_order rest)) (sorted_put is_before order_of_ranges range (in_order rest) (sorted-in_order rest))
 
 pub stable-in_order : (ranges : List AtomicRange) → IsStableBy is_before ranges (in_order ranges)
 stable-in_order [] z = refl
 stable-in_order (range ∷ rest) z =
-    ap (filter (ties is_before z)) (put_among-put range (in_order rest)) ∙ stable_put is_before order_of_ranges range (in_order rest) z
+    ap (filter (ties is_before z)) (insert_among-put range (in_order rest)) ∙ stable_put is_before order_of_ranges range (in_order rest) z
     ∙ ap (λ (l : List AtomicRange). cond (ties is_before z range) (range ∷ l) l) (stable-in_order rest z)
 
-same_put : (range : AtomicRange) (ranges : List AtomicRange) → IsPermutation (range ∷ ranges) (put_among range ranges)
+same_put : (range : AtomicRange) (ranges : List AtomicRange) → IsPermutation (range ∷ ranges) (insert_among range ranges)
 same_put range [] = IsPermutation-refl (range ∷ [])
 same_put range (first ∷ rest) =
     elim (cases_Bool (is_before first range)) [
-      | inl past ↦ rw (cond-true (is_before first range) (first ∷ put_among range rest) (range ∷ first ∷ rest) past) (IsPermutation-trans (range ∷ first ∷ rest) (first ∷ range ∷ rest) (first ∷ put_among range rest) (IsPermutation-middle (range ∷ []) first rest) (IsPermutation-cons first (range ∷ rest) (put_among range rest) (same_put range rest)))
-      | inr here ↦ rw (cond-false (is_before first range) (first ∷ put_among range rest) (range ∷ first ∷ rest) here) (IsPermutation-refl (range ∷ first ∷ rest))
+      | inl past ↦ rw (cond-true (is_before first range) (first ∷ insert_among range rest) (range ∷ first ∷ rest) past) (IsPermutation-trans (range ∷ first ∷ rest) (first ∷ range ∷ rest) (first ∷ insert_among range rest) (IsPermutation-middle (range ∷ []) first rest) (IsPermutation-cons first (range ∷ rest) (insert_among range rest) (same_put range rest)))
+      | inr here ↦ rw (cond-false (is_before first range) (first ∷ insert_among range rest) (range ∷ first ∷ rest) here) (IsPermutation-refl (range ∷ first ∷ rest))
     ]
 
 pub same-in_order : (ranges : List AtomicRange) → IsPermutation ranges (in_order ranges)
 same-in_order [] = IsPermutation-refl []
-same-in_order (range ∷ rest) = IsPermutation-trans (range ∷ rest) (range ∷ in_order rest) (put_among range (in_order rest)) (IsPermutation-cons range rest (in_order rest) (same-in_order rest)) (same_put range (in_order rest))
+same-in_order (range ∷ rest) = IsPermutation-trans (range ∷ rest) (range ∷ in_order rest) (insert_among range (in_order rest)) (IsPermutation-cons range rest (in_order rest) (same-in_order rest)) (same_put range (in_order rest))
 
 -- the sort that std makes gives the same list
 pub in_order-sorted : (ranges ordered : List AtomicRange) → EachLater (NotBefore is_before) ordered → IsStableBy is_before ranges ordered → ordered ≡ in_order ranges
@@ -55,21 +55,21 @@ in_order-IsInOrder ranges ordered h = in_order-sorted ranges ordered (later-IsSo
 
 pub each-in_order : (P : AtomicRange → Type 0) (ranges : List AtomicRange) → AllByRecursion P ranges → AllByRecursion P (in_order ranges)
 each-in_order P [] all = tt
-each-in_order P (range ∷ rest) all = rw (put_among-put range (in_order rest)) (each_put P is_before range (in_order rest) all.0 (each-in_order P rest all.1))
+each-in_order P (range ∷ rest) all = rw (insert_among-put range (in_order rest)) (each_put P is_before range (in_order rest) all.0 (each-in_order P rest all.1))
 
 pub each_from_in_order : (P : AtomicRange → Type 0) (ranges : List AtomicRange) → AllByRecursion P (in_order ranges) → AllByRecursion P ranges
 each_from_in_order P [] all = tt
 each_from_in_order P (range ∷ rest) all =
-    let parts = each_from_put P is_before range (in_order rest) (rw (put_among-put range (in_order rest)) at all) in
+    let parts = each_from_put P is_before range (in_order rest) (rw (insert_among-put range (in_order rest)) at all) in
     (parts.0, each_from_in_order P rest parts.1)
 
 pub later-in_order : (R : AtomicRange → AtomicRange → Type 0) → ((x y : AtomicRange) → R x y → R y x) → (ranges : List AtomicRange) → EachLater R ranges → EachLater R (in_order ranges)
 later-in_order R flip [] later = tt
 later-in_order R flip (range ∷ rest) later =
-    rw (put_among-put range (in_order rest)) (later_put R flip is_before range (in_order rest) (each-in_order (R range) rest later.0, later-in_order R flip rest later.1))
+    rw (insert_among-put range (in_order rest)) (later_put R flip is_before range (in_order rest) (each-in_order (R range) rest later.0, later-in_order R flip rest later.1))
 
 pub later_from_in_order : (R : AtomicRange → AtomicRange → Type 0) → ((x y : AtomicRange) → R x y → R y x) → (ranges : List AtomicRange) → EachLater R (in_order ranges) → EachLater R ranges
 later_from_in_order R flip [] later = tt
 later_from_in_order R flip (range ∷ rest) later =
-    let parts = later_from_put R flip is_before range (in_order rest) (rw (put_among-put range (in_order rest)) at later) in
+    let parts = later_from_put R flip is_before range (in_order rest) (rw (insert_among-put range (in_order rest)) at later) in
     (each_from_in_order (R range) rest parts.0, later_from_in_order R flip rest parts.1)

@@ -8,12 +8,12 @@ use Rattle.textarea_ranges.specs.declared.atomic.AtomicDeleteDirection.{AtomicDe
 use Rattle.textarea_ranges.specs.declared.atomic.AtomicDeleteDirection.TheVariants.{Backward as DeleteBackward, Forward as DeleteForward}
 
 -- the place of the range's first character
-abbrev pub start : AtomicRange → Place
-start range = (range.row, range.start_col)
+abbrev pub range_start : AtomicRange → Place
+range_start range = (range.row, range.start_col)
 
 -- the place behind the range's last character
-abbrev pub stop : AtomicRange → Place
-stop range = (range.row, range.end_col)
+abbrev pub range_end : AtomicRange → Place
+range_end range = (range.row, range.end_col)
 
 -- ---- the range that strictly holds a place
 
@@ -31,8 +31,8 @@ inside ranges place = find (is_inside place) ranges
 
 -- the range's start for Backward, its end for Forward
 abbrev pub border : AtomicRange → AtomicCursorBias → Place
-border range Backward = start range
-border range Forward = stop range
+border range Backward = range_start range
+border range Forward = range_end range
 
 -- the border of the range that was found, or the place where none was
 abbrev pub border_or : Option AtomicRange → Place → AtomicCursorBias → Place
@@ -72,15 +72,15 @@ IsBefore one other = (one.0 ≤ other.0) × (one.0 ≡ other.0 → one.1 < other
 
 -- a removal between the two places takes the whole range
 abbrev pub IsWithin : Place → Place → AtomicRange → Type 0
-IsWithin from to range = IsUpTo from (start range) × IsUpTo (stop range) to
+IsWithin from to range = IsUpTo from (range_start range) × IsUpTo (range_end range) to
 
 -- it takes none of the range's characters: it ends by the range's start, or starts at the range's end or behind it
 abbrev pub IsBeside : Place → Place → AtomicRange → Type 0
-IsBeside from to range = IsUpTo to (start range) ⊎ IsUpTo (stop range) from
+IsBeside from to range = IsUpTo to (range_start range) ⊎ IsUpTo (range_end range) from
 
 -- the removal and the range overlap: the range starts before the removal's end, and ends behind the removal's start
 abbrev pub Overlaps : Place → Place → AtomicRange → Type 0
-Overlaps from to range = IsBefore (start range) to × IsBefore from (stop range)
+Overlaps from to range = IsBefore (range_start range) to × IsBefore from (range_end range)
 
 -- each range is taken whole or not at all
 abbrev pub TakesWhole : List AtomicRange → Place → Place → Type 0

@@ -9,14 +9,14 @@ abbrev pub is_before : AtomicRange → AtomicRange → Bool
 is_before one other = is_lt (ordering_then (nat_cmp one.row other.row) (nat_cmp one.start_col other.start_col))
 
 -- the range, put into ranges that are in order: behind those that come before it, and in front of those that tie with it
-abbrev pub put_among : AtomicRange → List AtomicRange → List AtomicRange
-put_among range [] = range ∷ []
-put_among range (first ∷ rest) = if is_before first range then first ∷ put_among range rest else range ∷ first ∷ rest
+abbrev pub insert_among : AtomicRange → List AtomicRange → List AtomicRange
+insert_among range [] = range ∷ []
+insert_among range (first ∷ rest) = if is_before first range then first ∷ insert_among range rest else range ∷ first ∷ rest
 
 -- the ranges in order; those that start at one place keep their order
 abbrev pub in_order : List AtomicRange → List AtomicRange
 in_order [] = []
-in_order (range ∷ rest) = put_among range (in_order rest)
+in_order (range ∷ rest) = insert_among range (in_order rest)
 
 -- a list with the same ranges, in order, in which ranges that start at one place stand as they did
 pub record IsInOrder (ranges ordered : List AtomicRange) : Type 0 where

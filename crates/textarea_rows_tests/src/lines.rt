@@ -12,7 +12,7 @@ use std::process::Abort;
 use std::test::Fail;
 use textarea_edit::edit::{Edit, EditKind};
 use textarea_lines::laid_out::LaidOutLines;
-use textarea_lines::view::{ViewSettings, is_wrapped};
+use textarea_lines::settings::{LayoutSettings, is_wrapped};
 use textarea_text::rows::column_count;
 use textarea_wrap::wrap::WrapMode;
 
@@ -26,7 +26,7 @@ fn end_of(laid: &LaidOutLines) -> (usize, usize)
     (row, column_count(lines[row].as_str()))
 }
 
-fn put_in_break(laid: &mut LaidOutLines, place: (usize, usize)) -> Result<Edit, AllocError>
+fn insert_break(laid: &mut LaidOutLines, place: (usize, usize)) -> Result<Edit, AllocError>
     requires { IsPlace laid.old.text place }
     ensures well_formed { IfOk result (λ edit. IsWellFormed edit) }
     ensures fits { IfOk result (λ edit. Fits laid.new.text (inverse edit.splice)) }
@@ -65,7 +65,7 @@ fn place_of(rt: &impl Abort, laid: &LaidOutLines, place: (usize, usize)) -> (usi
 // Where a place that the test gives is seen.
 fn seen(rt: &impl Abort, laid: &LaidOutLines, place: (usize, usize)) -> (usize, usize) {
     let found = place_of(rt, laid, place);
-    laid.seen_at(found)
+    laid.visual_position(found)
 }
 
 fn expect_seen_alike(
@@ -86,7 +86,7 @@ fn expect_as_anew(rt: &(impl Abort + AllocGlobal), laid: &LaidOutLines) -> Resul
     for line in laid.lines() {
         lines.push(line.clone()?)?;
     }
-    let anew = LaidOutLines::new(rt.alloc(), lines, laid.view())?;
+    let anew = LaidOutLines::new(rt.alloc(), lines, laid.layout_settings())?;
     assert_eq!(rt; laid.row_count(), anew.row_count());
     for (row, line) in laid.lines().iter().enumerate() {
         expect_seen_alike(rt, laid, &anew, row, column_count(line.as_str()));
@@ -97,19 +97,19 @@ fn expect_as_anew(rt: &(impl Abort + AllocGlobal), laid: &LaidOutLines) -> Resul
 #[test]
 fn a_tenth_line_makes_all_rows_narrower(rt: HostRuntime) -> Result<(), Fail> {
     let alloc = rt.alloc();
-    let view = ViewSettings {
+    let settings = LayoutSettings {
         mode: WrapMode::Glyph,
         tab_len: 4,
         line_numbers: true,
         inner_width: 11,
     };
-    let mut laid = LaidOutLines::new(alloc, strings(alloc, &NINE_LINES)?, view)?;
+    let mut laid = LaidOutLines::new(alloc, strings(alloc, &NINE_LINES)?, settings)?;
     assert_eq!(rt; laid.row_count(), 9);
     let end = end_of(&laid);
-    assert!(rt; laid.seen_at(end) == (8, 7));
-    let edit = put_in_break(&mut laid, end)?;
+    assert!(rt; laid.visual_position(end) == (8, 7));
+    let edit = insert_break(&mut laid, end)?;
     assert_eq!(rt; laid.row_count(), 19);
-    assert!(rt; laid.seen_at(end_of(&laid)) == (18, 0));
+    assert!(rt; laid.visual_position(end_of(&laid)) == (18, 0));
     laid.apply(edit.inverse())?;
     assert_eq!(rt; laid.row_count(), 9);
     Ok(())
@@ -117,47 +117,47 @@ fn a_tenth_line_makes_all_rows_narrower(rt: HostRuntime) -> Result<(), Fail> {
 
 fn edit_under(
     rt: &(impl Abort + AllocGlobal),
-    view: ViewSettings,
-    other: ViewSettings,
+    settings: LayoutSettings,
+    other: LayoutSettings,
 ) -> Result<(), AllocError> {
     let alloc = rt.alloc();
-    let mut laid = LaidOutLines::new(alloc, strings(alloc, &NINE_LINES)?, view)?;
+    let mut laid = LaidOutLines::new(alloc, strings(alloc, &NINE_LINES)?, settings)?;
     expect_as_anew(rt, &laid)?;
     let end = end_of(&laid);
     type_and_take_back(rt, &mut laid, end)?;
     let end = end_of(&laid);
-    let edit = put_in_break(&mut laid, end)?;
+    let edit = insert_break(&mut laid, end)?;
     expect_as_anew(rt, &laid)?;
     laid.apply(edit.inverse())?;
     expect_as_anew(rt, &laid)?;
-    laid.set_view(other)?;
+    laid.set_layout_settings(other)?;
     expect_as_anew(rt, &laid)?;
     let end = end_of(&laid);
     type_and_take_back(rt, &mut laid, end)?;
-    let mut others = LaidOutLines::new(alloc, Vec::new(alloc), view)?;
+    let mut others = LaidOutLines::new(alloc, Vec::new(alloc), settings)?;
     others.set_lines(laid.into_lines())?;
     expect_as_anew(rt, &others)
 }
 
 #[test]
 fn rows_are_those_of_lines_laid_out_anew(rt: HostRuntime) -> Result<(), Fail> {
-    let wrapped = ViewSettings {
+    let wrapped = LayoutSettings {
         mode: WrapMode::Glyph,
         tab_len: 4,
         line_numbers: true,
         inner_width: 11,
     };
-    let narrow = ViewSettings {
+    let narrow = LayoutSettings {
         mode: WrapMode::Word,
         inner_width: 4,
         line_numbers: false,
         ..wrapped
     };
-    let whole = ViewSettings {
+    let whole = LayoutSettings {
         mode: WrapMode::None,
         ..wrapped
     };
-    let hidden = ViewSettings {
+    let hidden = LayoutSettings {
         inner_width: 0,
         ..wrapped
     };
@@ -171,22 +171,22 @@ fn rows_are_those_of_lines_laid_out_anew(rt: HostRuntime) -> Result<(), Fail> {
 #[test]
 fn lines_are_held(rt: HostRuntime) -> Result<(), Fail> {
     let alloc = rt.alloc();
-    let view = ViewSettings {
+    let settings = LayoutSettings {
         mode: WrapMode::None,
         tab_len: 4,
         line_numbers: false,
         inner_width: 20,
     };
-    let mut laid = LaidOutLines::new(alloc, Vec::new(alloc), view)?;
+    let mut laid = LaidOutLines::new(alloc, Vec::new(alloc), settings)?;
     assert!(rt; laid.is_empty());
-    assert!(rt; laid.view() == view);
+    assert!(rt; laid.layout_settings() == settings);
     assert_eq!(rt; laid.row_count(), 1);
-    assert!(rt; laid.seen_at(end_of(&laid)) == (0, 0));
+    assert!(rt; laid.visual_position(end_of(&laid)) == (0, 0));
     // A line made where the lines are takes their place.
     let line = String::from_str(laid.allocator(), "abc")?;
     laid.set_lines(vec![in laid.allocator(); line]?)?;
     assert!(rt; !laid.is_empty());
-    assert!(rt; laid.seen_at(end_of(&laid)) == (0, 3));
+    assert!(rt; laid.visual_position(end_of(&laid)) == (0, 3));
     let lines = laid.into_lines();
     assert_eq!(rt; (lines.len(), lines[0].as_str()), (1, "abc"));
     Ok(())
@@ -195,13 +195,13 @@ fn lines_are_held(rt: HostRuntime) -> Result<(), Fail> {
 #[test]
 fn a_cursor_goes_up_and_down(rt: HostRuntime) -> Result<(), Fail> {
     let alloc = rt.alloc();
-    let whole = ViewSettings {
+    let whole = LayoutSettings {
         mode: WrapMode::None,
         tab_len: 4,
         line_numbers: false,
         inner_width: 4,
     };
-    let wrapped = ViewSettings {
+    let wrapped = LayoutSettings {
         mode: WrapMode::Glyph,
         ..whole
     };
@@ -229,7 +229,7 @@ fn expect_rows_at(
 #[test]
 fn rows_are_counted_at_a_width(rt: HostRuntime) -> Result<(), Fail> {
     let alloc = rt.alloc();
-    let hidden = ViewSettings {
+    let hidden = LayoutSettings {
         mode: WrapMode::Glyph,
         tab_len: 4,
         line_numbers: false,
@@ -241,7 +241,7 @@ fn rows_are_counted_at_a_width(rt: HostRuntime) -> Result<(), Fail> {
         ("abcdef", WrapMode::None, 1, 1),
     ] {
         let lines = strings(alloc, &[text])?;
-        let mut laid = LaidOutLines::new(alloc, lines, ViewSettings { mode, ..hidden })?;
+        let mut laid = LaidOutLines::new(alloc, lines, LayoutSettings { mode, ..hidden })?;
         expect_rows_at(&rt, &mut laid, inner_width, rows)?;
     }
     Ok(())
@@ -250,7 +250,7 @@ fn rows_are_counted_at_a_width(rt: HostRuntime) -> Result<(), Fail> {
 #[test]
 fn a_tenth_line_counts_at_a_width(rt: HostRuntime) -> Result<(), Fail> {
     let alloc = rt.alloc();
-    let hidden = ViewSettings {
+    let hidden = LayoutSettings {
         mode: WrapMode::Glyph,
         tab_len: 4,
         line_numbers: true,
@@ -259,7 +259,7 @@ fn a_tenth_line_counts_at_a_width(rt: HostRuntime) -> Result<(), Fail> {
     let mut laid = LaidOutLines::new(alloc, strings(alloc, &NINE_LINES)?, hidden)?;
     expect_rows_at(&rt, &mut laid, 11, 9)?;
     let end = end_of(&laid);
-    put_in_break(&mut laid, end)?;
+    insert_break(&mut laid, end)?;
     expect_rows_at(&rt, &mut laid, 11, 19)?;
     expect_rows_at(&rt, &mut laid, 11, 19)?;
     assert_eq!(rt; laid.row_count(), 10);
@@ -268,28 +268,28 @@ fn a_tenth_line_counts_at_a_width(rt: HostRuntime) -> Result<(), Fail> {
 
 // Other tab stops, where lines aren't wrapped: no line is cut.
 fn set_tab_len(laid: &mut LaidOutLines, tab_len: u8) -> Result<(), AllocError>
-    requires { is_wrapped laid.old.screen.view ≡ false }
-    ensures { OnOk result (laid.new.screen.count ≡ laid.old.screen.count) }
+    requires { is_wrapped laid.old.layout.settings ≡ false }
+    ensures { OnOk result (laid.new.layout.count ≡ laid.old.layout.count) }
 {
-    let view = laid.view();
-    laid.set_view(ViewSettings { tab_len, ..view })
+    let settings = laid.layout_settings();
+    laid.set_layout_settings(LayoutSettings { tab_len, ..settings })
 }
 
 #[test]
 fn tab_stops_cut_no_whole_line(rt: HostRuntime) -> Result<(), Fail> {
     let alloc = rt.alloc();
-    let view = ViewSettings {
+    let settings = LayoutSettings {
         mode: WrapMode::None,
         tab_len: 4,
         line_numbers: false,
         inner_width: 20,
     };
     let lines = strings(alloc, &["\ta", "abcdef"])?;
-    let mut laid = LaidOutLines::new(alloc, lines, view)?;
-    assert!(rt; laid.seen_at(place_of(&rt, &laid, (0, 1))) == (0, 4));
-    assert!(rt; !is_wrapped(laid.view()));
+    let mut laid = LaidOutLines::new(alloc, lines, settings)?;
+    assert!(rt; laid.visual_position(place_of(&rt, &laid, (0, 1))) == (0, 4));
+    assert!(rt; !is_wrapped(laid.layout_settings()));
     set_tab_len(&mut laid, 2)?;
-    assert!(rt; laid.seen_at(place_of(&rt, &laid, (0, 1))) == (0, 2));
+    assert!(rt; laid.visual_position(place_of(&rt, &laid, (0, 1))) == (0, 2));
     assert_eq!(rt; laid.rows_at_width(1)?, 2);
     Ok(())
 }

@@ -52,7 +52,7 @@ fn expect_moves(
     for case in cases {
         let map = ScreenMap::new(rt.alloc(), lines.as_slice(), case.wrapping, &mut counter)?;
         assert!(rt; is_place(lines.as_slice(), case.place));
-        let seen = map.seen_at(lines.as_slice(), case.wrapping, case.place);
+        let seen = map.visual_position(lines.as_slice(), case.wrapping, case.place);
         assert_eq!(rt; seen, case.seen);
         let above = map.above(lines.as_slice(), case.wrapping, case.place);
         assert_eq!(rt; above, case.above);
@@ -286,7 +286,7 @@ fn replace(
         counter,
     )?;
     change.apply(lines)?;
-    map.put_in(prepared);
+    map.replace(prepared);
     Ok(())
 }
 

@@ -18,18 +18,18 @@ use Rattle.textarea_document.specs.Edits.{hit_at_cursor, is_filled}
 use Rattle.textarea_document.specs.Outcomes.{redone, run_ended, undone}
 use Rattle.textarea_document.specs.Selection.{is_selected}
 use Rattle.tui_textarea.specs.State.{State, with_document}
-use Rattle.tui_textarea.specs.Edits.{inserts_tab, inserts_text, with_char, with_newline, with_tab, with_text}
-use Rattle.tui_textarea.specs.Removals.{break_before_out, cleared, has_ahead, has_before, has_behind, has_break_before, has_line_before, has_line_behind, has_word_before, has_word_behind, line_end_out, line_head_out, removes_or, symbol_before_out, symbol_behind_out, symbols_ahead_out, unselected_or, word_before_out, word_behind_out}
-use Rattle.tui_textarea.specs.Selection.{all_selected, copied, cut_out, dropped, selection_started, unselected}
+use Rattle.tui_textarea.specs.Edits.{inserts_tab, inserts_text, char_inserted, newline_inserted, tab_inserted, str_inserted}
+use Rattle.tui_textarea.specs.Removals.{break_before_removed, text_cleared, has_ahead, has_before, has_behind, has_break_before, has_line_before, has_line_behind, has_word_before, has_word_behind, line_end_removed, line_head_removed, removes_or, symbol_before_removed, symbol_behind_removed, symbols_ahead_removed, unselected_or, word_before_removed, word_behind_removed}
+use Rattle.tui_textarea.specs.Selection.{all_selected, selection_copied, selection_cut, selection_cancelled, selection_started, unselected}
 use Rattle.tui_textarea.specs.Selection as selection
 use Rattle.textarea_screen.specs.Block.{shown_block}
 use Rattle.textarea_screen.specs.Text.{shown_text}
 use Rattle.textarea_surround.specs.Outcomes.{with_max_rows, with_min_rows, with_placeholder_style, with_placeholder_text}
-use Rattle.tui_textarea.specs.View.{mode_set, numbers_set, stays_cut, tab_length_set, with_line_numbers, with_tab_length, with_wrap_mode, without_line_numbers}
+use Rattle.tui_textarea.specs.Layout.{mode_set, numbers_set, stays_cut, tab_length_set, with_line_numbers, with_tab_length, with_wrap_mode, without_line_numbers}
 use Rattle.tui_textarea.specs.Measure.{reads_rows, with_surround}
 use Rattle.tui_textarea.specs.Search.{next_match, previous_match, searched, with_pattern}
 use Rattle.textarea_script.specs.Patterns.{IsNewPattern}
-use Rattle.tui_textarea.specs.Ranges.{cursor_normalized, range_out, ranges_accepted, ranges_cleared}
+use Rattle.tui_textarea.specs.Ranges.{cursor_normalized, hit_range_removed, ranges_accepted, ranges_cleared}
 use Rattle.textarea_script.specs.Said.{Said, Done, Flag, Range, Rejected, Text}
 use Rattle.textarea_script.specs.declared.call.Call.{Call}
 use Rattle.textarea_script.specs.declared.call.Call.TheVariants.{InsertChar, InsertStr, InsertTab, InsertNewline, DeleteStr, DeleteNewline, DeleteChar, DeleteNextChar, DeleteLineByEnd, DeleteLineByHead, DeleteWord, DeleteNextWord, Clear, Cut, Copy, Paste, Undo, Redo, StartSelection, CancelSelection, SelectAll, SetYankText, YankText, SetTabLength, SetHardTabIndent, SetMaxHistories, SetUndoCoalescing, SetNow, SetLines, TrySetAtomicRanges, ClearAtomicRanges, NormalizeCursorAroundAtomicRanges, AtomicRangeAtCursor, DeleteAtomicRangeAtCursor, SetSearchPattern, SearchForward, SearchBack, SetWrapMode, SetLineNumberStyle, RemoveLineNumber, Measure, SetBlock, RemoveBlock, SetPlaceholderText, SetStyledPlaceholder, SetPlaceholderStyle, SetMinRows, SetMaxRows}
@@ -78,26 +78,26 @@ answer_of state call = Done
 -- and nothing is selected
 abbrev pub with_lines : {Z : Type 0} → State → List (String Z) → Place → State
 with_lines state lines cursor =
-    with_document state (fresh_document (text_of lines) state.document.screen.view state.document.screen.count (clip (lines_of lines) cursor) state.document.log.maximum)
+    with_document state (fresh_document (text_of lines) state.document.layout.settings state.document.layout.count (clip (lines_of lines) cursor) state.document.log.maximum)
 
 -- the state after the call; after a pattern that is set, where it isn't refused. Where a move leads isn't said here
 abbrev pub state_after : State → Call → State
-state_after state (InsertChar c) = with_char state c
-state_after state (InsertStr text) = with_text state (given (chars text.now))
-state_after state InsertTab = with_tab state
-state_after state InsertNewline = with_newline state
-state_after state (DeleteStr count) = unselected_or state (symbols_ahead_out state count)
-state_after state DeleteNewline = unselected_or state (break_before_out state)
-state_after state DeleteChar = unselected_or state (symbol_before_out state)
-state_after state DeleteNextChar = unselected_or state (symbol_behind_out state)
-state_after state DeleteLineByEnd = unselected_or state (line_end_out state)
-state_after state DeleteLineByHead = unselected_or state (line_head_out state)
-state_after state DeleteWord = unselected_or state (word_before_out state)
-state_after state DeleteNextWord = unselected_or state (word_behind_out state)
-state_after state Clear = cleared state
-state_after state Cut = cut_out state
-state_after state Copy = copied state
-state_after state Paste = with_text state state.yank
+state_after state (InsertChar c) = char_inserted state c
+state_after state (InsertStr text) = str_inserted state (given (chars text.now))
+state_after state InsertTab = tab_inserted state
+state_after state InsertNewline = newline_inserted state
+state_after state (DeleteStr count) = unselected_or state (symbols_ahead_removed state count)
+state_after state DeleteNewline = unselected_or state (break_before_removed state)
+state_after state DeleteChar = unselected_or state (symbol_before_removed state)
+state_after state DeleteNextChar = unselected_or state (symbol_behind_removed state)
+state_after state DeleteLineByEnd = unselected_or state (line_end_removed state)
+state_after state DeleteLineByHead = unselected_or state (line_head_removed state)
+state_after state DeleteWord = unselected_or state (word_before_removed state)
+state_after state DeleteNextWord = unselected_or state (word_behind_removed state)
+state_after state Clear = text_cleared state
+state_after state Cut = selection_cut state
+state_after state Copy = selection_copied state
+state_after state Paste = str_inserted state state.yank
 state_after state Undo = with_document state (undone state.document)
 state_after state Redo = with_document state (redone state.document)
 state_after state (SetYankText text) = record state { yank = given (chars text.now) }
@@ -105,13 +105,13 @@ state_after state YankText = state
 state_after state (TrySetAtomicRanges ranges) = with_ranges_if (rejected_ranges state ranges.now) state ranges.now
 state_after state (NormalizeCursorAroundAtomicRanges bias) = cursor_normalized state bias
 state_after state (AtomicRangeAtCursor direction) = state
-state_after state (DeleteAtomicRangeAtCursor direction) = range_out state direction
+state_after state (DeleteAtomicRangeAtCursor direction) = hit_range_removed state direction
 state_after state (SetLines lines cursor) = with_lines state lines.now cursor
 state_after state (SetSearchPattern text) = with_pattern state text.now
 state_after state (SearchForward at_cursor) = searched state (next_match state at_cursor)
 state_after state (SearchBack at_cursor) = searched state (previous_match state at_cursor)
 state_after state StartSelection = selection_started state
-state_after state CancelSelection = dropped state
+state_after state CancelSelection = selection_cancelled state
 state_after state SelectAll = all_selected state
 state_after state (SetTabLength columns) = with_tab_length state columns
 state_after state (SetWrapMode mode) = with_wrap_mode state mode

@@ -13,7 +13,7 @@ ghost use Rattle.textarea_script.specs.declared.kind.Kind.TheVariants.{Removes, 
 use crate::call::{Answer, Call};
 use crate::kind::Kind;
 use std::alloc::{AllocError, Global};
-use textarea_pieces::given::copied;
+use textarea_pieces::given::copy_pieces;
 use textarea_ranges::atomic::AtomicRange;
 use textarea_screen::screen::{Block, Text};
 use textarea_search::search::SearchError;
@@ -43,7 +43,7 @@ pub fn perform(area: &mut TextArea<'_>, call: Call<'_>) -> Result<Answer, AllocE
     }
 }
 
-// Makes a call that takes out what is selected, or else a part of the text beside the cursor.
+// Makes a call that removes what is selected, or else a part of the text beside the cursor.
 fn remove(area: &mut TextArea<'_>, call: Call<'_>) -> Result<bool, AllocError>
     requires { kind_of call ≡ Removes }
     ensures answer { IfOk result (λ removed. IsAnswer area.old call.entry (Flag removed)) }
@@ -159,7 +159,7 @@ fn tell(area: &mut TextArea<'_>, call: Call<'_>) -> Result<Answer, AllocError>
         Call::Measure(width) => area.measure(width).map(Answer::Measured),
         Call::YankText => area.yank_text().map(Answer::Text),
         Call::TrySetAtomicRanges(ranges) => {
-            let copies = ranges_copied(*area.lines()[0].allocator(), ranges)?;
+            let copies = copy_ranges(*area.lines()[0].allocator(), ranges)?;
             set_ranges(area, copies)
         }
         Call::NormalizeCursorAroundAtomicRanges(bias) => {
@@ -187,7 +187,7 @@ fn set_lines(
     ensures err { OnErr result (area.new ≡ area.old) }
 {
     let alloc = *area.lines()[0].allocator();
-    area.set_lines(copied(alloc, lines)?, cursor)
+    area.set_lines(copy_pieces(alloc, lines)?, cursor)
 }
 
 // Puts a copy of the block around the rows.
@@ -209,7 +209,7 @@ fn set_styled_placeholder(area: &mut TextArea<'_>, text: &Text<'static>) -> Resu
 }
 
 // A copy of the ranges.
-fn ranges_copied(alloc: Global, ranges: &[AtomicRange]) -> Result<Vec<AtomicRange>, AllocError>
+fn copy_ranges(alloc: Global, ranges: &[AtomicRange]) -> Result<Vec<AtomicRange>, AllocError>
     ensures { IfOk result (λ copies. copies.items ≡ ranges.now) }
 {
     ranges.to_vec(alloc)

@@ -33,7 +33,7 @@ static INSERTIONS: [&str; 5] = [
         insert_str => false
         cursor 1 2
     ",
-    // A tab reaches to the next stop, as a tab character where that is set, and puts in nothing at length 0.
+    // A tab reaches to the next stop, as a tab character where that is set, and inserts nothing at length 0.
     "
         set_lines 0 0 hi => ok
         move End => ok
@@ -401,7 +401,7 @@ static HISTORIES: [&str; 13] = [
         |b
         cursor 0 1
     ",
-    // Nothing to take out, to undo or to make again.
+    // Nothing to remove, to undo or to make again.
     r"
         delete_char => false
         undo => false

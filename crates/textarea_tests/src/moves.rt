@@ -174,7 +174,7 @@ fn moves(rt: HostRuntime) -> Result<(), Fail> {
 }
 
 static UP_AND_DOWN: [&str; 5] = [
-    // A row down, and what is taken out there.
+    // A row down, and what is removed there.
     r"
         set_lines 0 0 🐱\n🐶\n🐰\n🐮 => ok
         move Down => ok

@@ -1,4 +1,4 @@
-// Selections: what is typed, removed, yanked and put in over them.
+// Selections: what is typed, removed, yanked and inserted over them.
 use crate::transcript::check;
 use std::test::Fail;
 
@@ -99,7 +99,7 @@ static INSERTIONS_OVER_SELECTIONS: [&str; 3] = [
         |abc
         cursor 0 3
     ",
-    // With no tab to put in, what is selected goes all the same.
+    // With no tab to insert, what is selected goes all the same.
     r"
         set_lines 0 0 abc => ok
         set_tab_length 0 => ok

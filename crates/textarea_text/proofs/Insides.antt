@@ -8,7 +8,7 @@ use Rattle.textarea_text.specs.Text.{characters, characters_of, joined, lines_of
 use Rattle.textarea_text.specs.Place.{Place, IsPlaceOf, changed}
 use Rattle.textarea_text.proofs.Columns.{offset_in, take_offset, drop_offset, chars_from_bytes, IsCharBoundary-column}
 use Rattle.textarea_text.proofs.Splices.{characters-append}
-use Rattle.textarea_text.proofs.StringRows.{line_at, row_within, rows_put_in}
+use Rattle.textarea_text.proofs.StringRows.{line_at, row_within, rows_in_place}
 
 -- the column lies within the line that was read
 pub column_within : {Z : Type 0} (items : List (String Z)) (place : Place) (line : String Z) → IsPlaceOf (lines_of items) place → line ≡ get_or items place.0 line → place.1 ≤ length (characters_of line)
@@ -40,7 +40,7 @@ line_changed items line new start later more h h' read e =
     ∙ ap (λ t. characters head ++ t) (characters-append more tail)
     ∙ ap (λ l. characters (take start.1 l) ++ (characters more ++ characters (drop later l))) (sym here) in
     ap text_of (set_split items start.0 new within ∙ ap (λ n. take start.0 items ++ new ∷ drop n items) (sym (add-one start.0)))
-    ∙ rows_put_in items (new ∷ []) start (start.0, later) start.0 1 (characters more) h h' (omega arith) (omega arith) (omega arith, is)
+    ∙ rows_in_place items (new ∷ []) start (start.0, later) start.0 1 (characters more) h h' (omega arith) (omega arith) (omega arith, is)
 
 -- what the calls of `String` require
 pub split_point : (bs : List ℕ) (column offset : ℕ) → IsUtf8 bs → offset ≡ offset_in (chars bs) column → IsCharBoundary bs offset

@@ -78,27 +78,27 @@ back_of rows place h =
     ∙ drop_at p.front p.back (length p.front) refl
 
 -- the whole text after the rows were put in the place of those from the start's to the end's
-pub rows_replaced : (rows new : List (List ℕ)) (start stop : Place) (symbols : List Symbol) → IsPlaceOf rows start → IsPlaceOf rows stop → ReplacesRows rows start stop symbols new → joined (take start.0 rows ++ (new ++ drop (stop.0 + 1) rows)) ≡ changed (joined rows) start stop symbols
+pub rows_replaced : (rows new : List (List ℕ)) (start to : Place) (symbols : List Symbol) → IsPlaceOf rows start → IsPlaceOf rows to → ReplacesRows rows start to symbols new → joined (take start.0 rows ++ (new ++ drop (to.0 + 1) rows)) ≡ changed (joined rows) start to symbols
 unfolding part_rows
-rows_replaced rows new start stop symbols h h' is =
+rows_replaced rows new start to symbols h h' is =
     let head = take start.1 (get_or rows start.0 []) in
-    let tail = drop stop.1 (get_or rows stop.0 []) in
-    let below = drop (stop.0 + 1) rows in
+    let tail = drop to.1 (get_or rows to.0 []) in
+    let below = drop (to.0 + 1) rows in
     whole (take start.0 rows) new below head (symbols ++ characters tail) is.0 is.1
     ∙ ap (λ t. (leading (take start.0 rows) ++ characters head) ++ t) (append_assoc symbols (characters tail) (following below))
     ∙ ap (λ t. t ++ (symbols ++ (characters tail ++ following below))) (sym (front_of rows start h))
-    ∙ ap (λ t. take (index_of (joined rows) start) (joined rows) ++ (symbols ++ t)) (sym (back_of rows stop h'))
+    ∙ ap (λ t. take (index_of (joined rows) start) (joined rows) ++ (symbols ++ t)) (sym (back_of rows to h'))
 
 -- the same of the `String`s that take the place of others
-pub rows_put_in : {Z : Type 0} (items new : List (String Z)) (start stop : Place) (row count : ℕ) (symbols : List Symbol) → IsPlaceOf (lines_of items) start → IsPlaceOf (lines_of items) stop → row ≡ start.0 → row + count ≡ stop.0 + 1 → ReplacesRows (lines_of items) start stop symbols (lines_of new) → text_of (replaced items row count new) ≡ changed (text_of items) start stop symbols
-rows_put_in items new start stop row count symbols h h' at e is =
+pub rows_in_place : {Z : Type 0} (items new : List (String Z)) (start to : Place) (row count : ℕ) (symbols : List Symbol) → IsPlaceOf (lines_of items) start → IsPlaceOf (lines_of items) to → row ≡ start.0 → row + count ≡ to.0 + 1 → ReplacesRows (lines_of items) start to symbols (lines_of new) → text_of (replaced items row count new) ≡ changed (text_of items) start to symbols
+rows_in_place items new start to row count symbols h h' at e is =
     ap (λ n. text_of (take row items ++ (new ++ drop n items))) e
-    ∙ ap (λ n. text_of (take n items ++ (new ++ drop (stop.0 + 1) items))) at
-    ∙ ap joined (map-append characters_of (take start.0 items) (new ++ drop (stop.0 + 1) items)
-    ∙ ap (λ t. lines_of (take start.0 items) ++ t) (map-append characters_of new (drop (stop.0 + 1) items))
-    ∙ ap (λ t. t ++ (lines_of new ++ lines_of (drop (stop.0 + 1) items))) (sym (take-map characters_of start.0 items))
-    ∙ ap (λ t. take start.0 (lines_of items) ++ (lines_of new ++ t)) (sym (drop-map characters_of (stop.0 + 1) items)))
-    ∙ rows_replaced (lines_of items) (lines_of new) start stop symbols h h' is
+    ∙ ap (λ n. text_of (take n items ++ (new ++ drop (to.0 + 1) items))) at
+    ∙ ap joined (map-append characters_of (take start.0 items) (new ++ drop (to.0 + 1) items)
+    ∙ ap (λ t. lines_of (take start.0 items) ++ t) (map-append characters_of new (drop (to.0 + 1) items))
+    ∙ ap (λ t. t ++ (lines_of new ++ lines_of (drop (to.0 + 1) items))) (sym (take-map characters_of start.0 items))
+    ∙ ap (λ t. take start.0 (lines_of items) ++ (lines_of new ++ t)) (sym (drop-map characters_of (to.0 + 1) items)))
+    ∙ rows_replaced (lines_of items) (lines_of new) start to symbols h h' is
 
 -- ---- places of an edit
 
@@ -131,9 +131,9 @@ stands_until text place symbols h stands =
     let here : index_of text place ≡ length parts.front = ap (λ t. index_of t place) parts.is ∙ index_parted place parts.front parts.back parts.ends in
     (subst (λ t. IsPlace t (end place symbols)) (sym was) (place_parted (end place symbols) (parts.front ++ symbols) rest ends), omega (arith, length-append parts.front symbols))
 
-pub changed_by_none : (text : List Symbol) (place stop : Place) (symbols first : List Symbol) → IsPlace text place → StandsAt text place symbols → stop ≡ end place symbols → first ≡ [] → changed text place stop first ≡ removed text place symbols
-changed_by_none text place stop symbols first h stands e none =
-    ap (λ t. take (index_of text place) text ++ (t ++ drop (index_of text stop) text)) none
+pub changed_by_none : (text : List Symbol) (place to : Place) (symbols first : List Symbol) → IsPlace text place → StandsAt text place symbols → to ≡ end place symbols → first ≡ [] → changed text place to first ≡ removed text place symbols
+changed_by_none text place to symbols first h stands e none =
+    ap (λ t. take (index_of text place) text ++ (t ++ drop (index_of text to) text)) none
     ∙ ap (λ n. take (index_of text place) text ++ drop n text) (ap (index_of text) e ∙ (stands_until text place symbols h stands).1)
 
 pub row_within : {Z : Type 0} (items : List (String Z)) (place : Place) → IsPlaceOf (lines_of items) place → place.0 < length items

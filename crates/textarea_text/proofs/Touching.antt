@@ -37,11 +37,11 @@ end_row place (Break ∷ symbols) = omega (arith, end_row (place.0 + 1, 0) symbo
 
 -- ---- symbols without a break
 
-without_break : (symbols : List Symbol) → breaks_of symbols ≡ 0 → (cs : List ℕ) × (symbols ≡ characters cs)
-without_break [] e = ([], refl)
-without_break (Character c ∷ symbols) e =
-    let rest = without_break symbols e in (c ∷ rest.0, ap (λ t. Character c ∷ t) rest.1)
-without_break (Break ∷ symbols) e = absurd (omega arith)
+only_characters : (symbols : List Symbol) → breaks_of symbols ≡ 0 → (cs : List ℕ) × (symbols ≡ characters cs)
+only_characters [] e = ([], refl)
+only_characters (Character c ∷ symbols) e =
+    let rest = only_characters symbols e in (c ∷ rest.0, ap (λ t. Character c ∷ t) rest.1)
+only_characters (Break ∷ symbols) e = absurd (omega arith)
 
 -- the lines are the same but for one, in the row
 pub record ChangesLine (rows new : List (List ℕ)) (row : ℕ) : Type 0 where
@@ -49,22 +49,22 @@ pub record ChangesLine (rows new : List (List ℕ)) (row : ℕ) : Type 0 where
   pub within : row < length rows
   pub new_is : new ≡ replaced rows row 1 (line ∷ [])
 
-line_between : (rows new : List (List ℕ)) (start stop : Place) (symbols : List Symbol) → 0 < length new → IsPlaceOf rows start → IsPlaceOf rows stop → stop.0 ≡ start.0 → breaks_of symbols ≡ 0 → joined new ≡ changed (joined rows) start stop symbols → ChangesLine rows new start.0
-line_between rows new start stop symbols some h h' same none e =
-    let cs = without_break symbols none in
+line_between : (rows new : List (List ℕ)) (start to : Place) (symbols : List Symbol) → 0 < length new → IsPlaceOf rows start → IsPlaceOf rows to → to.0 ≡ start.0 → breaks_of symbols ≡ 0 → joined new ≡ changed (joined rows) start to symbols → ChangesLine rows new start.0
+line_between rows new start to symbols some h h' same none e =
+    let cs = only_characters symbols none in
     let head = take start.1 (get_or rows start.0 []) in
-    let tail = drop stop.1 (get_or rows stop.0 []) in
+    let tail = drop to.1 (get_or rows to.0 []) in
     let line = head ++ (cs.0 ++ tail) in
     let is : joined (line ∷ []) ≡ characters head ++ (symbols ++ characters tail) =
     append-nil (characters line) ∙ characters-append head (cs.0 ++ tail)
     ∙ ap (λ t. characters head ++ t) (characters-append cs.0 tail ∙ ap (λ t. t ++ characters tail) (sym cs.1)) in
-    let whole = rows_replaced rows (line ∷ []) start stop symbols h h' (omega arith, is) in
-    let there : 0 < length (take start.0 rows ++ (line ∷ drop (stop.0 + 1) rows)) =
-    omega (arith, length-append (take start.0 rows) (line ∷ drop (stop.0 + 1) rows)) in
+    let whole = rows_replaced rows (line ∷ []) start to symbols h h' (omega arith, is) in
+    let there : 0 < length (take start.0 rows ++ (line ∷ drop (to.0 + 1) rows)) =
+    omega (arith, length-append (take start.0 rows) (line ∷ drop (to.0 + 1) rows)) in
     record {
       line = line;
       within = h.0;
-      new_is = sym (lines-joined new some) ∙ ap lines (e ∙ sym whole) ∙ lines-joined (take start.0 rows ++ (line ∷ drop (stop.0 + 1) rows)) there
+      new_is = sym (lines-joined new some) ∙ ap lines (e ∙ sym whole) ∙ lines-joined (take start.0 rows ++ (line ∷ drop (to.0 + 1) rows)) there
           ∙ ap (λ n. take start.0 rows ++ (line ∷ drop (n + 1) rows)) same;
     }
 
@@ -74,10 +74,10 @@ line_of_splice true rows new place symbols some h some' allowed none e =
 line_of_splice false rows new place symbols some h some' allowed none e =
     let text = joined rows in
     let is_place : IsPlace text place = subst (λ (t : List (List ℕ)). IsPlaceOf t place) (sym (lines-joined rows some')) h in
-    let stop = end place symbols in
-    let there : IsPlaceOf rows stop = subst (λ (t : List (List ℕ)). IsPlaceOf t stop) (lines-joined rows some') (stands_until text place symbols is_place allowed).0 in
-    line_between rows new place stop [] some h there (omega (arith, end_row place symbols)) refl
-    (e ∙ sym (changed_by_none text place stop symbols [] is_place allowed refl refl))
+    let to = end place symbols in
+    let there : IsPlaceOf rows to = subst (λ (t : List (List ℕ)). IsPlaceOf t to) (lines-joined rows some') (stands_until text place symbols is_place allowed).0 in
+    line_between rows new place to [] some h there (omega (arith, end_row place symbols)) refl
+    (e ∙ sym (changed_by_none text place to symbols [] is_place allowed refl refl))
 
 -- a change without a break leaves all lines as they are but one
 pub changes_line : (rows new : List (List ℕ)) (splice : Splice) → 0 < length rows → 0 < length new → Fits (joined rows) splice → breaks_of splice.symbols ≡ 0 → joined new ≡ applied (joined rows) splice → ChangesLine rows new splice.place.0

@@ -34,11 +34,11 @@ IsPlaceOf rows place = (place.0 < length rows) × (place.1 ≤ length (slice_ind
 abbrev pub IsPlace : List Symbol → Place → Type 0
 IsPlace text place = IsPlaceOf (lines text) place
 
--- the text after the symbols were put in at the place
+-- the text after the symbols were inserted at the place
 abbrev pub inserted : List Symbol → Place → List Symbol → List Symbol
 inserted text place symbols = take (index_of text place) text ++ (symbols ++ drop (index_of text place) text)
 
--- the text after as many symbols as these were taken out at the place
+-- the text after as many symbols as these were removed at the place
 abbrev pub removed : List Symbol → Place → List Symbol → List Symbol
 removed text place symbols = take (index_of text place) text ++ drop (index_of text place + length symbols) text
 
@@ -48,13 +48,13 @@ StandsAt text place symbols = take (length symbols) (drop (index_of text place) 
 
 -- the text after the symbols were put in the place of what stood from the start to the end
 abbrev pub changed : List Symbol → Place → Place → List Symbol → List Symbol
-changed text start stop symbols = take (index_of text start) text ++ (symbols ++ drop (index_of text stop) text)
+changed text start to symbols = take (index_of text start) text ++ (symbols ++ drop (index_of text to) text)
 
 -- the new rows hold what stood before the start in its row, the symbols, and what stood from the end on in its row
 abbrev pub ReplacesRows : List (List ℕ) → Place → Place → List Symbol → List (List ℕ) → Type 0
-ReplacesRows rows start stop symbols new =
+ReplacesRows rows start to symbols new =
     (0 < length new)
-    × (joined new ≡ characters (take start.1 (slice_index_or rows start.0 [])) ++ (symbols ++ characters (drop stop.1 (slice_index_or rows stop.0 []))))
+    × (joined new ≡ characters (take start.1 (slice_index_or rows start.0 [])) ++ (symbols ++ characters (drop to.1 (slice_index_or rows to.0 []))))
 
 -- the symbol stands directly before the place, and begins where the start says: the place is not the text's start, and
 -- the index before it is the start's

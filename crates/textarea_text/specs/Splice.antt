@@ -1,4 +1,4 @@
--- One change of a text: symbols put in, or taken out, at a place.
+-- One change of a text: symbols inserted, or removed, at a place.
 use Rattle.std.specs.Prelude.{◌≡◌, ◌<◌, Bool, true, false, not, cond, List, [], ◌∷◌, length}
 use Rattle.textarea_text.specs.Text.{Symbol}
 use Rattle.textarea_text.specs.Place.{Place, IsPlace, StandsAt, end, inserted, removed}

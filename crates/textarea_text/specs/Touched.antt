@@ -23,12 +23,12 @@ abbrev pub lines_coming : Splice → ℕ
 lines_coming splice = cond splice.inserts (breaks_of splice.symbols + 1) 1
 
 -- the replacement puts the symbols in the place of what stands in these lines between two places
-pub record ReplacesPart (lines : List (String Global)) (start stop : Place) (symbols : List Symbol) (replacement : Replacement) : Type 0 where
+pub record ReplacesPart (lines : List (String Global)) (start to : Place) (symbols : List Symbol) (replacement : Replacement) : Type 0 where
   pub row : replacement.row ≡ start.0
-  pub going : replacement.row + replacement.count ≡ stop.0 + 1
+  pub going : replacement.row + replacement.count ≡ to.0 + 1
   pub coming : vec_len replacement.lines ≡ breaks_of symbols + 1
   pub within : replacement.row + replacement.count ≤ length lines
-  pub text : text_of (replaced lines replacement.row replacement.count replacement.lines.items) ≡ changed (text_of lines) start stop symbols
+  pub text : text_of (replaced lines replacement.row replacement.count replacement.lines.items) ≡ changed (text_of lines) start to symbols
 
 -- the replacement makes the splice on these lines: its lines take the place of just those that the splice touches, and the text
 -- is then the one after the splice

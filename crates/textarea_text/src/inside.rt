@@ -45,7 +45,7 @@ fn make_room(line: &mut String, additional: usize) -> Result<(), AllocError>
     Ok(())
 }
 
-/// Takes out, in place and without memory, what stands between two columns of a line.
+/// Removes, in place and without memory, what stands between two columns of a line.
 pub fn remove_inside(lines: &mut Vec<String>, start: (usize, usize), end_column: usize)
     requires start { IsPlaceOf (lines_of lines.old.items) start }
     requires end { IsPlaceOf (lines_of lines.old.items) (start.0, end_column) }

@@ -4,7 +4,7 @@ ghost use Rattle.textarea_text.specs.Replaced.{replaced};
 
 /// Puts `new` in the place of the `count` items from `start` on. As many items as both have are swapped, so
 /// items that give place to as many others move no other item.
-pub fn put_in<T: Drop>(items: &mut Vec<T>, start: usize, count: usize, mut new: Vec<T>)
+pub fn replace_items<T: Drop>(items: &mut Vec<T>, start: usize, count: usize, mut new: Vec<T>)
     requires within { start + count ≤ vec_len items.old }
     requires room { vec_len items.old + vec_len new ≤ vec_capacity items.old + count }
     ensures items { items.new.items ≡ replaced items.old.items start count new.items }

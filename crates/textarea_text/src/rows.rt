@@ -7,7 +7,7 @@ ghost use Rattle.textarea_text.specs.Replaced.{replaced};
 ghost use Rattle.textarea_text.specs.Size.{size_of};
 ghost use Rattle.textarea_text.specs.Touched.{ReplacesPart};
 
-use crate::replace::put_in;
+use crate::replace::replace_items;
 use std::alloc::{AllocError, Global};
 
 /// The byte at which the column of a line begins; a column counts characters, and the line's length is one. The line is
@@ -82,19 +82,19 @@ pub struct Replacement {
 }
 
 impl Replacement {
-    /// Puts the new lines in, or leaves the lines as they were where there is no memory for more of them.
+    /// Inserts the new lines, or leaves the lines as they were where there is no memory for more of them.
     pub fn apply(self, lines: &mut Vec<String>) -> Result<(), AllocError>
         requires { self.row + self.count ≤ vec_len lines.old }
         ensures ok { OnOk result (lines.new.items ≡ replaced lines.old.items self.row self.count self.lines.items) }
         ensures err { OnErr result (lines.new.items ≡ lines.old.items) }
     {
         lines.reserve(self.lines.len())?;
-        self.put_in(lines);
+        self.replace_in(lines);
         Ok(())
     }
 
-    /// Puts the new lines in, for which there is room.
-    pub fn put_in(self, lines: &mut Vec<String>)
+    /// Inserts the new lines, for which there is room.
+    pub fn replace_in(self, lines: &mut Vec<String>)
         requires within { self.row + self.count ≤ vec_len lines.old }
         requires room { vec_len lines.old + vec_len self.lines ≤ vec_capacity lines.old + self.count }
         ensures { lines.new.items ≡ replaced lines.old.items self.row self.count self.lines.items }
@@ -104,12 +104,12 @@ impl Replacement {
             count,
             lines: new,
         } = self;
-        put_in(lines, row, count, new);
+        replace_items(lines, row, count, new);
     }
 }
 
 /// The lines that hold the text with the first piece, and each further one behind a break, in the place of what
-/// stands between the two places. They are as many as the pieces; the old lines stay until these are put in.
+/// stands between the two places. They are as many as the pieces; the old lines stay until these are inserted.
 pub fn prepare_replacement(
     alloc: Global,
     lines: &[String],

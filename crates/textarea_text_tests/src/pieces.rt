@@ -1,6 +1,6 @@
 //! Given texts cut into pieces and joined again, parts of a text, and the spaces up to a tab stop.
 use std::test::Fail;
-use textarea_pieces::given::{copied, joined_with_line_feeds, pieces_of};
+use textarea_pieces::given::{copy_pieces, join_with_line_feeds, pieces_of};
 use textarea_pieces::part::between;
 use textarea_pieces::places::clipped;
 use textarea_pieces::tab::spaces_to_stop;
@@ -17,8 +17,8 @@ fn given_and_written(rt: HostRuntime) -> Result<(), Fail> {
     for (text, written, count) in cases {
         let pieces = pieces_of(rt.alloc(), text)?;
         assert_eq!(rt; pieces.len(), count, "{text:?}");
-        let copy = copied(rt.alloc(), &pieces)?;
-        let joined = joined_with_line_feeds(rt.alloc(), &copy)?;
+        let copy = copy_pieces(rt.alloc(), &pieces)?;
+        let joined = join_with_line_feeds(rt.alloc(), &copy)?;
         assert_eq!(rt; joined.as_str(), written);
     }
     Ok(())
@@ -36,7 +36,7 @@ fn parts(rt: HostRuntime) -> Result<(), Fail> {
     for (place, written) in cases {
         let to = clipped(&lines, place);
         let pieces = between(rt.alloc(), &lines, (0, 0), to)?;
-        let joined = joined_with_line_feeds(rt.alloc(), &pieces)?;
+        let joined = join_with_line_feeds(rt.alloc(), &pieces)?;
         assert_eq!(rt; joined.as_str(), written);
     }
     Ok(())

@@ -15,7 +15,7 @@ use Rattle.unicode_segmentation.specs.Segments.{prepend, cut, segments}
 use Rattle.unicode_segmentation.specs.Word.{word_bounds}
 use Rattle.unicode_segmentation.proofs.Computing.{unicode_segmentation}
 use Rattle.textarea_wrap.specs.Units.{is_blank, units_of_piece, line_units}
-use Rattle.textarea_wrap.specs.Cutting.{Run}
+use Rattle.textarea_wrap.specs.Cutting.{Stretch}
 use Rattle.textarea_wrap.proofs.FewestWordLemmas.{AreBlanksClusters}
 
 -- the character joins nothing by the rules that read further back
@@ -181,11 +181,11 @@ blanks_of_piece piece = cond_both (is_blank piece) (graphemes true piece) (piece
     (λ blank. blanks_from_clusters _ (cut_clusters [] (chars piece) (ArePlain-blank (chars piece) blank)))
     (λ content. ((λ blank. absurd (false≢true (sym content ∙ blank))), tt))
 
-blanks_append : (xs ys : Run) → AreBlanksClusters xs → AreBlanksClusters ys → AreBlanksClusters (xs ++ ys)
+blanks_append : (xs ys : Stretch) → AreBlanksClusters xs → AreBlanksClusters ys → AreBlanksClusters (xs ++ ys)
 blanks_append [] ys p q = q
 blanks_append (x ∷ xs) ys p q = (p.0, blanks_append xs ys p.1 q)
 
-blanks_of_pieces : (pieces : Run) → AreBlanksClusters (flat_map units_of_piece pieces)
+blanks_of_pieces : (pieces : Stretch) → AreBlanksClusters (flat_map units_of_piece pieces)
 blanks_of_pieces [] = tt
 blanks_of_pieces (piece ∷ pieces) = blanks_append (units_of_piece piece) (flat_map units_of_piece pieces) (blanks_of_piece piece) (blanks_of_pieces pieces)
 

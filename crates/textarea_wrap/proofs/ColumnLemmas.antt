@@ -6,20 +6,20 @@ use Rattle.std.proofs.lemmas.Bool.Decides.{nat_tests}
 use Rattle.std.proofs.lemmas.Grind.{flat_map-append}
 use Rattle.std.specs.List.{flat_map}
 use Rattle.std.specs.Str.{chars}
-use Rattle.textarea_wrap.specs.Cutting.{Run}
-use Rattle.textarea_wrap.specs.Columns.{plain_width, next_stop, column_after, end_column, run_width}
+use Rattle.textarea_wrap.specs.Cutting.{Stretch}
+use Rattle.textarea_wrap.specs.Columns.{plain_width, next_stop, column_after, end_column, stretch_width}
 
 pub end_column-append : (tab_len column : ℕ) (cs ds : List ℕ) → end_column tab_len column (cs ++ ds) ≡ end_column tab_len (end_column tab_len column cs) ds
 end_column-append tab_len column [] ds = refl
 end_column-append tab_len column (c ∷ cs) ds = end_column-append tab_len (column_after tab_len column c) cs ds
 
-pub run_width-one : (tab_len : ℕ) (piece : List ℕ) → run_width tab_len (piece ∷ []) ≡ end_column tab_len 0 (chars piece)
-run_width-one tab_len piece = ap (end_column tab_len 0) (append-nil (chars piece))
+pub stretch_width-one : (tab_len : ℕ) (piece : List ℕ) → stretch_width tab_len (piece ∷ []) ≡ end_column tab_len 0 (chars piece)
+stretch_width-one tab_len piece = ap (end_column tab_len 0) (append-nil (chars piece))
 
-pub run_width-push : (tab_len : ℕ) (run : List (List ℕ)) (piece : List ℕ) → run_width tab_len (run ++ piece ∷ []) ≡ end_column tab_len (run_width tab_len run) (chars piece)
-run_width-push tab_len run piece =
-    ap (end_column tab_len 0) (flat_map-append chars run (piece ∷ []) ∙ ap (λ t. flat_map chars run ++ t) (append-nil (chars piece)))
-    ∙ end_column-append tab_len 0 (flat_map chars run) (chars piece)
+pub stretch_width-push : (tab_len : ℕ) (stretch : List (List ℕ)) (piece : List ℕ) → stretch_width tab_len (stretch ++ piece ∷ []) ≡ end_column tab_len (stretch_width tab_len stretch) (chars piece)
+stretch_width-push tab_len stretch piece =
+    ap (end_column tab_len 0) (flat_map-append chars stretch (piece ∷ []) ∙ ap (λ t. flat_map chars stretch ++ t) (append-nil (chars piece)))
+    ∙ end_column-append tab_len 0 (flat_map chars stretch) (chars piece)
 
 -- ---- columns that begin later
 
@@ -54,14 +54,14 @@ pub end_column-after : (t x : ℕ) (cs : List ℕ) → x ≤ end_column t x cs
 end_column-after t x [] = le_refl x
 end_column-after t x (c ∷ cs) = le_trans (column_after-after t x c) (end_column-after t (column_after t x c) cs)
 
-run_width-append : (t : ℕ) (front back : Run) → run_width t (front ++ back) ≡ end_column t (run_width t front) (flat_map chars back)
-run_width-append t front back = ap (end_column t 0) (flat_map-append chars front back) ∙ end_column-append t 0 (flat_map chars front) (flat_map chars back)
+stretch_width-append : (t : ℕ) (front back : Stretch) → stretch_width t (front ++ back) ≡ end_column t (stretch_width t front) (flat_map chars back)
+stretch_width-append t front back = ap (end_column t 0) (flat_map-append chars front back) ∙ end_column-append t 0 (flat_map chars front) (flat_map chars back)
 
--- a run that begins later is never wider, tabs included
-pub run_width-back : (t : ℕ) (front back : Run) → run_width t back ≤ run_width t (front ++ back)
-run_width-back t front back =
-    subst (λ n. run_width t back ≤ n) (sym (run_width-append t front back)) (end_column-le t 0 (run_width t front) (flat_map chars back) (omega arith))
+-- a stretch that begins later is never wider, tabs included
+pub stretch_width-back : (t : ℕ) (front back : Stretch) → stretch_width t back ≤ stretch_width t (front ++ back)
+stretch_width-back t front back =
+    subst (λ n. stretch_width t back ≤ n) (sym (stretch_width-append t front back)) (end_column-le t 0 (stretch_width t front) (flat_map chars back) (omega arith))
 
-pub run_width-front : (t : ℕ) (front back : Run) → run_width t front ≤ run_width t (front ++ back)
-run_width-front t front back =
-    subst (λ n. run_width t front ≤ n) (sym (run_width-append t front back)) (end_column-after t (run_width t front) (flat_map chars back))
+pub stretch_width-front : (t : ℕ) (front back : Stretch) → stretch_width t front ≤ stretch_width t (front ++ back)
+stretch_width-front t front back =
+    subst (λ n. stretch_width t front ≤ n) (sym (stretch_width-append t front back)) (end_column-after t (stretch_width t front) (flat_map chars back))

@@ -1,15 +1,15 @@
--- A greedy cutting has the fewest rows, since a run that begins later is never wider.
+-- A greedy cutting has the fewest rows, since a stretch that begins later is never wider.
 use Rattle.std.proofs.Common.{◌≡◌, ℕ, ◌<◌, ◌≤◌, ◌⊎◌, inl, inr, List, [], ◌∷◌, ◌++◌, length, refl, sym, ap, subst, ◌∙◌, ⊎_elim, append_assoc, append-nil, length-append, arith}
 use Rattle.std.proofs.lemmas.List.{length-map}
 use Rattle.std.specs.List.{concat}
-use Rattle.textarea_wrap.specs.Columns.{run_width}
-use Rattle.textarea_wrap.specs.Cutting.{Run, pieces_of, HasNoRoomForNext, IsGlyphRow, AreGlyphRows, IsGlyphCutting, AreFittingRows, HasFewestGlyphRows}
-use Rattle.textarea_wrap.proofs.ColumnLemmas.{run_width-front, run_width-back}
+use Rattle.textarea_wrap.specs.Columns.{stretch_width}
+use Rattle.textarea_wrap.specs.Cutting.{Stretch, pieces_of, HasNoRoomForNext, IsGlyphRow, AreGlyphRows, IsGlyphCutting, AreFittingRows, HasFewestGlyphRows}
+use Rattle.textarea_wrap.proofs.ColumnLemmas.{stretch_width-front, stretch_width-back}
 
 -- ---- two cuttings of one list
 
 -- of two fronts of a list one begins the other
-pub fronts : (a b c d : Run) → a ++ b ≡ c ++ d → ((e : Run) × (c ≡ a ++ e) × (b ≡ e ++ d)) ⊎ ((e : Run) × (a ≡ c ++ e) × (d ≡ e ++ b))
+pub fronts : (a b c d : Stretch) → a ++ b ≡ c ++ d → ((e : Stretch) × (c ≡ a ++ e) × (b ≡ e ++ d)) ⊎ ((e : Stretch) × (a ≡ c ++ e) × (d ≡ e ++ b))
 fronts [] b c d h = inl (c, refl, h)
 fronts (x ∷ a) b [] d h = inr (x ∷ a, refl, sym h)
 fronts (x ∷ a) b (y ∷ c) d h =
@@ -18,47 +18,47 @@ fronts (x ∷ a) b (y ∷ c) d h =
     ⊎_elim (λ p. inl (p.0, ap (λ t. y ∷ t) p.1 ∙ ap (λ z. z ∷ (a ++ p.0)) (sym heads), p.2))
     (λ p. inr (p.0, ap (λ t. x ∷ t) p.1 ∙ ap (λ z. z ∷ (c ++ p.0)) heads, p.2)) (fronts a b c d tails)
 
--- a greedy row `run` before `later` is not a strict front of what a fitting row has from there on
-pub not_shorter : (t w : ℕ) (run later front rest : Run) (next : List ℕ) (row : Run) → IsGlyphRow t w run later → later ≡ next ∷ rest → (back : Run)
-    → row ≡ front ++ (run ++ next ∷ back) → (run_width t row ≤ w) ⊎ (length row ≡ 1) → ⊥
-not_shorter t w run later front rest next row greedy later_is back row_is fits =
-    let over : w < run_width t (run ++ next ∷ []) = subst (HasNoRoomForNext t w run) later_is greedy.full in
-    let regroup = append_assoc run (next ∷ []) back in
-    let wider : run_width t (run ++ next ∷ []) ≤ run_width t (run ++ next ∷ back) =
-    subst (λ r. run_width t (run ++ next ∷ []) ≤ run_width t r) regroup (run_width-front t (run ++ next ∷ []) back) in
-    let whole = subst (λ r. run_width t (run ++ next ∷ back) ≤ run_width t r) (sym row_is) (run_width-back t front (run ++ next ∷ back)) in
+-- a greedy row `stretch` before `later` is not a strict front of what a fitting row has from there on
+pub not_shorter : (t w : ℕ) (stretch later front rest : Stretch) (next : List ℕ) (row : Stretch) → IsGlyphRow t w stretch later → later ≡ next ∷ rest → (back : Stretch)
+    → row ≡ front ++ (stretch ++ next ∷ back) → (stretch_width t row ≤ w) ⊎ (length row ≡ 1) → ⊥
+not_shorter t w stretch later front rest next row greedy later_is back row_is fits =
+    let over : w < stretch_width t (stretch ++ next ∷ []) = subst (HasNoRoomForNext t w stretch) later_is greedy.full in
+    let regroup = append_assoc stretch (next ∷ []) back in
+    let wider : stretch_width t (stretch ++ next ∷ []) ≤ stretch_width t (stretch ++ next ∷ back) =
+    subst (λ r. stretch_width t (stretch ++ next ∷ []) ≤ stretch_width t r) regroup (stretch_width-front t (stretch ++ next ∷ []) back) in
+    let whole = subst (λ r. stretch_width t (stretch ++ next ∷ back) ≤ stretch_width t r) (sym row_is) (stretch_width-back t front (stretch ++ next ∷ back)) in
     let some = greedy.nonempty in
     ⊎_elim (λ within. omega arith)
-    (λ one. omega (arith, ap length row_is, length-append front (run ++ next ∷ back), length-append run (next ∷ back))) fits
+    (λ one. omega (arith, ap length row_is, length-append front (stretch ++ next ∷ back), length-append stretch (next ∷ back))) fits
 
 -- so a fitting row that goes on behind a greedy one ends with it
-ended : (t w : ℕ) (run left rest row front back over : Run) → IsGlyphRow t w run (left ++ []) → row ≡ front ++ back → back ≡ run ++ over → left ≡ over ++ rest
-    → (run_width t row ≤ w) ⊎ (length row ≡ 1) → left ≡ rest
-ended t w run left rest row front back [] greedy row_is back_is left_is fits = left_is
-ended t w run left rest row front back (next ∷ over) greedy row_is back_is left_is fits =
-    absurd (not_shorter t w run (left ++ []) front (over ++ rest) next row greedy (append-nil left ∙ left_is) over (row_is ∙ ap (λ t. front ++ t) back_is) fits)
+ended : (t w : ℕ) (stretch left rest row front back over : Stretch) → IsGlyphRow t w stretch (left ++ []) → row ≡ front ++ back → back ≡ stretch ++ over → left ≡ over ++ rest
+    → (stretch_width t row ≤ w) ⊎ (length row ≡ 1) → left ≡ rest
+ended t w stretch left rest row front back [] greedy row_is back_is left_is fits = left_is
+ended t w stretch left rest row front back (next ∷ over) greedy row_is back_is left_is fits =
+    absurd (not_shorter t w stretch (left ++ []) front (over ++ rest) next row greedy (append-nil left ∙ left_is) over (row_is ∙ ap (λ t. front ++ t) back_is) fits)
 
 -- the greedy rows of what is left behind a front are no more than any fitting rows of the whole
-pub greedy_ahead : (t w : ℕ) (others greedy : List Run) (front : Run) → AreGlyphRows t w greedy [] → front ++ pieces_of greedy ≡ pieces_of others
+pub greedy_ahead : (t w : ℕ) (others greedy : List Stretch) (front : Stretch) → AreGlyphRows t w greedy [] → front ++ pieces_of greedy ≡ pieces_of others
     → AreFittingRows t w others → length greedy ≤ length others
 greedy_ahead t w others [] front cut same fit = omega arith
-greedy_ahead t w [] (run ∷ greedy) front cut same fit =
+greedy_ahead t w [] (stretch ∷ greedy) front cut same fit =
     let some = cut.0.nonempty in
-    absurd (omega (arith, ap length same, length-append front (run ++ pieces_of greedy), length-append run (pieces_of greedy)))
-greedy_ahead t w (row ∷ others) (run ∷ greedy) front cut same fit =
+    absurd (omega (arith, ap length same, length-append front (stretch ++ pieces_of greedy), length-append stretch (pieces_of greedy)))
+greedy_ahead t w (row ∷ others) (stretch ∷ greedy) front cut same fit =
     ⊎_elim
     (λ p.
     ⊎_elim
-    (λ q. let together = ended t w run (pieces_of greedy) (pieces_of others) row front p.0 q.0 cut.0 p.1 q.1 q.2 fit.0 in
+    (λ q. let together = ended t w stretch (pieces_of greedy) (pieces_of others) row front p.0 q.0 cut.0 p.1 q.1 q.2 fit.0 in
     let behind = greedy_ahead t w others greedy [] cut.1 together fit.1 in omega arith)
     (λ q. let behind = greedy_ahead t w others greedy q.0 cut.1 (sym q.2) fit.1 in omega arith)
-    (fronts run (pieces_of greedy) p.0 (pieces_of others) p.2))
-    (λ p. let behind = greedy_ahead t w others (run ∷ greedy) p.0 cut (sym p.2) fit.1 in omega arith)
-    (fronts front (run ++ pieces_of greedy) row (pieces_of others) same)
+    (fronts stretch (pieces_of greedy) p.0 (pieces_of others) p.2))
+    (λ p. let behind = greedy_ahead t w others (stretch ∷ greedy) p.0 cut (sym p.2) fit.1 in omega arith)
+    (fronts front (stretch ++ pieces_of greedy) row (pieces_of others) same)
 
 -- a cutting at cluster ends has the fewest rows
 pub HasFewestGlyphRows-cutting : (t w : ℕ) (text : List ℕ) (rows : List (List ℕ)) → IsGlyphCutting t w text rows → HasFewestGlyphRows t w text (length rows)
 HasFewestGlyphRows-cutting t w text rows cutting = λ others whole fit.
-    let count = ap length cutting.rows_are ∙ length-map cutting.runs concat in
-    let least = greedy_ahead t w others cutting.runs [] cutting.cut (cutting.whole ∙ sym whole) fit in
+    let count = ap length cutting.rows_are ∙ length-map cutting.stretches concat in
+    let least = greedy_ahead t w others cutting.stretches [] cutting.cut (cutting.whole ∙ sym whole) fit in
     omega arith

@@ -4,17 +4,17 @@ use Rattle.std.proofs.lemmas.Bool.{cases_lt}
 use Rattle.std.proofs.lemmas.List.{length-map, nil_from_length}
 use Rattle.std.specs.List.{concat, flat_map, AllByRecursion}
 use Rattle.unicode_segmentation.specs.Grapheme.{graphemes}
-use Rattle.textarea_wrap.specs.Columns.{run_width}
+use Rattle.textarea_wrap.specs.Columns.{stretch_width}
 use Rattle.textarea_wrap.specs.Units.{is_blank, line_units}
-use Rattle.textarea_wrap.specs.Cutting.{Run, Block, shared, split, pieces_of, units_of, rows_of, FitsBehind, HasNoRoomForUnit, IsFittingRun, IsBlock, AreBlocks, IsGlyphCutting, IsWordCutting, AreFittingRows, IsFittingBlock, AreFittingBlocks, HasFewestWordRows}
-use Rattle.textarea_wrap.proofs.ColumnLemmas.{run_width-front, run_width-back}
+use Rattle.textarea_wrap.specs.Cutting.{Stretch, Block, shared, split, pieces_of, units_of, rows_of, FitsBehind, HasNoRoomForUnit, IsFittingStretch, IsBlock, AreBlocks, IsGlyphCutting, IsWordCutting, AreFittingRows, IsFittingBlock, AreFittingBlocks, HasFewestWordRows}
+use Rattle.textarea_wrap.proofs.ColumnLemmas.{stretch_width-front, stretch_width-back}
 use Rattle.textarea_wrap.proofs.FewestLemmas.{fronts, greedy_ahead}
 
 -- a whitespace unit, taken by itself, is one cluster
-abbrev pub AreBlanksClusters : Run → Type 0
+abbrev pub AreBlanksClusters : Stretch → Type 0
 AreBlanksClusters units = AllByRecursion (λ unit. is_blank unit ≡ true → length (graphemes true unit) ≡ 1) units
 
-push-injective : (a b : Run) (x y : List ℕ) → a ++ x ∷ [] ≡ b ++ y ∷ [] → (a ≡ b) × (x ≡ y)
+push-injective : (a b : Stretch) (x y : List ℕ) → a ++ x ∷ [] ≡ b ++ y ∷ [] → (a ≡ b) × (x ≡ y)
 push-injective [] [] x y h = let e : x ≡ y = cc in (refl, e)
 push-injective [] (z ∷ b) x y h = absurd (omega (arith, ap length h, length-append b (y ∷ [])))
 push-injective (z ∷ a) [] x y h = absurd (omega (arith, ap length h, length-append a (x ∷ [])))
@@ -24,81 +24,81 @@ push-injective (z ∷ a) (v ∷ b) x y h =
     let rest = push-injective a b x y tails in
     (ap (λ t. z ∷ t) rest.0 ∙ ap (λ k. k ∷ b) heads, rest.1)
 
-module _ (t w : ℕ) (row later : Run) (fit : IsFittingRun t w row later) where
-  front_within : run_width t fit.front ≤ w
+module _ (t w : ℕ) (row later : Stretch) (fit : IsFittingStretch t w row later) where
+  front_within : stretch_width t fit.front ≤ w
   front_within = ⊎_elim
-      (λ within. let less = run_width-front t fit.front (fit.last ∷ []) in omega arith)
+      (λ within. let less = stretch_width-front t fit.front (fit.last ∷ []) in omega arith)
       (λ hang. hang.1) fit.fits
 
   -- what stands before a part of the row is within the width
-  part_within : (a b : Run) → row ≡ a ++ b → 0 < length b → run_width t a ≤ w
+  part_within : (a b : Stretch) → row ≡ a ++ b → 0 < length b → stretch_width t a ≤ w
   part_within a b row_is some =
       ⊎_elim
-      (λ p. let less = subst (λ r. run_width t a ≤ run_width t r) (sym p.1) (run_width-front t a p.0) in
+      (λ p. let less = subst (λ r. stretch_width t a ≤ stretch_width t r) (sym p.1) (stretch_width-front t a p.0) in
       let front = front_within in omega arith)
       (λ p. let none : length p.0 ≡ 0 = omega (arith, ap length p.2, length-append p.0 b) in
       let same = p.1 ∙ ap (λ r. fit.front ++ r) (nil_from_length p.0 none) ∙ append-nil fit.front in
-      subst (λ r. run_width t r ≤ w) (sym same) front_within)
-      (fronts a b fit.front (fit.last ∷ []) (sym row_is ∙ fit.run_is))
+      subst (λ r. stretch_width t r ≤ w) (sym same) front_within)
+      (fronts a b fit.front (fit.last ∷ []) (sym row_is ∙ fit.stretch_is))
 
   -- a unit that is too wide may only end the row, as whitespace behind other units
-  pub wide_ends : (front : Run) (unit : List ℕ) (back : Run) → row ≡ front ++ unit ∷ back → w < run_width t (unit ∷ []) → (back ≡ []) × (0 < length front) × (is_blank unit ≡ true)
+  pub wide_ends : (front : Stretch) (unit : List ℕ) (back : Stretch) → row ≡ front ++ unit ∷ back → w < stretch_width t (unit ∷ []) → (back ≡ []) × (0 < length front) × (is_blank unit ≡ true)
   wide_ends front unit [] row_is wide =
-      let same = push-injective fit.front front fit.last unit (sym fit.run_is ∙ row_is) in
-      let wider = run_width-back t front (unit ∷ []) in
+      let same = push-injective fit.front front fit.last unit (sym fit.stretch_is ∙ row_is) in
+      let wider = stretch_width-back t front (unit ∷ []) in
       ⊎_elim
-      (λ within. let whole = subst (λ r. run_width t r ≤ w) (sym fit.run_is ∙ row_is) within in absurd (omega arith))
+      (λ within. let whole = subst (λ r. stretch_width t r ≤ w) (sym fit.stretch_is ∙ row_is) within in absurd (omega arith))
       (λ hang. (refl, subst (λ r. 0 < length r) same.0 hang.0, ap is_blank (sym same.1) ∙ hang.2.1)) fit.fits
   wide_ends front unit (next ∷ back) row_is wide =
       let within = part_within (front ++ unit ∷ []) (next ∷ back) (row_is ∙ sym (append_assoc front (unit ∷ []) (next ∷ back))) (omega arith) in
-      let wider = run_width-back t front (unit ∷ []) in
+      let wider = stretch_width-back t front (unit ∷ []) in
       absurd (omega arith)
 
   -- what begins later in the row fits too
-  later_fits : (front run : Run) (next : List ℕ) (back : Run) → row ≡ front ++ (run ++ next ∷ back) → 0 < length run → FitsBehind t w run next (back ++ later)
-  later_fits front run next [] row_is some =
-      let same = push-injective fit.front (front ++ run) fit.last next (sym fit.run_is ∙ row_is ∙ sym (append_assoc front run (next ∷ []))) in
-      let wider = run_width-back t front (run ++ next ∷ []) in
-      let whole = ap (run_width t) (sym row_is ∙ fit.run_is) in
+  later_fits : (front stretch : Stretch) (next : List ℕ) (back : Stretch) → row ≡ front ++ (stretch ++ next ∷ back) → 0 < length stretch → FitsBehind t w stretch next (back ++ later)
+  later_fits front stretch next [] row_is some =
+      let same = push-injective fit.front (front ++ stretch) fit.last next (sym fit.stretch_is ∙ row_is ∙ sym (append_assoc front stretch (next ∷ []))) in
+      let wider = stretch_width-back t front (stretch ++ next ∷ []) in
+      let whole = ap (stretch_width t) (sym row_is ∙ fit.stretch_is) in
       ⊎_elim (λ within. inl (omega arith))
       (λ hang. ⊎_elim
-      (λ (over : w < run_width t (run ++ next ∷ [])). inr (
+      (λ (over : w < stretch_width t (stretch ++ next ∷ [])). inr (
         some,
-        (let less = run_width-back t front run in let at = ap (run_width t) (sym same.0) in let within = hang.1 in omega arith),
+        (let less = stretch_width-back t front stretch in let at = ap (stretch_width t) (sym same.0) in let within = hang.1 in omega arith),
         (let end = hang.2.0 in omega arith, ap is_blank (sym same.1) ∙ hang.2.1, hang.2.2),
       ))
-      (λ within. inl within) (cases_lt w (run_width t (run ++ next ∷ [])))) fit.fits
-  later_fits front run next (more ∷ back) row_is some =
-      let regroup = row_is ∙ ap (λ r. front ++ r) (sym (append_assoc run (next ∷ []) (more ∷ back))) ∙ sym (append_assoc front (run ++ next ∷ []) (more ∷ back)) in
-      let within = part_within (front ++ (run ++ next ∷ [])) (more ∷ back) regroup (omega arith) in
-      let wider = run_width-back t front (run ++ next ∷ []) in
+      (λ within. inl within) (cases_lt w (stretch_width t (stretch ++ next ∷ [])))) fit.fits
+  later_fits front stretch next (more ∷ back) row_is some =
+      let regroup = row_is ∙ ap (λ r. front ++ r) (sym (append_assoc stretch (next ∷ []) (more ∷ back))) ∙ sym (append_assoc front (stretch ++ next ∷ []) (more ∷ back)) in
+      let within = part_within (front ++ (stretch ++ next ∷ [])) (more ∷ back) regroup (omega arith) in
+      let wider = stretch_width-back t front (stretch ++ next ∷ []) in
       inl (omega arith)
 
 -- a unit's rows are no more than any fitting rows of its clusters
-glyph_count : (t w : ℕ) (unit : List ℕ) (rows : List (List ℕ)) (others : List Run) → IsGlyphCutting t w unit rows → pieces_of others ≡ graphemes true unit
+glyph_count : (t w : ℕ) (unit : List ℕ) (rows : List (List ℕ)) (others : List Stretch) → IsGlyphCutting t w unit rows → pieces_of others ≡ graphemes true unit
     → AreFittingRows t w others → length rows ≤ length others
 glyph_count t w unit rows others cutting whole fit =
-    let least = greedy_ahead t w others cutting.runs [] cutting.cut (cutting.whole ∙ sym whole) fit in
-    omega (arith, ap length cutting.rows_are, length-map cutting.runs concat)
+    let least = greedy_ahead t w others cutting.stretches [] cutting.cut (cutting.whole ∙ sym whole) fit in
+    omega (arith, ap length cutting.rows_are, length-map cutting.stretches concat)
 
 only_cluster : (t w : ℕ) (unit : List ℕ) (rows : List (List ℕ)) → IsGlyphCutting t w unit rows → length (graphemes true unit) ≡ 1 → length rows ≤ 1
 only_cluster t w unit rows cutting one = glyph_count t w unit rows (graphemes true unit ∷ []) cutting (append-nil (graphemes true unit)) (inr one, tt)
 
 -- a greedy block has no more rows than a fitting one that begins no later and reaches into it
-block_count : (t w : ℕ) (block other : Block) (left rest front part more : Run) → IsBlock t w block left → IsFittingBlock t w other rest → AreBlanksClusters (units_of block)
+block_count : (t w : ℕ) (block other : Block) (left rest front part more : Stretch) → IsBlock t w block left → IsFittingBlock t w other rest → AreBlanksClusters (units_of block)
     → units_of other ≡ front ++ part → units_of block ≡ part ++ more → 0 < length part → length (rows_of block) ≤ length (rows_of other)
-block_count t w (shared run) (shared row) left rest front part more is fit blanks other_is block_is some = omega arith
-block_count t w (shared run) (split unit rows) left rest front [] more is fit blanks other_is block_is some = absurd (omega arith)
-block_count t w (shared run) (split unit rows) left rest [] (x ∷ part) more is fit blanks other_is block_is some =
+block_count t w (shared stretch) (shared row) left rest front part more is fit blanks other_is block_is some = omega arith
+block_count t w (shared stretch) (split unit rows) left rest front [] more is fit blanks other_is block_is some = absurd (omega arith)
+block_count t w (shared stretch) (split unit rows) left rest [] (x ∷ part) more is fit blanks other_is block_is some =
     let same : unit ≡ x = cc in
-    let ends = wide_ends t w run left is.0 [] x (part ++ more) block_is (subst (λ u. w < run_width t (u ∷ [])) same fit.0) in
+    let ends = wide_ends t w stretch left is.0 [] x (part ++ more) block_is (subst (λ u. w < stretch_width t (u ∷ [])) same fit.0) in
     absurd (let none = ends.1 in omega arith)
-block_count t w (shared run) (split unit rows) left rest (f ∷ front) (x ∷ part) more is fit blanks other_is block_is some =
+block_count t w (shared stretch) (split unit rows) left rest (f ∷ front) (x ∷ part) more is fit blanks other_is block_is some =
     absurd (omega (arith, ap length other_is, length-append front (x ∷ part)))
 block_count t w (split unit rows) other left rest front [] more is fit blanks other_is block_is some = absurd (omega arith)
 block_count t w (split unit rows) (shared row) left rest front (x ∷ part) more is fit blanks other_is block_is some =
     let same : unit ≡ x = cc in
-    let ends = wide_ends t w row rest fit front x part other_is (subst (λ u. w < run_width t (u ∷ [])) same is.0) in
+    let ends = wide_ends t w row rest fit front x part other_is (subst (λ u. w < stretch_width t (u ∷ [])) same is.0) in
     only_cluster t w unit rows is.1 (blanks.0 (ap is_blank same ∙ ends.2))
 block_count t w (split unit rows) (split wide others) left rest [] (x ∷ part) more is fit blanks other_is block_is some =
     let same : unit ≡ x = cc in
@@ -109,15 +109,15 @@ block_count t w (split unit rows) (split wide others) left rest (f ∷ front) (x
     absurd (omega (arith, ap length other_is, length-append front (x ∷ part)))
 
 -- a greedy block is not a strict front of what a fitting one has from there on
-pub block_reaches : (t w : ℕ) (block other : Block) (left rest front : Run) (next : List ℕ) (over : Run) → IsBlock t w block (left ++ []) → IsFittingBlock t w other (rest ++ [])
+pub block_reaches : (t w : ℕ) (block other : Block) (left rest front : Stretch) (next : List ℕ) (over : Stretch) → IsBlock t w block (left ++ []) → IsFittingBlock t w other (rest ++ [])
     → units_of other ≡ front ++ (units_of block ++ next ∷ over) → left ≡ (next ∷ over) ++ rest → ⊥
-block_reaches t w (shared run) (shared row) left rest front next over is fit other_is left_is =
-    let some : 0 < length run = omega (arith, ap length is.0.run_is, length-append is.0.front (is.0.last ∷ [])) in
+block_reaches t w (shared stretch) (shared row) left rest front next over is fit other_is left_is =
+    let some : 0 < length stretch = omega (arith, ap length is.0.stretch_is, length-append is.0.front (is.0.last ∷ [])) in
     let behind : left ++ [] ≡ next ∷ (over ++ (rest ++ [])) = ap (λ r. r ++ []) left_is ∙ ap (λ r. next ∷ r) (append_assoc over rest []) in
-    subst (HasNoRoomForUnit t w run) behind is.1 (later_fits t w row (rest ++ []) fit front run next over other_is some)
-block_reaches t w (shared run) (split unit rows) left rest front next over is fit other_is left_is =
-    let some : 0 < length run = omega (arith, ap length is.0.run_is, length-append is.0.front (is.0.last ∷ [])) in
-    omega (arith, ap length other_is, length-append front (run ++ next ∷ over), length-append run (next ∷ over))
+    subst (HasNoRoomForUnit t w stretch) behind is.1 (later_fits t w row (rest ++ []) fit front stretch next over other_is some)
+block_reaches t w (shared stretch) (split unit rows) left rest front next over is fit other_is left_is =
+    let some : 0 < length stretch = omega (arith, ap length is.0.stretch_is, length-append is.0.front (is.0.last ∷ [])) in
+    omega (arith, ap length other_is, length-append front (stretch ++ next ∷ over), length-append stretch (next ∷ over))
 block_reaches t w (split unit rows) (shared row) left rest front next over is fit other_is left_is =
     let ends = wide_ends t w row (rest ++ []) fit front unit (next ∷ over) other_is is.0 in
     omega (arith, ap length ends.0)
@@ -125,19 +125,19 @@ block_reaches t w (split unit rows) (split wide others) left rest front next ove
     omega (arith, ap length other_is, length-append front (unit ∷ next ∷ over))
 
 -- what is left of the units behind two blocks: the other block is passed, or both are
-abbrev Step : Block → Block → Run → Run → Type 0
+abbrev Step : Block → Block → Stretch → Stretch → Type 0
 Step block other left rest =
-    ((front : Run) × (front ++ (units_of block ++ left) ≡ rest))
-    ⊎ ((front : Run) × (front ++ left ≡ rest) × (length (rows_of block) ≤ length (rows_of other)))
+    ((front : Stretch) × (front ++ (units_of block ++ left) ≡ rest))
+    ⊎ ((front : Stretch) × (front ++ left ≡ rest) × (length (rows_of block) ≤ length (rows_of other)))
 
-step_over : (t w : ℕ) (block other : Block) (left rest front part over : Run) → IsBlock t w block (left ++ []) → IsFittingBlock t w other (rest ++ []) → AreBlanksClusters (units_of block)
+step_over : (t w : ℕ) (block other : Block) (left rest front part over : Stretch) → IsBlock t w block (left ++ []) → IsFittingBlock t w other (rest ++ []) → AreBlanksClusters (units_of block)
     → units_of other ≡ front ++ part → 0 < length part → part ≡ units_of block ++ over → left ≡ over ++ rest → Step block other left rest
 step_over t w block other left rest front part [] is fit blanks other_is some part_is left_is =
     inr ([], left_is, block_count t w block other (left ++ []) (rest ++ []) front part [] is fit blanks other_is (sym (part_is ∙ append-nil (units_of block)) ∙ sym (append-nil part)) some)
 step_over t w block other left rest front part (next ∷ over) is fit blanks other_is some part_is left_is =
     absurd (block_reaches t w block other left rest front next over is fit (other_is ∙ ap (λ r. front ++ r) part_is) left_is)
 
-step_into : (t w : ℕ) (block other : Block) (left rest front part : Run) → IsBlock t w block (left ++ []) → IsFittingBlock t w other (rest ++ []) → AreBlanksClusters (units_of block)
+step_into : (t w : ℕ) (block other : Block) (left rest front part : Stretch) → IsBlock t w block (left ++ []) → IsFittingBlock t w other (rest ++ []) → AreBlanksClusters (units_of block)
     → units_of other ≡ front ++ part → units_of block ++ left ≡ part ++ rest → Step block other left rest
 step_into t w block other left rest front [] is fit blanks other_is same = inl ([], same)
 step_into t w block other left rest front (x ∷ part) is fit blanks other_is same =
@@ -146,7 +146,7 @@ step_into t w block other left rest front (x ∷ part) is fit blanks other_is sa
     (λ p. inr (p.0, sym p.2, block_count t w block other (left ++ []) (rest ++ []) front (x ∷ part) p.0 is fit blanks other_is p.1 (omega arith)))
     (fronts (units_of block) left (x ∷ part) rest same)
 
-step : (t w : ℕ) (block other : Block) (left rest front : Run) → IsBlock t w block (left ++ []) → IsFittingBlock t w other (rest ++ []) → AreBlanksClusters (units_of block)
+step : (t w : ℕ) (block other : Block) (left rest front : Stretch) → IsBlock t w block (left ++ []) → IsFittingBlock t w other (rest ++ []) → AreBlanksClusters (units_of block)
     → front ++ (units_of block ++ left) ≡ units_of other ++ rest → Step block other left rest
 step t w block other left rest front is fit blanks same =
     ⊎_elim
@@ -154,20 +154,20 @@ step t w block other left rest front is fit blanks same =
     (λ p. inl (p.0, sym p.2))
     (fronts front (units_of block ++ left) (units_of other) rest same)
 
-blanks_front : (xs ys : Run) → AreBlanksClusters (xs ++ ys) → AreBlanksClusters xs
+blanks_front : (xs ys : Stretch) → AreBlanksClusters (xs ++ ys) → AreBlanksClusters xs
 blanks_front [] ys h = tt
 blanks_front (x ∷ xs) ys h = (h.0, blanks_front xs ys h.1)
 
-blanks_back : (xs ys : Run) → AreBlanksClusters (xs ++ ys) → AreBlanksClusters ys
+blanks_back : (xs ys : Stretch) → AreBlanksClusters (xs ++ ys) → AreBlanksClusters ys
 blanks_back [] ys h = h
 blanks_back (x ∷ xs) ys h = blanks_back xs ys h.1
 
-pub block_some : (t w : ℕ) (block : Block) (left : Run) → IsBlock t w block left → 0 < length (units_of block)
-block_some t w (shared run) left is = omega (arith, ap length is.0.run_is, length-append is.0.front (is.0.last ∷ []))
+pub block_some : (t w : ℕ) (block : Block) (left : Stretch) → IsBlock t w block left → 0 < length (units_of block)
+block_some t w (shared stretch) left is = omega (arith, ap length is.0.stretch_is, length-append is.0.front (is.0.last ∷ []))
 block_some t w (split unit rows) left is = omega arith
 
 -- the greedy rows of what is left behind a front are no more than any fitting rows of the whole
-pub words_ahead : (t w : ℕ) (others greedy : List Block) (front : Run) → AreBlanksClusters (flat_map units_of greedy) → AreBlocks t w greedy []
+pub words_ahead : (t w : ℕ) (others greedy : List Block) (front : Stretch) → AreBlanksClusters (flat_map units_of greedy) → AreBlocks t w greedy []
     → front ++ flat_map units_of greedy ≡ flat_map units_of others → AreFittingBlocks t w others [] → length (flat_map rows_of greedy) ≤ length (flat_map rows_of others)
 words_ahead t w others [] front blanks cut same fit = omega arith
 words_ahead t w [] (block ∷ greedy) front blanks cut same fit =

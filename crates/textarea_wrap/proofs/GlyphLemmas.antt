@@ -6,21 +6,21 @@ use Rattle.std.specs.List.{concat}
 use Rattle.std.specs.Str.{chars, IsUtf8}
 use Rattle.unicode_segmentation.specs.Grapheme.{graphemes, is_grapheme_break}
 use Rattle.unicode_segmentation.proofs.SegmentsLemmas.{AllPieces, concat-segments}
-use Rattle.textarea_wrap.specs.Columns.{end_column, run_width}
-use Rattle.textarea_wrap.specs.Cutting.{Run, pieces_of, ranges_from, IsGlyphRow, AreGlyphRows, IsGlyphCutting}
-use Rattle.textarea_wrap.proofs.ColumnLemmas.{run_width-one, run_width-push}
+use Rattle.textarea_wrap.specs.Columns.{end_column, stretch_width}
+use Rattle.textarea_wrap.specs.Cutting.{Stretch, pieces_of, ranges_from, IsGlyphRow, AreGlyphRows, IsGlyphCutting}
+use Rattle.textarea_wrap.proofs.ColumnLemmas.{stretch_width-one, stretch_width-push}
 
-pub pieces_of-append : (runs others : List Run) → pieces_of (runs ++ others) ≡ pieces_of runs ++ pieces_of others
+pub pieces_of-append : (stretches others : List Stretch) → pieces_of (stretches ++ others) ≡ pieces_of stretches ++ pieces_of others
 pieces_of-append [] others = refl
-pieces_of-append (run ∷ runs) others = ap (λ t. run ++ t) (pieces_of-append runs others) ∙ sym (append_assoc run (pieces_of runs) (pieces_of others))
+pieces_of-append (stretch ∷ stretches) others = ap (λ t. stretch ++ t) (pieces_of-append stretches others) ∙ sym (append_assoc stretch (pieces_of stretches) (pieces_of others))
 
-pub pieces_of-push : (runs : List Run) (run later : Run) → pieces_of (runs ++ run ∷ []) ++ later ≡ pieces_of runs ++ (run ++ later)
-pieces_of-push runs run later =
-    ap (λ t. t ++ later) (pieces_of-append runs (run ∷ []) ∙ ap (λ t. pieces_of runs ++ t) (append-nil run)) ∙ append_assoc (pieces_of runs) run later
+pub pieces_of-push : (stretches : List Stretch) (stretch later : Stretch) → pieces_of (stretches ++ stretch ∷ []) ++ later ≡ pieces_of stretches ++ (stretch ++ later)
+pieces_of-push stretches stretch later =
+    ap (λ t. t ++ later) (pieces_of-append stretches (stretch ∷ []) ∙ ap (λ t. pieces_of stretches ++ t) (append-nil stretch)) ∙ append_assoc (pieces_of stretches) stretch later
 
-pub concat-pieces_of : (runs : List Run) → concat (map concat runs) ≡ concat (pieces_of runs)
+pub concat-pieces_of : (stretches : List Stretch) → concat (map concat stretches) ≡ concat (pieces_of stretches)
 concat-pieces_of [] = refl
-concat-pieces_of (run ∷ runs) = ap (λ t. concat run ++ t) (concat-pieces_of runs) ∙ sym (concat-append run (pieces_of runs))
+concat-pieces_of (stretch ∷ stretches) = ap (λ t. concat stretch ++ t) (concat-pieces_of stretches) ∙ sym (concat-append stretch (pieces_of stretches))
 
 pub ranges_from-append : (at : ℕ) (texts others : List (List ℕ)) → ranges_from at (texts ++ others) ≡ ranges_from at texts ++ ranges_from (at + length (concat texts)) others
 ranges_from-append at [] others = ap (λ n. ranges_from n others) (omega arith)
@@ -28,55 +28,55 @@ ranges_from-append at (text ∷ texts) others =
     ap (λ t. (at, at + length text) ∷ t) (ranges_from-append (at + length text) texts others
     ∙ ap (λ n. ranges_from (at + length text) texts ++ ranges_from n others) (omega (arith, length-append text (concat texts))))
 
-pub AreGlyphRows-push : (tab_len width : ℕ) (runs : List Run) (run later : Run) → AreGlyphRows tab_len width runs (run ++ later)
-    → IsGlyphRow tab_len width run later → AreGlyphRows tab_len width (runs ++ run ∷ []) later
-AreGlyphRows-push tab_len width [] run later before here = (here, tt)
-AreGlyphRows-push tab_len width (first ∷ runs) run later before here =
-    (subst (IsGlyphRow tab_len width first) (sym (pieces_of-push runs run later)) before.0, AreGlyphRows-push tab_len width runs run later before.1 here)
+pub AreGlyphRows-push : (tab_len width : ℕ) (stretches : List Stretch) (stretch later : Stretch) → AreGlyphRows tab_len width stretches (stretch ++ later)
+    → IsGlyphRow tab_len width stretch later → AreGlyphRows tab_len width (stretches ++ stretch ∷ []) later
+AreGlyphRows-push tab_len width [] stretch later before here = (here, tt)
+AreGlyphRows-push tab_len width (first ∷ stretches) stretch later before here =
+    (subst (IsGlyphRow tab_len width first) (sym (pieces_of-push stretches stretch later)) before.0, AreGlyphRows-push tab_len width stretches stretch later before.1 here)
 
 -- `rows` are those before the walk and the ranges of the full rows; `left` are the clusters that are still to come
-pub record IsGlyphWalk (tab_len width start : ℕ) (clusters : Run) (before rows : List (ℕ × ℕ)) (left : Run) (row_start row_end column : ℕ) : Type 0 where
-  pub full : List Run
-  pub open_run : Run
-  pub joined : pieces_of full ++ (open_run ++ left) ≡ clusters
-  pub cut : AreGlyphRows tab_len width full (open_run ++ left)
+pub record IsGlyphWalk (tab_len width start : ℕ) (clusters : Stretch) (before rows : List (ℕ × ℕ)) (left : Stretch) (row_start row_end column : ℕ) : Type 0 where
+  pub full : List Stretch
+  pub open_stretch : Stretch
+  pub joined : pieces_of full ++ (open_stretch ++ left) ≡ clusters
+  pub cut : AreGlyphRows tab_len width full (open_stretch ++ left)
   pub rows_are : rows ≡ before ++ ranges_from start (map concat full)
   pub begins : row_start ≡ start + length (concat (map concat full))
-  pub ends : row_end ≡ row_start + length (concat open_run)
-  pub column_is : column ≡ run_width tab_len open_run
-  pub fits : (column ≤ width) ⊎ (length open_run ≡ 1)
-  pub closed : row_end ≤ row_start → open_run ≡ []
+  pub ends : row_end ≡ row_start + length (concat open_stretch)
+  pub column_is : column ≡ stretch_width tab_len open_stretch
+  pub fits : (column ≤ width) ⊎ (length open_stretch ≡ 1)
+  pub closed : row_end ≤ row_start → open_stretch ≡ []
   pub some : AllPieces (λ p. 0 < length p) left
 
-pub nonempty_from_bytes : (run : Run) → 0 < length (concat run) → 0 < length run
+pub nonempty_from_bytes : (stretch : Stretch) → 0 < length (concat stretch) → 0 < length stretch
 nonempty_from_bytes [] h = h
-nonempty_from_bytes (piece ∷ run) h = omega arith
+nonempty_from_bytes (piece ∷ stretch) h = omega arith
 
-pub length-concat-push : (run : Run) (piece : List ℕ) → length (concat (run ++ piece ∷ [])) ≡ length (concat run) + length piece
-length-concat-push run piece =
-    ap length (concat-append run (piece ∷ []) ∙ ap (λ t. concat run ++ t) (append-nil piece)) ∙ length-append (concat run) piece
+pub length-concat-push : (stretch : Stretch) (piece : List ℕ) → length (concat (stretch ++ piece ∷ [])) ≡ length (concat stretch) + length piece
+length-concat-push stretch piece =
+    ap length (concat-append stretch (piece ∷ []) ∙ ap (λ t. concat stretch ++ t) (append-nil piece)) ∙ length-append (concat stretch) piece
 
 -- a text more, behind texts that end where it begins
-pub ranges_from-push : (start : ℕ) (before rows : List (ℕ × ℕ)) (full : List Run) (run : Run) (row_start row_end : ℕ)
-    → rows ≡ before ++ ranges_from start (map concat full) → row_start ≡ start + length (concat (map concat full)) → row_end ≡ row_start + length (concat run)
-    → rows ++ (row_start, row_end) ∷ [] ≡ before ++ ranges_from start (map concat (full ++ run ∷ []))
-ranges_from-push start before rows full run row_start row_end rows_are begins ends =
-    ap₂ (λ t r. t ++ r ∷ []) rows_are (ap₂ (λ m n. (m, n)) begins (ends ∙ ap (λ n. n + length (concat run)) begins))
+pub ranges_from-push : (start : ℕ) (before rows : List (ℕ × ℕ)) (full : List Stretch) (stretch : Stretch) (row_start row_end : ℕ)
+    → rows ≡ before ++ ranges_from start (map concat full) → row_start ≡ start + length (concat (map concat full)) → row_end ≡ row_start + length (concat stretch)
+    → rows ++ (row_start, row_end) ∷ [] ≡ before ++ ranges_from start (map concat (full ++ stretch ∷ []))
+ranges_from-push start before rows full stretch row_start row_end rows_are begins ends =
+    ap₂ (λ t r. t ++ r ∷ []) rows_are (ap₂ (λ m n. (m, n)) begins (ends ∙ ap (λ n. n + length (concat stretch)) begins))
     ∙ append_assoc before _ _
-    ∙ ap (λ t. before ++ t) (sym (ap (ranges_from start) (map-append concat full (run ∷ [])) ∙ ranges_from-append start (map concat full) (concat run ∷ [])))
+    ∙ ap (λ t. before ++ t) (sym (ap (ranges_from start) (map-append concat full (stretch ∷ [])) ∙ ranges_from-append start (map concat full) (concat stretch ∷ [])))
 
-pub length-concat-map-push : (full : List Run) (run : Run) → length (concat (map concat (full ++ run ∷ []))) ≡ length (concat (map concat full)) + length (concat run)
-length-concat-map-push full run =
-    ap (λ t. length (concat t)) (map-append concat full (run ∷ [])) ∙ length-concat-push (map concat full) (concat run)
+pub length-concat-map-push : (full : List Stretch) (stretch : Stretch) → length (concat (map concat (full ++ stretch ∷ []))) ≡ length (concat (map concat full)) + length (concat stretch)
+length-concat-map-push full stretch =
+    ap (λ t. length (concat t)) (map-append concat full (stretch ∷ [])) ∙ length-concat-push (map concat full) (concat stretch)
 
-module _ (tab_len width start : ℕ) (clusters : Run) (before : List (ℕ × ℕ)) where
-  abbrev Walk : List (ℕ × ℕ) → Run → ℕ → ℕ → ℕ → Type 0
+module _ (tab_len width start : ℕ) (clusters : Stretch) (before : List (ℕ × ℕ)) where
+  abbrev Walk : List (ℕ × ℕ) → Stretch → ℕ → ℕ → ℕ → Type 0
   Walk = IsGlyphWalk tab_len width start clusters before
 
   pub IsGlyphWalk-start : AllPieces (λ p. 0 < length p) clusters → IsGlyphWalk tab_len width start clusters before before clusters start start 0
   IsGlyphWalk-start some = record {
     full = [];
-    open_run = [];
+    open_stretch = [];
     joined = refl;
     cut = tt;
     rows_are = sym (append-nil before);
@@ -88,26 +88,26 @@ module _ (tab_len width start : ℕ) (clusters : Run) (before : List (ℕ × ℕ
     some = some;
   }
 
-  module _ (rows : List (ℕ × ℕ)) (cluster : List ℕ) (left : Run) (row_start row_end column end : ℕ)
+  module _ (rows : List (ℕ × ℕ)) (cluster : List ℕ) (left : Stretch) (row_start row_end column end : ℕ)
       (w : IsGlyphWalk tab_len width start clusters before rows (cluster ∷ left) row_start row_end column) where
     -- the cluster joins the open row, which is empty or has room for it
     pub IsGlyphWalk-extend : end ≡ end_column tab_len column (chars cluster) → (row_end ≤ row_start) ⊎ (end ≤ width)
         → IsGlyphWalk tab_len width start clusters before rows left row_start (row_end + length cluster) end
     IsGlyphWalk-extend end_is room =
-        let regroup = append_assoc w.open_run (cluster ∷ []) left in
+        let regroup = append_assoc w.open_stretch (cluster ∷ []) left in
         let ends = w.ends in
         let cluster_some = w.some.0 in
-        let len = length-concat-push w.open_run cluster in
+        let len = length-concat-push w.open_stretch cluster in
         record {
           full = w.full;
-          open_run = w.open_run ++ cluster ∷ [];
+          open_stretch = w.open_stretch ++ cluster ∷ [];
           joined = ap (λ t. pieces_of w.full ++ t) regroup ∙ w.joined;
           cut = subst (AreGlyphRows tab_len width w.full) (sym regroup) w.cut;
           rows_are = w.rows_are;
           begins = w.begins;
           ends = omega arith;
-          column_is = end_is ∙ ap (λ x. end_column tab_len x (chars cluster)) w.column_is ∙ sym (run_width-push tab_len w.open_run cluster);
-          fits = ⊎_elim (λ empty. inr (ap (λ run. length (run ++ cluster ∷ [])) (w.closed empty))) (λ fits. inl fits) room;
+          column_is = end_is ∙ ap (λ x. end_column tab_len x (chars cluster)) w.column_is ∙ sym (stretch_width-push tab_len w.open_stretch cluster);
+          fits = ⊎_elim (λ empty. inr (ap (λ stretch. length (stretch ++ cluster ∷ [])) (w.closed empty))) (λ fits. inl fits) room;
           closed = λ h. absurd (omega arith);
           some = w.some.1;
         }
@@ -118,20 +118,20 @@ module _ (tab_len width start : ℕ) (clusters : Run) (before : List (ℕ × ℕ
     IsGlyphWalk-break started end_is over =
         let ends = w.ends in
         let cluster_some = w.some.0 in
-        let over_is = end_is ∙ ap (λ x. end_column tab_len x (chars cluster)) w.column_is ∙ sym (run_width-push tab_len w.open_run cluster) in
+        let over_is = end_is ∙ ap (λ x. end_column tab_len x (chars cluster)) w.column_is ∙ sym (stretch_width-push tab_len w.open_stretch cluster) in
         record {
-          full = w.full ++ w.open_run ∷ [];
-          open_run = cluster ∷ [];
-          joined = pieces_of-push w.full w.open_run (cluster ∷ left) ∙ w.joined;
-          cut = AreGlyphRows-push tab_len width w.full w.open_run (cluster ∷ left) w.cut (record {
-            nonempty = nonempty_from_bytes w.open_run (omega arith);
+          full = w.full ++ w.open_stretch ∷ [];
+          open_stretch = cluster ∷ [];
+          joined = pieces_of-push w.full w.open_stretch (cluster ∷ left) ∙ w.joined;
+          cut = AreGlyphRows-push tab_len width w.full w.open_stretch (cluster ∷ left) w.cut (record {
+            nonempty = nonempty_from_bytes w.open_stretch (omega arith);
             fits = ⊎_elim (λ fits. inl (subst (λ n. n ≤ width) w.column_is fits)) inr w.fits;
             full = subst (λ n. width < n) over_is over;
           });
-          rows_are = ranges_from-push start before rows w.full w.open_run row_start row_end w.rows_are w.begins w.ends;
-          begins = w.ends ∙ ap (λ n. n + length (concat w.open_run)) w.begins ∙ omega (arith, length-concat-map-push w.full w.open_run);
+          rows_are = ranges_from-push start before rows w.full w.open_stretch row_start row_end w.rows_are w.begins w.ends;
+          begins = w.ends ∙ ap (λ n. n + length (concat w.open_stretch)) w.begins ∙ omega (arith, length-concat-map-push w.full w.open_stretch);
           ends = omega (arith, length-append cluster []);
-          column_is = sym (run_width-one tab_len cluster);
+          column_is = sym (stretch_width-one tab_len cluster);
           fits = inr refl;
           closed = λ h. absurd (omega arith);
           some = w.some.1;
@@ -144,20 +144,20 @@ module _ (tab_len width start : ℕ) (clusters : Run) (before : List (ℕ × ℕ
         → (texts : List (List ℕ)) × IsGlyphCutting tab_len width text texts × (concat texts ≡ text) × (rows ++ (row_start, row_end) ∷ [] ≡ before ++ ranges_from start texts)
     IsGlyphWalk-end_open started =
         let ends = w.ends in
-        let all = sym (append-nil _) ∙ pieces_of-push w.full w.open_run [] ∙ w.joined ∙ whole in (
-          map concat (w.full ++ w.open_run ∷ []),
+        let all = sym (append-nil _) ∙ pieces_of-push w.full w.open_stretch [] ∙ w.joined ∙ whole in (
+          map concat (w.full ++ w.open_stretch ∷ []),
           record {
-            runs = w.full ++ w.open_run ∷ [];
+            stretches = w.full ++ w.open_stretch ∷ [];
             whole = all;
-            cut = AreGlyphRows-push tab_len width w.full w.open_run [] w.cut (record {
-              nonempty = nonempty_from_bytes w.open_run (omega arith);
+            cut = AreGlyphRows-push tab_len width w.full w.open_stretch [] w.cut (record {
+              nonempty = nonempty_from_bytes w.open_stretch (omega arith);
               fits = ⊎_elim (λ fits. inl (subst (λ n. n ≤ width) w.column_is fits)) inr w.fits;
               full = tt;
             });
             rows_are = refl;
           },
-          concat-pieces_of (w.full ++ w.open_run ∷ []) ∙ ap concat all ∙ concat-segments (is_grapheme_break true) text utf8,
-          ranges_from-push start before rows w.full w.open_run row_start row_end w.rows_are w.begins w.ends,
+          concat-pieces_of (w.full ++ w.open_stretch ∷ []) ∙ ap concat all ∙ concat-segments (is_grapheme_break true) text utf8,
+          ranges_from-push start before rows w.full w.open_stretch row_start row_end w.rows_are w.begins w.ends,
         )
 
     -- no cluster is left, and no row is open
@@ -168,7 +168,7 @@ module _ (tab_len width start : ℕ) (clusters : Run) (before : List (ℕ × ℕ
         let all = sym (append-nil _) ∙ ap (λ t. pieces_of w.full ++ t) (sym empty) ∙ w.joined ∙ whole in (
           map concat w.full,
           record {
-            runs = w.full;
+            stretches = w.full;
             whole = all;
             cut = subst (AreGlyphRows tab_len width w.full) empty w.cut;
             rows_are = refl;

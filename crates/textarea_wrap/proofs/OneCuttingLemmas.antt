@@ -1,8 +1,8 @@
 -- A text has one greedy cutting: of two rows that begin together neither ends before the other.
 use Rattle.std.proofs.Common.{◌≡◌, ℕ, ◌≤◌, ◌⊎◌, List, [], ◌∷◌, ◌++◌, map, length, refl, sym, ap, ap₂, subst, ◌∙◌, ⊎_elim, append-nil, length-append, arith}
 use Rattle.std.specs.List.{concat, flat_map}
-use Rattle.textarea_wrap.specs.Columns.{run_width}
-use Rattle.textarea_wrap.specs.Cutting.{Run, Block, shared, split, pieces_of, units_of, rows_of, ranges_from, IsGlyphRow, AreGlyphRows, IsGlyphCutting, AreFittingRows, IsBlock, AreBlocks, IsWordCutting, IsFittingBlock}
+use Rattle.textarea_wrap.specs.Columns.{stretch_width}
+use Rattle.textarea_wrap.specs.Cutting.{Stretch, Block, shared, split, pieces_of, units_of, rows_of, ranges_from, IsGlyphRow, AreGlyphRows, IsGlyphCutting, AreFittingRows, IsBlock, AreBlocks, IsWordCutting, IsFittingBlock}
 use Rattle.textarea_wrap.specs.declared.wrap.WrapMode.{WrapMode}
 use Rattle.textarea_wrap.specs.declared.wrap.WrapMode.TheVariants as mode
 use Rattle.textarea_wrap.specs.Wrapped.{AreRowTexts, IsCutting, IsWrapped}
@@ -11,53 +11,53 @@ use Rattle.textarea_wrap.proofs.FewestWordLemmas.{block_reaches, block_some, wid
 
 -- ---- at cluster ends
 
-row_ends : (t w : ℕ) (run left rest row over : Run) → IsGlyphRow t w run (left ++ []) → row ≡ run ++ over → left ≡ over ++ rest → (run_width t row ≤ w) ⊎ (length row ≡ 1) → over ≡ []
-row_ends t w run left rest row [] greedy row_is left_is fits = refl
-row_ends t w run left rest row (next ∷ over) greedy row_is left_is fits =
-    absurd (not_shorter t w run (left ++ []) [] (over ++ rest) next row greedy (append-nil left ∙ left_is) over row_is fits)
+row_ends : (t w : ℕ) (stretch left rest row over : Stretch) → IsGlyphRow t w stretch (left ++ []) → row ≡ stretch ++ over → left ≡ over ++ rest → (stretch_width t row ≤ w) ⊎ (length row ≡ 1) → over ≡ []
+row_ends t w stretch left rest row [] greedy row_is left_is fits = refl
+row_ends t w stretch left rest row (next ∷ over) greedy row_is left_is fits =
+    absurd (not_shorter t w stretch (left ++ []) [] (over ++ rest) next row greedy (append-nil left ∙ left_is) over row_is fits)
 
-runs_same : (t w : ℕ) (a b : List Run) → AreGlyphRows t w a [] → AreGlyphRows t w b [] → pieces_of a ≡ pieces_of b → a ≡ b
-runs_same t w [] [] h k same = refl
-runs_same t w [] (row ∷ b) h k same = absurd (omega (arith, k.0.nonempty, ap length same, length-append row (pieces_of b)))
-runs_same t w (run ∷ a) [] h k same = absurd (omega (arith, h.0.nonempty, ap length same, length-append run (pieces_of a)))
-runs_same t w (run ∷ a) (row ∷ b) h k same =
+stretches_same : (t w : ℕ) (a b : List Stretch) → AreGlyphRows t w a [] → AreGlyphRows t w b [] → pieces_of a ≡ pieces_of b → a ≡ b
+stretches_same t w [] [] h k same = refl
+stretches_same t w [] (row ∷ b) h k same = absurd (omega (arith, k.0.nonempty, ap length same, length-append row (pieces_of b)))
+stretches_same t w (stretch ∷ a) [] h k same = absurd (omega (arith, h.0.nonempty, ap length same, length-append stretch (pieces_of a)))
+stretches_same t w (stretch ∷ a) (row ∷ b) h k same =
     ⊎_elim
     (λ p.
-    let none : p.0 ≡ [] = row_ends t w run (pieces_of a) (pieces_of b) row p.0 h.0 p.1 p.2 k.0.fits in
-    let first : run ≡ row = sym (append-nil run) ∙ ap (λ e. run ++ e) (sym none) ∙ sym p.1 in
-    let rest = runs_same t w a b h.1 k.1 (p.2 ∙ ap (λ e. e ++ pieces_of b) none) in
-    ap₂ (λ (x : Run) (xs : List Run). x ∷ xs) first rest)
+    let none : p.0 ≡ [] = row_ends t w stretch (pieces_of a) (pieces_of b) row p.0 h.0 p.1 p.2 k.0.fits in
+    let first : stretch ≡ row = sym (append-nil stretch) ∙ ap (λ e. stretch ++ e) (sym none) ∙ sym p.1 in
+    let rest = stretches_same t w a b h.1 k.1 (p.2 ∙ ap (λ e. e ++ pieces_of b) none) in
+    ap₂ (λ (x : Stretch) (xs : List Stretch). x ∷ xs) first rest)
     (λ p.
-    let none : p.0 ≡ [] = row_ends t w row (pieces_of b) (pieces_of a) run p.0 k.0 p.1 p.2 h.0.fits in
-    let first : run ≡ row = p.1 ∙ ap (λ e. row ++ e) none ∙ append-nil row in
-    let rest = runs_same t w a b h.1 k.1 (sym (p.2 ∙ ap (λ e. e ++ pieces_of a) none)) in
-    ap₂ (λ (x : Run) (xs : List Run). x ∷ xs) first rest)
-    (fronts run (pieces_of a) row (pieces_of b) same)
+    let none : p.0 ≡ [] = row_ends t w row (pieces_of b) (pieces_of a) stretch p.0 k.0 p.1 p.2 h.0.fits in
+    let first : stretch ≡ row = p.1 ∙ ap (λ e. row ++ e) none ∙ append-nil row in
+    let rest = stretches_same t w a b h.1 k.1 (sym (p.2 ∙ ap (λ e. e ++ pieces_of a) none)) in
+    ap₂ (λ (x : Stretch) (xs : List Stretch). x ∷ xs) first rest)
+    (fronts stretch (pieces_of a) row (pieces_of b) same)
 
 glyphs_same : (t w : ℕ) (text : List ℕ) (rows others : List (List ℕ)) → IsGlyphCutting t w text rows → IsGlyphCutting t w text others → rows ≡ others
 glyphs_same t w text rows others h k =
-    h.rows_are ∙ ap (map concat) (runs_same t w h.runs k.runs h.cut k.cut (h.whole ∙ sym k.whole)) ∙ sym k.rows_are
+    h.rows_are ∙ ap (map concat) (stretches_same t w h.stretches k.stretches h.cut k.cut (h.whole ∙ sym k.whole)) ∙ sym k.rows_are
 
 -- ---- at unit ends
 
-rows_fit : (t w : ℕ) (runs : List Run) (later : Run) → AreGlyphRows t w runs later → AreFittingRows t w runs
+rows_fit : (t w : ℕ) (stretches : List Stretch) (later : Stretch) → AreGlyphRows t w stretches later → AreFittingRows t w stretches
 rows_fit t w [] later h = tt
-rows_fit t w (run ∷ runs) later h = (h.0.fits, rows_fit t w runs later h.1)
+rows_fit t w (stretch ∷ stretches) later h = (h.0.fits, rows_fit t w stretches later h.1)
 
-block_fits : (t w : ℕ) (block : Block) (later : Run) → IsBlock t w block later → IsFittingBlock t w block later
-block_fits t w (shared run) later h = h.0
-block_fits t w (split unit rows) later h = (h.0, (h.1.runs, h.1.whole, rows_fit t w h.1.runs [] h.1.cut, h.1.rows_are))
+block_fits : (t w : ℕ) (block : Block) (later : Stretch) → IsBlock t w block later → IsFittingBlock t w block later
+block_fits t w (shared stretch) later h = h.0
+block_fits t w (split unit rows) later h = (h.0, (h.1.stretches, h.1.whole, rows_fit t w h.1.stretches [] h.1.cut, h.1.rows_are))
 
-block_ends : (t w : ℕ) (block other : Block) (left rest over : Run) → IsBlock t w block (left ++ []) → IsBlock t w other (rest ++ []) → units_of other ≡ units_of block ++ over → left ≡ over ++ rest → over ≡ []
+block_ends : (t w : ℕ) (block other : Block) (left rest over : Stretch) → IsBlock t w block (left ++ []) → IsBlock t w other (rest ++ []) → units_of other ≡ units_of block ++ over → left ≡ over ++ rest → over ≡ []
 block_ends t w block other left rest [] h k other_is left_is = refl
 block_ends t w block other left rest (next ∷ over) h k other_is left_is =
     absurd (block_reaches t w block other left rest [] next over h (block_fits t w other (rest ++ []) k) other_is left_is)
 
 -- blocks of the same units have the same rows
-block_rows : (t w : ℕ) (block other : Block) (left rest : Run) → IsBlock t w block left → IsBlock t w other rest → units_of block ≡ units_of other → rows_of block ≡ rows_of other
-block_rows t w (shared run) (shared row) left rest h k same = ap (λ r. concat r ∷ []) same
-block_rows t w (shared run) (split unit rows) left rest h k same =
-    absurd (let ends = wide_ends t w run left h.0 [] unit [] same k.0 in let none = ends.1 in omega arith)
+block_rows : (t w : ℕ) (block other : Block) (left rest : Stretch) → IsBlock t w block left → IsBlock t w other rest → units_of block ≡ units_of other → rows_of block ≡ rows_of other
+block_rows t w (shared stretch) (shared row) left rest h k same = ap (λ r. concat r ∷ []) same
+block_rows t w (shared stretch) (split unit rows) left rest h k same =
+    absurd (let ends = wide_ends t w stretch left h.0 [] unit [] same k.0 in let none = ends.1 in omega arith)
 block_rows t w (split unit rows) (shared row) left rest h k same =
     absurd (let ends = wide_ends t w row rest k.0 [] unit [] (sym same) h.0 in let none = ends.1 in omega arith)
 block_rows t w (split unit rows) (split wide others) left rest h k same =

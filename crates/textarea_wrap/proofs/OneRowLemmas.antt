@@ -5,41 +5,41 @@ use Rattle.std.specs.List.{concat, flat_map}
 use Rattle.std.specs.Str.{IsUtf8, chars}
 use Rattle.unicode_segmentation.specs.Grapheme.{graphemes, is_grapheme_break}
 use Rattle.unicode_segmentation.proofs.SegmentsLemmas.{concat-segments}
-use Rattle.textarea_wrap.specs.Columns.{end_column, run_width}
+use Rattle.textarea_wrap.specs.Columns.{end_column, stretch_width}
 use Rattle.textarea_wrap.specs.Units.{line_units}
-use Rattle.textarea_wrap.specs.Cutting.{Run, shared, IsFittingRun, ranges_from}
+use Rattle.textarea_wrap.specs.Cutting.{Stretch, shared, IsFittingStretch, ranges_from}
 use Rattle.textarea_wrap.specs.declared.wrap.WrapMode.{WrapMode}
 use Rattle.textarea_wrap.specs.declared.wrap.WrapMode.TheVariants as mode
 use Rattle.textarea_wrap.specs.Wrapped.{IsWrapped, TakesOneRow}
 use Rattle.textarea_wrap.proofs.GlyphLemmas.{nonempty_from_bytes}
 use Rattle.textarea_wrap.proofs.RowLemmas.{ArePieces, ArePieces-segments, ArePieces-line_units, concat-line_units, IsWrapped-empty, IsWrapped-whole, IsWrapped-glyphs, IsWrapped-words, IsWrapped-words_or_glyphs}
 
-chars-pieces : (xs : Run) → ArePieces xs → flat_map chars xs ≡ chars (concat xs)
+chars-pieces : (xs : Stretch) → ArePieces xs → flat_map chars xs ≡ chars (concat xs)
 chars-pieces [] p = sym chars-nil
 chars-pieces (x ∷ xs) p = ap (λ t. chars x ++ t) (chars-pieces xs p.1) ∙ sym (chars-append x (concat xs) p.0.utf8)
 
 -- pieces that make up a text are together as wide as the text
-run_width-whole : (t : ℕ) (text : List ℕ) (pieces : Run) → ArePieces pieces → concat pieces ≡ text → run_width t pieces ≡ end_column t 0 (chars text)
-run_width-whole t text pieces p joined = ap (end_column t 0) (chars-pieces pieces p ∙ ap chars joined)
+stretch_width-whole : (t : ℕ) (text : List ℕ) (pieces : Stretch) → ArePieces pieces → concat pieces ≡ text → stretch_width t pieces ≡ end_column t 0 (chars text)
+stretch_width-whole t text pieces p joined = ap (end_column t 0) (chars-pieces pieces p ∙ ap chars joined)
 
-last_piece : (piece : List ℕ) (run : Run) → (front : Run) × (last : List ℕ) × (piece ∷ run ≡ front ++ last ∷ [])
+last_piece : (piece : List ℕ) (stretch : Stretch) → (front : Stretch) × (last : List ℕ) × (piece ∷ stretch ≡ front ++ last ∷ [])
 last_piece piece [] = ([], piece, refl)
-last_piece piece (next ∷ run) = let rest = last_piece next run in (piece ∷ rest.0, rest.1, ap (λ t. piece ∷ t) rest.2)
+last_piece piece (next ∷ stretch) = let rest = last_piece next stretch in (piece ∷ rest.0, rest.1, ap (λ t. piece ∷ t) rest.2)
 
-one_fitting_run : (t w : ℕ) (run : Run) → 0 < length run → run_width t run ≤ w → IsFittingRun t w run []
-one_fitting_run t w [] some within = absurd (omega arith)
-one_fitting_run t w (piece ∷ run) some within =
-    let ends = last_piece piece run in
-    record { front = ends.0; last = ends.1; run_is = ends.2; fits = inl (subst (λ r. run_width t r ≤ w) ends.2 within) }
+one_fitting_stretch : (t w : ℕ) (stretch : Stretch) → 0 < length stretch → stretch_width t stretch ≤ w → IsFittingStretch t w stretch []
+one_fitting_stretch t w [] some within = absurd (omega arith)
+one_fitting_stretch t w (piece ∷ stretch) some within =
+    let ends = last_piece piece stretch in
+    record { front = ends.0; last = ends.1; stretch_is = ends.2; fits = inl (subst (λ r. stretch_width t r ≤ w) ends.2 within) }
 
 module _ (t w : ℕ) (line : List ℕ) (ranges : List (ℕ × ℕ)) (u : IsUtf8 line) (some : 0 < length line) (within : end_column t 0 (chars line) ≤ w)
     (ranges_are : ranges ≡ (0, length line) ∷ []) where
   one_row : ranges ≡ ranges_from 0 (line ∷ [])
   one_row = ranges_are ∙ ap (λ n. (0, n) ∷ []) (omega arith)
 
-  within_pieces : (pieces : Run) → ArePieces pieces → concat pieces ≡ line → (0 < length pieces) × (run_width t pieces ≤ w)
+  within_pieces : (pieces : Stretch) → ArePieces pieces → concat pieces ≡ line → (0 < length pieces) × (stretch_width t pieces ≤ w)
   within_pieces pieces p joined =
-      (nonempty_from_bytes pieces (omega (arith, ap length joined)), subst (λ n. n ≤ w) (sym (run_width-whole t line pieces p joined)) within)
+      (nonempty_from_bytes pieces (omega (arith, ap length joined)), subst (λ n. n ≤ w) (sym (stretch_width-whole t line pieces p joined)) within)
 
   clusters_joined : concat (graphemes true line) ≡ line
   clusters_joined = concat-segments (is_grapheme_break true) line u
@@ -48,7 +48,7 @@ module _ (t w : ℕ) (line : List ℕ) (ranges : List (ℕ × ℕ)) (u : IsUtf8 
   one_glyph_row =
       let fits = within_pieces (graphemes true line) (ArePieces-segments (is_grapheme_break true) line u) clusters_joined in
       IsWrapped-glyphs t w line ranges u some (line ∷ []) record {
-        runs = graphemes true line ∷ [];
+        stretches = graphemes true line ∷ [];
         whole = append-nil (graphemes true line);
         cut = (record { nonempty = fits.0; fits = inl fits.1; full = tt }, tt);
         rows_are = ap (λ row. row ∷ []) (sym clusters_joined);
@@ -57,8 +57,8 @@ module _ (t w : ℕ) (line : List ℕ) (ranges : List (ℕ × ℕ)) (u : IsUtf8 
   units_joined : concat (line_units line) ≡ line
   units_joined = concat-line_units line u
 
-  units_fit : IsFittingRun t w (line_units line) []
-  units_fit = let fits = within_pieces (line_units line) (ArePieces-line_units line u) units_joined in one_fitting_run t w (line_units line) fits.0 fits.1
+  units_fit : IsFittingStretch t w (line_units line) []
+  units_fit = let fits = within_pieces (line_units line) (ArePieces-line_units line u) units_joined in one_fitting_stretch t w (line_units line) fits.0 fits.1
 
   one_unit_row : ranges ≡ ranges_from 0 (concat (line_units line) ∷ [])
   one_unit_row = one_row ∙ ap (λ row. ranges_from 0 (row ∷ [])) (sym units_joined)

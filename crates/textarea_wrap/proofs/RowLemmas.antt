@@ -11,7 +11,7 @@ use Rattle.unicode_segmentation.specs.Segments.{Rule, segments, with_offsets}
 use Rattle.unicode_segmentation.specs.Word.{word_bounds, is_word_break}
 use Rattle.unicode_segmentation.proofs.SegmentsLemmas.{AllPieces, IsPieceOf, All-IsPieceOf, segments_nonempty, concat-segments}
 use Rattle.textarea_wrap.specs.Units.{is_blank, units_of_piece, line_units}
-use Rattle.textarea_wrap.specs.Cutting.{Run, Block, shared, split, pieces_of, units_of, rows_of, ranges_from, AreGlyphRows, IsGlyphCutting, IsBlock, AreBlocks, IsWordCutting}
+use Rattle.textarea_wrap.specs.Cutting.{Stretch, Block, shared, split, pieces_of, units_of, rows_of, ranges_from, AreGlyphRows, IsGlyphCutting, IsBlock, AreBlocks, IsWordCutting}
 use Rattle.textarea_wrap.specs.declared.wrap.WrapMode.{WrapMode}
 use Rattle.textarea_wrap.specs.declared.wrap.WrapMode.TheVariants as mode
 use Rattle.textarea_wrap.specs.Wrapped.{IsCutting, IsRowRange, IsWrapped}
@@ -22,38 +22,38 @@ pub record IsPiece (piece : List ℕ) : Type 0 where
   pub some : 0 < length piece
   pub utf8 : IsUtf8 piece
 
-abbrev pub ArePieces : Run → Type 0
+abbrev pub ArePieces : Stretch → Type 0
 ArePieces = AllByRecursion IsPiece
 
-pub ArePieces-append : (xs ys : Run) → ArePieces xs → ArePieces ys → ArePieces (xs ++ ys)
+pub ArePieces-append : (xs ys : Stretch) → ArePieces xs → ArePieces ys → ArePieces (xs ++ ys)
 ArePieces-append [] ys p q = q
 ArePieces-append (x ∷ xs) ys p q = (p.0, ArePieces-append xs ys p.1 q)
 
-pub ArePieces-front : (xs ys : Run) → ArePieces (xs ++ ys) → ArePieces xs
+pub ArePieces-front : (xs ys : Stretch) → ArePieces (xs ++ ys) → ArePieces xs
 ArePieces-front [] ys p = tt
 ArePieces-front (x ∷ xs) ys p = (p.0, ArePieces-front xs ys p.1)
 
-pub ArePieces-back : (xs ys : Run) → ArePieces (xs ++ ys) → ArePieces ys
+pub ArePieces-back : (xs ys : Stretch) → ArePieces (xs ++ ys) → ArePieces ys
 ArePieces-back [] ys p = p
 ArePieces-back (x ∷ xs) ys p = ArePieces-back xs ys p.1
 
-pub IsUtf8-concat : (xs : Run) → ArePieces xs → IsUtf8 (concat xs)
+pub IsUtf8-concat : (xs : Stretch) → ArePieces xs → IsUtf8 (concat xs)
 IsUtf8-concat [] p = IsUtf8-nil
 IsUtf8-concat (x ∷ xs) p = IsUtf8-append x (concat xs) p.0.utf8 (IsUtf8-concat xs p.1)
 
-pub AreNonempty-pieces : (xs : Run) → ArePieces xs → AllByRecursion (λ x. 0 < length x) xs
+pub AreNonempty-pieces : (xs : Stretch) → ArePieces xs → AllByRecursion (λ x. 0 < length x) xs
 AreNonempty-pieces [] p = tt
 AreNonempty-pieces (x ∷ xs) p = (p.0.some, AreNonempty-pieces xs p.1)
 
-IsPiece-concat : (run : Run) → 0 < length run → ArePieces run → IsPiece (concat run)
+IsPiece-concat : (stretch : Stretch) → 0 < length stretch → ArePieces stretch → IsPiece (concat stretch)
 IsPiece-concat [] h p = absurd (omega arith)
-IsPiece-concat (piece ∷ run) h p =
+IsPiece-concat (piece ∷ stretch) h p =
     let some = p.0.some in
-    record { some = omega (arith, length-append piece (concat run)); utf8 = IsUtf8-concat (piece ∷ run) p }
+    record { some = omega (arith, length-append piece (concat stretch)); utf8 = IsUtf8-concat (piece ∷ stretch) p }
 
 -- ---- segments
 
-ArePieces-offsets : (s : List ℕ) (u : IsUtf8 s) (at : ℕ) (xs : Run) → AllPieces (λ x. 0 < length x) xs → All (IsPieceOf s) (with_offsets at xs) → ArePieces xs
+ArePieces-offsets : (s : List ℕ) (u : IsUtf8 s) (at : ℕ) (xs : Stretch) → AllPieces (λ x. 0 < length x) xs → All (IsPieceOf s) (with_offsets at xs) → ArePieces xs
 unfolding with_offsets
 ArePieces-offsets s u at [] some all = tt
 ArePieces-offsets s u at (x ∷ xs) some all =
@@ -74,12 +74,12 @@ ArePieces-units_of_piece : (piece : List ℕ) → IsPiece piece → ArePieces (u
 ArePieces-units_of_piece piece p = cond_both (is_blank piece) (graphemes true piece) (piece ∷ []) ArePieces
     (λ _. ArePieces-segments (is_grapheme_break true) piece p.utf8) (λ _. (p, tt))
 
-concat-units : (pieces : Run) → ArePieces pieces → concat (flat_map units_of_piece pieces) ≡ concat pieces
+concat-units : (pieces : Stretch) → ArePieces pieces → concat (flat_map units_of_piece pieces) ≡ concat pieces
 concat-units [] p = refl
 concat-units (piece ∷ pieces) p =
     concat-append (units_of_piece piece) (flat_map units_of_piece pieces) ∙ ap₂ ◌++◌ (concat-units_of_piece piece p.0.utf8) (concat-units pieces p.1)
 
-ArePieces-units : (pieces : Run) → ArePieces pieces → ArePieces (flat_map units_of_piece pieces)
+ArePieces-units : (pieces : Stretch) → ArePieces pieces → ArePieces (flat_map units_of_piece pieces)
 ArePieces-units [] p = tt
 ArePieces-units (piece ∷ pieces) p =
     ArePieces-append (units_of_piece piece) (flat_map units_of_piece pieces) (ArePieces-units_of_piece piece p.0) (ArePieces-units pieces p.1)
@@ -93,32 +93,32 @@ ArePieces-line_units line u = ArePieces-units (word_bounds line) (ArePieces-segm
 
 -- ---- rows
 
-ArePieces-runs : (tab_len width : ℕ) (runs : List Run) (later : Run) → AreGlyphRows tab_len width runs later → ArePieces (pieces_of runs) → ArePieces (map concat runs)
-ArePieces-runs tab_len width [] later rows p = tt
-ArePieces-runs tab_len width (run ∷ runs) later rows p = (
-  IsPiece-concat run rows.0.nonempty (ArePieces-front run (pieces_of runs) p),
-  ArePieces-runs tab_len width runs later rows.1 (ArePieces-back run (pieces_of runs) p),
+ArePieces-stretches : (tab_len width : ℕ) (stretches : List Stretch) (later : Stretch) → AreGlyphRows tab_len width stretches later → ArePieces (pieces_of stretches) → ArePieces (map concat stretches)
+ArePieces-stretches tab_len width [] later rows p = tt
+ArePieces-stretches tab_len width (stretch ∷ stretches) later rows p = (
+  IsPiece-concat stretch rows.0.nonempty (ArePieces-front stretch (pieces_of stretches) p),
+  ArePieces-stretches tab_len width stretches later rows.1 (ArePieces-back stretch (pieces_of stretches) p),
 )
 
-pub ArePieces-glyphs : (tab_len width : ℕ) (text : List ℕ) (rows : Run) → IsUtf8 text → IsGlyphCutting tab_len width text rows → ArePieces rows
+pub ArePieces-glyphs : (tab_len width : ℕ) (text : List ℕ) (rows : Stretch) → IsUtf8 text → IsGlyphCutting tab_len width text rows → ArePieces rows
 ArePieces-glyphs tab_len width text rows u cutting =
     subst ArePieces (sym cutting.rows_are)
-    (ArePieces-runs tab_len width cutting.runs [] cutting.cut (subst ArePieces (sym cutting.whole) (ArePieces-segments (is_grapheme_break true) text u)))
+    (ArePieces-stretches tab_len width cutting.stretches [] cutting.cut (subst ArePieces (sym cutting.whole) (ArePieces-segments (is_grapheme_break true) text u)))
 
-pub concat-glyphs : (tab_len width : ℕ) (text : List ℕ) (rows : Run) → IsUtf8 text → IsGlyphCutting tab_len width text rows → concat rows ≡ text
+pub concat-glyphs : (tab_len width : ℕ) (text : List ℕ) (rows : Stretch) → IsUtf8 text → IsGlyphCutting tab_len width text rows → concat rows ≡ text
 concat-glyphs tab_len width text rows u cutting =
-    ap concat cutting.rows_are ∙ concat-pieces_of cutting.runs ∙ ap concat cutting.whole ∙ concat-segments (is_grapheme_break true) text u
+    ap concat cutting.rows_are ∙ concat-pieces_of cutting.stretches ∙ ap concat cutting.whole ∙ concat-segments (is_grapheme_break true) text u
 
 -- the rows of a block are pieces, and make up its units
-ArePieces-block : (tab_len width : ℕ) (block : Block) (later : Run) → IsBlock tab_len width block later → ArePieces (units_of block)
+ArePieces-block : (tab_len width : ℕ) (block : Block) (later : Stretch) → IsBlock tab_len width block later → ArePieces (units_of block)
     → ArePieces (rows_of block) × (concat (rows_of block) ≡ concat (units_of block))
-ArePieces-block tab_len width (shared run) later is p =
-    let nonempty : 0 < length run = omega (arith, ap length is.0.run_is, length-append is.0.front (is.0.last ∷ [])) in
-    ((IsPiece-concat run nonempty p, tt), append-nil (concat run))
+ArePieces-block tab_len width (shared stretch) later is p =
+    let nonempty : 0 < length stretch = omega (arith, ap length is.0.stretch_is, length-append is.0.front (is.0.last ∷ [])) in
+    ((IsPiece-concat stretch nonempty p, tt), append-nil (concat stretch))
 ArePieces-block tab_len width (split unit rows) later is p =
     (ArePieces-glyphs tab_len width unit rows p.0.utf8 is.1, concat-glyphs tab_len width unit rows p.0.utf8 is.1 ∙ sym (append-nil unit))
 
-ArePieces-blocks : (tab_len width : ℕ) (blocks : List Block) (later : Run) → AreBlocks tab_len width blocks later → ArePieces (flat_map units_of blocks)
+ArePieces-blocks : (tab_len width : ℕ) (blocks : List Block) (later : Stretch) → AreBlocks tab_len width blocks later → ArePieces (flat_map units_of blocks)
     → ArePieces (flat_map rows_of blocks) × (concat (flat_map rows_of blocks) ≡ concat (flat_map units_of blocks))
 ArePieces-blocks tab_len width [] later are p = (tt, refl)
 ArePieces-blocks tab_len width (block ∷ blocks) later are p =
@@ -129,7 +129,7 @@ ArePieces-blocks tab_len width (block ∷ blocks) later are p =
     )
 
 -- rows that are pieces and make up the line lie between its characters
-AreRowRanges-from : (line front : List ℕ) (texts : Run) → line ≡ front ++ concat texts → ArePieces texts → AllByRecursion (IsRowRange line) (ranges_from (length front) texts)
+AreRowRanges-from : (line front : List ℕ) (texts : Stretch) → line ≡ front ++ concat texts → ArePieces texts → AllByRecursion (IsRowRange line) (ranges_from (length front) texts)
 AreRowRanges-from line front [] e p = tt
 AreRowRanges-from line front (text ∷ texts) e p =
     let past = e ∙ sym (append_assoc front text (concat texts)) in
@@ -145,7 +145,7 @@ AreRowRanges-from line front (text ∷ texts) e p =
     )
 
 -- a line that is not empty, cut into texts that are pieces
-IsWrapped-texts : (mode : WrapMode) (tab_len width : ℕ) (line : List ℕ) (ranges : List (ℕ × ℕ)) (texts : Run) → 0 < length line → IsCutting mode tab_len width line texts
+IsWrapped-texts : (mode : WrapMode) (tab_len width : ℕ) (line : List ℕ) (ranges : List (ℕ × ℕ)) (texts : Stretch) → 0 < length line → IsCutting mode tab_len width line texts
     → concat texts ≡ line → ranges ≡ ranges_from 0 texts → ArePieces texts → IsWrapped mode tab_len width line ranges
 IsWrapped-texts mode tab_len width [] ranges texts some cut joined ranges_are p = absurd (omega arith)
 IsWrapped-texts mode tab_len width (byte ∷ line) ranges texts some cut joined ranges_are p = record {
@@ -171,7 +171,7 @@ module _ (tab_len width : ℕ) (line : List ℕ) (ranges : List (ℕ × ℕ)) (u
   IsWrapped-whole ranges_are =
       IsWrapped-texts mode.None tab_len width line ranges (line ∷ []) some refl (append-nil line) (ranges_are ∙ ap (λ n. (0, n) ∷ []) (omega arith)) (record { some = some; utf8 = u }, tt)
 
-  pub IsWrapped-glyphs : (texts : Run) → IsGlyphCutting tab_len width line texts → ranges ≡ ranges_from 0 texts → IsWrapped mode.Glyph tab_len width line ranges
+  pub IsWrapped-glyphs : (texts : Stretch) → IsGlyphCutting tab_len width line texts → ranges ≡ ranges_from 0 texts → IsWrapped mode.Glyph tab_len width line ranges
   IsWrapped-glyphs texts cutting ranges_are =
       IsWrapped-texts mode.Glyph tab_len width line ranges texts some cutting (concat-glyphs tab_len width line texts u cutting) ranges_are (ArePieces-glyphs tab_len width line texts u cutting)
 

@@ -4,14 +4,14 @@ use Rattle.std.proofs.lemmas.Grind.{flat_map-append}
 use Rattle.std.proofs.lemmas.List.Folds.{concat-append}
 use Rattle.std.specs.List.{concat, flat_map, AllByRecursion}
 use Rattle.std.specs.Str.{chars}
-use Rattle.textarea_wrap.specs.Columns.{end_column, run_width}
+use Rattle.textarea_wrap.specs.Columns.{end_column, stretch_width}
 use Rattle.textarea_wrap.specs.Units.{is_blank}
-use Rattle.textarea_wrap.specs.Cutting.{Run, Block, shared, split, units_of, rows_of, ranges_from, HangsOver, IsBlock, AreBlocks, IsGlyphCutting}
+use Rattle.textarea_wrap.specs.Cutting.{Stretch, Block, shared, split, units_of, rows_of, ranges_from, HangsOver, IsBlock, AreBlocks, IsGlyphCutting}
 use Rattle.textarea_wrap.specs.WordWalk.{IsWordWalk}
-use Rattle.textarea_wrap.proofs.ColumnLemmas.{run_width-one, run_width-push}
+use Rattle.textarea_wrap.proofs.ColumnLemmas.{stretch_width-one, stretch_width-push}
 use Rattle.textarea_wrap.proofs.GlyphLemmas.{ranges_from-append, length-concat-push, nonempty_from_bytes}
 
-pub units_of-push : (blocks : List Block) (block : Block) (later : Run) → flat_map units_of (blocks ++ block ∷ []) ++ later ≡ flat_map units_of blocks ++ (units_of block ++ later)
+pub units_of-push : (blocks : List Block) (block : Block) (later : Stretch) → flat_map units_of (blocks ++ block ∷ []) ++ later ≡ flat_map units_of blocks ++ (units_of block ++ later)
 units_of-push blocks block later =
     ap (λ t. t ++ later) (flat_map-append units_of blocks (block ∷ []) ∙ ap (λ t. flat_map units_of blocks ++ t) (append-nil (units_of block)))
     ∙ append_assoc (flat_map units_of blocks) (units_of block) later
@@ -19,7 +19,7 @@ units_of-push blocks block later =
 pub rows_of-push : (blocks : List Block) (block : Block) → flat_map rows_of (blocks ++ block ∷ []) ≡ flat_map rows_of blocks ++ rows_of block
 rows_of-push blocks block = flat_map-append rows_of blocks (block ∷ []) ∙ ap (λ t. flat_map rows_of blocks ++ t) (append-nil (rows_of block))
 
-pub AreBlocks-push : (tab_len width : ℕ) (blocks : List Block) (block : Block) (later : Run) → AreBlocks tab_len width blocks (units_of block ++ later)
+pub AreBlocks-push : (tab_len width : ℕ) (blocks : List Block) (block : Block) (later : Stretch) → AreBlocks tab_len width blocks (units_of block ++ later)
     → IsBlock tab_len width block later → AreBlocks tab_len width (blocks ++ block ∷ []) later
 AreBlocks-push tab_len width [] block later before here = (here, tt)
 AreBlocks-push tab_len width (first ∷ blocks) block later before here =
@@ -41,11 +41,11 @@ length-rows-push blocks block =
     ap (λ t. length (concat t)) (rows_of-push blocks block) ∙ ap length (concat-append (flat_map rows_of blocks) (rows_of block))
     ∙ length-append (concat (flat_map rows_of blocks)) (concat (rows_of block))
 
-module _ (tab_len width : ℕ) (units : Run) (before : List (ℕ × ℕ)) where
+module _ (tab_len width : ℕ) (units : Stretch) (before : List (ℕ × ℕ)) where
   pub IsWordWalk-start : AllByRecursion (λ p. 0 < length p) units → IsWordWalk tab_len width units before before units 0 0 0
   IsWordWalk-start some = record {
     blocks = [];
-    open_run = [];
+    open_stretch = [];
     joined = refl;
     cut = tt;
     rows_are = sym (append-nil before);
@@ -57,30 +57,30 @@ module _ (tab_len width : ℕ) (units : Run) (before : List (ℕ × ℕ)) where
     some = some;
   }
 
-  module _ (rows : List (ℕ × ℕ)) (unit : List ℕ) (left : Run) (row_start row_end column end : ℕ)
+  module _ (rows : List (ℕ × ℕ)) (unit : List ℕ) (left : Stretch) (row_start row_end column end : ℕ)
       (w : IsWordWalk tab_len width units before rows (unit ∷ left) row_start row_end column)
       (end_is : end ≡ end_column tab_len column (chars unit)) where
-    pushed_width : end ≡ run_width tab_len (w.open_run ++ unit ∷ [])
-    pushed_width = end_is ∙ ap (λ x. end_column tab_len x (chars unit)) w.column_is ∙ sym (run_width-push tab_len w.open_run unit)
+    pushed_width : end ≡ stretch_width tab_len (w.open_stretch ++ unit ∷ [])
+    pushed_width = end_is ∙ ap (λ x. end_column tab_len x (chars unit)) w.column_is ∙ sym (stretch_width-push tab_len w.open_stretch unit)
 
     -- an open row before whitespace is within the width
-    open_within : row_start < row_end → is_blank unit ≡ true → run_width tab_len w.open_run ≤ width
+    open_within : row_start < row_end → is_blank unit ≡ true → stretch_width tab_len w.open_stretch ≤ width
     open_within started blank =
-        let run = w.opened started in
-        subst (λ r. run_width tab_len r ≤ width) (sym run.run_is)
-        (⊎_elim (λ within. within) (λ hang. let content : not (is_blank unit) ≡ true = hang.2.2 in absurd (let no : not true ≡ true = ap not (sym blank) ∙ content in cc)) run.fits)
+        let stretch = w.opened started in
+        subst (λ r. stretch_width tab_len r ≤ width) (sym stretch.stretch_is)
+        (⊎_elim (λ within. within) (λ hang. let content : not (is_blank unit) ≡ true = hang.2.2 in absurd (let no : not true ≡ true = ap not (sym blank) ∙ content in cc)) stretch.fits)
 
     -- the unit joins the open row, which is empty or has room for it
     pub IsWordWalk-join : (end ≤ width) ⊎ ((row_start < row_end) × HangsOver width end unit left)
         → IsWordWalk tab_len width units before rows left row_start (row_end + length unit) end
     IsWordWalk-join room =
-        let regroup = append_assoc w.open_run (unit ∷ []) left in
+        let regroup = append_assoc w.open_stretch (unit ∷ []) left in
         let ends = w.ends in
         let unit_some = w.some.0 in
-        let len = length-concat-push w.open_run unit in
+        let len = length-concat-push w.open_stretch unit in
         record {
           blocks = w.blocks;
-          open_run = w.open_run ++ unit ∷ [];
+          open_stretch = w.open_stretch ++ unit ∷ [];
           joined = ap (λ t. flat_map units_of w.blocks ++ t) regroup ∙ w.joined;
           cut = subst (AreBlocks tab_len width w.blocks) (sym regroup) w.cut;
           rows_are = w.rows_are;
@@ -89,11 +89,11 @@ module _ (tab_len width : ℕ) (units : Run) (before : List (ℕ × ℕ)) where
           column_is = pushed_width;
           closed = λ h. absurd (omega arith);
           opened = λ _. record {
-            front = w.open_run;
+            front = w.open_stretch;
             last = unit;
-            run_is = refl;
+            stretch_is = refl;
             fits = ⊎_elim (λ within. inl (subst (λ n. n ≤ width) pushed_width within))
-                (λ hang. inr (nonempty_from_bytes w.open_run (let started = hang.0 in omega arith), open_within hang.0 hang.1.1, subst (λ n. HangsOver width n unit left) pushed_width hang.1)) room;
+                (λ hang. inr (nonempty_from_bytes w.open_stretch (let started = hang.0 in omega arith), open_within hang.0 hang.1.1, subst (λ n. HangsOver width n unit left) pushed_width hang.1)) room;
           };
           some = w.some.1;
         }
@@ -103,11 +103,11 @@ module _ (tab_len width : ℕ) (units : Run) (before : List (ℕ × ℕ)) where
         → IsWordWalk tab_len width units before (rows ++ (row_start, row_end) ∷ []) (unit ∷ left) row_end row_end 0
     IsWordWalk-close started over stands =
         let ends = w.ends in
-        let block = shared w.open_run in
+        let block = shared w.open_stretch in
         let range : (row_start, row_end) ∷ [] ≡ ranges_from row_start (rows_of block) = ap (λ n. (row_start, n) ∷ []) w.ends in
         record {
           blocks = w.blocks ++ block ∷ [];
-          open_run = [];
+          open_stretch = [];
           joined = units_of-push w.blocks block (unit ∷ left) ∙ w.joined;
           cut = AreBlocks-push tab_len width w.blocks block (unit ∷ left) w.cut (
             w.opened started,
@@ -115,7 +115,7 @@ module _ (tab_len width : ℕ) (units : Run) (before : List (ℕ × ℕ)) where
                 (λ hang. stands (subst (λ n. HangsOver width n unit left) (sym pushed_width) hang.2)) fits,
           );
           rows_are = ap (λ t. rows ++ t) range ∙ ranges-push before rows w.blocks block row_start w.rows_are w.begins;
-          begins = w.ends ∙ ap (λ n. n + length (concat w.open_run)) w.begins ∙ omega (arith, length-rows-push w.blocks block, length-append (concat w.open_run) []);
+          begins = w.ends ∙ ap (λ n. n + length (concat w.open_stretch)) w.begins ∙ omega (arith, length-rows-push w.blocks block, length-append (concat w.open_stretch) []);
           ends = omega arith;
           column_is = refl;
           closed = λ _. refl;
@@ -123,7 +123,7 @@ module _ (tab_len width : ℕ) (units : Run) (before : List (ℕ × ℕ)) where
           some = w.some;
         }
 
-  module _ (rows : List (ℕ × ℕ)) (unit : List ℕ) (left : Run) (row_start row_end column : ℕ)
+  module _ (rows : List (ℕ × ℕ)) (unit : List ℕ) (left : Stretch) (row_start row_end column : ℕ)
       (w : IsWordWalk tab_len width units before rows (unit ∷ left) row_start row_end column) where
     -- a row that holds nothing is at column 0
     pub IsWordWalk-empty : row_end ≤ row_start → IsWordWalk tab_len width units before rows (unit ∷ left) row_end row_end 0
@@ -133,9 +133,9 @@ module _ (tab_len width : ℕ) (units : Run) (before : List (ℕ × ℕ)) where
         let nothing = w.closed none in
         record {
           blocks = w.blocks;
-          open_run = [];
-          joined = ap (λ run. flat_map units_of w.blocks ++ (run ++ unit ∷ left)) (sym nothing) ∙ w.joined;
-          cut = subst (λ run. AreBlocks tab_len width w.blocks (run ++ unit ∷ left)) nothing w.cut;
+          open_stretch = [];
+          joined = ap (λ stretch. flat_map units_of w.blocks ++ (stretch ++ unit ∷ left)) (sym nothing) ∙ w.joined;
+          cut = subst (λ stretch. AreBlocks tab_len width w.blocks (stretch ++ unit ∷ left)) nothing w.cut;
           rows_are = w.rows_are;
           begins = sym same ∙ w.begins;
           ends = omega arith;
@@ -157,10 +157,10 @@ module _ (tab_len width : ℕ) (units : Run) (before : List (ℕ × ℕ)) where
         let block = split unit texts in
         record {
           blocks = w.blocks ++ block ∷ [];
-          open_run = [];
-          joined = units_of-push w.blocks block left ∙ ap (λ run. flat_map units_of w.blocks ++ (run ++ unit ∷ left)) (sym nothing) ∙ w.joined;
-          cut = AreBlocks-push tab_len width w.blocks block left (subst (λ run. AreBlocks tab_len width w.blocks (run ++ unit ∷ left)) nothing w.cut)
-              (subst (λ n. width < n) (sym (run_width-one tab_len unit)) over, cutting);
+          open_stretch = [];
+          joined = units_of-push w.blocks block left ∙ ap (λ stretch. flat_map units_of w.blocks ++ (stretch ++ unit ∷ left)) (sym nothing) ∙ w.joined;
+          cut = AreBlocks-push tab_len width w.blocks block left (subst (λ stretch. AreBlocks tab_len width w.blocks (stretch ++ unit ∷ left)) nothing w.cut)
+              (subst (λ n. width < n) (sym (stretch_width-one tab_len unit)) over, cutting);
           rows_are = ranges-push before rows w.blocks block row_end w.rows_are begins;
           begins = ap (λ n. n + length unit) begins ∙ omega (arith, length-rows-push w.blocks block, ap length whole);
           ends = omega arith;
@@ -177,7 +177,7 @@ module _ (tab_len width : ℕ) (units : Run) (before : List (ℕ × ℕ)) where
         → (blocks : List Block) × (flat_map units_of blocks ≡ units) × AreBlocks tab_len width blocks []
         × (rows ++ (row_start, row_end) ∷ [] ≡ before ++ ranges_from 0 (flat_map rows_of blocks))
     IsWordWalk-end_open started =
-        let block = shared w.open_run in
+        let block = shared w.open_stretch in
         let range : (row_start, row_end) ∷ [] ≡ ranges_from row_start (rows_of block) = ap (λ n. (row_start, n) ∷ []) w.ends in (
           w.blocks ++ block ∷ [],
           sym (append-nil _) ∙ units_of-push w.blocks block [] ∙ w.joined,
@@ -199,7 +199,7 @@ module _ (tab_len width : ℕ) (units : Run) (before : List (ℕ × ℕ)) where
 
 -- ---- units in a slice
 
-abbrev unit_bytes : List (Bor (List ℕ)) → Run
+abbrev unit_bytes : List (Bor (List ℕ)) → Stretch
 unit_bytes = map (λ unit. unit.now)
 
 abbrev no_unit : Bor (List ℕ)
@@ -221,7 +221,7 @@ pub length-units_at : (units : List (Bor (List ℕ))) (i : ℕ) → i < length u
 length-units_at units i inside =
     ap (λ t. length (concat t)) (units_from units i inside) ∙ length-append (get_or units i no_unit).now (concat (unit_bytes (drop (i + 1) units)))
 
-pub IsWordWalk-later : (tab_len width : ℕ) (all : Run) (before rows : List (ℕ × ℕ)) (row_start row_end column : ℕ) (units : List (Bor (List ℕ))) (i : ℕ)
+pub IsWordWalk-later : (tab_len width : ℕ) (all : Stretch) (before rows : List (ℕ × ℕ)) (row_start row_end column : ℕ) (units : List (Bor (List ℕ))) (i : ℕ)
     → IsWordWalk tab_len width all before rows (unit_bytes (take (length units - (i + 1)) (drop (i + 1) units))) row_start row_end column
     → IsWordWalk tab_len width all before rows (unit_bytes (drop (i + 1) units)) row_start row_end column
 IsWordWalk-later tab_len width all before rows row_start row_end column units i walk =

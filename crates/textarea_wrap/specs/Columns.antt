@@ -21,8 +21,8 @@ end_column tab_len column [] = column
 end_column tab_len column (c ∷ cs) = end_column tab_len (column_after tab_len column c) cs
 
 -- the width of pieces of a text, each given by its bytes, that stand together at the start of a row
-abbrev pub run_width : ℕ → List (List ℕ) → ℕ
-run_width tab_len pieces = end_column tab_len 0 (flat_map chars pieces)
+abbrev pub stretch_width : ℕ → List (List ℕ) → ℕ
+stretch_width tab_len pieces = end_column tab_len 0 (flat_map chars pieces)
 
 -- ---- display columns
 

@@ -1,20 +1,20 @@
 -- How far a cutting at unit ends has come.
 use Rattle.std.specs.Prelude.{◌≡◌, ℕ, ◌+◌, ◌<◌, ◌≤◌, List, [], ◌++◌, length}
 use Rattle.std.specs.List.{concat, flat_map, AllByRecursion}
-use Rattle.textarea_wrap.specs.Columns.{run_width}
-use Rattle.textarea_wrap.specs.Cutting.{Run, Block, units_of, rows_of, ranges_from, IsFittingRun, AreBlocks}
+use Rattle.textarea_wrap.specs.Columns.{stretch_width}
+use Rattle.textarea_wrap.specs.Cutting.{Stretch, Block, units_of, rows_of, ranges_from, IsFittingStretch, AreBlocks}
 
 -- Units up to `left` are in blocks that are right before what is left, or in the open row. The rows are those before the walk and
 -- those of the blocks; the open row has its first byte at `row_start`, ends at `row_end` and at the column.
-pub record IsWordWalk (tab_len width : ℕ) (units : Run) (before rows : List (ℕ × ℕ)) (left : Run) (row_start row_end column : ℕ) : Type 0 where
+pub record IsWordWalk (tab_len width : ℕ) (units : Stretch) (before rows : List (ℕ × ℕ)) (left : Stretch) (row_start row_end column : ℕ) : Type 0 where
   pub blocks : List Block
-  pub open_run : Run
-  pub joined : flat_map units_of blocks ++ (open_run ++ left) ≡ units
-  pub cut : AreBlocks tab_len width blocks (open_run ++ left)
+  pub open_stretch : Stretch
+  pub joined : flat_map units_of blocks ++ (open_stretch ++ left) ≡ units
+  pub cut : AreBlocks tab_len width blocks (open_stretch ++ left)
   pub rows_are : rows ≡ before ++ ranges_from 0 (flat_map rows_of blocks)
   pub begins : row_start ≡ length (concat (flat_map rows_of blocks))
-  pub ends : row_end ≡ row_start + length (concat open_run)
-  pub column_is : column ≡ run_width tab_len open_run
-  pub closed : row_end ≤ row_start → open_run ≡ []
-  pub opened : row_start < row_end → IsFittingRun tab_len width open_run left
+  pub ends : row_end ≡ row_start + length (concat open_stretch)
+  pub column_is : column ≡ stretch_width tab_len open_stretch
+  pub closed : row_end ≤ row_start → open_stretch ≡ []
+  pub opened : row_start < row_end → IsFittingStretch tab_len width open_stretch left
   pub some : AllByRecursion (λ p. 0 < length p) left

@@ -5,11 +5,11 @@ use Rattle.textarea_text.specs.Place.{Place, end, index_of, place_of, inserted, 
 use Rattle.textarea_text.specs.Splice.{Splice}
 use Rattle.textarea_history.specs.Log.{empty_log, recorded}
 use Rattle.tui_textarea.specs.State.{State, new_state, with_document}
-use Rattle.textarea_document.specs.Edits.{without_before, without_part}
+use Rattle.textarea_document.specs.Edits.{removed_before, part_removed}
 use Rattle.textarea_document.specs.Outcomes.{redone, undone}
-use Rattle.tui_textarea.specs.Edits.{with_char, with_newline}
-use Rattle.tui_textarea.specs.Selection.{cut_out}
-use Rattle.tui_textarea.specs.Removals.{symbol_before_out, unselected_or}
+use Rattle.tui_textarea.specs.Edits.{char_inserted, newline_inserted}
+use Rattle.tui_textarea.specs.Selection.{selection_cut}
+use Rattle.tui_textarea.specs.Removals.{symbol_before_removed, unselected_or}
 
 -- lines as one flat text, and back
 pub joined_case : joined ((97 ∷ 98 ∷ []) ∷ (99 ∷ []) ∷ []) ≡ Character 97 ∷ Character 98 ∷ Break ∷ Character 99 ∷ []
@@ -32,7 +32,7 @@ place_case = refl
 pub end_case : end (0, 1) (Character 97 ∷ Break ∷ Character 98 ∷ []) ≡ (1, 1)
 end_case = refl
 
--- a break put in inside a line, and taken out again
+-- a break inserted inside a line, and removed again
 pub inserted_case : inserted (Character 97 ∷ Character 98 ∷ []) (0, 1) (Break ∷ []) ≡ Character 97 ∷ Break ∷ Character 98 ∷ []
 inserted_case = refl
 
@@ -65,37 +65,37 @@ abbrev pub selected_first : State → State
 selected_first state = with_document state (record state.document { cursor = (0, 1); anchor = Some (0, 0) })
 
 abbrev pub deleted_char : State → State
-deleted_char state = unselected_or state (symbol_before_out state)
+deleted_char state = unselected_or state (symbol_before_removed state)
 
 abbrev pub first_run : State
-first_run = undo_of (deleted_char (with_char (with_newline (with_char (new_state []) 97)) 98))
+first_run = undo_of (deleted_char (char_inserted (newline_inserted (char_inserted (new_state []) 97)) 98))
 
 pub first_run_case : first_run.document.text ≡ Character 97 ∷ Break ∷ Character 98 ∷ []
-unfolding without_before
+unfolding removed_before
 first_run_case = refl
 
 pub first_run_cursor_case : first_run.document.cursor ≡ (1, 1)
-unfolding without_before
+unfolding removed_before
 first_run_cursor_case = refl
 
 -- a change after an undo: there is nothing left to make again
-pub redo_case : (redo_of (with_char (undo_of (with_char (new_state []) 97)) 98)).document.text ≡ Character 98 ∷ []
+pub redo_case : (redo_of (char_inserted (undo_of (char_inserted (new_state []) 97)) 98)).document.text ≡ Character 98 ∷ []
 redo_case = refl
 
 -- a carriage return breaks the line
-pub carriage_return_case : (with_char (new_state []) 13).document.text ≡ Break ∷ []
+pub carriage_return_case : (char_inserted (new_state []) 13).document.text ≡ Break ∷ []
 carriage_return_case = refl
 
 -- an insertion over a selection is two changes: the removal and the insertion
-pub over_selection_case : (with_char (selected_first (new_state (Character 97 ∷ Character 98 ∷ []))) 120).document.log.done ≡ (record { place = (0, 0); symbols = Character 97 ∷ []; inserts = false }) ∷ (record { place = (0, 0); symbols = Character 120 ∷ []; inserts = true }) ∷ []
-unfolding without_part
+pub over_selection_case : (char_inserted (selected_first (new_state (Character 97 ∷ Character 98 ∷ []))) 120).document.log.done ≡ (record { place = (0, 0); symbols = Character 97 ∷ []; inserts = false }) ∷ (record { place = (0, 0); symbols = Character 120 ∷ []; inserts = true }) ∷ []
+unfolding part_removed
 over_selection_case = refl
 
 -- a selection's removal yanks nothing, and a cut yanks
 pub selection_out_case : (deleted_char (selected_first (new_state (Character 97 ∷ Character 98 ∷ [])))).yank ≡ []
-unfolding without_part
+unfolding part_removed
 selection_out_case = refl
 
-pub cut_case : (cut_out (selected_first (new_state (Character 97 ∷ Character 98 ∷ [])))).yank ≡ Character 97 ∷ []
-unfolding without_part
+pub cut_case : (selection_cut (selected_first (new_state (Character 97 ∷ Character 98 ∷ [])))).yank ≡ Character 97 ∷ []
+unfolding part_removed
 cut_case = refl

@@ -4,11 +4,11 @@ use Rattle.std.proofs.lemmas.Bool.Decides.{nat_tests}
 use Rattle.textarea_text.specs.Place.{Place}
 use Rattle.textarea_document.specs.State.{DocumentState}
 use Rattle.textarea_document.specs.Outcomes.{unanchored}
-use Rattle.textarea_document.specs.Edits.{without_part}
+use Rattle.textarea_document.specs.Edits.{part_removed}
 use Rattle.textarea_document.specs.Selection.{is_before, is_selected, selected, selection_end, selection_start}
 use Rattle.tui_textarea.specs.State.{State, with_document}
-use Rattle.tui_textarea.specs.Edits.{put_symbols, with_text}
-use Rattle.tui_textarea.specs.Selection.{copied, dropped}
+use Rattle.tui_textarea.specs.Edits.{symbols_or_none_inserted, str_inserted}
+use Rattle.tui_textarea.specs.Selection.{selection_copied, selection_cancelled}
 
 not_less : (n : ℕ) → nat_lt n n ≡ false
 not_less n = grind (arith, nat_tests)
@@ -30,14 +30,14 @@ none_selected document =
     let place = document.cursor in
     ap (λ b. is_before (cond b place place) (cond b place place)) (not_before place) ∙ not_before place
 
-pub pasted : (state : State) → is_selected state.document ≡ true → with_text (copied state) (copied state).yank ≡ put_symbols (copied state) (selected state.document)
+pub pasted : (state : State) → is_selected state.document ≡ true → str_inserted (selection_copied state) (selection_copied state).yank ≡ symbols_or_none_inserted (selection_copied state) (selected state.document)
 pasted state e =
-    ap (λ (s : State). with_text s s.yank) copied_is
-    ∙ ap (λ b. put_symbols (with_document after (cond b (without_part after.document (selection_start after.document) (selection_end after.document) after.moment) after.document)) after.yank) (none_selected state.document)
-    ∙ ap (λ (s : State). put_symbols s (selected state.document)) (sym copied_is)
+    ap (λ (s : State). str_inserted s s.yank) copied_is
+    ∙ ap (λ b. symbols_or_none_inserted (with_document after (cond b (part_removed after.document (selection_start after.document) (selection_end after.document) after.moment) after.document)) after.yank) (none_selected state.document)
+    ∙ ap (λ (s : State). symbols_or_none_inserted s (selected state.document)) (sym copied_is)
   where
     after : State
-    after = record (dropped state) { yank = selected state.document }
+    after = record (selection_cancelled state) { yank = selected state.document }
 
-    copied_is : copied state ≡ after
-    copied_is = ap (λ b. cond b (record (dropped state) { yank = selected state.document }) (dropped state)) e
+    copied_is : selection_copied state ≡ after
+    copied_is = ap (λ b. cond b (record (selection_cancelled state) { yank = selected state.document }) (selection_cancelled state)) e

@@ -14,8 +14,8 @@ use Rattle.textarea_history.proofs.Joins.{right_of}
 given_some : (c : ℕ) (cs : List ℕ) → is_filled (given (c ∷ cs)) ≡ true
 given_some c cs = by (c == 10) (c == 13 && begins_with_line_feed cs) cs refl refl
   where
-    by : (feed dropped : Bool) (behind : List ℕ) → (c == 10) ≡ feed → (c == 13 && begins_with_line_feed behind) ≡ dropped → is_filled (cond feed (Break ∷ []) (cond dropped [] (Character c ∷ [])) ++ given behind) ≡ true
-    by true dropped behind e e' = refl
+    by : (feed selection_cancelled : Bool) (behind : List ℕ) → (c == 10) ≡ feed → (c == 13 && begins_with_line_feed behind) ≡ selection_cancelled → is_filled (cond feed (Break ∷ []) (cond selection_cancelled [] (Character c ∷ [])) ++ given behind) ≡ true
+    by true selection_cancelled behind e e' = refl
     by false true [] e e' = let no : false ≡ true = right_of (c == 13) false e' in absurd cc
     by false true (d ∷ behind) e e' = ap (λ (b : Bool). is_filled (cond b (Break ∷ []) (cond (d == 13 && begins_with_line_feed behind) [] (Character d ∷ [])) ++ given behind)) (right_of (c == 13) (d == 10) e')
     by false false behind e e' = refl

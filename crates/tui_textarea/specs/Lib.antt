@@ -5,5 +5,5 @@ pub mod Selection
 pub mod Moves
 pub mod Ranges
 pub mod Search
-pub mod View
+pub mod Layout
 pub mod Measure

@@ -1,10 +1,10 @@
 -- The height that is measured.
 use Rattle.std.specs.Prelude.{◌≡◌, ℕ, Bool, not}
-use Rattle.textarea_lines.specs.Screen.{is_cut_at}
+use Rattle.textarea_lines.specs.Layout.{is_cut_at}
 use Rattle.textarea_surround.specs.Measure.{measure_of, width_inside}
 use Rattle.textarea_surround.specs.declared.surround.measure.TextAreaMeasure.{TextAreaMeasure}
 use Rattle.textarea_document.specs.Edits.{is_filled}
-use Rattle.textarea_document.specs.Rows.{HasRowsAt, laid_of}
+use Rattle.textarea_document.specs.Rows.{HasRowsAt, laid_out_of}
 use Rattle.tui_textarea.specs.State.{State}
 use Rattle.textarea_surround.specs.State.{SurroundState}
 
@@ -21,4 +21,4 @@ with_surround state surround = record state { surround = surround }
 
 -- whether the rows that the text has as it is cut now are those that a measure at this width asks for
 abbrev pub reads_rows : State → ℕ → Bool
-reads_rows state width = is_cut_at (laid_of state.document) (width_inside state.surround.block width)
+reads_rows state width = is_cut_at (laid_out_of state.document) (width_inside state.surround.block width)

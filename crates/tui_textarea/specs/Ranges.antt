@@ -4,7 +4,7 @@ use Rattle.textarea_ranges.specs.declared.atomic.AtomicRange.{AtomicRange}
 use Rattle.textarea_ranges.specs.declared.atomic.AtomicCursorBias.{AtomicCursorBias}
 use Rattle.textarea_ranges.specs.declared.atomic.AtomicDeleteDirection.{AtomicDeleteDirection}
 use Rattle.textarea_document.specs.Edits.{hit_at_cursor}
-use Rattle.textarea_document.specs.Ranges.{accepted, normalized, without_range, without_ranges}
+use Rattle.textarea_document.specs.Ranges.{accepted, normalized, range_removed, ranges_forgotten}
 use Rattle.tui_textarea.specs.State.{State, with_document}
 
 -- the ranges are accepted
@@ -13,12 +13,12 @@ ranges_accepted state ranges = with_document state (accepted state.document rang
 
 -- no range is held any more
 abbrev pub ranges_cleared : State → State
-ranges_cleared state = with_document state (without_ranges state.document)
+ranges_cleared state = with_document state (ranges_forgotten state.document)
 
 -- the cursor goes out of the range that strictly holds it
 abbrev pub cursor_normalized : State → AtomicCursorBias → State
 cursor_normalized state bias = with_document state (normalized state.document bias)
 
--- the range that is hit is taken out, and the selection kept
-abbrev pub range_out : State → AtomicDeleteDirection → State
-range_out state direction = with_document state (without_range (hit_at_cursor state.document direction) state.document state.moment)
+-- the range that is hit is removed, and the selection kept
+abbrev pub hit_range_removed : State → AtomicDeleteDirection → State
+hit_range_removed state direction = with_document state (range_removed (hit_at_cursor state.document direction) state.document state.moment)

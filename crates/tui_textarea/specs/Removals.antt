@@ -3,31 +3,31 @@ use Rattle.std.specs.Prelude.{ℕ, ◌+◌, ◌==◌, ◌||◌, nat_lt, Bool, no
 use Rattle.textarea_text.specs.Text.{lines}
 use Rattle.textarea_text.specs.Place.{Place, place_of}
 use Rattle.textarea_document.specs.State.{DocumentState}
-use Rattle.textarea_document.specs.Edits.{cursor_index, hit_before, hit_behind, is_at_end, is_at_start, is_filled, taken, without_before, without_behind, without_break, without_part}
+use Rattle.textarea_document.specs.Edits.{cursor_index, hit_before, hit_behind, is_at_end, is_at_start, is_filled, taken_symbols, removed_before, removed_behind, break_removed, part_removed}
 use Rattle.textarea_document.specs.Selection.{is_selected}
 use Rattle.textarea_ranges.specs.declared.atomic.AtomicRange.{AtomicRange}
-use Rattle.textarea_ranges.specs.Held.{start, stop}
+use Rattle.textarea_ranges.specs.Held.{range_start, range_end}
 use Rattle.textarea_target.specs.Target.{word_end_after, word_start_before}
 use Rattle.tui_textarea.specs.State.{State, with_document}
-use Rattle.tui_textarea.specs.Selection.{dropped, unselected}
+use Rattle.tui_textarea.specs.Selection.{selection_cancelled, unselected}
 
 -- ---- where nothing is selected
 
--- what stands between the two places is taken out, with the atomic ranges that it overlaps, and what went is yanked
+-- what stands between the two places is removed, with the atomic ranges that it overlaps, and what went is yanked
 unfoldable pub yanked : State → Place → Place → State
-yanked state from to = record state { document = without_part state.document from to state.moment; yank = taken state.document from to }
+yanked state from to = record state { document = part_removed state.document from to state.moment; yank = taken_symbols state.document from to }
 
--- the atomic range that is hit before the cursor is taken out, or else the symbol there as a typed edit, if there is one;
+-- the atomic range that is hit before the cursor is removed, or else the symbol there as a typed edit, if there is one;
 -- and so for the one behind it
-abbrev pub symbol_before_out : State → State
-symbol_before_out state = with_document state (without_before state.document state.settings.undo_coalescing state.moment)
+abbrev pub symbol_before_removed : State → State
+symbol_before_removed state = with_document state (removed_before state.document state.settings.undo_coalescing state.moment)
 
-abbrev pub symbol_behind_out : State → State
-symbol_behind_out state = with_document state (without_behind state.document state.settings.undo_coalescing state.moment)
+abbrev pub symbol_behind_removed : State → State
+symbol_behind_removed state = with_document state (removed_behind state.document state.settings.undo_coalescing state.moment)
 
--- the break before the cursor's line is taken out, if there is one
-abbrev pub break_before_out : State → State
-break_before_out state = with_document state (without_break state.document state.moment)
+-- the break before the cursor's line is removed, if there is one
+abbrev pub break_before_removed : State → State
+break_before_removed state = with_document state (break_removed state.document state.moment)
 
 -- the characters of the cursor's line
 abbrev pub cursor_line : DocumentState → List ℕ
@@ -45,48 +45,48 @@ in_line document column = (document.cursor.0, column)
 abbrev pub index_ahead : DocumentState → ℕ → ℕ
 index_ahead document count = min (cursor_index document + count) (length document.text)
 
--- the symbols behind the cursor, this many or all that there are, are taken out and yanked, if there are any
-abbrev pub symbols_ahead_out : State → ℕ → State
-symbols_ahead_out state count =
+-- the symbols behind the cursor, this many or all that there are, are removed and yanked, if there are any
+abbrev pub symbols_ahead_removed : State → ℕ → State
+symbols_ahead_removed state count =
     if nat_lt (cursor_index state.document) (index_ahead state.document count)
-    then yanked state state.document.cursor (place_of state.document.text (index_ahead state.document count)) else dropped state
+    then yanked state state.document.cursor (place_of state.document.text (index_ahead state.document count)) else selection_cancelled state
 
 -- from the cursor to the line's end; at the line's end as the symbol behind
-abbrev pub line_end_out : State → State
-line_end_out state =
-    if is_at_line_end state.document then symbol_behind_out state
+abbrev pub line_end_removed : State → State
+line_end_removed state =
+    if is_at_line_end state.document then symbol_behind_removed state
     else yanked state state.document.cursor (in_line state.document (length (cursor_line state.document)))
 
 -- from the line's start to the cursor; at the line's start as the break before
-abbrev pub line_head_out : State → State
-line_head_out state =
-    if state.document.cursor.1 == 0 then break_before_out state else yanked state (in_line state.document 0) state.document.cursor
+abbrev pub line_head_removed : State → State
+line_head_removed state =
+    if state.document.cursor.1 == 0 then break_before_removed state else yanked state (in_line state.document 0) state.document.cursor
 
--- the atomic range is taken out and not yanked, where one was hit; else it is the other state
-abbrev pub hit_out_or : Option AtomicRange → State → State → State
-hit_out_or None state other = other
-hit_out_or (Some range) state other = with_document state (without_part state.document (start range) (stop range) state.moment)
+-- the atomic range is removed and not yanked, where one was hit; else it is the other state
+abbrev pub hit_removed_or : Option AtomicRange → State → State → State
+hit_removed_or None state other = other
+hit_removed_or (Some range) state other = with_document state (part_removed state.document (range_start range) (range_end range) state.moment)
 
 -- from the start of the word before the cursor, or the line's start, to the cursor; at the line's start as the break
 -- before
-unfoldable pub back_to_word_out : State → State
-back_to_word_out state =
-    if state.document.cursor.1 == 0 then break_before_out state
+unfoldable pub back_to_word_removed : State → State
+back_to_word_removed state =
+    if state.document.cursor.1 == 0 then break_before_removed state
     else yanked state (in_line state.document (word_start_before (cursor_line state.document) state.document.cursor.1)) state.document.cursor
 
 -- the range that is hit before the cursor, or else back to the word's start
-abbrev pub word_before_out : State → State
-word_before_out state = hit_out_or (hit_before state.document) state (back_to_word_out state)
+abbrev pub word_before_removed : State → State
+word_before_removed state = hit_removed_or (hit_before state.document) state (back_to_word_removed state)
 
 -- from the cursor to behind the word, or to the line's end; at the line's end as the symbol behind
-unfoldable pub on_to_word_end_out : State → State
-on_to_word_end_out state =
-    if is_at_line_end state.document then symbol_behind_out state
+unfoldable pub on_to_word_end_removed : State → State
+on_to_word_end_removed state =
+    if is_at_line_end state.document then symbol_behind_removed state
     else yanked state state.document.cursor (in_line state.document (word_end_after (cursor_line state.document) state.document.cursor.1))
 
 -- the range that is hit behind the cursor, or else on to the word's end
-abbrev pub word_behind_out : State → State
-word_behind_out state = hit_out_or (hit_behind state.document) state (on_to_word_end_out state)
+abbrev pub word_behind_removed : State → State
+word_behind_removed state = hit_removed_or (hit_behind state.document) state (on_to_word_end_removed state)
 
 -- whether there is a symbol for each
 abbrev pub has_before : State → Bool
@@ -117,14 +117,14 @@ has_word_behind state = is_some (hit_behind state.document) || has_line_behind s
 
 -- ---- the calls
 
--- where a symbol is selected, that is taken out, and else it is the other state
+-- where a symbol is selected, that is removed, and else it is the other state
 abbrev pub unselected_or : State → State → State
 unselected_or state other = if is_selected state.document then unselected state else other
 
 abbrev pub removes_or : State → Bool → Bool
 removes_or state other = is_selected state.document || other
 
--- all the text is taken out and yanked, as one removal from its start; of an empty text nothing changes
-abbrev pub cleared : State → State
-cleared state =
+-- all the text is removed and yanked, as one removal from its start; of an empty text nothing changes
+abbrev pub text_cleared : State → State
+text_cleared state =
     if is_filled state.document.text then yanked state (0, 0) (place_of state.document.text (length state.document.text)) else state

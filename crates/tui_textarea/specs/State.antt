@@ -7,7 +7,7 @@ use Rattle.textarea_text.specs.Splice.{Splice}
 use Rattle.textarea_document.specs.State.{DocumentState, new_document}
 use Rattle.textarea_document.specs.Outcomes.{edited}
 use Rattle.textarea_wrap.specs.declared.wrap.WrapMode.TheVariants as mode
-use Rattle.textarea_lines.specs.declared.view.ViewSettings.{ViewSettings}
+use Rattle.textarea_lines.specs.declared.settings.LayoutSettings.{LayoutSettings}
 use Rattle.textarea_screen.specs.Style.{empty_style}
 use Rattle.textarea_surround.specs.State.{SurroundState, new_surround}
 use Rattle.tui_textarea.specs.declared.textarea.settings.Settings.{Settings}
@@ -27,13 +27,13 @@ abbrev pub default_settings : Settings
 default_settings = record { hard_tab_indent = false; undo_coalescing = false; line_number_style = empty_style }
 
 -- how the text is seen at first: one row a line, tab stops at each fourth column, no line numbers, and no area drawn yet
-abbrev pub default_view : ViewSettings
-default_view = record { mode = mode.None; tab_len = 4; line_numbers = false; inner_width = 0 }
+abbrev pub default_layout : LayoutSettings
+default_layout = record { mode = mode.None; tab_len = 4; line_numbers = false; inner_width = 0 }
 
 -- a new text area: the cursor at the start, nothing selected, at most 50 edits remembered and none yet, nothing yanked,
 -- no pattern, no block and no placeholder
 abbrev pub new_state : List Symbol → State
-new_state text = record { document = new_document text default_view 50; yank = []; settings = default_settings; moment = 0; pattern = None; surround = new_surround }
+new_state text = record { document = new_document text default_layout 50; yank = []; settings = default_settings; moment = 0; pattern = None; surround = new_surround }
 
 -- the document changes, and all else stays
 abbrev pub with_document : State → DocumentState → State

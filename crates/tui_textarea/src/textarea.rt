@@ -11,7 +11,7 @@ mod search;
 mod selection;
 pub mod settings;
 mod surround;
-mod view;
+mod layout;
 
 ghost use Rattle.std.specs.Prelude.{◌≡◌, ◌<◌, ◌≤◌, ◌^◌, ◌↔◌, length, OnErr, OnOk, IfOk, IsTrue, [], vec_len};
 ghost use Rattle.textarea_text.specs.Text.{lines, lines_of, text_of};
@@ -27,7 +27,7 @@ use std::alloc::{AllocError, Global};
 use std::marker::Model;
 use std::time::Duration;
 use textarea_document::Document;
-use textarea_lines::view::ViewSettings;
+use textarea_lines::settings::LayoutSettings;
 use textarea_search::search::Search;
 use textarea_surround::surround::Surround;
 use textarea_wrap::wrap::WrapMode;
@@ -36,7 +36,7 @@ use textarea_wrap::wrap::WrapMode;
 const DEFAULT_MAX_HISTORIES: usize = 50;
 
 /// How a new text area's text is cut into rows: one row a line, and no area is drawn yet.
-const DEFAULT_VIEW: ViewSettings = ViewSettings {
+const DEFAULT_VIEW: LayoutSettings = LayoutSettings {
     mode: WrapMode::None,
     tab_len: 4,
     line_numbers: false,
@@ -47,7 +47,7 @@ const DEFAULT_VIEW: ViewSettings = ViewSettings {
 /// history of edits, and a surround of a block, a placeholder and the least and the greatest height.
 ///
 /// Rows and columns count from 0, columns in characters. A call that runs out of memory leaves the text area as it was,
-/// or, where it inserts over a selection, as it is after what was selected was taken out.
+/// or, where it inserts over a selection, as it is after what was selected was removed.
 #[derive(Drop)]
 pub struct TextArea<'a> {
     document: Document,
@@ -116,7 +116,7 @@ impl<'a> TextArea<'a> {
         cursor: (usize, usize),
     ) -> Result<(), AllocError>
         requires some { 0 < vec_len lines }
-        ensures ok { OnOk result (self.new ≡ with_document self.old (fresh_document (text_of lines.items) self.old.document.screen.view self.old.document.screen.count (clip (lines_of lines.items) cursor) self.old.document.log.maximum)) }
+        ensures ok { OnOk result (self.new ≡ with_document self.old (fresh_document (text_of lines.items) self.old.document.layout.settings self.old.document.layout.count (clip (lines_of lines.items) cursor) self.old.document.log.maximum)) }
         ensures err { OnErr result (self.new ≡ self.old) }
     {
         self.document.set_lines(lines, cursor)

@@ -2,7 +2,7 @@
 use std::alloc::{AllocError, Global};
 use std::time::Duration;
 use textarea_document::Document;
-use textarea_lines::view::ViewSettings;
+use textarea_lines::settings::LayoutSettings;
 use textarea_wrap::wrap::WrapMode;
 
 const PARAGRAPH: &str =
@@ -12,7 +12,7 @@ const PARAGRAPH: &str =
     was there and who was not, and what is to be done tomorrow; and at the end, as so often, a remark that has little to do \
     with all of that, but had to be written down somewhere before it was forgotten. ";
 
-const VIEW: ViewSettings = ViewSettings {
+const VIEW: LayoutSettings = LayoutSettings {
     mode: WrapMode::WordOrGlyph,
     tab_len: 4,
     line_numbers: false,

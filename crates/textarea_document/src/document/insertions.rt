@@ -4,7 +4,7 @@ ghost use Rattle.std.specs.Duration.{as_nanos};
 ghost use Rattle.textarea_text.specs.Text.{text_of};
 ghost use Rattle.textarea_text.specs.Place.{IsPlace};
 ghost use Rattle.textarea_ranges.specs.Held.{IsInside};
-ghost use Rattle.textarea_document.specs.Edits.{insertion, insertion_place, is_filled, with_break, with_character, with_nothing, with_symbols};
+ghost use Rattle.textarea_document.specs.Edits.{insertion, insertion_place, is_filled, break_inserted, character_inserted, nothing_inserted, symbols_inserted};
 
 use crate::document::Document;
 use std::alloc::AllocError;
@@ -33,20 +33,20 @@ impl Document {
 
     /// Puts the cursor where an insertion goes, and drops the selection; nothing is recorded.
     pub fn insert_nothing(&mut self)
-        ensures { self.new ≡ with_nothing self.old }
+        ensures { self.new ≡ nothing_inserted self.old }
     {
         self.cursor = self.insertion_place();
         self.anchor = None;
     }
 
-    /// Puts the character in where an insertion goes, as a typed one or not. A line feed stays a character of the line.
+    /// Inserts the character where an insertion goes, as a typed one or not. A line feed stays a character of the line.
     pub fn insert_character(
         &mut self,
         c: char,
         typed: bool,
         now: Duration,
     ) -> Result<(), AllocError>
-        ensures ok { OnOk result (self.new ≡ with_character self.old c typed (as_nanos now)) }
+        ensures ok { OnOk result (self.new ≡ character_inserted self.old c typed (as_nanos now)) }
         ensures err { OnErr result (self.new ≡ self.old) }
     {
         let (row, column) = self.insertion_place();
@@ -60,7 +60,7 @@ impl Document {
 
     /// Breaks the line where an insertion goes.
     pub fn insert_break(&mut self, now: Duration) -> Result<(), AllocError>
-        ensures ok { OnOk result (self.new ≡ with_break self.old (as_nanos now)) }
+        ensures ok { OnOk result (self.new ≡ break_inserted self.old (as_nanos now)) }
         ensures err { OnErr result (self.new ≡ self.old) }
     {
         let (row, column) = self.insertion_place();
@@ -72,11 +72,11 @@ impl Document {
         )
     }
 
-    /// Puts the pieces, with a line break between each two, in where an insertion goes, and says whether there was a symbol
-    /// to put in. Without one the cursor goes there and the selection is dropped, and no memory is taken.
+    /// Inserts the pieces, with a line break between each two, where an insertion goes, and says whether there was a symbol
+    /// to insert. Without one the cursor goes there and the selection is dropped, and no memory is taken.
     pub fn insert(&mut self, pieces: Vec<String>, now: Duration) -> Result<bool, AllocError>
         ensures inserted { IfOk result (λ inserted. inserted ≡ is_filled (text_of pieces.items)) }
-        ensures ok { OnOk result (self.new ≡ with_symbols self.old (text_of pieces.items) (as_nanos now)) }
+        ensures ok { OnOk result (self.new ≡ symbols_inserted self.old (text_of pieces.items) (as_nanos now)) }
         ensures err { OnErr result (self.new ≡ self.old) }
         ensures nothing { text_of pieces.items ≡ [] → IsOk result }
     {
@@ -88,8 +88,8 @@ impl Document {
             return Err(AllocError);
         }
         let start = self.insertion_place();
-        let stop = end_of(start, pieces.as_slice());
-        self.edit(insertion_of(pieces, start, stop), false, now)?;
+        let end = end_of(start, pieces.as_slice());
+        self.edit(insertion_of(pieces, start, end), false, now)?;
         Ok(true)
     }
 }
@@ -104,16 +104,16 @@ pub fn has_symbol(pieces: &[String]) -> bool
     1 < pieces.len() || !pieces[0].is_empty()
 }
 
-// The pieces, put in between two places.
-fn insertion_of(mut pieces: Vec<String>, start: (usize, usize), stop: (usize, usize)) -> Edit
+// The pieces, inserted between two places.
+fn insertion_of(mut pieces: Vec<String>, start: (usize, usize), end: (usize, usize)) -> Edit
     requires { 0 < vec_len pieces }
     ensures splice { result.splice ≡ insertion start (text_of pieces.items) }
-    ensures stop { result.stop ≡ stop }
+    ensures end { result.end ≡ end }
     ensures pieces { IfSome result.pieces (λ n. 2 ≤ n) }
 {
     if 1 < pieces.len() {
-        return Edit::between(EditKind::InsertChunk(pieces), start, stop);
+        return Edit::between(EditKind::InsertChunk(pieces), start, end);
     }
     let text = pieces.pop().unwrap();
-    Edit::between(EditKind::InsertStr(text), start, stop)
+    Edit::between(EditKind::InsertStr(text), start, end)
 }

@@ -3,12 +3,12 @@ ghost use Rattle.std.specs.Prelude.{◌≡◌, ◌<◌, IfOk, IfSome, IsOk, Matc
 ghost use Rattle.std.specs.Duration.{as_nanos};
 ghost use Rattle.textarea_text.specs.Text.{lines};
 ghost use Rattle.textarea_text.specs.Place.{IsPlace, index_of};
-ghost use Rattle.textarea_ranges.specs.Held.{inside, start, stop};
+ghost use Rattle.textarea_ranges.specs.Held.{inside, range_start, range_end};
 ghost use Rattle.textarea_ranges.specs.Rejected.{AreRefused};
 ghost use Rattle.textarea_ranges.specs.Valid.{AreValid};
 ghost use Rattle.textarea_ranges.specs.declared.atomic.AtomicDeleteDirection.TheVariants.{Backward, Forward};
 ghost use Rattle.textarea_document.specs.Edits.{hit_at_cursor, is_at_end, is_at_start};
-ghost use Rattle.textarea_document.specs.Ranges.{accepted, anchor_out, anchored, holding, normalized, unless_empty, without_range, without_ranges};
+ghost use Rattle.textarea_document.specs.Ranges.{accepted, anchor_out, anchored, holding, normalized, unless_empty, range_removed, ranges_forgotten};
 
 use crate::document::Document;
 use std::alloc::AllocError;
@@ -66,7 +66,7 @@ impl Document {
 
     /// Holds no range any more; all else stays.
     pub fn clear_ranges(&mut self)
-        ensures { self.new ≡ without_ranges self.old }
+        ensures { self.new ≡ ranges_forgotten self.old }
     {
         self.ranges.clear();
     }
@@ -86,16 +86,16 @@ impl Document {
     /// is hit before the cursor that isn't the text's start, and where one is hit behind it, not the text's end.
     pub fn range_at_cursor(&self, direction: AtomicDeleteDirection) -> Option<AtomicRange>
         ensures value { result ≡ hit_at_cursor self.now direction }
-        ensures start { IfSome result (λ range. IsPlace self.now.text (start range)) }
-        ensures stop { IfSome result (λ range. IsPlace self.now.text (stop range)) }
-        ensures ordered { IfSome result (λ range. index_of self.now.text (start range) < index_of self.now.text (stop range)) }
+        ensures start { IfSome result (λ range. IsPlace self.now.text (range_start range)) }
+        ensures end { IfSome result (λ range. IsPlace self.now.text (range_end range)) }
+        ensures ordered { IfSome result (λ range. index_of self.now.text (range_start range) < index_of self.now.text (range_end range)) }
         ensures before { direction ≡ Backward → IfSome result (λ _. is_at_start self.now ≡ false) }
         ensures behind { direction ≡ Forward → IfSome result (λ _. is_at_end self.now ≡ false) }
     {
         held::hit(self.ranges.as_slice(), self.cursor, direction)
     }
 
-    /// Takes out the range that the direction hits from the cursor, and hands it out; the selection stays open, and where it
+    /// Removes the range that the direction hits from the cursor, and hands it out; the selection stays open, and where it
     /// began behind the end of its shorter line, it begins at that end. None where no range is hit, and then nothing changes
     /// and no memory is taken.
     pub fn remove_range_at_cursor(
@@ -104,7 +104,7 @@ impl Document {
         now: Duration,
     ) -> Result<Option<AtomicRange>, AllocError>
         ensures removed { IfOk result (λ range. range ≡ hit_at_cursor self.old direction) }
-        ensures ok { OnOk result (self.new ≡ without_range (hit_at_cursor self.old direction) self.old (as_nanos now)) }
+        ensures ok { OnOk result (self.new ≡ range_removed (hit_at_cursor self.old direction) self.old (as_nanos now)) }
         ensures err { OnErr result (self.new ≡ self.old) }
         ensures nothing { hit_at_cursor self.old direction ≡ None → IsOk result }
     {

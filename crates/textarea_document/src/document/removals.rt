@@ -5,8 +5,8 @@ ghost use Rattle.std.specs.Duration.{as_nanos};
 ghost use Rattle.textarea_text.specs.Text.{lines_of, symbol_in, text_of};
 ghost use Rattle.textarea_text.specs.Place.{IsPlace, IsPlaceOf, index_of};
 ghost use Rattle.textarea_edit.specs.Edit.{inserts_of, pieces_of, symbols_of};
-ghost use Rattle.textarea_ranges.specs.Held.{TakesWhole, start, stop, widened};
-ghost use Rattle.textarea_document.specs.Edits.{IsSymbolBehind, hit_before, hit_behind, is_at_end, is_at_start, removal, taken, without_before, without_behind, without_break, without_part, without_symbol_before, without_symbol_behind};
+ghost use Rattle.textarea_ranges.specs.Held.{TakesWhole, range_start, range_end, widened};
+ghost use Rattle.textarea_document.specs.Edits.{IsSymbolBehind, hit_before, hit_behind, is_at_end, is_at_start, removal, taken_symbols, removed_before, removed_behind, break_removed, part_removed, symbol_removed_before, symbol_removed_behind};
 ghost use Rattle.textarea_document.specs.Outcomes.{edited};
 
 use crate::document::Document;
@@ -19,8 +19,8 @@ use textarea_ranges::held;
 use textarea_text::rows;
 
 impl Document {
-    /// Takes out what stands between two places of the text, and each range that it overlaps.
-    #[tactic(auto, unfolding(crate::specs::Edits::without_part))]
+    /// Removes what stands between two places of the text, and each range that it overlaps.
+    #[tactic(auto, unfolding(crate::specs::Edits::part_removed))]
     pub fn remove(
         &mut self,
         from: (usize, usize),
@@ -30,16 +30,16 @@ impl Document {
         requires from { IsPlace self.old.text from }
         requires to { IsPlace self.old.text to }
         requires ordered { index_of self.old.text from < index_of self.old.text to }
-        ensures ok { OnOk result (self.new ≡ without_part self.old from to (as_nanos now)) }
+        ensures ok { OnOk result (self.new ≡ part_removed self.old from to (as_nanos now)) }
         ensures err { OnErr result (self.new ≡ self.old) }
     {
         let (start, end) = self.widened(from, to);
         self.remove_whole(start, end, now)
     }
 
-    /// Takes out what stands between two places of the text, and each range that it overlaps, and hands that out as pieces
+    /// Removes what stands between two places of the text, and each range that it overlaps, and hands that out as pieces
     /// with a line break between each two.
-    #[tactic(auto, unfolding(crate::specs::Edits::without_part))]
+    #[tactic(auto, unfolding(crate::specs::Edits::part_removed))]
     pub fn take(
         &mut self,
         from: (usize, usize),
@@ -49,8 +49,8 @@ impl Document {
         requires from { IsPlace self.old.text from }
         requires to { IsPlace self.old.text to }
         requires ordered { index_of self.old.text from < index_of self.old.text to }
-        ensures taken { IfOk result (λ pieces. text_of pieces.items ≡ taken self.old from to) }
-        ensures ok { OnOk result (self.new ≡ without_part self.old from to (as_nanos now)) }
+        ensures taken_symbols { IfOk result (λ pieces. text_of pieces.items ≡ taken_symbols self.old from to) }
+        ensures ok { OnOk result (self.new ≡ part_removed self.old from to (as_nanos now)) }
         ensures err { OnErr result (self.new ≡ self.old) }
     {
         let (start, end) = self.widened(from, to);
@@ -59,7 +59,7 @@ impl Document {
         Ok(pieces)
     }
 
-    // Takes out what stands between two places of the text, which takes each range whole or not at all.
+    // Removes what stands between two places of the text, which takes each range whole or not at all.
     fn remove_whole(
         &mut self,
         from: (usize, usize),
@@ -91,24 +91,24 @@ impl Document {
         held::widened(self.ranges(), from, to)
     }
 
-    /// Takes out the atomic range, whose ends are places of the text, with each other range that it overlaps.
+    /// Removes the atomic range, whose ends are places of the text, with each other range that it overlaps.
     pub fn remove_range(&mut self, range: AtomicRange, now: Duration) -> Result<(), AllocError>
-        requires start { IsPlace self.old.text (start range) }
-        requires stop { IsPlace self.old.text (stop range) }
-        requires ordered { index_of self.old.text (start range) < index_of self.old.text (stop range) }
-        ensures ok { OnOk result (self.new ≡ without_part self.old (start range) (stop range) (as_nanos now)) }
+        requires start { IsPlace self.old.text (range_start range) }
+        requires end { IsPlace self.old.text (range_end range) }
+        requires ordered { index_of self.old.text (range_start range) < index_of self.old.text (range_end range) }
+        ensures ok { OnOk result (self.new ≡ part_removed self.old (range_start range) (range_end range) (as_nanos now)) }
         ensures err { OnErr result (self.new ≡ self.old) }
     {
         let start = (range.row, range.start_col);
         self.remove(start, (range.row, range.end_col), now)
     }
 
-    /// Takes out the range before the cursor that is hit, or else the character there, or at column 0 the line break, as a
+    /// Removes the range before the cursor that is hit, or else the character there, or at column 0 the line break, as a
     /// typed edit or not, and says whether there was one. At the start of the text it takes no memory.
-    #[tactic(auto, unfolding(crate::specs::Edits::without_before))]
+    #[tactic(auto, unfolding(crate::specs::Edits::removed_before))]
     pub fn remove_before(&mut self, typed: bool, now: Duration) -> Result<bool, AllocError>
         ensures removed { IfOk result (λ removed. removed ≡ not (is_at_start self.old)) }
-        ensures ok { OnOk result (self.new ≡ without_before self.old typed (as_nanos now)) }
+        ensures ok { OnOk result (self.new ≡ removed_before self.old typed (as_nanos now)) }
         ensures err { OnErr result (self.new ≡ self.old) }
         ensures nothing { is_at_start self.old ≡ true → IsOk result }
     {
@@ -119,12 +119,12 @@ impl Document {
         Ok(true)
     }
 
-    /// Takes out the range behind the cursor that is hit, or else the character there, or at a line's end the line break,
+    /// Removes the range behind the cursor that is hit, or else the character there, or at a line's end the line break,
     /// as a typed edit or not, and says whether there was one. At the end of the text it takes no memory.
-    #[tactic(auto, unfolding(crate::specs::Edits::without_behind))]
+    #[tactic(auto, unfolding(crate::specs::Edits::removed_behind))]
     pub fn remove_behind(&mut self, typed: bool, now: Duration) -> Result<bool, AllocError>
         ensures removed { IfOk result (λ removed. removed ≡ not (is_at_end self.old)) }
-        ensures ok { OnOk result (self.new ≡ without_behind self.old typed (as_nanos now)) }
+        ensures ok { OnOk result (self.new ≡ removed_behind self.old typed (as_nanos now)) }
         ensures err { OnErr result (self.new ≡ self.old) }
         ensures nothing { is_at_end self.old ≡ true → IsOk result }
     {
@@ -135,12 +135,12 @@ impl Document {
         Ok(true)
     }
 
-    // Takes out the character before the cursor, or at column 0 the line break there, as a typed edit or not, and says
+    // Removes the character before the cursor, or at column 0 the line break there, as a typed edit or not, and says
     // whether there was one. At the start of the text it takes no memory.
     fn remove_symbol_before(&mut self, typed: bool, now: Duration) -> Result<bool, AllocError>
         requires none_hit { hit_before self.old ≡ None }
         ensures removed { IfOk result (λ removed. removed ≡ not (is_at_start self.old)) }
-        ensures ok { OnOk result (self.new ≡ without_symbol_before self.old typed (as_nanos now)) }
+        ensures ok { OnOk result (self.new ≡ symbol_removed_before self.old typed (as_nanos now)) }
         ensures err { OnErr result (self.new ≡ self.old) }
         ensures nothing { is_at_start self.old ≡ true → IsOk result }
     {
@@ -154,12 +154,12 @@ impl Document {
         Ok(true)
     }
 
-    // Takes out the character behind the cursor, or at a line's end the line break there, as a typed edit or not, and
+    // Removes the character behind the cursor, or at a line's end the line break there, as a typed edit or not, and
     // says whether there was one. At the end of the text it takes no memory.
     fn remove_symbol_behind(&mut self, typed: bool, now: Duration) -> Result<bool, AllocError>
         requires none_hit { hit_behind self.old ≡ None }
         ensures removed { IfOk result (λ removed. removed ≡ not (is_at_end self.old)) }
-        ensures ok { OnOk result (self.new ≡ without_symbol_behind self.old typed (as_nanos now)) }
+        ensures ok { OnOk result (self.new ≡ symbol_removed_behind self.old typed (as_nanos now)) }
         ensures err { OnErr result (self.new ≡ self.old) }
         ensures nothing { is_at_end self.old ≡ true → IsOk result }
     {
@@ -173,11 +173,11 @@ impl Document {
         Ok(true)
     }
 
-    /// Takes out the line break before the cursor's line, and says whether there was one. In the first line it takes no
+    /// Removes the line break before the cursor's line, and says whether there was one. In the first line it takes no
     /// memory.
     pub fn remove_break(&mut self, now: Duration) -> Result<bool, AllocError>
         ensures removed { IfOk result (λ removed. removed ≡ not (self.old.cursor.0 == 0)) }
-        ensures ok { OnOk result (self.new ≡ without_break self.old (as_nanos now)) }
+        ensures ok { OnOk result (self.new ≡ break_removed self.old (as_nanos now)) }
         ensures err { OnErr result (self.new ≡ self.old) }
         ensures nothing { self.old.cursor.0 ≡ 0 → IsOk result }
     {
@@ -234,18 +234,18 @@ fn character_behind(line: &str, column: usize) -> Option<char>
     line[rows::byte_offset(line, column)..].chars().next()
 }
 
-// The pieces, which stand between two places, taken out.
-fn removal_of(mut pieces: Vec<String>, start: (usize, usize), stop: (usize, usize)) -> Edit
+// The pieces, which stand between two places, removed.
+fn removal_of(mut pieces: Vec<String>, start: (usize, usize), end: (usize, usize)) -> Edit
     requires { 0 < vec_len pieces }
     ensures splice { result.splice ≡ record { place = start; symbols = text_of pieces.items; inserts = false } }
-    ensures stop { result.stop ≡ stop }
+    ensures end { result.end ≡ end }
     ensures pieces { IfSome result.pieces (λ n. 2 ≤ n) }
 {
     if 1 < pieces.len() {
-        return Edit::between(EditKind::DeleteChunk(pieces), stop, start);
+        return Edit::between(EditKind::DeleteChunk(pieces), end, start);
     }
     let text = pieces.pop().unwrap();
-    Edit::between(EditKind::DeleteStr(text), stop, start)
+    Edit::between(EditKind::DeleteStr(text), end, start)
 }
 
 // The removal of a character, or of a break where there is none.

@@ -1,29 +1,29 @@
 //! The visual rows of a document.
 ghost use Rattle.std.specs.Prelude.{◌≡◌, true, IfOk, IfSome, IsOk, OnErr, OnOk};
 ghost use Rattle.textarea_text.specs.Place.{IsPlace};
-ghost use Rattle.textarea_lines.specs.Screen.{is_cut_at, stays_cut};
-ghost use Rattle.textarea_document.specs.Rows.{HasRowsAt, IsAboveCursor, IsBelowCursor, laid_of, viewed};
+ghost use Rattle.textarea_lines.specs.Layout.{is_cut_at, stays_cut};
+ghost use Rattle.textarea_document.specs.Rows.{HasRowsAt, IsAboveCursor, IsBelowCursor, laid_out_of, with_layout_settings};
 
 use crate::document::Document;
 use std::alloc::AllocError;
-use textarea_lines::view::ViewSettings;
+use textarea_lines::settings::LayoutSettings;
 
 impl Document {
     /// What decides how the lines are cut and seen.
-    pub fn view(&self) -> ViewSettings
-        ensures { result ≡ self.now.screen.view }
+    pub fn layout_settings(&self) -> LayoutSettings
+        ensures { result ≡ self.now.layout.settings }
     {
-        self.laid.view()
+        self.laid.layout_settings()
     }
 
     /// Sets what decides how the lines are cut and seen. They are cut anew, each once, only where they are cut in another
     /// way, and only then memory is taken.
-    pub fn set_view(&mut self, view: ViewSettings) -> Result<(), AllocError>
-        ensures ok { OnOk result (self.new ≡ viewed self.old view) }
+    pub fn set_layout_settings(&mut self, settings: LayoutSettings) -> Result<(), AllocError>
+        ensures ok { OnOk result (self.new ≡ with_layout_settings self.old settings) }
         ensures err { OnErr result (self.new ≡ self.old) }
-        ensures no_memory { stays_cut (laid_of self.old) view ≡ true → IsOk result }
+        ensures no_memory { stays_cut (laid_out_of self.old) settings ≡ true → IsOk result }
     {
-        self.laid.set_view(view)
+        self.laid.set_layout_settings(settings)
     }
 
     /// Where the cursor goes one visual row up; none from the first visual row.
@@ -51,7 +51,7 @@ impl Document {
     pub fn rows_at_width(&mut self, inner_width: u16) -> Result<usize, AllocError>
         ensures same { self.new ≡ self.old }
         ensures rows { IfOk result (HasRowsAt self.old inner_width) }
-        ensures no_memory { is_cut_at (laid_of self.old) inner_width ≡ true → IsOk result }
+        ensures no_memory { is_cut_at (laid_out_of self.old) inner_width ≡ true → IsOk result }
     {
         self.laid.rows_at_width(inner_width)
     }

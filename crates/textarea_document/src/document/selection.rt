@@ -2,7 +2,7 @@
 ghost use Rattle.std.specs.Prelude.{◌≡◌, ◌<◌, ◌≤◌, OnOk, OnErr, IsOk, IfOk, IfSome, MatchOption, true, false};
 ghost use Rattle.std.specs.Duration.{as_nanos};
 ghost use Rattle.textarea_text.specs.Place.{IsPlace, index_of};
-ghost use Rattle.textarea_document.specs.Selection.{is_before, is_selected, selection, selection_end, selection_start, without_selected};
+ghost use Rattle.textarea_document.specs.Selection.{is_before, is_selected, selection, selection_end, selection_start, selected_removed};
 
 use crate::document::Document;
 use std::alloc::AllocError;
@@ -38,10 +38,10 @@ impl Document {
         }
     }
 
-    /// Takes out what is selected, and says whether there was a symbol; an empty selection stays.
+    /// Removes what is selected, and says whether there was a symbol; an empty selection stays.
     pub fn remove_selection(&mut self, now: Duration) -> Result<bool, AllocError>
         ensures removed { IfOk result (λ removed. removed ≡ is_selected self.old) }
-        ensures ok { OnOk result (self.new ≡ without_selected self.old (as_nanos now)) }
+        ensures ok { OnOk result (self.new ≡ selected_removed self.old (as_nanos now)) }
         ensures err { OnErr result (self.new ≡ self.old) }
         ensures nothing { is_selected self.old ≡ false → IsOk result }
     {

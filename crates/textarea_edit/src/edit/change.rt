@@ -8,7 +8,7 @@ ghost use Rattle.textarea_text.specs.Splice.{Fits, applied, place_after, place_b
 ghost use Rattle.textarea_text.specs.Touched.{IsReplacementFor, breaks_of};
 
 use super::{Content, Edit};
-use crate::texts::reversed;
+use crate::texts::reverse_text;
 use std::alloc::{AllocError, Global};
 use std::marker::Model;
 use textarea_text::inside::{insert_inside, remove_inside};
@@ -142,7 +142,7 @@ impl<'a> Change<'a> {
                 if edit.inserts {
                     self.insert_inside(lines, text.as_str())
                 } else {
-                    let restored = reversed(*lines.allocator(), text.as_str())?;
+                    let restored = reverse_text(*lines.allocator(), text.as_str())?;
                     self.insert_inside(lines, restored.as_str())
                 }
             }
@@ -197,7 +197,7 @@ impl<'a> Change<'a> {
                 if edit.inserts {
                     self.prepare_insertion(alloc, lines, text.as_str(), &[])
                 } else {
-                    let restored = reversed(alloc, text.as_str())?;
+                    let restored = reverse_text(alloc, text.as_str())?;
                     self.prepare_insertion(alloc, lines, restored.as_str(), &[])
                 }
             }

@@ -7,7 +7,7 @@ ghost use Rattle.textarea_text.specs.Place.{IsPlaceOf};
 ghost use Rattle.textarea_map.specs.Layout.{AreRowsOf};
 ghost use Rattle.textarea_map.specs.Map.{range_at, row_total};
 ghost use Rattle.textarea_map.specs.Rows.{greatest_column, row_at, row_width};
-ghost use Rattle.textarea_map.specs.Seen.{IsAbove, IsBelow, IsInFirstRow, IsInLastRow, IsPlaceAt, IsPlaceNear, IsSeenAt};
+ghost use Rattle.textarea_map.specs.Seen.{IsAbove, IsBelow, IsInFirstRow, IsInLastRow, IsPlaceAt, IsPlaceNear, IsVisualPosition};
 
 use super::ScreenMap;
 use crate::columns::{character_at_column, greatest_cursor_column};
@@ -91,7 +91,7 @@ impl ScreenMap {
     }
 
     /// The visual row in which a place of the map's lines is seen, and its display column there.
-    pub fn seen_at(
+    pub fn visual_position(
         &self,
         lines: &[String],
         wrapping: Wrapping,
@@ -100,7 +100,7 @@ impl ScreenMap {
         requires rows { AreRowsOf wrapping (lines_of lines.now) self.now.rows }
         requires place { IsPlaceOf (lines_of lines.now) place }
         ensures row { result.0 < row_total self.now.rows }
-        ensures seen { IsSeenAt wrapping.tab_len (lines_of lines.now) self.now.rows place result }
+        ensures seen { IsVisualPosition wrapping.tab_len (lines_of lines.now) self.now.rows place result }
     {
         let line = lines[place.0].as_str();
         let offset = byte_offset(line, place.1);
@@ -159,7 +159,7 @@ impl ScreenMap {
         ensures { MatchOption result (IsInFirstRow wrapping.tab_len (lines_of lines.now) self.now.rows place)
             (λ target. IsPlaceOf (lines_of lines.now) target × IsAbove wrapping.tab_len (lines_of lines.now) self.now.rows place target) }
     {
-        let (row, column) = self.seen_at(lines, wrapping, place);
+        let (row, column) = self.visual_position(lines, wrapping, place);
         if row == 0 {
             return None;
         }
@@ -179,7 +179,7 @@ impl ScreenMap {
             (λ target. IsPlaceOf (lines_of lines.now) target × IsBelow wrapping.tab_len (lines_of lines.now) self.now.rows place target) }
     {
         let total = self.total;
-        let (row, column) = self.seen_at(lines, wrapping, place);
+        let (row, column) = self.visual_position(lines, wrapping, place);
         if row + 1 == total {
             return None;
         }

@@ -1,7 +1,7 @@
 //! Rows that are cut at the ends of units.
 ghost use Rattle.std.specs.Prelude.{◌≡◌, ℕ, ◌+◌, ◌*◌, ◌^◌, ◌<◌, ◌≤◌, ◌↔◌, List, [], ◌∷◌, ◌++◌, length, map, IsTrue, IfOk, OnOk};
 ghost use Rattle.std.specs.List.{concat, flat_map, AllByRecursion};
-ghost use Rattle.textarea_wrap.specs.Cutting.{Run, Block, AreBlocks, HangsOver, begins_with_content, units_of, rows_of, ranges_from};
+ghost use Rattle.textarea_wrap.specs.Cutting.{Stretch, Block, AreBlocks, HangsOver, begins_with_content, units_of, rows_of, ranges_from};
 ghost use Rattle.textarea_wrap.specs.WordWalk.{IsWordWalk};
 
 use super::Ranges;
@@ -47,7 +47,7 @@ fn place_unit(
     requires some { 0 < length unit.now }
     requires short { row.end + 255 * length unit.now < 2 ^ 63 }
     requires narrow { row.column + 255 * length unit.now < 2 ^ 63 }
-    ensures placed { IfOk result (λ placed. (units : Run) → (before : List (ℕ × ℕ))
+    ensures placed { IfOk result (λ placed. (units : Stretch) → (before : List (ℕ × ℕ))
         → IsWordWalk tab_len width units before rows.old.items (unit.now ∷ map (λ unit. unit.now) later.now) row.start row.end row.column
         → IsWordWalk tab_len width units before rows.new.items (map (λ unit. unit.now) later.now) placed.start placed.end placed.column) }
     ensures end { IfOk result (λ placed. placed.end ≡ row.end + length unit.now) }

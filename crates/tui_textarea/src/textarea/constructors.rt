@@ -19,7 +19,7 @@ impl<'b> TextArea<'b> {
         requires ends { IsFinite (I.remaining lines) }
         ensures { IfOk result (λ area. (strings : List (String Global)) × Drains I.next_gives lines strings × (area ≡ new_state (text_of strings))) }
     {
-        TextArea::new(alloc, collected(alloc, lines)?)
+        TextArea::new(alloc, collect_lines(alloc, lines)?)
     }
 
     /// A text area of copies of the lines that the iterator gives, the cursor at the start; no line at all becomes one
@@ -32,12 +32,12 @@ impl<'b> TextArea<'b> {
         requires ends { IsFinite (I.remaining lines) }
         ensures { IfOk result (λ area. (texts : List (Bor (List ℕ))) × Drains I.next_gives lines texts × (area ≡ new_state (text_of_each texts))) }
     {
-        TextArea::new(alloc, copied_each(alloc, lines)?)
+        TextArea::new(alloc, copy_lines(alloc, lines)?)
     }
 }
 
 // The strings that the iterator gives.
-fn collected<I: Iterator<Item = String> + Drop>(
+fn collect_lines<I: Iterator<Item = String> + Drop>(
     alloc: Global,
     lines: I,
 ) -> Result<Vec<String>, AllocError>
@@ -53,7 +53,7 @@ fn collected<I: Iterator<Item = String> + Drop>(
 }
 
 // Copies of the texts that the iterator gives.
-fn copied_each<'a, I: Iterator<Item = &'a str> + Drop>(
+fn copy_lines<'a, I: Iterator<Item = &'a str> + Drop>(
     alloc: Global,
     lines: I,
 ) -> Result<Vec<String>, AllocError>

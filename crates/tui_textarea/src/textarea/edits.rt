@@ -6,21 +6,21 @@ ghost use Rattle.textarea_text.specs.Text.{Character, text_of};
 ghost use Rattle.textarea_document.specs.Edits.{is_filled};
 ghost use Rattle.textarea_document.specs.Selection.{is_selected};
 ghost use Rattle.textarea_pieces.specs.Given.{given};
-ghost use Rattle.tui_textarea.specs.Edits.{inserts_tab, inserts_text, put_symbols, spaces_to_stop, with_char, with_newline, with_tab, with_text};
-ghost use Rattle.tui_textarea.specs.Selection.{IsLeft, dropped, unselected};
+ghost use Rattle.tui_textarea.specs.Edits.{inserts_tab, inserts_text, symbols_or_none_inserted, spaces_to_stop, char_inserted, newline_inserted, tab_inserted, str_inserted};
+ghost use Rattle.tui_textarea.specs.Selection.{IsLeft, selection_cancelled, unselected};
 
 use crate::textarea::TextArea;
 use std::alloc::{AllocError, Global};
 use textarea_document::document::insertions::has_symbol;
-use textarea_pieces::given::{copied, pieces_of};
+use textarea_pieces::given::{copy_pieces, pieces_of};
 use textarea_pieces::tab::spaces_to_stop;
 use textarea_text::util::spaces;
 
 impl TextArea<'_> {
-    /// Puts the character in at the cursor, or at the end of the atomic range that strictly holds it, as typed; `\n`
+    /// Inserts the character at the cursor, or at the end of the atomic range that strictly holds it, as typed; `\n`
     /// and `\r` break the line.
     pub fn insert_char(&mut self, c: char) -> Result<(), AllocError>
-        ensures ok { OnOk result (self.new ≡ with_char self.old c) }
+        ensures ok { OnOk result (self.new ≡ char_inserted self.old c) }
         ensures err { OnErr result (IsLeft self.old self.new) }
     {
         self.document.remove_selection(self.moment)?;
@@ -33,19 +33,19 @@ impl TextArea<'_> {
 
     /// Breaks the line at the cursor, or at the end of the atomic range that strictly holds it.
     pub fn insert_newline(&mut self) -> Result<(), AllocError>
-        ensures ok { OnOk result (self.new ≡ with_newline self.old) }
+        ensures ok { OnOk result (self.new ≡ newline_inserted self.old) }
         ensures err { OnErr result (IsLeft self.old self.new) }
     {
         self.document.remove_selection(self.moment)?;
         self.document.insert_break(self.moment)
     }
 
-    /// Puts the text in at the cursor, or at the end of the atomic range that strictly holds it, and says whether there
+    /// Inserts the text at the cursor, or at the end of the atomic range that strictly holds it, and says whether there
     /// was any or a selection went. The text is cut at each line feed; a carriage return directly before a line feed
     /// goes with it. Where there is nothing to do, it takes no memory.
     pub fn insert_str(&mut self, text: &str) -> Result<bool, AllocError>
         ensures inserted { IfOk result (λ inserted. inserted ≡ inserts_text self.old (given (chars text.now))) }
-        ensures ok { OnOk result (self.new ≡ with_text self.old (given (chars text.now))) }
+        ensures ok { OnOk result (self.new ≡ str_inserted self.old (given (chars text.now))) }
         ensures err { OnErr result (IsLeft self.old self.new) }
         ensures nothing { inserts_text self.old (given (chars text.now)) ≡ false → IsOk result }
     {
@@ -58,11 +58,11 @@ impl TextArea<'_> {
         Ok(true)
     }
 
-    /// Puts in what was yanked last, where `insert_str` does, and says whether there was any. Where there is nothing to
+    /// Inserts what was yanked last, where `insert_str` does, and says whether there was any. Where there is nothing to
     /// do, it takes no memory.
     pub fn paste(&mut self) -> Result<bool, AllocError>
         ensures inserted { IfOk result (λ inserted. inserted ≡ is_filled self.old.yank) }
-        ensures ok { OnOk result (self.new ≡ with_text self.old self.old.yank) }
+        ensures ok { OnOk result (self.new ≡ str_inserted self.old self.old.yank) }
         ensures err { OnErr result (IsLeft self.old self.new) }
         ensures nothing { inserts_text self.old self.old.yank ≡ false → IsOk result }
     {
@@ -70,21 +70,21 @@ impl TextArea<'_> {
             self.insert_nothing()?;
             return Ok(false);
         }
-        let pieces = copied(self.allocator(), self.yank.as_slice())?;
+        let pieces = copy_pieces(self.allocator(), self.yank.as_slice())?;
         self.document.remove_selection(self.moment)?;
         self.document.insert(pieces, self.moment)
     }
 
-    /// Puts a tab in at the cursor, or at the end of the atomic range that strictly holds it, and says whether it did
+    /// Inserts a tab at the cursor, or at the end of the atomic range that strictly holds it, and says whether it did
     /// or a selection went: a tab character where hard tabs are on, as typed, and else as many spaces as reach to the
-    /// next tab stop. At tab length 0 it puts nothing in. Where there is nothing to do, it takes no memory.
+    /// next tab stop. At tab length 0 it inserts nothing. Where there is nothing to do, it takes no memory.
     pub fn insert_tab(&mut self) -> Result<bool, AllocError>
         ensures inserted { IfOk result (λ inserted. inserted ≡ inserts_tab self.old) }
-        ensures ok { OnOk result (self.new ≡ with_tab self.old) }
+        ensures ok { OnOk result (self.new ≡ tab_inserted self.old) }
         ensures err { OnErr result (IsLeft self.old self.new) }
         ensures nothing { inserts_tab self.old ≡ false → IsOk result }
     {
-        let tab_length = self.document.view().tab_len;
+        let tab_length = self.document.layout_settings().tab_len;
         if tab_length == 0 {
             return self.drop_selection();
         }
@@ -98,10 +98,10 @@ impl TextArea<'_> {
         Ok(true)
     }
 
-    // Puts in the spaces that reach from where they go to the next tab stop.
+    // Inserts the spaces that reach from where they go to the next tab stop.
     fn insert_spaces(&mut self, tab_length: u8) -> Result<(), AllocError>
         requires some { 0 < tab_length }
-        ensures ok { OnOk result (self.new ≡ put_symbols self.old (replicate (spaces_to_stop self.old.document tab_length) (Character 32))) }
+        ensures ok { OnOk result (self.new ≡ symbols_or_none_inserted self.old (replicate (spaces_to_stop self.old.document tab_length) (Character 32))) }
         ensures err { OnErr result (self.new ≡ self.old) }
     {
         let (row, column) = self.document.insertion_place();
@@ -112,11 +112,11 @@ impl TextArea<'_> {
         Ok(())
     }
 
-    // Takes out what is selected, says whether a symbol was, drops the selection, and puts the cursor where an insertion
+    // Removes what is selected, says whether a symbol was, drops the selection, and puts the cursor where an insertion
     // goes.
     fn insert_nothing(&mut self) -> Result<bool, AllocError>
         ensures removed { IfOk result (λ removed. removed ≡ is_selected self.old.document) }
-        ensures ok { OnOk result (self.new ≡ with_text self.old []) }
+        ensures ok { OnOk result (self.new ≡ str_inserted self.old []) }
         ensures err { OnErr result (self.new ≡ self.old) }
         ensures nothing { is_selected self.old.document ≡ false → IsOk result }
     {
@@ -125,10 +125,10 @@ impl TextArea<'_> {
         Ok(removed)
     }
 
-    // Takes out what is selected, says whether a symbol was, and drops the selection.
+    // Removes what is selected, says whether a symbol was, and drops the selection.
     fn drop_selection(&mut self) -> Result<bool, AllocError>
         ensures removed { IfOk result (λ removed. removed ≡ is_selected self.old.document) }
-        ensures ok { OnOk result (self.new ≡ dropped (unselected self.old)) }
+        ensures ok { OnOk result (self.new ≡ selection_cancelled (unselected self.old)) }
         ensures err { OnErr result (self.new ≡ self.old) }
         ensures nothing { is_selected self.old.document ≡ false → IsOk result }
     {

@@ -2,8 +2,8 @@
 ghost use Rattle.std.specs.Prelude.{ℕ, ◌≡◌, ◌≤◌, length, true};
 ghost use Rattle.textarea_document.specs.Law.{GivesBack};
 ghost use Rattle.textarea_document.specs.Selection.{is_selected, selected};
-ghost use Rattle.tui_textarea.specs.Edits.{put_symbols, with_text};
-ghost use Rattle.tui_textarea.specs.Selection.{copied};
+ghost use Rattle.tui_textarea.specs.Edits.{symbols_or_none_inserted, str_inserted};
+ghost use Rattle.tui_textarea.specs.Selection.{selection_copied};
 
 use crate::textarea::TextArea;
 
@@ -16,10 +16,10 @@ impl TextArea<'_> {
         self.document.undos_give_back();
     }
 
-    /// The law of copying, for every text area in which a symbol is selected: a `paste` behind a `copy` puts in exactly
-    /// the symbols that were selected, at the cursor, and takes nothing out.
+    /// The law of copying, for every text area in which a symbol is selected: a `paste` behind a `copy` inserts exactly
+    /// the symbols that were selected, at the cursor, and removes nothing.
     pub fn copy_then_paste(&self)
-        ensures { is_selected self.now.document ≡ true → with_text (copied self.now) (copied self.now).yank ≡ put_symbols (copied self.now) (selected self.now.document) }
+        ensures { is_selected self.now.document ≡ true → str_inserted (selection_copied self.now) (selection_copied self.now).yank ≡ symbols_or_none_inserted (selection_copied self.now) (selected self.now.document) }
     {
         let _ = &self.document; // a law of the states alone
     }

@@ -5,7 +5,7 @@ ghost use Rattle.textarea_ranges.specs.Held.{inside};
 ghost use Rattle.textarea_ranges.specs.Rejected.{AreRefused};
 ghost use Rattle.textarea_ranges.specs.Valid.{AreValid};
 ghost use Rattle.textarea_document.specs.Edits.{hit_at_cursor};
-ghost use Rattle.tui_textarea.specs.Ranges.{cursor_normalized, range_out, ranges_accepted, ranges_cleared};
+ghost use Rattle.tui_textarea.specs.Ranges.{cursor_normalized, hit_range_removed, ranges_accepted, ranges_cleared};
 
 use crate::textarea::TextArea;
 use std::alloc::AllocError;
@@ -85,7 +85,7 @@ impl TextArea<'_> {
         direction: AtomicDeleteDirection,
     ) -> Result<Option<AtomicRange>, AllocError>
         ensures removed { IfOk result (λ range. range ≡ hit_at_cursor self.old.document direction) }
-        ensures ok { OnOk result (self.new ≡ range_out self.old direction) }
+        ensures ok { OnOk result (self.new ≡ hit_range_removed self.old direction) }
         ensures err { OnErr result (self.new ≡ self.old) }
         ensures nothing { hit_at_cursor self.old.document direction ≡ None → IsOk result }
     {

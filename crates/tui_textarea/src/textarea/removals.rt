@@ -3,7 +3,7 @@ ghost use Rattle.std.specs.Prelude.{◌≡◌, ◌<◌, OnOk, OnErr, IsOk, IfOk,
 ghost use Rattle.textarea_text.specs.Place.{IsPlace, index_of, place_of};
 ghost use Rattle.textarea_document.specs.Edits.{is_filled};
 ghost use Rattle.textarea_document.specs.Selection.{is_selected};
-ghost use Rattle.tui_textarea.specs.Removals.{break_before_out, cleared, has_ahead, has_before, has_behind, has_break_before, has_line_before, has_line_behind, has_word_before, has_word_behind, index_ahead, back_to_word_out, on_to_word_end_out, line_end_out, line_head_out, removes_or, symbol_before_out, symbol_behind_out, symbols_ahead_out, unselected_or, word_before_out, word_behind_out, yanked};
+ghost use Rattle.tui_textarea.specs.Removals.{break_before_removed, text_cleared, has_ahead, has_before, has_behind, has_break_before, has_line_before, has_line_behind, has_word_before, has_word_behind, index_ahead, back_to_word_removed, on_to_word_end_removed, line_end_removed, line_head_removed, removes_or, symbol_before_removed, symbol_behind_removed, symbols_ahead_removed, unselected_or, word_before_removed, word_behind_removed, yanked};
 
 use crate::textarea::TextArea;
 use std::alloc::AllocError;
@@ -17,7 +17,7 @@ impl TextArea<'_> {
     /// memory.
     pub fn delete_char(&mut self) -> Result<bool, AllocError>
         ensures removed { IfOk result (λ removed. removed ≡ removes_or self.old (has_before self.old)) }
-        ensures ok { OnOk result (self.new ≡ unselected_or self.old (symbol_before_out self.old)) }
+        ensures ok { OnOk result (self.new ≡ unselected_or self.old (symbol_before_removed self.old)) }
         ensures err { OnErr result (self.new ≡ self.old) }
         ensures nothing { removes_or self.old (has_before self.old) ≡ false → IsOk result }
     {
@@ -33,7 +33,7 @@ impl TextArea<'_> {
     /// takes no memory.
     pub fn delete_next_char(&mut self) -> Result<bool, AllocError>
         ensures removed { IfOk result (λ removed. removed ≡ removes_or self.old (has_behind self.old)) }
-        ensures ok { OnOk result (self.new ≡ unselected_or self.old (symbol_behind_out self.old)) }
+        ensures ok { OnOk result (self.new ≡ unselected_or self.old (symbol_behind_removed self.old)) }
         ensures err { OnErr result (self.new ≡ self.old) }
         ensures nothing { removes_or self.old (has_behind self.old) ≡ false → IsOk result }
     {
@@ -48,7 +48,7 @@ impl TextArea<'_> {
     /// takes no memory.
     pub fn delete_newline(&mut self) -> Result<bool, AllocError>
         ensures removed { IfOk result (λ removed. removed ≡ removes_or self.old (has_break_before self.old)) }
-        ensures ok { OnOk result (self.new ≡ unselected_or self.old (break_before_out self.old)) }
+        ensures ok { OnOk result (self.new ≡ unselected_or self.old (break_before_removed self.old)) }
         ensures err { OnErr result (self.new ≡ self.old) }
         ensures nothing { removes_or self.old (has_break_before self.old) ≡ false → IsOk result }
     {
@@ -62,7 +62,7 @@ impl TextArea<'_> {
     /// and says whether something was removed. Where nothing is, it takes no memory.
     pub fn delete_str(&mut self, count: usize) -> Result<bool, AllocError>
         ensures removed { IfOk result (λ removed. removed ≡ removes_or self.old (has_ahead self.old count)) }
-        ensures ok { OnOk result (self.new ≡ unselected_or self.old (symbols_ahead_out self.old count)) }
+        ensures ok { OnOk result (self.new ≡ unselected_or self.old (symbols_ahead_removed self.old count)) }
         ensures err { OnErr result (self.new ≡ self.old) }
         ensures nothing { removes_or self.old (has_ahead self.old count) ≡ false → IsOk result }
     {
@@ -74,7 +74,7 @@ impl TextArea<'_> {
             return Ok(false);
         };
         let cursor = self.document.cursor();
-        self.take_out(cursor, end)?;
+        self.remove_and_yank(cursor, end)?;
         Ok(true)
     }
 
@@ -82,7 +82,7 @@ impl TextArea<'_> {
     /// whether something was removed. Where nothing is, it takes no memory.
     pub fn delete_line_by_end(&mut self) -> Result<bool, AllocError>
         ensures removed { IfOk result (λ removed. removed ≡ removes_or self.old (has_line_behind self.old)) }
-        ensures ok { OnOk result (self.new ≡ unselected_or self.old (line_end_out self.old)) }
+        ensures ok { OnOk result (self.new ≡ unselected_or self.old (line_end_removed self.old)) }
         ensures err { OnErr result (self.new ≡ self.old) }
         ensures nothing { removes_or self.old (has_line_behind self.old) ≡ false → IsOk result }
     {
@@ -96,7 +96,7 @@ impl TextArea<'_> {
                 .document
                 .remove_behind(self.settings.undo_coalescing, self.moment);
         }
-        self.take_out(cursor, end)?;
+        self.remove_and_yank(cursor, end)?;
         Ok(true)
     }
 
@@ -104,7 +104,7 @@ impl TextArea<'_> {
     /// whether something was removed. Where nothing is, it takes no memory.
     pub fn delete_line_by_head(&mut self) -> Result<bool, AllocError>
         ensures removed { IfOk result (λ removed. removed ≡ removes_or self.old (has_line_before self.old)) }
-        ensures ok { OnOk result (self.new ≡ unselected_or self.old (line_head_out self.old)) }
+        ensures ok { OnOk result (self.new ≡ unselected_or self.old (line_head_removed self.old)) }
         ensures err { OnErr result (self.new ≡ self.old) }
         ensures nothing { removes_or self.old (has_line_before self.old) ≡ false → IsOk result }
     {
@@ -115,7 +115,7 @@ impl TextArea<'_> {
         if cursor.1 == 0 {
             return self.document.remove_break(self.moment);
         }
-        self.take_out((cursor.0, 0), cursor)?;
+        self.remove_and_yank((cursor.0, 0), cursor)?;
         Ok(true)
     }
 
@@ -124,7 +124,7 @@ impl TextArea<'_> {
     /// `delete_newline`. It says whether something was removed. Where nothing is, it takes no memory.
     pub fn delete_word(&mut self) -> Result<bool, AllocError>
         ensures removed { IfOk result (λ removed. removed ≡ removes_or self.old (has_word_before self.old)) }
-        ensures ok { OnOk result (self.new ≡ unselected_or self.old (word_before_out self.old)) }
+        ensures ok { OnOk result (self.new ≡ unselected_or self.old (word_before_removed self.old)) }
         ensures err { OnErr result (self.new ≡ self.old) }
         ensures nothing { removes_or self.old (has_word_before self.old) ≡ false → IsOk result }
     {
@@ -146,7 +146,7 @@ impl TextArea<'_> {
     /// says whether something was removed. Where nothing is, it takes no memory.
     pub fn delete_next_word(&mut self) -> Result<bool, AllocError>
         ensures removed { IfOk result (λ removed. removed ≡ removes_or self.old (has_word_behind self.old)) }
-        ensures ok { OnOk result (self.new ≡ unselected_or self.old (word_behind_out self.old)) }
+        ensures ok { OnOk result (self.new ≡ unselected_or self.old (word_behind_removed self.old)) }
         ensures err { OnErr result (self.new ≡ self.old) }
         ensures nothing { removes_or self.old (has_word_behind self.old) ≡ false → IsOk result }
     {
@@ -167,7 +167,7 @@ impl TextArea<'_> {
     /// nothing changes, and it takes no memory.
     pub fn clear(&mut self) -> Result<bool, AllocError>
         ensures removed { IfOk result (λ removed. removed ≡ is_filled self.old.document.text) }
-        ensures ok { OnOk result (self.new ≡ cleared self.old) }
+        ensures ok { OnOk result (self.new ≡ text_cleared self.old) }
         ensures err { OnErr result (self.new ≡ self.old) }
         ensures nothing { is_filled self.old.document.text ≡ false → IsOk result }
     {
@@ -175,7 +175,7 @@ impl TextArea<'_> {
             return Ok(false);
         }
         let end = text_end(self.document.lines());
-        self.take_out((0, 0), end)?;
+        self.remove_and_yank((0, 0), end)?;
         Ok(true)
     }
 
@@ -196,10 +196,10 @@ impl TextArea<'_> {
     }
 
     // Removes back to the word's start, or the break before the line, and says whether something was removed.
-    #[tactic(auto, unfolding(crate::specs::Removals::back_to_word_out))]
+    #[tactic(auto, unfolding(crate::specs::Removals::back_to_word_removed))]
     fn remove_to_word_start(&mut self) -> Result<bool, AllocError>
         ensures removed { IfOk result (λ removed. removed ≡ has_line_before self.old) }
-        ensures ok { OnOk result (self.new ≡ back_to_word_out self.old) }
+        ensures ok { OnOk result (self.new ≡ back_to_word_removed self.old) }
         ensures err { OnErr result (self.new ≡ self.old) }
         ensures nothing { has_line_before self.old ≡ false → IsOk result }
     {
@@ -208,15 +208,15 @@ impl TextArea<'_> {
             return self.document.remove_break(self.moment);
         }
         let start = word_start_before(self.document.lines()[cursor.0].as_str(), cursor.1);
-        self.take_out((cursor.0, start), cursor)?;
+        self.remove_and_yank((cursor.0, start), cursor)?;
         Ok(true)
     }
 
     // Removes on to the word's end, or the symbol behind the line, and says whether something was removed.
-    #[tactic(auto, unfolding(crate::specs::Removals::on_to_word_end_out))]
+    #[tactic(auto, unfolding(crate::specs::Removals::on_to_word_end_removed))]
     fn remove_to_word_end(&mut self) -> Result<bool, AllocError>
         ensures removed { IfOk result (λ removed. removed ≡ has_line_behind self.old) }
-        ensures ok { OnOk result (self.new ≡ on_to_word_end_out self.old) }
+        ensures ok { OnOk result (self.new ≡ on_to_word_end_removed self.old) }
         ensures err { OnErr result (self.new ≡ self.old) }
         ensures nothing { has_line_behind self.old ≡ false → IsOk result }
     {
@@ -228,13 +228,13 @@ impl TextArea<'_> {
                 .remove_behind(self.settings.undo_coalescing, self.moment);
         }
         let end = word_end_after(line, cursor.1);
-        self.take_out(cursor, (cursor.0, end))?;
+        self.remove_and_yank(cursor, (cursor.0, end))?;
         Ok(true)
     }
 
     // Removes and yanks what stands between two places, with the ranges that it overlaps.
     #[tactic(auto, unfolding(crate::specs::Removals::yanked))]
-    fn take_out(&mut self, from: (usize, usize), to: (usize, usize)) -> Result<(), AllocError>
+    fn remove_and_yank(&mut self, from: (usize, usize), to: (usize, usize)) -> Result<(), AllocError>
         requires from { IsPlace self.old.document.text from }
         requires to { IsPlace self.old.document.text to }
         requires ordered { index_of self.old.document.text from < index_of self.old.document.text to }

@@ -3,11 +3,11 @@ ghost use Rattle.std.specs.Prelude.{◌≡◌, OnOk, OnErr, IsOk, IfOk, false, i
 ghost use Rattle.std.specs.Str.{chars};
 ghost use Rattle.textarea_document.specs.Selection.{is_selected, selection};
 ghost use Rattle.textarea_pieces.specs.Given.{given, written};
-ghost use Rattle.tui_textarea.specs.Selection.{all_selected, copied, cut_out, dropped, selection_started, unselected};
+ghost use Rattle.tui_textarea.specs.Selection.{all_selected, selection_copied, selection_cut, selection_cancelled, selection_started, unselected};
 
 use crate::textarea::TextArea;
 use std::alloc::AllocError;
-use textarea_pieces::given::{joined_with_line_feeds, pieces_of};
+use textarea_pieces::given::{join_with_line_feeds, pieces_of};
 use textarea_pieces::part::between;
 use textarea_pieces::places::text_end;
 
@@ -22,7 +22,7 @@ impl TextArea<'_> {
 
     /// Drops the selection, if there is one; the text stays.
     pub fn cancel_selection(&mut self)
-        ensures { self.new ≡ dropped self.old }
+        ensures { self.new ≡ selection_cancelled self.old }
     {
         self.document.set_anchor(None);
     }
@@ -51,7 +51,7 @@ impl TextArea<'_> {
 
     /// Yanks what is selected, if a symbol is, and drops the selection.
     pub fn copy(&mut self) -> Result<(), AllocError>
-        ensures ok { OnOk result (self.new ≡ copied self.old) }
+        ensures ok { OnOk result (self.new ≡ selection_copied self.old) }
         ensures err { OnErr result (self.new ≡ self.old) }
         ensures nothing { is_selected self.old.document ≡ false → IsOk result }
     {
@@ -62,10 +62,10 @@ impl TextArea<'_> {
         Ok(())
     }
 
-    /// Yanks what is selected and takes it out, if a symbol is, and says whether one was; drops the selection.
+    /// Yanks what is selected and removes it, if a symbol is, and says whether one was; drops the selection.
     pub fn cut(&mut self) -> Result<bool, AllocError>
         ensures removed { IfOk result (λ removed. removed ≡ is_selected self.old.document) }
-        ensures ok { OnOk result (self.new ≡ cut_out self.old) }
+        ensures ok { OnOk result (self.new ≡ selection_cut self.old) }
         ensures err { OnErr result (self.new ≡ self.old) }
         ensures nothing { is_selected self.old.document ≡ false → IsOk result }
     {
@@ -81,10 +81,10 @@ impl TextArea<'_> {
     pub fn yank_text(&self) -> Result<String, AllocError>
         ensures { IfOk result (λ text. chars (string_bytes text) ≡ written self.now.yank) }
     {
-        joined_with_line_feeds(self.allocator(), self.yank.as_slice())
+        join_with_line_feeds(self.allocator(), self.yank.as_slice())
     }
 
-    /// Sets what `paste` puts in. The text is cut at each line feed; a carriage return directly before a line feed goes
+    /// Sets what `paste` inserts. The text is cut at each line feed; a carriage return directly before a line feed goes
     /// with it.
     pub fn set_yank_text(&mut self, text: &str) -> Result<(), AllocError>
         ensures ok { OnOk result (self.new ≡ record self.old { yank = given (chars text.now) }) }

@@ -4,7 +4,7 @@ ghost use Rattle.std.specs.Duration.{as_nanos};
 ghost use Rattle.textarea_history.specs.Log.{empty_log};
 ghost use Rattle.textarea_document.specs.Outcomes.{run_ended};
 ghost use Rattle.tui_textarea.specs.State.{default_settings, with_document};
-ghost use Rattle.tui_textarea.specs.View.{tab_length};
+ghost use Rattle.tui_textarea.specs.Layout.{tab_length};
 
 use crate::textarea::TextArea;
 use std::time::Duration;
@@ -57,7 +57,7 @@ impl TextArea<'_> {
         if self.settings.hard_tab_indent {
             "\t"
         } else {
-            spaces(self.document.view().tab_len)
+            spaces(self.document.layout_settings().tab_len)
         }
     }
 

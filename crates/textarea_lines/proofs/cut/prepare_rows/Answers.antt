@@ -9,50 +9,50 @@ use Rattle.textarea_lines.proofs.cut.prepare_rows.Goals as goal
 
 pub make_room-requires : goal.make_room-requires
 make_room-requires c =
-    omega (arith, c.requires.within, length-AreRowsOf (wrapping_for c.args.view (length c.args.lines.now)) (lines_of c.args.lines.now) c.args.map.now.rows c.requires.rows, length-map c.args.lines.now characters_of)
+    omega (arith, c.requires.within, length-AreRowsOf (wrapping_for c.args.settings (length c.args.lines.now)) (lines_of c.args.lines.now) c.args.map.now.rows c.requires.rows, length-map c.args.lines.now characters_of)
 
 pub returns-then-is_same-clause-rows : goal.returns-then-is_same-clause-rows
 returns-then-is_same-clause-rows c =
     let items = c.args.lines.now in
     let new = c.args.replacement.now in
-    let same : is_same c.wrapping_for-after.result (wrapping_for c.args.view (length items)) ≡ true =
+    let same : is_same c.wrapping_for-after.result (wrapping_for c.args.settings (length items)) ≡ true =
     ap (is_same c.wrapping_for-after.result) (sym c.wrapping_for-before.ensures) ∙ sym c.is_same.ensures ∙ c.if-is_same.true in
-    let after = c.wrapping_for-after.ensures ∙ ap (λ n. wrapping_for c.args.view (length items - new.count + n)) c.as_slice-new.ensures.len in
+    let after = c.wrapping_for-after.ensures ∙ ap (λ n. wrapping_for c.args.settings (length items - new.count + n)) c.as_slice-new.ensures.len in
     IfOk-from_three c.make_room.result _ _ _ _
     (λ p row count rows. rows_of_some _ _ c.wrapping_for-after.result items new.lines.items c.as_slice-new.result.now new.row new.count p.row p.count c.args.map.now.rows c.in_ok-rows.rows.items p.rows.items same after c.requires.rows c.as_slice-new.ensures.value c.in_ok-rows.ensures.rows row count rows)
     c.make_room.ensures.row c.make_room.ensures.count c.make_room.ensures.rows
 
-pub returns-then-is_same-clause-screen : goal.returns-then-is_same-clause-screen
-returns-then-is_same-clause-screen c =
+pub returns-then-is_same-clause-layout : goal.returns-then-is_same-clause-layout
+returns-then-is_same-clause-layout c =
     let items = c.args.lines.now in
     let new = c.args.replacement.now in
-    let after = c.wrapping_for-after.ensures ∙ ap (λ n. wrapping_for c.args.view (length items - new.count + n)) c.as_slice-new.ensures.len in
-    let same = ap (λ w. is_same w (wrapping_for c.args.view (length items))) (sym after) ∙ ap (is_same c.wrapping_for-after.result) (sym c.wrapping_for-before.ensures) ∙ sym c.is_same.ensures ∙ c.if-is_same.true in
+    let after = c.wrapping_for-after.ensures ∙ ap (λ n. wrapping_for c.args.settings (length items - new.count + n)) c.as_slice-new.ensures.len in
+    let same = ap (λ w. is_same w (wrapping_for c.args.settings (length items))) (sym after) ∙ ap (is_same c.wrapping_for-after.result) (sym c.wrapping_for-before.ensures) ∙ sym c.is_same.ensures ∙ c.if-is_same.true in
     IfOk-from_three c.make_room.result _ _ _ _
-    (λ p row count rows. screen_of_some c.args.view c.args.count.now c.rows_of.new.count (length items) new.row new.count _ (length c.as_slice-new.result.now) p.row p.count c.args.map.now.rows c.in_ok-rows.rows.items p.rows.items same c.in_ok-rows.ensures.counted c.as_slice-new.ensures.len c.in_ok-rows.ensures.ticks row count rows)
+    (λ p row count rows. screen_of_some c.args.settings c.args.count.now c.rows_of.new.count (length items) new.row new.count _ (length c.as_slice-new.result.now) p.row p.count c.args.map.now.rows c.in_ok-rows.rows.items p.rows.items same c.in_ok-rows.ensures.counted c.as_slice-new.ensures.len c.in_ok-rows.ensures.ticks row count rows)
     c.make_room.ensures.row c.make_room.ensures.count c.make_room.ensures.rows
 
 pub make_room-requires-2 : goal.make_room-requires-2
 make_room-requires-2 c =
-    omega (arith, c.requires.within, length-AreRowsOf (wrapping_for c.args.view (length c.args.lines.now)) (lines_of c.args.lines.now) c.args.map.now.rows c.requires.rows, length-map c.args.lines.now characters_of)
+    omega (arith, c.requires.within, length-AreRowsOf (wrapping_for c.args.settings (length c.args.lines.now)) (lines_of c.args.lines.now) c.args.map.now.rows c.requires.rows, length-map c.args.lines.now characters_of)
 
 pub returns-clause-rows : goal.returns-clause-rows
 returns-clause-rows c =
     let items = c.args.lines.now in
     let new = c.args.replacement.now in
     let long : length c.args.map.now.rows ≡ length items = length-AreRowsOf _ (lines_of items) c.args.map.now.rows c.requires.rows ∙ length-map items characters_of in
-    let after = c.wrapping_for-after.ensures ∙ ap (λ n. wrapping_for c.args.view (length items - new.count + n)) c.as_slice-new.ensures.len in
+    let after = c.wrapping_for-after.ensures ∙ ap (λ n. wrapping_for c.args.settings (length items - new.count + n)) c.as_slice-new.ensures.len in
     IfOk-from_three c.make_room-2.result _ _ _ _
     (λ p row count rows. rows_of_all _ c.wrapping_for-after.result (lines_of (replaced items new.row new.count new.lines.items)) (length items) p.row p.count c.args.map.now.rows c.in_ok-rows-2.rows.items p.rows.items long after c.in_ok-rows-2.ensures.rows row count rows)
     c.make_room-2.ensures.row c.make_room-2.ensures.count c.make_room-2.ensures.rows
 
-pub returns-clause-screen : goal.returns-clause-screen
-returns-clause-screen c =
+pub returns-clause-layout : goal.returns-clause-layout
+returns-clause-layout c =
     let items = c.args.lines.now in
     let new = c.args.replacement.now in
     let long : length c.args.map.now.rows ≡ length items = length-AreRowsOf _ (lines_of items) c.args.map.now.rows c.requires.rows ∙ length-map items characters_of in
-    let after = c.wrapping_for-after.ensures ∙ ap (λ n. wrapping_for c.args.view (length items - new.count + n)) c.as_slice-new.ensures.len in
-    let differs = ap (λ w. is_same w (wrapping_for c.args.view (length items))) (sym after) ∙ ap (is_same c.wrapping_for-after.result) (sym c.wrapping_for-before.ensures) ∙ sym c.is_same.ensures ∙ c.if-is_same.false in
+    let after = c.wrapping_for-after.ensures ∙ ap (λ n. wrapping_for c.args.settings (length items - new.count + n)) c.as_slice-new.ensures.len in
+    let differs = ap (λ w. is_same w (wrapping_for c.args.settings (length items))) (sym after) ∙ ap (is_same c.wrapping_for-after.result) (sym c.wrapping_for-before.ensures) ∙ sym c.is_same.ensures ∙ c.if-is_same.false in
     IfOk-from_three c.make_room-2.result _ _ _ _
-    (λ p row count rows. screen_of_all c.args.view c.args.count.now c.rows_after.new.count (length items) new.row new.count _ _ p.row p.count c.args.map.now.rows c.in_ok-rows-2.rows.items p.rows.items differs long c.in_ok-rows-2.ensures.counted refl c.in_ok-rows-2.ensures.ticks row count rows)
+    (λ p row count rows. screen_of_all c.args.settings c.args.count.now c.rows_after.new.count (length items) new.row new.count _ _ p.row p.count c.args.map.now.rows c.in_ok-rows-2.rows.items p.rows.items differs long c.in_ok-rows-2.ensures.counted refl c.in_ok-rows-2.ensures.ticks row count rows)
     c.make_room-2.ensures.row c.make_room-2.ensures.count c.make_room-2.ensures.rows

@@ -16,8 +16,8 @@ unwrap-cut-requires c =
     let bytes = bytes_of_line c.args.lines.now c.args.row c.index-lines-row.result c.as_str-line.result.now c.requires.whole.within c.index-lines-row.is c.as_str-line.ensures.value in
     c.line_ranges.ensures.one_row (omega (arith, c.requires.whole.short, ap length bytes)) (inl refl)
 
-pub put_in-requires : goal.put_in-requires
-put_in-requires c =
+pub replace-requires : goal.replace-requires
+replace-requires c =
     let items = pushed c.push.result c.args.rows.items c.push.new.self.items c.unwrap-cut.result c.push.ensures.items (c.push.ensures.succeeds (omega (arith, c.requires.empty, c.requires.room))) (nil_from_length c.args.rows.items (omega (arith, c.requires.empty, c.args.rows.ok.0))) in
     let right = IfOk-at_ok _ c.unwrap-cut.ensures c.line_ranges.ensures.rows in
     let has = whole_ranges c.args.tab_len 1 _ c.unwrap-cut.result.ranges right in
@@ -36,7 +36,7 @@ returns-clause-rows c =
     let right = IfOk-at_ok _ c.unwrap-cut.ensures c.line_ranges.ensures.rows in
     record {
       cut = c.unwrap-cut.result;
-      new_is = c.put_in.ensures ∙ ap (replaced c.args.map.now.rows c.args.row 1) items;
+      new_is = c.replace.ensures ∙ ap (replaced c.args.map.now.rows c.args.row 1) items;
       tick_is = IfOk-at_ok _ c.unwrap-cut.ensures c.line_ranges.ensures.tick ∙ c.line_ranges.ensures.counted;
       characters = ap all_scalars (line_at c.args.lines.now c.args.row c.index-lines-row.result c.requires.whole.within c.index-lines-row.is) ∙ scalars-chars (string_bytes c.index-lines-row.result) (IsUtf8-string_bytes c.index-lines-row.result);
       short = c.requires.whole.short;

@@ -1,7 +1,7 @@
 use Rattle.std.proofs.Common.{sym, ◌∙◌}
 use Rattle.textarea_text.specs.Text.{lines}
 use Rattle.textarea_lines.proofs.OneList.{rows_same}
-use Rattle.textarea_lines.specs.Screen.{wrapping_of}
+use Rattle.textarea_lines.specs.Layout.{wrapping_of}
 use Rattle.textarea_lines.proofs.laws.one_list_of_rows.Goals as goal
 
 pub returns : goal.returns

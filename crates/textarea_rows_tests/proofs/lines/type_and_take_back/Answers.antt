@@ -1,7 +1,7 @@
 use Rattle.std.proofs.Common.{ap, arith, subst, sym}
 use Rattle.textarea_text.specs.Splice.{Fits, applied, inverse}
 use Rattle.textarea_text.proofs.Places.{takes_back}
-use Rattle.textarea_lines.specs.Screen.{LaidOut}
+use Rattle.textarea_lines.specs.Layout.{LaidOut}
 use Rattle.textarea_rows_tests.proofs.lines.type_and_take_back.Goals as goal
 
 pub apply-requires-2 : goal.apply-requires-2

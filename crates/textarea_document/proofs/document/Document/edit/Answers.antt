@@ -2,7 +2,7 @@ use Rattle.std.proofs.Common.{◌∙◌, ap, sym, subst}
 use Rattle.std.specs.Duration.{as_nanos}
 use Rattle.textarea_text.specs.Splice.{Fits, applied, place_after}
 use Rattle.textarea_history.specs.Log.{recorded}
-use Rattle.textarea_lines.specs.Screen.{LaidOut}
+use Rattle.textarea_lines.specs.Layout.{LaidOut}
 use Rattle.textarea_document.specs.State.{DocumentState}
 use Rattle.textarea_document.specs.Outcomes.{edited}
 use Rattle.textarea_document.proofs.Sounds.{document_of, sound_edited, sound_left}
@@ -15,7 +15,7 @@ invariant_of-self-2 c =
     let moment = as_nanos c.args.now in
     let document = document_of inside.laid inside.cursor inside.anchor inside.ranges.items inside.history.log in
     let fits = subst (λ (s : DocumentState). Fits s.text splice) (sym c.self.view_is) c.requires.fits in
-    sound_left (edited document splice c.args.typed moment) c.apply.new.self.text c.apply.new.self.screen c.cursor_after-ahead.result c.change_ranges.new.ranges.items c.put.new.self.log (sound_edited document splice c.args.typed moment c.self.invariant fits)
+    sound_left (edited document splice c.args.typed moment) c.apply.new.self.text c.apply.new.self.layout c.cursor_after-ahead.result c.change_ranges.new.ranges.items c.put.new.self.log (sound_edited document splice c.args.typed moment c.self.invariant fits)
     (ap (λ (l : LaidOut). l.text) c.in_ok-apply.ensures.ok ∙ ap (applied inside.laid.text) c.change-change.ensures)
     (c.cursor_after-ahead.ensures ∙ ap place_after c.change-change.ensures)
     c.change_ranges.ensures.none

@@ -4,7 +4,7 @@ use Rattle.textarea_text.specs.Text.{lines}
 use Rattle.textarea_ranges.specs.Held.{hit}
 use Rattle.textarea_ranges.specs.Valid.{AreValid}
 use Rattle.textarea_document.specs.State.{DocumentState}
-use Rattle.textarea_document.proofs.Ranges.{IsHeld, hit_before_start, hit_behind_end, held_ordered, held_start, held_stop, hit_is_held}
+use Rattle.textarea_document.proofs.Ranges.{IsHeld, hit_before_start, hit_behind_end, held_ordered, held_start, held_end, hit_is_held}
 use Rattle.textarea_document.proofs.document.Document.range_at_cursor.Goals as goal
 
 known : (c : goal.After-hit) → IfSome c.hit.result (IsHeld c.args.self.now.text)
@@ -15,8 +15,8 @@ known c =
 pub returns-clause-start : goal.returns-clause-start
 returns-clause-start c = held_start c.args.self.now.text c.hit.result (known c)
 
-pub returns-clause-stop : goal.returns-clause-stop
-returns-clause-stop c = held_stop c.args.self.now.text c.hit.result (known c)
+pub returns-clause-end : goal.returns-clause-end
+returns-clause-end c = held_end c.args.self.now.text c.hit.result (known c)
 
 pub returns-clause-ordered : goal.returns-clause-ordered
 returns-clause-ordered c = held_ordered c.args.self.now.text c.hit.result (known c)

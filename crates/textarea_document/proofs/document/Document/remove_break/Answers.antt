@@ -7,7 +7,7 @@ use Rattle.textarea_text.specs.Place.{Place}
 use Rattle.textarea_document.specs.Edits.{break_removal}
 use Rattle.textarea_text.specs.Splice.{Splice, Fits}
 use Rattle.textarea_document.specs.Outcomes.{edited}
-use Rattle.textarea_document.proofs.Behinds.{break_removal_fits, break_removal_is, without_break_in}
+use Rattle.textarea_document.proofs.Behinds.{break_removal_fits, break_removal_is, break_removed_in}
 use Rattle.textarea_document.specs.Ranges.{CutsNone}
 use Rattle.textarea_document.proofs.Ranges.{whole_break}
 use Rattle.textarea_document.proofs.document.Document.remove_break.Goals as goal
@@ -29,7 +29,7 @@ returns-clause-ok c =
     (c.between.ensures.splice
     ∙ break_removal_is c.lines.result.now document.text (c.cursor-row.result.0 - 1) c.column_count-column.result c.index-lines-row.result c.lines.ensures.lines (omega (arith, within, row)) c.index-lines-row.is (c.column_count-column.ensures ∙ ap (λ t. length (chars t)) c.as_str.ensures.value)
     ∙ ap (λ n. break_removal document.text (n - 1)) row)
-    ∙ sym (without_break_in document document.cursor.0 (as_nanos c.args.now) (λ zero_row. c.if-row-eq0.false (row ∙ zero_row)))
+    ∙ sym (break_removed_in document document.cursor.0 (as_nanos c.args.now) (λ zero_row. c.if-row-eq0.false (row ∙ zero_row)))
 
 pub edit-requires-clause-cuts_none : goal.edit-requires-clause-cuts_none
 edit-requires-clause-cuts_none c =

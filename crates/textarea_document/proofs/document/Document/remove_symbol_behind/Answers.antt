@@ -5,7 +5,7 @@ use Rattle.textarea_text.specs.Place.{Place, IsPlace}
 use Rattle.textarea_text.specs.Splice.{Splice}
 use Rattle.textarea_document.specs.Edits.{IsSymbolBehind}
 use Rattle.textarea_document.specs.Outcomes.{edited}
-use Rattle.textarea_document.proofs.Behinds.{removal_of_kind, without_symbol_behind_is}
+use Rattle.textarea_document.proofs.Behinds.{removal_of_kind, symbol_removed_behind_is}
 use Rattle.textarea_document.specs.Ranges.{CutsNone}
 use Rattle.textarea_ranges.specs.Held.{TakesWhole}
 use Rattle.textarea_document.proofs.Ranges.{whole_behind}
@@ -24,7 +24,7 @@ returns-clause-ok c =
     ∙ ap (λ (s : Splice). edited document s c.args.typed (as_nanos c.args.now))
     (c.between.ensures.splice ∙ removal_of_kind c.deletion_of-kind.result found.end c.cursor-cursor.result (symbol ∷ []) c.deletion_of-kind.ensures.inserts c.deletion_of-kind.ensures.symbols
     ∙ ap (λ (p : Place). record { place = p; symbols = symbol ∷ []; inserts = false }) at)
-    ∙ without_symbol_behind_is document found.end symbol c.args.typed (as_nanos c.args.now) (subst (IsPlace document.text) at c.cursor-cursor.ensures.place) behind
+    ∙ symbol_removed_behind_is document found.end symbol c.args.typed (as_nanos c.args.now) (subst (IsPlace document.text) at c.cursor-cursor.ensures.place) behind
 
 pub edit-requires-clause-cuts_none : goal.edit-requires-clause-cuts_none
 edit-requires-clause-cuts_none c =

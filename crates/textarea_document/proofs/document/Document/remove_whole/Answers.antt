@@ -16,7 +16,7 @@ pub edit-requires-clause-well_formed : goal.edit-requires-clause-well_formed
 edit-requires-clause-well_formed c =
     let text = c.args.self.now.text in
     let is = c.removal_of.ensures.splice ∙ ap (λ (s : List Symbol). record { place = c.args.from; symbols = s; inserts = false }) (c.in_ok-pieces.ensures.text ∙ ap (λ t. part t c.args.from c.args.to) c.lines.ensures.value) in
-    well_formed c.removal_of.result (removal text c.args.from c.args.to) is (part_some text c.args.from c.args.to c.requires.to c.requires.ordered) (c.removal_of.ensures.stop ∙ part_ends text c.args.from c.args.to c.requires.from c.requires.to (omega (arith, c.requires.ordered))) c.removal_of.ensures.pieces
+    well_formed c.removal_of.result (removal text c.args.from c.args.to) is (part_some text c.args.from c.args.to c.requires.to c.requires.ordered) (c.removal_of.ensures.end ∙ part_ends text c.args.from c.args.to c.requires.from c.requires.to (omega (arith, c.requires.ordered))) c.removal_of.ensures.pieces
 
 pub edit-requires-clause-fits : goal.edit-requires-clause-fits
 edit-requires-clause-fits c =

@@ -19,7 +19,7 @@ returns-then-self-clause-well_formed c =
     subst (λ b. IsWellFormed (stored_of (Typed c.push.new.self) c.self.inside.inserts (cond b c.self.inside.start c.edit.inside.start) (cond b c.edit.inside.end c.self.inside.end))) c.if-self.true
     (grown_kept c.self.inside.content c.self.inside.inserts c.self.inside.start c.self.inside.end c.edit.inside.start c.edit.inside.end c.in-Typed.text c.push.new.self c.args.c c.args.self.now c.args.edit.now.splice (subst IsWellFormed (sym c.self.view_is) c.requires.well_formed) c.self.view_is c.in-Typed.is pushed c.requires.character
     (ap (λ (s : Stored). s.splice.place) (sym c.edit.view_is))
-    (ap (λ (s : Stored). s.stop) c.edit.view_is ∙ c.requires.other.ends ∙ ap (λ (s : Stored). end s.splice.place c.args.edit.now.splice.symbols) (sym c.edit.view_is))
+    (ap (λ (s : Stored). s.end) c.edit.view_is ∙ c.requires.other.ends ∙ ap (λ (s : Stored). end s.splice.place c.args.edit.now.splice.symbols) (sym c.edit.view_is))
     c.requires.direction c.requires.place)
 
 pub returns-else-self-clause-splice : goal.returns-else-self-clause-splice
@@ -35,5 +35,5 @@ returns-else-self-clause-well_formed c =
     subst (λ b. IsWellFormed (stored_of (Typed c.push.new.self) c.self.inside.inserts (cond b c.self.inside.start c.edit.inside.start) (cond b c.edit.inside.end c.self.inside.end))) c.if-self.false
     (grown_kept c.self.inside.content c.self.inside.inserts c.self.inside.start c.self.inside.end c.edit.inside.start c.edit.inside.end c.in-Typed.text c.push.new.self c.args.c c.args.self.now c.args.edit.now.splice (subst IsWellFormed (sym c.self.view_is) c.requires.well_formed) c.self.view_is c.in-Typed.is pushed c.requires.character
     (ap (λ (s : Stored). s.splice.place) (sym c.edit.view_is))
-    (ap (λ (s : Stored). s.stop) c.edit.view_is ∙ c.requires.other.ends ∙ ap (λ (s : Stored). end s.splice.place c.args.edit.now.splice.symbols) (sym c.edit.view_is))
+    (ap (λ (s : Stored). s.end) c.edit.view_is ∙ c.requires.other.ends ∙ ap (λ (s : Stored). end s.splice.place c.args.edit.now.splice.symbols) (sym c.edit.view_is))
     c.requires.direction c.requires.place)

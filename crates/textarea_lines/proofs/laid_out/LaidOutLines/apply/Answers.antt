@@ -2,7 +2,7 @@ use Rattle.std.proofs.Common.{◌+◌, ◌∙◌, ap, sym, arith, length}
 use Rattle.std.proofs.lemmas.Result.{on_ok_weaker}
 use Rattle.textarea_text.specs.Size.{weight}
 use Rattle.textarea_text.specs.Text.{lines}
-use Rattle.textarea_lines.specs.Screen.{LaidOut}
+use Rattle.textarea_lines.specs.Layout.{LaidOut}
 use Rattle.textarea_lines.proofs.Stores.{count_held}
 use Rattle.textarea_lines.proofs.Changes.{made, size_made}
 use Rattle.textarea_lines.proofs.laid_out.LaidOutLines.apply.Goals as goal

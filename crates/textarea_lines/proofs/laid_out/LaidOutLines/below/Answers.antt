@@ -4,7 +4,7 @@ use Rattle.textarea_text.specs.Text.{lines, lines_of}
 use Rattle.textarea_text.specs.Place.{IsPlace, IsPlaceOf}
 use Rattle.textarea_text.proofs.StringRows.{rows_place}
 use Rattle.textarea_map.specs.Seen.{IsBelow, IsInLastRow}
-use Rattle.textarea_lines.specs.Screen.{LaidOut}
+use Rattle.textarea_lines.specs.Layout.{LaidOut}
 use Rattle.textarea_lines.proofs.Stores.{in_text, laid_out_as, tab_len_of, targets}
 use Rattle.textarea_lines.proofs.laid_out.LaidOutLines.below.Goals as goal
 
@@ -15,23 +15,23 @@ below-requires-clause-place c =
     subst (λ t. IsPlaceOf (lines_of t) place) (sym c.as_slice-lines.ensures.value)
     (rows_place items place c.self.invariant.held.stored.some (subst (λ (s : LaidOut). IsPlace s.text place) (sym c.self.view_is) c.requires))
 
-found : (c : goal.After-below) → MatchOption c.below.result (IsInLastRow c.args.self.now.screen.view.tab_len (lines c.args.self.now.text) c.self.inside.map.rows c.args.place) (λ target. IsPlaceOf (lines c.args.self.now.text) target × IsBelow c.args.self.now.screen.view.tab_len (lines c.args.self.now.text) c.self.inside.map.rows c.args.place target)
+found : (c : goal.After-below) → MatchOption c.below.result (IsInLastRow c.args.self.now.layout.settings.tab_len (lines c.args.self.now.text) c.self.inside.map.rows c.args.place) (λ target. IsPlaceOf (lines c.args.self.now.text) target × IsBelow c.args.self.now.layout.settings.tab_len (lines c.args.self.now.text) c.self.inside.map.rows c.args.place target)
 found c =
     let inside = c.self.inside in
     let rows = inside.map.rows in
     let place = c.args.place in
-    let tab = ap (λ w. w.tab_len) c.wrapping_for-wrapping.ensures ∙ tab_len_of inside.view (length c.as_slice-lines.result.now) in
-    in_text inside.view inside.lines.items c.as_slice-lines.result.now inside.count rows c.args.self.now _ (λ t ls. MatchOption c.below.result (IsInLastRow t ls rows place) (λ target. IsPlaceOf ls target × IsBelow t ls rows place target)) c.self.invariant.held.stored.some c.as_slice-lines.ensures.value tab c.self.view_is c.below.ensures
+    let tab = ap (λ w. w.tab_len) c.wrapping_for-wrapping.ensures ∙ tab_len_of inside.settings (length c.as_slice-lines.result.now) in
+    in_text inside.settings inside.lines.items c.as_slice-lines.result.now inside.count rows c.args.self.now _ (λ t ls. MatchOption c.below.result (IsInLastRow t ls rows place) (λ target. IsPlaceOf ls target × IsBelow t ls rows place target)) c.self.invariant.held.stored.some c.as_slice-lines.ensures.value tab c.self.view_is c.below.ensures
 
 pub returns-clause-place : goal.returns-clause-place
 returns-clause-place c =
     let laid = c.args.self.now in
-    let both = targets c.below.result (IsInLastRow laid.screen.view.tab_len (lines laid.text) c.self.inside.map.rows c.args.place) (IsPlaceOf (lines laid.text)) (IsBelow laid.screen.view.tab_len (lines laid.text) c.self.inside.map.rows c.args.place) (found c) in
+    let both = targets c.below.result (IsInLastRow laid.layout.settings.tab_len (lines laid.text) c.self.inside.map.rows c.args.place) (IsPlaceOf (lines laid.text)) (IsBelow laid.layout.settings.tab_len (lines laid.text) c.self.inside.map.rows c.args.place) (found c) in
     both.0
 
 pub returns-clause-below : goal.returns-clause-below
 returns-clause-below c =
     let inside = c.self.inside in
     let laid = c.args.self.now in
-    let both = targets c.below.result (IsInLastRow laid.screen.view.tab_len (lines laid.text) inside.map.rows c.args.place) (IsPlaceOf (lines laid.text)) (IsBelow laid.screen.view.tab_len (lines laid.text) inside.map.rows c.args.place) (found c) in
-    (inside.map.rows, laid_out_as inside.view inside.lines.items inside.size inside.count inside.map.rows laid c.self.invariant.held c.self.view_is, both.1)
+    let both = targets c.below.result (IsInLastRow laid.layout.settings.tab_len (lines laid.text) inside.map.rows c.args.place) (IsPlaceOf (lines laid.text)) (IsBelow laid.layout.settings.tab_len (lines laid.text) inside.map.rows c.args.place) (found c) in
+    (inside.map.rows, laid_out_as inside.settings inside.lines.items inside.size inside.count inside.map.rows laid c.self.invariant.held c.self.view_is, both.1)

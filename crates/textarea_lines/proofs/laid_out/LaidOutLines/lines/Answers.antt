@@ -1,7 +1,7 @@
 use Rattle.std.proofs.Common.{◌∙◌, sym, ap, subst}
 use Rattle.textarea_text.specs.Text.{lines, lines_of}
 use Rattle.textarea_text.specs.Place.{IsPlace}
-use Rattle.textarea_lines.specs.Screen.{LaidOut}
+use Rattle.textarea_lines.specs.Layout.{LaidOut}
 use Rattle.textarea_lines.proofs.Stores.{lines_held, small_place}
 use Rattle.textarea_lines.proofs.laid_out.LaidOutLines.lines.Goals as goal
 

@@ -3,7 +3,7 @@ use Rattle.std.proofs.lemmas.Bool.{eqb-true}
 use Rattle.std.proofs.lemmas.Result.{IfOk-weaker}
 use Rattle.std.proofs.Common.{sym, vec_len}
 use Rattle.textarea_text.specs.Text.{text_of}
-use Rattle.textarea_lines.specs.Screen.{laid_anew}
+use Rattle.textarea_lines.specs.Layout.{laid_out_anew}
 use Rattle.textarea_text.proofs.EmptyTexts.{text_of_empty}
 use Rattle.textarea_lines.proofs.laid_out.LaidOutLines.new.Goals as goal
 use Rattle.textarea_lines.proofs.laid_out.LaidOutLines.new.Goals.{then-is_empty+in_ok-push, else-is_empty}
@@ -17,5 +17,5 @@ same_text c = elim c.if-is_empty.branch [
 pub returns : goal.returns
 returns c =
     IfOk-weaker c.lay_out.result _ _
-    (λ laid e. e ∙ ap (λ n. laid_anew c.args.view n (text_of c.if-is_empty.lines.items)) c.new-2.ensures ∙ ap (laid_anew c.args.view 0) (same_text c))
+    (λ laid e. e ∙ ap (λ n. laid_out_anew c.args.settings n (text_of c.if-is_empty.lines.items)) c.new-2.ensures ∙ ap (laid_out_anew c.args.settings 0) (same_text c))
     c.lay_out.ensures

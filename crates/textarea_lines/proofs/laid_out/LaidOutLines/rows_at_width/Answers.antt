@@ -9,10 +9,10 @@ returns-then-is_same-clause-rows c =
     let laid = c.args.self.now in
     let wrapping = c.wrapping_at-wrapping.result in
     let now = c.wrapping_for.result in
-    let steps : Measuring inside.view inside.lines.items lent inside.size inside.count c.args.inner_width inside.map.rows laid wrapping now =
+    let steps : Measuring inside.settings inside.lines.items lent inside.size inside.count c.args.inner_width inside.map.rows laid wrapping now =
     record { held = c.self.invariant.held; is = c.self.view_is; lent_is = c.as_slice-lines.ensures.value; wrapping_is = c.wrapping_at-wrapping.ensures; now_is = c.wrapping_for.ensures } in
-    counted_in_text inside.view inside.lines.items lent inside.size inside.count c.args.inner_width inside.map.rows laid wrapping now c.row_count.result steps
-    (counted_as_kept inside.view inside.lines.items lent inside.size inside.count c.args.inner_width inside.map.rows laid wrapping now c.row_count.result steps (sym c.is_same.ensures ∙ c.if-is_same.true) c.row_count.ensures)
+    counted_in_text inside.settings inside.lines.items lent inside.size inside.count c.args.inner_width inside.map.rows laid wrapping now c.row_count.result steps
+    (counted_as_kept inside.settings inside.lines.items lent inside.size inside.count c.args.inner_width inside.map.rows laid wrapping now c.row_count.result steps (sym c.is_same.ensures ∙ c.if-is_same.true) c.row_count.ensures)
 
 pub returns-then-is_same-2-clause-rows : goal.returns-then-is_same-2-clause-rows
 returns-then-is_same-2-clause-rows c =
@@ -21,9 +21,9 @@ returns-then-is_same-2-clause-rows c =
     let laid = c.args.self.now in
     let wrapping = c.wrapping_at-wrapping.result in
     let now = c.wrapping_for.result in
-    let steps : Measuring inside.view inside.lines.items lent inside.size inside.count c.args.inner_width inside.map.rows laid wrapping now =
+    let steps : Measuring inside.settings inside.lines.items lent inside.size inside.count c.args.inner_width inside.map.rows laid wrapping now =
     record { held = c.self.invariant.held; is = c.self.view_is; lent_is = c.as_slice-lines.ensures.value; wrapping_is = c.wrapping_at-wrapping.ensures; now_is = c.wrapping_for.ensures } in
-    counted_in_text inside.view inside.lines.items lent inside.size inside.count c.args.inner_width inside.map.rows laid wrapping now c.in-Some.measured.rows steps
+    counted_in_text inside.settings inside.lines.items lent inside.size inside.count c.args.inner_width inside.map.rows laid wrapping now c.in-Some.measured.rows steps
     (counted_as_measured inside.lines.items lent wrapping inside.measured c.in-Some.measured steps.lent_is (sym c.is_same-in-Some.ensures ∙ c.if-is_same-2.true) c.in-Some.is c.self.invariant.measured)
 
 pub returns-in_err-rows-clause-no_memory : goal.returns-in_err-rows-clause-no_memory
@@ -33,9 +33,9 @@ returns-in_err-rows-clause-no_memory c = λ yes.
     let laid = c.args.self.now in
     let wrapping = c.wrapping_at-wrapping.result in
     let now = c.wrapping_for.result in
-    let steps : Measuring inside.view inside.lines.items lent inside.size inside.count c.args.inner_width inside.map.rows laid wrapping now =
+    let steps : Measuring inside.settings inside.lines.items lent inside.size inside.count c.args.inner_width inside.map.rows laid wrapping now =
     record { held = c.self.invariant.held; is = c.self.view_is; lent_is = c.as_slice-lines.ensures.value; wrapping_is = c.wrapping_at-wrapping.ensures; now_is = c.wrapping_for.ensures } in
-    let test = same_as_kept inside.view inside.lines.items lent inside.size inside.count c.args.inner_width inside.map.rows laid wrapping now steps in
+    let test = same_as_kept inside.settings inside.lines.items lent inside.size inside.count c.args.inner_width inside.map.rows laid wrapping now steps in
     absurd (cc (test, yes, c.is_same.ensures, c.if-is_same.false))
 
 pub returns-clause-rows : goal.returns-clause-rows
@@ -45,6 +45,6 @@ returns-clause-rows c =
     let laid = c.args.self.now in
     let wrapping = c.wrapping_at-wrapping.result in
     let now = c.wrapping_for.result in
-    let steps : Measuring inside.view inside.lines.items lent inside.size inside.count c.args.inner_width inside.map.rows laid wrapping now =
+    let steps : Measuring inside.settings inside.lines.items lent inside.size inside.count c.args.inner_width inside.map.rows laid wrapping now =
     record { held = c.self.invariant.held; is = c.self.view_is; lent_is = c.as_slice-lines.ensures.value; wrapping_is = c.wrapping_at-wrapping.ensures; now_is = c.wrapping_for.ensures } in
-    counted_in_text inside.view inside.lines.items lent inside.size inside.count c.args.inner_width inside.map.rows laid wrapping now c.in_ok-rows.rows steps c.in_ok-rows.ensures
+    counted_in_text inside.settings inside.lines.items lent inside.size inside.count c.args.inner_width inside.map.rows laid wrapping now c.in_ok-rows.rows steps c.in_ok-rows.ensures

@@ -3,7 +3,7 @@ use Rattle.std.specs.Prelude.{encode_utf8}
 use Rattle.std.proofs.lemmas.Result.{on_ok_weaker}
 use Rattle.textarea_screen.specs.Block.{has_border, left_side, top_side, right_side, bottom_side}
 use Rattle.textarea_screen.specs.Buffer.{Change}
-use Rattle.textarea_paint.specs.Block.{in_turn, put_where, on_left, on_top, on_right, on_bottom, on_both, corner_changes}
+use Rattle.textarea_paint.specs.Block.{in_turn, drawn_where, on_left, on_top, on_right, on_bottom, on_both, corner_changes}
 use Rattle.textarea_paint.proofs.BlockLemmas.{Changes-in_area, Changes-border, contains-cell, bottom_right_bytes, top_right_bytes, bottom_left_bytes, top_left_bytes}
 use Rattle.textarea_paint.proofs.paint.block.draw_corners.Goals as goal
 
@@ -18,10 +18,10 @@ returns-clause-ok c =
     let bottom = c.contains-has_bottom.ensures in
     let at_right = area.x + area.width - 1 in
     let at_bottom = area.y + area.height - 1 in
-    let bottom_right : Change = put_where (has_border borders right_side && has_border borders bottom_side) (on_both (on_right area) (on_bottom area)) (encode_utf8 0x2518) style in
-    let top_right : Change = put_where (has_border borders right_side && has_border borders top_side) (on_both (on_right area) (on_top area)) (encode_utf8 0x2510) style in
-    let bottom_left : Change = put_where (has_border borders left_side && has_border borders bottom_side) (on_both (on_left area) (on_bottom area)) (encode_utf8 0x2514) style in
-    let top_left : Change = put_where (has_border borders left_side && has_border borders top_side) (on_both (on_left area) (on_top area)) (encode_utf8 0x250C) style in
+    let bottom_right : Change = drawn_where (has_border borders right_side && has_border borders bottom_side) (on_both (on_right area) (on_bottom area)) (encode_utf8 0x2518) style in
+    let top_right : Change = drawn_where (has_border borders right_side && has_border borders top_side) (on_both (on_right area) (on_top area)) (encode_utf8 0x2510) style in
+    let bottom_left : Change = drawn_where (has_border borders left_side && has_border borders bottom_side) (on_both (on_left area) (on_bottom area)) (encode_utf8 0x2514) style in
+    let top_left : Change = drawn_where (has_border borders left_side && has_border borders top_side) (on_both (on_left area) (on_top area)) (encode_utf8 0x250C) style in
     let first =
     Changes-border area c.new.result _ (has_border borders right_side && has_border borders bottom_side) (on_both (on_right area) (on_bottom area)) _ (encode_utf8 0x2518) style
     c.in_ok-draw_border.ensures.ok (ap₂ (λ a b. a && b) right bottom) bottom_right_bytes

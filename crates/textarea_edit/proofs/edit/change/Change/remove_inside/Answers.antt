@@ -20,7 +20,7 @@ pub returns-clause-text : goal.returns-clause-text
 returns-clause-text c =
     let splice = c.args.self.now in
     let start = c.start-start.result in
-    let stop = c.end-end.result in
-    let ends = ends_inside splice start stop c.requires.inside c.start-start.ensures c.end-end.ensures in
-    let gone = removing c.args.lines.now.items splice start (start.0, stop.1) (omega (arith, c.requires.nonempty, c.args.lines.now.ok.0)) c.requires.fits c.requires.removes c.start-start.ensures ends.0 in
+    let to = c.end-end.result in
+    let ends = ends_inside splice start to c.requires.inside c.start-start.ensures c.end-end.ensures in
+    let gone = removing c.args.lines.now.items splice start (start.0, to.1) (omega (arith, c.requires.nonempty, c.args.lines.now.ok.0)) c.requires.fits c.requires.removes c.start-start.ensures ends.0 in
     c.remove_inside.ensures.text ∙ gone.text [] refl

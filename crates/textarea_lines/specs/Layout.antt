@@ -1,0 +1,79 @@
+-- What clauses see of lines with their rows, and what a change of the text makes of it.
+use Rattle.std.specs.Prelude.{ℕ, ◌+◌, ◌-◌, Bool, List, length, if◌then◌else◌}
+use Rattle.textarea_text.specs.Text.{Symbol, joined, lines}
+use Rattle.textarea_text.specs.Replaced.{replaced}
+use Rattle.textarea_text.specs.Splice.{Splice, applied}
+use Rattle.textarea_text.specs.Touched.{lines_coming, lines_going}
+use Rattle.textarea_map.specs.Layout.{ticks_behind}
+use Rattle.textarea_map.specs.declared.layout.Wrapping.{Wrapping}
+use Rattle.textarea_lines.specs.declared.settings.LayoutSettings.{LayoutSettings}
+use Rattle.textarea_lines.specs.Wrappings.{cut_at_width, is_same, wrapping_for}
+
+-- What decides how the text is cut, how many lines were cut so far, and for each line the number that the call which cut its
+-- rows counted to. Which rows these are is no part of it: they are right for the text as it stands.
+pub record Layout : Type 0 where
+  pub settings : LayoutSettings
+  pub count : ℕ
+  pub ticks : List ℕ
+
+pub record LaidOut : Type 0 where
+  pub text : List Symbol
+  pub layout : Layout
+
+-- all of so many lines are cut, from the first on
+abbrev pub all_cut : LayoutSettings → ℕ → ℕ → Layout
+all_cut settings count line_count = record { settings = settings; count = count + line_count; ticks = ticks_behind count line_count }
+
+-- so many lines are cut, and take the place of those from the row on; all others keep their rows
+abbrev pub some_cut : Layout → ℕ → ℕ → ℕ → Layout
+some_cut layout row going coming = record {
+  settings = layout.settings;
+  count = layout.count + coming;
+  ticks = replaced layout.ticks row going (ticks_behind layout.count coming);
+}
+
+-- Some of so many lines give place to others: only these are cut, or all lines where their number changes how they are cut.
+abbrev pub after_replacement : Layout → ℕ → ℕ → ℕ → ℕ → Layout
+after_replacement layout line_count row going coming =
+    let after : ℕ = line_count - going + coming in
+    if is_same (wrapping_for layout.settings after) (wrapping_for layout.settings line_count) then some_cut layout row going coming else all_cut layout.settings layout.count after
+
+-- what is seen of a text of so many lines after a change of it
+abbrev pub after_splice : Layout → ℕ → Splice → Layout
+after_splice layout line_count splice = after_replacement layout line_count splice.place.0 (lines_going splice) (lines_coming splice)
+
+-- the text after the change, and what is seen of it
+abbrev pub applied_to : LaidOut → Splice → LaidOut
+applied_to laid splice = record { text = applied laid.text splice; layout = after_splice laid.layout (length (lines laid.text)) splice }
+
+-- some lines gave place to others
+abbrev pub replaced_in : LaidOut → ℕ → ℕ → List (List ℕ) → LaidOut
+replaced_in laid row going coming = record {
+  text = joined (replaced (lines laid.text) row going coming);
+  layout = after_replacement laid.layout (length (lines laid.text)) row going (length coming);
+}
+
+-- a text of which all lines are cut, where the count stood at this number
+abbrev pub laid_out_anew : LayoutSettings → ℕ → List Symbol → LaidOut
+laid_out_anew settings count text = record { text = text; layout = all_cut settings count (length (lines text)) }
+
+-- how the text is cut
+abbrev pub wrapping_of : LaidOut → Wrapping
+wrapping_of laid = wrapping_for laid.layout.settings (length (lines laid.text))
+
+-- how it is cut in an inner area of this many columns
+abbrev pub wrapping_at : LaidOut → ℕ → Wrapping
+wrapping_at laid inner_width = cut_at_width laid.layout.settings inner_width (length (lines laid.text))
+
+-- whether it is cut as it stands under these settings
+abbrev pub stays_cut : LaidOut → LayoutSettings → Bool
+stays_cut laid settings = is_same (wrapping_for settings (length (lines laid.text))) (wrapping_of laid)
+
+-- whether it is cut as it stands in an inner area of this many columns
+abbrev pub is_cut_at : LaidOut → ℕ → Bool
+is_cut_at laid inner_width = is_same (wrapping_at laid inner_width) (wrapping_of laid)
+
+-- the same text seen in another way: its lines are cut anew where they are cut in another way
+abbrev pub laid_out_with : LaidOut → LayoutSettings → LaidOut
+laid_out_with laid settings =
+    if stays_cut laid settings then (record { text = laid.text; layout = record { settings = settings; count = laid.layout.count; ticks = laid.layout.ticks } }) else laid_out_anew settings laid.layout.count laid.text

@@ -1,0 +1,51 @@
+-- What the calls that decide how the text is seen make of the state.
+use Rattle.std.specs.Prelude.{ℕ, Bool, true, false, Option, Some, None, if◌then◌else◌}
+use Rattle.textarea_screen.specs.declared.screen.style.Style.{Style}
+use Rattle.textarea_wrap.specs.declared.wrap.WrapMode.{WrapMode}
+use Rattle.textarea_lines.specs.declared.settings.LayoutSettings.{LayoutSettings}
+use Rattle.textarea_document.specs.State.{DocumentState}
+use Rattle.textarea_lines.specs.Layout as layout
+use Rattle.textarea_document.specs.Rows.{laid_out_of, with_layout_settings}
+use Rattle.tui_textarea.specs.State.{State, with_document}
+
+-- the columns between two tab stops
+abbrev pub tab_length : DocumentState → ℕ
+tab_length document = document.layout.settings.tab_len
+
+-- the text is seen in another way, and its lines are cut anew where they are cut in another way
+abbrev pub with_layout : State → LayoutSettings → State
+with_layout state settings = with_document state (with_layout_settings state.document settings)
+
+-- whether the text is cut as it stands where it is seen in this way
+abbrev pub stays_cut : State → LayoutSettings → Bool
+stays_cut state settings = layout.stays_cut (laid_out_of state.document) settings
+
+-- the settings of the settings, one of them changed
+abbrev pub mode_set : State → WrapMode → LayoutSettings
+mode_set state mode = record state.document.layout.settings { mode = mode }
+
+abbrev pub tab_length_set : State → ℕ → LayoutSettings
+tab_length_set state columns = record state.document.layout.settings { tab_len = columns }
+
+abbrev pub numbers_set : State → Bool → LayoutSettings
+numbers_set state shown = record state.document.layout.settings { line_numbers = shown }
+
+-- lines are wrapped in this mode
+abbrev pub with_wrap_mode : State → WrapMode → State
+with_wrap_mode state mode = with_layout state (mode_set state mode)
+
+-- tab stops stand so many columns apart
+abbrev pub with_tab_length : State → ℕ → State
+with_tab_length state columns = with_layout state (tab_length_set state columns)
+
+-- each line has its number beside it, in this style
+abbrev pub with_line_numbers : State → Style → State
+with_line_numbers state style = record (with_layout state (numbers_set state true)) { settings = record state.settings { line_number_style = style } }
+
+-- no line has its number beside it
+abbrev pub without_line_numbers : State → State
+without_line_numbers state = with_layout state (numbers_set state false)
+
+-- the style of line numbers, if there are any
+abbrev pub number_style : State → Option Style
+number_style state = if state.document.layout.settings.line_numbers then Some state.settings.line_number_style else None

@@ -1,0 +1,96 @@
+//! How the text is cut into rows and seen: the wrap mode, tab stops and line numbers.
+ghost use Rattle.std.specs.Prelude.{◌≡◌, IsOk, OnErr, OnOk, false, true};
+ghost use Rattle.tui_textarea.specs.Layout.{
+  mode_set,
+  number_style,
+  numbers_set,
+  stays_cut,
+  tab_length,
+  tab_length_set,
+  with_line_numbers,
+  with_tab_length,
+  with_wrap_mode,
+  without_line_numbers,
+};
+
+use crate::textarea::TextArea;
+use std::alloc::AllocError;
+use textarea_screen::screen::Style;
+use textarea_wrap::wrap::WrapMode;
+
+impl TextArea<'_> {
+    /// Sets how lines are wrapped. All lines are cut anew, each once, where that cuts them in another way, and only
+    /// then memory is taken. Until there is an area to draw in, no line is wrapped.
+    pub fn set_wrap_mode(&mut self, mode: WrapMode) -> Result<(), AllocError>
+        ensures ok { OnOk result (self.new ≡ with_wrap_mode self.old mode) }
+        ensures err { OnErr result (self.new ≡ self.old) }
+        ensures no_memory { stays_cut self.old (mode_set self.old mode) ≡ true → IsOk result }
+    {
+        let mut settings = self.document.layout_settings();
+        settings.mode = mode;
+        self.document.set_layout_settings(settings)
+    }
+
+    /// How lines are wrapped.
+    pub fn wrap_mode(&self) -> WrapMode
+        ensures { result ≡ self.now.document.layout.settings.mode }
+    {
+        self.document.layout_settings().mode
+    }
+
+    /// Sets the columns between two tab stops; at 0 a tab inserts nothing. All lines are cut anew, each once, where
+    /// that cuts them in another way, and only then memory is taken.
+    pub fn set_tab_length(&mut self, tab_length: u8) -> Result<(), AllocError>
+        ensures ok { OnOk result (self.new ≡ with_tab_length self.old tab_length) }
+        ensures err { OnErr result (self.new ≡ self.old) }
+        ensures no_memory { stays_cut self.old (tab_length_set self.old tab_length) ≡ true → IsOk result }
+    {
+        let mut settings = self.document.layout_settings();
+        settings.tab_len = tab_length;
+        self.document.set_layout_settings(settings)
+    }
+
+    /// The columns between two tab stops.
+    pub fn tab_length(&self) -> u8
+        ensures { result ≡ tab_length self.now.document }
+    {
+        self.document.layout_settings().tab_len
+    }
+
+    /// Sets that each line has its number beside it, counted from 1, and in which style. All lines are cut anew, each
+    /// once, where that cuts them in another way, and only then memory is taken.
+    pub fn set_line_number_style(&mut self, style: Style) -> Result<(), AllocError>
+        ensures ok { OnOk result (self.new ≡ with_line_numbers self.old style) }
+        ensures err { OnErr result (self.new ≡ self.old) }
+        ensures no_memory { stays_cut self.old (numbers_set self.old true) ≡ true → IsOk result }
+    {
+        let mut settings = self.document.layout_settings();
+        settings.line_numbers = true;
+        self.document.set_layout_settings(settings)?;
+        self.settings.line_number_style = style;
+        Ok(())
+    }
+
+    /// Takes the line numbers away. All lines are cut anew, each once, where that cuts them in another way, and only
+    /// then memory is taken.
+    pub fn remove_line_number(&mut self) -> Result<(), AllocError>
+        ensures ok { OnOk result (self.new ≡ without_line_numbers self.old) }
+        ensures err { OnErr result (self.new ≡ self.old) }
+        ensures no_memory { stays_cut self.old (numbers_set self.old false) ≡ true → IsOk result }
+    {
+        let mut settings = self.document.layout_settings();
+        settings.line_numbers = false;
+        self.document.set_layout_settings(settings)
+    }
+
+    /// The style of the line numbers, if there are any.
+    pub fn line_number_style(&self) -> Option<Style>
+        ensures { result ≡ number_style self.now }
+    {
+        if self.document.layout_settings().line_numbers {
+            Some(self.settings.line_number_style)
+        } else {
+            None
+        }
+    }
+}
