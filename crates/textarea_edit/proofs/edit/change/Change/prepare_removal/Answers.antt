@@ -13,7 +13,7 @@ pub prepare_replacement-requires-clause-from : goal.prepare_replacement-requires
 prepare_replacement-requires-clause-from c = (known c).from
 
 pub prepare_replacement-requires-clause-to : goal.prepare_replacement-requires-clause-to
-prepare_replacement-requires-clause-to c = (known c).to
+prepare_replacement-requires-clause-to c = (known c).end_place
 
 pub prepare_replacement-requires-clause-ordered : goal.prepare_replacement-requires-clause-ordered
 prepare_replacement-requires-clause-ordered c = (known c).rows

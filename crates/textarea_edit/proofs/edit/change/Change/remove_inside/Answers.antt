@@ -11,7 +11,7 @@ pub remove_inside-requires-clause-start : goal.remove_inside-requires-clause-sta
 remove_inside-requires-clause-start c = (known c).from
 
 pub remove_inside-requires-clause-end : goal.remove_inside-requires-clause-end
-remove_inside-requires-clause-end c = (known c).to
+remove_inside-requires-clause-end c = (known c).end_place
 
 pub remove_inside-requires-clause-ordered : goal.remove_inside-requires-clause-ordered
 remove_inside-requires-clause-ordered c = (ends_inside c.args.self.now c.start-start.result c.end-end.result c.requires.inside c.start-start.ensures c.end-end.ensures).1
