@@ -1,8 +1,11 @@
 -- The lines of a script, and what its reading says of them.
-use Rattle.std.specs.Prelude.{◌≡◌, ℕ, ◌≤◌, ◌<◌, ◌-◌, ◌==◌, List, [], length, count_by, nat_lt, slice_index_or, vec_len}
+use Rattle.std.specs.Prelude.{◌≡◌, ℕ, ◌≤◌, ◌<◌, ◌-◌, ◌==◌, List, [], ◌∷◌, length, count_by, nat_lt, slice_index_or, string_bytes, vec_len}
 use Rattle.std.specs.Coded.{le_prop, Unit-prop}
 use Rattle.std.specs.List.{slice_split}
 use Rattle.textarea_script.specs.Calls.{CanBeMade, CanBeMade-prop}
+use Rattle.textarea_script.specs.declared.call.Call.{Call}
+use Rattle.textarea_script.specs.declared.call.Call.TheVariants as call
+use Rattle.textarea_script.specs.declared.commands.Command.{Command}
 use Rattle.textarea_script.specs.declared.commands.Content.{Content}
 use Rattle.textarea_script.specs.declared.commands.Content.TheVariants.{Plain, InsertStr, SetYankText, TrySetAtomicRanges, SetLines, SetSearchPattern}
 use Rattle.textarea_script.specs.declared.commands.ReadError.{ReadError}
@@ -48,3 +51,19 @@ IsReady-prop (SetYankText text) = Unit-prop
 IsReady-prop (TrySetAtomicRanges ranges) = Unit-prop
 IsReady-prop (SetSearchPattern text) = Unit-prop
 IsReady-prop (SetLines lines cursor) = le_prop
+
+-- the call that a command's content stands for: that call itself, or one that lends the texts, ranges or lines that it owns
+abbrev pub IsCallOf : Content → Call → Type 0
+IsCallOf (Plain plain) made = made ≡ plain
+IsCallOf (InsertStr text) (call.InsertStr lent) = lent.now ≡ string_bytes text
+IsCallOf (SetYankText text) (call.SetYankText lent) = lent.now ≡ string_bytes text
+IsCallOf (TrySetAtomicRanges ranges) (call.TrySetAtomicRanges lent) = lent.now ≡ ranges.items
+IsCallOf (SetSearchPattern text) (call.SetSearchPattern lent) = lent.now ≡ string_bytes text
+IsCallOf (SetLines lines cursor) (call.SetLines lent place) = (lent.now ≡ lines.items) × (place ≡ cursor)
+IsCallOf content other = ⊥
+
+-- the calls of the commands, one by one
+abbrev pub AreCallsOf : List Command → List Call → Type 0
+AreCallsOf [] [] = Unit {0}
+AreCallsOf (command ∷ commands) (made ∷ rest) = IsCallOf command.content made × AreCallsOf commands rest
+AreCallsOf commands made = ⊥

@@ -1,7 +1,7 @@
 // Reading a script: each line is a command, and stands for one call.
 ghost use Rattle.std.specs.Prelude.{◌≡◌, ◌+◌, All, IfOk, IfErr, IfSome, length, vec_len};
 ghost use Rattle.textarea_script.specs.Calls.{CanBeMade};
-ghost use Rattle.textarea_script.specs.Script.{lines_of, filled_lines, IsAtLine, IsReady, IsReady-prop, NamesLine};
+ghost use Rattle.textarea_script.specs.Script.{lines_of, filled_lines, AreCallsOf, IsAtLine, IsCallOf, IsReady, IsReady-prop, NamesLine};
 
 use crate::arguments::{
     Unread, mode_named, move_named, number, one_character, ranges, truth, two_numbers, unescaped,
@@ -59,7 +59,8 @@ enum Content {
 impl Command {
     /// The call that the command stands for.
     pub fn call(&self) -> Call<'_>
-        ensures { CanBeMade result }
+        ensures ready { CanBeMade result }
+        ensures is { IsCallOf self.now.content result }
     {
         match &self.content {
             Content::Plain(call) => *call,
@@ -94,8 +95,8 @@ pub fn read(alloc: Global, script: &[u8]) -> Result<Vec<Command>, ReadError>
 
 /// The calls that the commands stand for, in their order.
 pub fn calls(alloc: Global, commands: &[Command]) -> Result<Vec<Call<'_>>, AllocError>
-    ensures count { IfOk result (λ calls. vec_len calls ≡ length commands.now) }
     ensures ready { IfOk result (λ calls. All CanBeMade calls.items) }
+    ensures each { IfOk result (λ calls. AreCallsOf commands.now calls.items) }
 {
     let mut calls = Vec::new(alloc);
     for command in commands {

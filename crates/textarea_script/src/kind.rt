@@ -7,13 +7,15 @@ use crate::call::Call;
 // How a call answers.
 #[derive(Drop)]
 pub enum Kind {
-    // Whether it removed something; it may be refused memory.
-    Removes,
-    // Whether it found something else to do; it may be refused memory.
-    Finds,
-    // It changes text, cursor or yank, has nothing to say, and may be refused memory.
-    Changes,
-    // It sets how the text is seen or what is around it, has nothing to say, and may be refused memory.
+    // Whether a part of the text beside the cursor, or what is selected, was removed; it may run out of memory.
+    Deletes,
+    // Whether it made another edit, or took one back or made it again; it may run out of memory.
+    Edits,
+    // Whether a match was found; it may run out of memory.
+    Searches,
+    // It sets a character, a break, all lines or what was yanked, has nothing to say, and may run out of memory.
+    Writes,
+    // It sets how the text is laid out or what is around it, has nothing to say, and may run out of memory.
     Shows,
     // It has nothing to say, and takes no memory in any state.
     Sets,
@@ -34,21 +36,20 @@ impl Call<'_> {
             | Call::DeleteLineByEnd
             | Call::DeleteLineByHead
             | Call::DeleteWord
-            | Call::DeleteNextWord => Kind::Removes,
+            | Call::DeleteNextWord => Kind::Deletes,
             Call::InsertStr(_)
             | Call::InsertTab
             | Call::Clear
             | Call::Cut
             | Call::Paste
             | Call::Undo
-            | Call::Redo
-            | Call::SearchForward(_)
-            | Call::SearchBack(_) => Kind::Finds,
+            | Call::Redo => Kind::Edits,
+            Call::SearchForward(_) | Call::SearchBack(_) => Kind::Searches,
             Call::InsertChar(_)
             | Call::InsertNewline
             | Call::Copy
             | Call::SetYankText(_)
-            | Call::SetLines { .. } => Kind::Changes,
+            | Call::SetLines { .. } => Kind::Writes,
             Call::SetTabLength(_)
             | Call::SetWrapMode(_)
             | Call::SetLineNumberStyle(_)

@@ -6,9 +6,9 @@ ghost use Rattle.tui_textarea.specs.Measure.{with_surround};
 ghost use Rattle.textarea_script.specs.Calls.{ranges_answer, rejected_ranges, with_lines, with_ranges_if, CanBeMade, Refused};
 ghost use Rattle.textarea_script.specs.Kinds.{kind_of};
 ghost use Rattle.textarea_script.specs.Outcomes.{behind_pattern, IsAnswer, IsBehind, IsPatternAnswer};
-ghost use Rattle.textarea_script.specs.Patterns.{IsNewPattern};
+ghost use Rattle.textarea_script.specs.Patterns.{IsNewPattern, IsToldAs};
 ghost use Rattle.textarea_script.specs.Said.{said, Done, Flag};
-ghost use Rattle.textarea_script.specs.declared.kind.Kind.TheVariants.{Removes, Finds, Changes, Shows, Sets, Tells};
+ghost use Rattle.textarea_script.specs.declared.kind.Kind.TheVariants.{Deletes, Edits, Searches, Writes, Shows, Sets, Tells};
 
 use crate::call::{Answer, Call};
 use crate::kind::Kind;
@@ -31,9 +31,10 @@ pub fn perform(area: &mut TextArea<'_>, call: Call<'_>) -> Result<Answer, AllocE
     ensures err { OnErr result (Refused area.old call.entry area.new) }
 {
     match call.kind() {
-        Kind::Removes => remove(area, call).map(Answer::Flag),
-        Kind::Finds => find(area, call).map(Answer::Flag),
-        Kind::Changes => change(area, call).map(|()| Answer::Done),
+        Kind::Deletes => delete(area, call).map(Answer::Flag),
+        Kind::Edits => edit(area, call).map(Answer::Flag),
+        Kind::Searches => search(area, call).map(Answer::Flag),
+        Kind::Writes => write(area, call).map(|()| Answer::Done),
         Kind::Shows => show(area, call).map(|()| Answer::Done),
         Kind::Sets => {
             set(area, call);
@@ -44,8 +45,8 @@ pub fn perform(area: &mut TextArea<'_>, call: Call<'_>) -> Result<Answer, AllocE
 }
 
 // Makes a call that removes what is selected, or else a part of the text beside the cursor.
-fn remove(area: &mut TextArea<'_>, call: Call<'_>) -> Result<bool, AllocError>
-    requires { kind_of call ≡ Removes }
+fn delete(area: &mut TextArea<'_>, call: Call<'_>) -> Result<bool, AllocError>
+    requires { kind_of call ≡ Deletes }
     ensures answer { IfOk result (λ removed. IsAnswer area.old call.entry (Flag removed)) }
     ensures ok { IfOk result (λ removed. IsBehind area.old call.entry (Flag removed) area.new) }
     ensures err { OnErr result (Refused area.old call.entry area.new) }
@@ -63,11 +64,11 @@ fn remove(area: &mut TextArea<'_>, call: Call<'_>) -> Result<bool, AllocError>
     }
 }
 
-// Makes any other call that answers whether it found something to do.
-fn find(area: &mut TextArea<'_>, call: Call<'_>) -> Result<bool, AllocError>
-    requires { kind_of call ≡ Finds }
-    ensures answer { IfOk result (λ found. IsAnswer area.old call.entry (Flag found)) }
-    ensures ok { IfOk result (λ found. IsBehind area.old call.entry (Flag found) area.new) }
+// Makes any other call that edits the text, or takes an edit back or makes it again, and answers whether it did.
+fn edit(area: &mut TextArea<'_>, call: Call<'_>) -> Result<bool, AllocError>
+    requires { kind_of call ≡ Edits }
+    ensures answer { IfOk result (λ edited. IsAnswer area.old call.entry (Flag edited)) }
+    ensures ok { IfOk result (λ edited. IsBehind area.old call.entry (Flag edited) area.new) }
     ensures err { OnErr result (Refused area.old call.entry area.new) }
 {
     match call {
@@ -78,15 +79,27 @@ fn find(area: &mut TextArea<'_>, call: Call<'_>) -> Result<bool, AllocError>
         Call::Paste => area.paste(),
         Call::Undo => area.undo(),
         Call::Redo => area.redo(),
+        _ => unreachable!(),
+    }
+}
+
+// Makes a call that goes to a match, and answers whether there is one.
+fn search(area: &mut TextArea<'_>, call: Call<'_>) -> Result<bool, AllocError>
+    requires { kind_of call ≡ Searches }
+    ensures answer { IfOk result (λ found. IsAnswer area.old call.entry (Flag found)) }
+    ensures ok { IfOk result (λ found. IsBehind area.old call.entry (Flag found) area.new) }
+    ensures err { OnErr result (Refused area.old call.entry area.new) }
+{
+    match call {
         Call::SearchForward(match_cursor) => area.search_forward(match_cursor),
         Call::SearchBack(match_cursor) => area.search_back(match_cursor),
         _ => unreachable!(),
     }
 }
 
-// Makes a call that changes text, cursor or yank, has nothing to say, and may be refused memory.
-fn change(area: &mut TextArea<'_>, call: Call<'_>) -> Result<(), AllocError>
-    requires kind { kind_of call ≡ Changes }
+// Makes a call that writes a character, a break, all lines or what was yanked, has nothing to say, and may run out of memory.
+fn write(area: &mut TextArea<'_>, call: Call<'_>) -> Result<(), AllocError>
+    requires kind { kind_of call ≡ Writes }
     requires can { CanBeMade call }
     ensures answer { OnOk result (IsAnswer area.old call.entry Done) }
     ensures ok { OnOk result (IsBehind area.old call.entry Done area.new) }
@@ -102,7 +115,7 @@ fn change(area: &mut TextArea<'_>, call: Call<'_>) -> Result<(), AllocError>
     }
 }
 
-// Makes a call that sets how the text is seen or what is around it, and may be refused memory.
+// Makes a call that sets how the text is laid out or what is around it, and may run out of memory.
 fn show(area: &mut TextArea<'_>, call: Call<'_>) -> Result<(), AllocError>
     requires { kind_of call ≡ Shows }
     ensures answer { OnOk result (IsAnswer area.old call.entry Done) }
@@ -192,7 +205,9 @@ fn set_lines(
 
 // Puts a copy of the block around the rows.
 fn set_block(area: &mut TextArea<'_>, block: &Block<'static>) -> Result<(), AllocError>
-    ensures ok { OnOk result (area.new ≡ with_surround area.old (record area.old.surround { block = Some (shown_block block.now) })) }
+    ensures ok { OnOk result
+        (area.new ≡ with_surround area.old
+        (record area.old.surround { block = Some (shown_block block.now) })) }
     ensures err { OnErr result (area.new ≡ area.old) }
 {
     area.set_block(block.clone()?);
@@ -201,7 +216,9 @@ fn set_block(area: &mut TextArea<'_>, block: &Block<'static>) -> Result<(), Allo
 
 // Shows a copy of the text where the text area's is empty.
 fn set_styled_placeholder(area: &mut TextArea<'_>, text: &Text<'static>) -> Result<(), AllocError>
-    ensures ok { OnOk result (area.new ≡ with_surround area.old (record area.old.surround { placeholder = shown_text text.now })) }
+    ensures ok { OnOk result
+        (area.new ≡ with_surround area.old
+        (record area.old.surround { placeholder = shown_text text.now })) }
     ensures err { OnErr result (area.new ≡ area.old) }
 {
     area.set_styled_placeholder(text.clone()?);
@@ -217,8 +234,10 @@ fn copy_ranges(alloc: Global, ranges: &[AtomicRange]) -> Result<Vec<AtomicRange>
 
 // Sets the ranges, or names the rejected ones.
 fn set_ranges(area: &mut TextArea<'_>, ranges: Vec<AtomicRange>) -> Result<Answer, AllocError>
-    ensures answer { IfOk result (λ answer. said answer ≡ ranges_answer (rejected_ranges area.old ranges.items)) }
-    ensures ok { OnOk result (area.new ≡ with_ranges_if (rejected_ranges area.old ranges.items) area.old ranges.items) }
+    ensures answer { IfOk result
+        (λ answer. said answer ≡ ranges_answer (rejected_ranges area.old ranges.items)) }
+    ensures ok { OnOk result
+        (area.new ≡ with_ranges_if (rejected_ranges area.old ranges.items) area.old ranges.items) }
     ensures err { OnErr result (area.new ≡ area.old) }
 {
     match area.try_set_atomic_ranges(ranges)? {
@@ -230,13 +249,21 @@ fn set_ranges(area: &mut TextArea<'_>, ranges: Vec<AtomicRange>) -> Result<Answe
 // Sets the pattern that is searched for, or answers that it is refused.
 fn set_search_pattern(area: &mut TextArea<'_>, pattern: &str) -> Result<Answer, AllocError>
     ensures answer { IfOk result (λ answer. IsPatternAnswer area.old pattern.now (said answer)) }
-    ensures ok { IfOk result (λ answer. area.new ≡ behind_pattern area.old pattern.now (said answer)) }
+    ensures ok { IfOk result
+        (λ answer. area.new ≡ behind_pattern area.old pattern.now (said answer)) }
     ensures err { OnErr result (area.new ≡ area.old) }
     ensures may { OnErr result (IsNewPattern area.old pattern.now) }
 {
-    match area.set_search_pattern(pattern) {
+    pattern_answer(area.set_search_pattern(pattern))
+}
+
+// How it is told that a pattern was set: done, refused with an error of `regex`, or out of memory.
+fn pattern_answer(outcome: Result<(), SearchError>) -> Result<Answer, AllocError>
+    ensures { IsToldAs outcome result }
+{
+    match outcome {
         Ok(()) => Ok(Answer::Done),
         Err(SearchError::Pattern(_)) => Ok(Answer::PatternRefused),
-        Err(SearchError::Memory(refused)) => Err(refused),
+        Err(SearchError::Memory(error)) => Err(error),
     }
 }

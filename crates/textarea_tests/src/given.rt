@@ -22,7 +22,7 @@ fn strings(rt: &impl AllocGlobal, texts: &[&str]) -> Result<Vec<String>, AllocEr
 
 #[test]
 fn a_text_area_of_lines(rt: HostRuntime) -> Result<(), Fail> {
-    let area = TextArea::new(rt.alloc(), strings(&rt, &["a", "b"])?)?;
+    let area = TextArea::new(strings(&rt, &["a", "b"])?)?;
     compare_lines(&rt, &area, &["a", "b"]);
     let lines = area.into_lines();
     assert!(rt; lines.len() == 2);

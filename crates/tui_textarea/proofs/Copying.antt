@@ -1,13 +1,19 @@
 -- A copy and a paste behind it.
-use Rattle.std.proofs.Common.{◌≡◌, ℕ, ◌==◌, ◌&&◌, ◌||◌, nat_lt, cond, Bool, true, false, ap, sym, refl, ◌∙◌, arith}
+use Rattle.std.proofs.Common.{◌≡◌, ℕ, ◌-◌, ◌<◌, ◌==◌, ◌&&◌, ◌||◌, nat_lt, cond, Bool, true, false, List, [], ◌∷◌, length, take, drop, Option, None, Some, ap, sym, refl, subst, ◌∙◌, arith}
+use Rattle.std.specs.Option.{IfSome, MatchOption}
+use Rattle.std.proofs.lemmas.List.{length-drop, length-take-le}
 use Rattle.std.proofs.lemmas.Bool.Decides.{nat_tests}
-use Rattle.textarea_text.specs.Place.{Place}
+use Rattle.textarea_text.specs.Text.{Symbol}
+use Rattle.textarea_text.specs.Place.{Place, IsPlace, end, index_of, inserted}
+use Rattle.textarea_text.proofs.Places.{index_within}
+use Rattle.textarea_pieces.specs.Part.{part}
 use Rattle.textarea_document.specs.State.{DocumentState}
 use Rattle.textarea_document.specs.Outcomes.{unanchored}
-use Rattle.textarea_document.specs.Edits.{part_removed}
+use Rattle.textarea_document.specs.Edits.{insertion_place, is_filled, part_removed}
 use Rattle.textarea_document.specs.Selection.{is_before, is_selected, selected, selection_end, selection_start}
 use Rattle.tui_textarea.specs.State.{State, with_document}
 use Rattle.tui_textarea.specs.Edits.{symbols_or_none_inserted, str_inserted}
+use Rattle.tui_textarea.specs.Law.{PastesCopy, copied_and_pasted}
 use Rattle.tui_textarea.specs.Selection.{selection_copied, selection_cancelled}
 
 not_less : (n : ℕ) → nat_lt n n ≡ false
@@ -30,14 +36,61 @@ none_selected document =
     let place = document.cursor in
     ap (λ b. is_before (cond b place place) (cond b place place)) (not_before place) ∙ not_before place
 
-pub pasted : (state : State) → is_selected state.document ≡ true → str_inserted (selection_copied state) (selection_copied state).yank ≡ symbols_or_none_inserted (selection_copied state) (selected state.document)
-pasted state e =
-    ap (λ (s : State). str_inserted s s.yank) copied_is
-    ∙ ap (λ b. symbols_or_none_inserted (with_document after (cond b (part_removed after.document (selection_start after.document) (selection_end after.document) after.moment) after.document)) after.yank) (none_selected state.document)
-    ∙ ap (λ (s : State). symbols_or_none_inserted s (selected state.document)) (sym copied_is)
+-- what stands between two places of the text of which the one comes first
+some_between : (text : List Symbol) (from to : Place) → IsPlace text to → index_of text from < index_of text to → 0 < length (part text from to)
+some_between text from to h ordered =
+    omega (
+      arith,
+      length-take-le (index_of text to - index_of text from) (drop (index_of text from) text)
+          (omega (arith, length-drop (index_of text from) text, index_within text to h)),
+    )
+
+filled : (symbols : List Symbol) → 0 < length symbols → is_filled symbols ≡ true
+filled [] h = absurd (omega (arith, h))
+filled (symbol ∷ symbols) h = refl
+
+pub pastes_copy : (state : State) → is_selected state.document ≡ true
+    → IsPlace state.document.text (selection_end state.document)
+    → index_of state.document.text (selection_start state.document) < index_of state.document.text (selection_end state.document)
+    → PastesCopy state
+pastes_copy state e place ordered =
+    record {
+      text = ap (λ (s : State). s.document.text) reached ∙ text_of (selected state.document) some;
+      cursor = ap (λ (s : State). s.document.cursor) reached ∙ cursor_of (selected state.document) some;
+      answer = ap (λ (s : State). is_filled s.yank) copied_is ∙ filled (selected state.document) some;
+    }
   where
     after : State
     after = record (selection_cancelled state) { yank = selected state.document }
 
     copied_is : selection_copied state ≡ after
     copied_is = ap (λ b. cond b (record (selection_cancelled state) { yank = selected state.document }) (selection_cancelled state)) e
+
+    reached : copied_and_pasted state ≡ symbols_or_none_inserted after (selected state.document)
+    reached =
+        ap (λ (s : State). str_inserted s s.yank) copied_is
+        ∙ ap (λ b. symbols_or_none_inserted (with_document after (cond b (part_removed after.document (selection_start after.document) (selection_end after.document) after.moment) after.document)) after.yank) (none_selected state.document)
+
+    some : 0 < length (selected state.document)
+    some = some_between state.document.text (selection_start state.document) (selection_end state.document) place ordered
+
+    text_of : (symbols : List Symbol) → 0 < length symbols → (symbols_or_none_inserted after symbols).document.text ≡ inserted state.document.text (insertion_place state.document) symbols
+    text_of [] h = absurd (omega (arith, h))
+    text_of (symbol ∷ symbols) h = refl
+
+    cursor_of : (symbols : List Symbol) → 0 < length symbols → (symbols_or_none_inserted after symbols).document.cursor ≡ end (insertion_place state.document) symbols
+    cursor_of [] h = absurd (omega (arith, h))
+    cursor_of (symbol ∷ symbols) h = refl
+
+-- what is known of the two ends of a selection of a symbol, where they were found if there are any
+pub ends_known : (document : DocumentState) (found : Option (Place × Place)) → is_selected document ≡ true
+    → MatchOption found (is_selected document ≡ false) (λ ends. is_selected document ≡ true)
+    → IfSome found (λ ends. ends ≡ (selection_start document, selection_end document))
+    → IfSome found (λ ends. IsPlace document.text ends.0 × IsPlace document.text ends.1)
+    → IfSome found (λ ends. index_of document.text ends.0 < index_of document.text ends.1)
+    → IsPlace document.text (selection_end document)
+    × (index_of document.text (selection_start document) < index_of document.text (selection_end document))
+ends_known document None e none is places ordered = absurd (let no : false ≡ true = sym none ∙ e in cc)
+ends_known document (Some ends) e some is places ordered = (
+  subst (λ (p : Place × Place). IsPlace document.text p.1) is places.1,
+  subst (λ (p : Place × Place). index_of document.text p.0 < index_of document.text p.1) is ordered)

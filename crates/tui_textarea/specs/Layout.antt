@@ -1,4 +1,4 @@
--- What the calls that decide how the text is seen make of the state.
+-- What the calls that decide how the text is laid out make of the state.
 use Rattle.std.specs.Prelude.{ℕ, Bool, true, false, Option, Some, None, if◌then◌else◌}
 use Rattle.textarea_screen.specs.declared.screen.style.Style.{Style}
 use Rattle.textarea_wrap.specs.declared.wrap.WrapMode.{WrapMode}
@@ -12,15 +12,15 @@ use Rattle.tui_textarea.specs.State.{State, with_document}
 abbrev pub tab_length : DocumentState → ℕ
 tab_length document = document.layout.settings.tab_len
 
--- the text is seen in another way, and its lines are cut anew where they are cut in another way
+-- the text is laid out in another way, and its lines are cut anew where they are cut in another way
 abbrev pub with_layout : State → LayoutSettings → State
 with_layout state settings = with_document state (with_layout_settings state.document settings)
 
--- whether the text is cut as it stands where it is seen in this way
+-- whether the text is cut as it stands where it is laid out in this way
 abbrev pub stays_cut : State → LayoutSettings → Bool
 stays_cut state settings = layout.stays_cut (laid_out_of state.document) settings
 
--- the settings of the settings, one of them changed
+-- the settings of the layout, one of them changed
 abbrev pub mode_set : State → WrapMode → LayoutSettings
 mode_set state mode = record state.document.layout.settings { mode = mode }
 

@@ -7,3 +7,4 @@ pub mod Ranges
 pub mod Search
 pub mod Layout
 pub mod Measure
+pub mod Law

@@ -3,9 +3,7 @@ use Rattle.std.specs.Prelude.{ℕ, List, [], false, map, Option, None}
 use Rattle.std.specs.Borrow.{Bor}
 use Rattle.std.specs.Str.{chars}
 use Rattle.textarea_text.specs.Text.{Symbol, joined}
-use Rattle.textarea_text.specs.Splice.{Splice}
 use Rattle.textarea_document.specs.State.{DocumentState, new_document}
-use Rattle.textarea_document.specs.Outcomes.{edited}
 use Rattle.textarea_wrap.specs.declared.wrap.WrapMode.TheVariants as mode
 use Rattle.textarea_lines.specs.declared.settings.LayoutSettings.{LayoutSettings}
 use Rattle.textarea_screen.specs.Style.{empty_style}
@@ -26,7 +24,7 @@ pub record State : Type 0 where
 abbrev pub default_settings : Settings
 default_settings = record { hard_tab_indent = false; undo_coalescing = false; line_number_style = empty_style }
 
--- how the text is seen at first: one row a line, tab stops at each fourth column, no line numbers, and no area drawn yet
+-- how the text is laid out at first: one row a line, tab stops at each fourth column, no line numbers, and no area drawn yet
 abbrev pub default_layout : LayoutSettings
 default_layout = record { mode = mode.None; tab_len = 4; line_numbers = false; inner_width = 0 }
 
@@ -38,14 +36,6 @@ new_state text = record { document = new_document text default_layout 50; yank =
 -- the document changes, and all else stays
 abbrev pub with_document : State → DocumentState → State
 with_document state document = record state { document = document }
-
--- the change is made and recorded: not as a typed one, or as a typed one, which may join the run before it where
--- joining is on
-abbrev pub changed : State → Splice → State
-changed state splice = with_document state (edited state.document splice false state.moment)
-
-abbrev pub typed : State → Splice → State
-typed state splice = with_document state (edited state.document splice state.settings.undo_coalescing state.moment)
 
 -- the characters of a text that is lent
 abbrev pub lent_characters : Bor (List ℕ) → List ℕ

@@ -2,6 +2,7 @@
 mod constructors;
 mod edits;
 mod laws;
+mod layout;
 mod measure;
 mod moves;
 mod past;
@@ -11,7 +12,6 @@ mod search;
 mod selection;
 pub mod settings;
 mod surround;
-mod layout;
 
 ghost use Rattle.std.specs.Prelude.{◌≡◌, ◌<◌, ◌≤◌, ◌^◌, ◌↔◌, length, OnErr, OnOk, IfOk, IsTrue, [], vec_len};
 ghost use Rattle.textarea_text.specs.Text.{lines, lines_of, text_of};
@@ -35,8 +35,8 @@ use textarea_wrap::wrap::WrapMode;
 /// How many edits a new text area remembers.
 const DEFAULT_MAX_HISTORIES: usize = 50;
 
-/// How a new text area's text is cut into rows: one row a line, and no area is drawn yet.
-const DEFAULT_VIEW: LayoutSettings = LayoutSettings {
+/// How a new text area's text is laid out: one row a line, and no area is drawn yet.
+const DEFAULT_LAYOUT: LayoutSettings = LayoutSettings {
     mode: WrapMode::None,
     tab_len: 4,
     line_numbers: false,
@@ -87,11 +87,12 @@ impl<'a> Clone for TextArea<'a> {
 impl<'a> TextArea<'a> {
     /// A text area of these lines, the cursor at the start; no line at all becomes one empty line. A line feed inside a
     /// line stays a character of that line.
-    pub fn new(alloc: Global, lines: Vec<String>) -> Result<Self, AllocError>
+    pub fn new(lines: Vec<String>) -> Result<Self, AllocError>
         ensures { IfOk result (λ area. area ≡ new_state (text_of lines.items)) }
     {
+        let alloc = *lines.allocator();
         Ok(TextArea {
-            document: Document::new(alloc, lines, DEFAULT_VIEW, DEFAULT_MAX_HISTORIES)?,
+            document: Document::new(alloc, lines, DEFAULT_LAYOUT, DEFAULT_MAX_HISTORIES)?,
             yank: Vec::new(alloc),
             settings: Settings::default(),
             moment: Duration::ZERO,
@@ -104,7 +105,7 @@ impl<'a> TextArea<'a> {
     pub fn try_default(alloc: Global) -> Result<Self, AllocError>
         ensures { IfOk result (λ area. area ≡ new_state []) }
     {
-        TextArea::new(alloc, Vec::new(alloc))
+        TextArea::new(Vec::new(alloc))
     }
 
     /// Holds these lines in place of the old ones, the cursor at the nearest place of theirs. All edits are forgotten,
@@ -116,7 +117,11 @@ impl<'a> TextArea<'a> {
         cursor: (usize, usize),
     ) -> Result<(), AllocError>
         requires some { 0 < vec_len lines }
-        ensures ok { OnOk result (self.new ≡ with_document self.old (fresh_document (text_of lines.items) self.old.document.layout.settings self.old.document.layout.count (clip (lines_of lines.items) cursor) self.old.document.log.maximum)) }
+        ensures ok { OnOk result
+            (self.new ≡ with_document self.old
+            (fresh_document (text_of lines.items) self.old.document.layout.settings
+            self.old.document.layout.count
+            (clip (lines_of lines.items) cursor) self.old.document.log.maximum)) }
         ensures err { OnErr result (self.new ≡ self.old) }
     {
         self.document.set_lines(lines, cursor)

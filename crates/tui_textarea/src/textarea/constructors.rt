@@ -17,9 +17,11 @@ impl<'b> TextArea<'b> {
     ) -> Result<Self, AllocError>
         requires can { I.can_next lines }
         requires ends { IsFinite (I.remaining lines) }
-        ensures { IfOk result (λ area. (strings : List (String Global)) × Drains I.next_gives lines strings × (area ≡ new_state (text_of strings))) }
+        ensures { IfOk result
+            (λ area. (strings : List (String Global)) × Drains I.next_gives lines strings
+            × (area ≡ new_state (text_of strings))) }
     {
-        TextArea::new(alloc, collect_lines(alloc, lines)?)
+        TextArea::new(collect_lines(alloc, lines)?)
     }
 
     /// A text area of copies of the lines that the iterator gives, the cursor at the start; no line at all becomes one
@@ -30,9 +32,11 @@ impl<'b> TextArea<'b> {
     ) -> Result<Self, AllocError>
         requires can { I.can_next lines }
         requires ends { IsFinite (I.remaining lines) }
-        ensures { IfOk result (λ area. (texts : List (Bor (List ℕ))) × Drains I.next_gives lines texts × (area ≡ new_state (text_of_each texts))) }
+        ensures { IfOk result
+            (λ area. (texts : List (Bor (List ℕ))) × Drains I.next_gives lines texts
+            × (area ≡ new_state (text_of_each texts))) }
     {
-        TextArea::new(alloc, copy_lines(alloc, lines)?)
+        TextArea::new(copy_lines(alloc, lines)?)
     }
 }
 
@@ -43,7 +47,9 @@ fn collect_lines<I: Iterator<Item = String> + Drop>(
 ) -> Result<Vec<String>, AllocError>
     requires can { I.can_next lines }
     requires ends { IsFinite (I.remaining lines) }
-    ensures { IfOk result (λ all. (strings : List (String Global)) × Drains I.next_gives lines strings × (all.items ≡ strings)) }
+    ensures { IfOk result
+        (λ all. (strings : List (String Global)) × Drains I.next_gives lines strings
+        × (all.items ≡ strings)) }
 {
     let mut all = Vec::new(alloc);
     for line in lines {
@@ -59,7 +65,9 @@ fn copy_lines<'a, I: Iterator<Item = &'a str> + Drop>(
 ) -> Result<Vec<String>, AllocError>
     requires can { I.can_next lines }
     requires ends { IsFinite (I.remaining lines) }
-    ensures { IfOk result (λ all. (texts : List (Bor (List ℕ))) × Drains I.next_gives lines texts × (text_of all.items ≡ text_of_each texts)) }
+    ensures { IfOk result
+        (λ all. (texts : List (Bor (List ℕ))) × Drains I.next_gives lines texts
+        × (text_of all.items ≡ text_of_each texts)) }
 {
     let mut all = Vec::new(alloc);
     for line in lines {

@@ -44,7 +44,8 @@ impl TextArea<'_> {
     /// was any or a selection went. The text is cut at each line feed; a carriage return directly before a line feed
     /// goes with it. Where there is nothing to do, it takes no memory.
     pub fn insert_str(&mut self, text: &str) -> Result<bool, AllocError>
-        ensures inserted { IfOk result (λ inserted. inserted ≡ inserts_text self.old (given (chars text.now))) }
+        ensures inserted { IfOk result
+            (λ inserted. inserted ≡ inserts_text self.old (given (chars text.now))) }
         ensures ok { OnOk result (self.new ≡ str_inserted self.old (given (chars text.now))) }
         ensures err { OnErr result (IsLeft self.old self.new) }
         ensures nothing { inserts_text self.old (given (chars text.now)) ≡ false → IsOk result }
@@ -101,7 +102,9 @@ impl TextArea<'_> {
     // Inserts the spaces that reach from where they go to the next tab stop.
     fn insert_spaces(&mut self, tab_length: u8) -> Result<(), AllocError>
         requires some { 0 < tab_length }
-        ensures ok { OnOk result (self.new ≡ symbols_or_none_inserted self.old (replicate (spaces_to_stop self.old.document tab_length) (Character 32))) }
+        ensures ok { OnOk result
+            (self.new ≡ symbols_or_none_inserted self.old
+            (replicate (spaces_to_stop self.old.document tab_length) (Character 32))) }
         ensures err { OnErr result (self.new ≡ self.old) }
     {
         let (row, column) = self.document.insertion_place();

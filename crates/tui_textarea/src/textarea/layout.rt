@@ -43,7 +43,8 @@ impl TextArea<'_> {
     pub fn set_tab_length(&mut self, tab_length: u8) -> Result<(), AllocError>
         ensures ok { OnOk result (self.new ≡ with_tab_length self.old tab_length) }
         ensures err { OnErr result (self.new ≡ self.old) }
-        ensures no_memory { stays_cut self.old (tab_length_set self.old tab_length) ≡ true → IsOk result }
+        ensures no_memory { stays_cut self.old (tab_length_set self.old tab_length) ≡ true
+            → IsOk result }
     {
         let mut settings = self.document.layout_settings();
         settings.tab_len = tab_length;

@@ -15,7 +15,9 @@ impl TextArea<'_> {
         ensures same { self.new ≡ self.old }
         ensures measured { IfOk result (IsMeasured self.old width) }
         ensures bounds { IfOk result (λ measure. AreBounds measure.min_rows measure.max_rows) }
-        ensures within { IfOk result (λ measure. (measure.min_rows ≤ measure.preferred_rows) × (measure.preferred_rows ≤ measure.max_rows)) }
+        ensures within { IfOk result
+            (λ measure. (measure.min_rows ≤ measure.preferred_rows)
+            × (measure.preferred_rows ≤ measure.max_rows)) }
         ensures no_memory { reads_rows self.old width ≡ true → IsOk result }
     {
         let rows = self

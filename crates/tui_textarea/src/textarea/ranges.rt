@@ -38,8 +38,10 @@ impl TextArea<'_> {
     ) -> Result<Result<(), AtomicRangeError>, AllocError>
         ensures judged { IfOk result (λ outcome. MatchResult outcome
             (λ _. AreValid (lines self.old.document.text) ranges.items)
-            (λ error. AreRefused (lines self.old.document.text) ranges.items error.rejected.items)) }
-        ensures set { IfOk result (λ outcome. OnOk outcome (self.new ≡ ranges_accepted self.old ranges.items)) }
+            (λ error. AreRefused (lines self.old.document.text) ranges.items
+            error.rejected.items)) }
+        ensures set { IfOk result
+            (λ outcome. OnOk outcome (self.new ≡ ranges_accepted self.old ranges.items)) }
         ensures refused { IfOk result (λ outcome. OnErr outcome (self.new ≡ self.old)) }
         ensures err { OnErr result (self.new ≡ self.old) }
     {
@@ -63,7 +65,8 @@ impl TextArea<'_> {
     /// Moves a cursor strictly inside a range to its start for Backward, to its end for Forward, and says whether it
     /// moved. The selection stays, and a run of typing goes on.
     pub fn normalize_cursor_around_atomic_ranges(&mut self, bias: AtomicCursorBias) -> bool
-        ensures moved { result ≡ is_some (inside self.old.document.ranges self.old.document.cursor) }
+        ensures moved { result
+            ≡ is_some (inside self.old.document.ranges self.old.document.cursor) }
         ensures new { self.new ≡ cursor_normalized self.old bias }
     {
         self.document.normalize_cursor(bias)

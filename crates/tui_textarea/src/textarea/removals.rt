@@ -16,8 +16,10 @@ impl TextArea<'_> {
     /// or at column 0 the line break there, and says whether something was removed. Where nothing is, it takes no
     /// memory.
     pub fn delete_char(&mut self) -> Result<bool, AllocError>
-        ensures removed { IfOk result (λ removed. removed ≡ removes_or self.old (has_before self.old)) }
-        ensures ok { OnOk result (self.new ≡ unselected_or self.old (symbol_before_removed self.old)) }
+        ensures removed { IfOk result
+            (λ removed. removed ≡ removes_or self.old (has_before self.old)) }
+        ensures ok { OnOk result
+            (self.new ≡ unselected_or self.old (symbol_before_removed self.old)) }
         ensures err { OnErr result (self.new ≡ self.old) }
         ensures nothing { removes_or self.old (has_before self.old) ≡ false → IsOk result }
     {
@@ -32,8 +34,10 @@ impl TextArea<'_> {
     /// cursor, or at a line's end the line break there, and says whether something was removed. Where nothing is, it
     /// takes no memory.
     pub fn delete_next_char(&mut self) -> Result<bool, AllocError>
-        ensures removed { IfOk result (λ removed. removed ≡ removes_or self.old (has_behind self.old)) }
-        ensures ok { OnOk result (self.new ≡ unselected_or self.old (symbol_behind_removed self.old)) }
+        ensures removed { IfOk result
+            (λ removed. removed ≡ removes_or self.old (has_behind self.old)) }
+        ensures ok { OnOk result
+            (self.new ≡ unselected_or self.old (symbol_behind_removed self.old)) }
         ensures err { OnErr result (self.new ≡ self.old) }
         ensures nothing { removes_or self.old (has_behind self.old) ≡ false → IsOk result }
     {
@@ -47,8 +51,10 @@ impl TextArea<'_> {
     /// Removes the line break before the cursor's line, and says whether something was removed. Where nothing is, it
     /// takes no memory.
     pub fn delete_newline(&mut self) -> Result<bool, AllocError>
-        ensures removed { IfOk result (λ removed. removed ≡ removes_or self.old (has_break_before self.old)) }
-        ensures ok { OnOk result (self.new ≡ unselected_or self.old (break_before_removed self.old)) }
+        ensures removed { IfOk result
+            (λ removed. removed ≡ removes_or self.old (has_break_before self.old)) }
+        ensures ok { OnOk result
+            (self.new ≡ unselected_or self.old (break_before_removed self.old)) }
         ensures err { OnErr result (self.new ≡ self.old) }
         ensures nothing { removes_or self.old (has_break_before self.old) ≡ false → IsOk result }
     {
@@ -61,8 +67,10 @@ impl TextArea<'_> {
     /// Removes that many characters behind the cursor, each line break counting one, or all that there are, yanks them,
     /// and says whether something was removed. Where nothing is, it takes no memory.
     pub fn delete_str(&mut self, count: usize) -> Result<bool, AllocError>
-        ensures removed { IfOk result (λ removed. removed ≡ removes_or self.old (has_ahead self.old count)) }
-        ensures ok { OnOk result (self.new ≡ unselected_or self.old (symbols_ahead_removed self.old count)) }
+        ensures removed { IfOk result
+            (λ removed. removed ≡ removes_or self.old (has_ahead self.old count)) }
+        ensures ok { OnOk result
+            (self.new ≡ unselected_or self.old (symbols_ahead_removed self.old count)) }
         ensures err { OnErr result (self.new ≡ self.old) }
         ensures nothing { removes_or self.old (has_ahead self.old count) ≡ false → IsOk result }
     {
@@ -81,7 +89,8 @@ impl TextArea<'_> {
     /// Removes and yanks what stands from the cursor to its line's end; there it does as `delete_next_char`. It says
     /// whether something was removed. Where nothing is, it takes no memory.
     pub fn delete_line_by_end(&mut self) -> Result<bool, AllocError>
-        ensures removed { IfOk result (λ removed. removed ≡ removes_or self.old (has_line_behind self.old)) }
+        ensures removed { IfOk result
+            (λ removed. removed ≡ removes_or self.old (has_line_behind self.old)) }
         ensures ok { OnOk result (self.new ≡ unselected_or self.old (line_end_removed self.old)) }
         ensures err { OnErr result (self.new ≡ self.old) }
         ensures nothing { removes_or self.old (has_line_behind self.old) ≡ false → IsOk result }
@@ -103,7 +112,8 @@ impl TextArea<'_> {
     /// Removes and yanks what stands from the line's start to the cursor; there it does as `delete_newline`. It says
     /// whether something was removed. Where nothing is, it takes no memory.
     pub fn delete_line_by_head(&mut self) -> Result<bool, AllocError>
-        ensures removed { IfOk result (λ removed. removed ≡ removes_or self.old (has_line_before self.old)) }
+        ensures removed { IfOk result
+            (λ removed. removed ≡ removes_or self.old (has_line_before self.old)) }
         ensures ok { OnOk result (self.new ≡ unselected_or self.old (line_head_removed self.old)) }
         ensures err { OnErr result (self.new ≡ self.old) }
         ensures nothing { removes_or self.old (has_line_before self.old) ≡ false → IsOk result }
@@ -123,8 +133,10 @@ impl TextArea<'_> {
     /// the start of the word before the cursor, or from the line's start, to the cursor; at column 0 it does as
     /// `delete_newline`. It says whether something was removed. Where nothing is, it takes no memory.
     pub fn delete_word(&mut self) -> Result<bool, AllocError>
-        ensures removed { IfOk result (λ removed. removed ≡ removes_or self.old (has_word_before self.old)) }
-        ensures ok { OnOk result (self.new ≡ unselected_or self.old (word_before_removed self.old)) }
+        ensures removed { IfOk result
+            (λ removed. removed ≡ removes_or self.old (has_word_before self.old)) }
+        ensures ok { OnOk result
+            (self.new ≡ unselected_or self.old (word_before_removed self.old)) }
         ensures err { OnErr result (self.new ≡ self.old) }
         ensures nothing { removes_or self.old (has_word_before self.old) ≡ false → IsOk result }
     {
@@ -145,8 +157,10 @@ impl TextArea<'_> {
     /// the cursor to behind the word there, or to the line's end; at the line's end it does as `delete_next_char`. It
     /// says whether something was removed. Where nothing is, it takes no memory.
     pub fn delete_next_word(&mut self) -> Result<bool, AllocError>
-        ensures removed { IfOk result (λ removed. removed ≡ removes_or self.old (has_word_behind self.old)) }
-        ensures ok { OnOk result (self.new ≡ unselected_or self.old (word_behind_removed self.old)) }
+        ensures removed { IfOk result
+            (λ removed. removed ≡ removes_or self.old (has_word_behind self.old)) }
+        ensures ok { OnOk result
+            (self.new ≡ unselected_or self.old (word_behind_removed self.old)) }
         ensures err { OnErr result (self.new ≡ self.old) }
         ensures nothing { removes_or self.old (has_word_behind self.old) ≡ false → IsOk result }
     {
@@ -181,10 +195,14 @@ impl TextArea<'_> {
 
     // Where the next symbols end, this many or all that there are; none where there are none.
     fn place_ahead(&self, count: usize) -> Option<(usize, usize)>
-        ensures found { MatchOption result (has_ahead self.now count ≡ false) (λ end. has_ahead self.now count ≡ true) }
-        ensures end { IfSome result (λ end. end ≡ place_of self.now.document.text (index_ahead self.now.document count)) }
+        ensures found { MatchOption result (has_ahead self.now count ≡ false)
+            (λ end. has_ahead self.now count ≡ true) }
+        ensures end { IfSome result
+            (λ end. end ≡ place_of self.now.document.text (index_ahead self.now.document count)) }
         ensures place { IfSome result (IsPlace self.now.document.text) }
-        ensures ordered { IfSome result (λ end. index_of self.now.document.text self.now.document.cursor < index_of self.now.document.text end) }
+        ensures ordered { IfSome result
+            (λ end. index_of self.now.document.text self.now.document.cursor
+            < index_of self.now.document.text end) }
     {
         let cursor = self.document.cursor();
         let end = ahead(self.document.lines(), cursor, count);
@@ -234,10 +252,15 @@ impl TextArea<'_> {
 
     // Removes and yanks what stands between two places, with the ranges that it overlaps.
     #[tactic(auto, unfolding(crate::specs::Removals::yanked))]
-    fn remove_and_yank(&mut self, from: (usize, usize), to: (usize, usize)) -> Result<(), AllocError>
+    fn remove_and_yank(
+        &mut self,
+        from: (usize, usize),
+        to: (usize, usize),
+    ) -> Result<(), AllocError>
         requires from { IsPlace self.old.document.text from }
         requires to { IsPlace self.old.document.text to }
-        requires ordered { index_of self.old.document.text from < index_of self.old.document.text to }
+        requires ordered { index_of self.old.document.text from
+            < index_of self.old.document.text to }
         ensures ok { OnOk result (self.new ≡ yanked self.old from to) }
         ensures err { OnErr result (self.new ≡ self.old) }
     {

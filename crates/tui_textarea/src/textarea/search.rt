@@ -37,7 +37,8 @@ impl TextArea<'_> {
     pub fn search_forward(&mut self, match_cursor: bool) -> Result<bool, AllocError>
         ensures found { IfOk result (λ found. found ≡ is_some (next_match self.old match_cursor)) }
         ensures ok { OnOk result (self.new ≡ searched self.old (next_match self.old match_cursor)) }
-        ensures place { OnOk result (IfSome (next_match self.old match_cursor) (IsPlace self.old.document.text)) }
+        ensures place { OnOk result
+            (IfSome (next_match self.old match_cursor) (IsPlace self.old.document.text)) }
         ensures err { OnErr result (self.new ≡ self.old) }
         ensures no_pattern { self.old.pattern ≡ None → IsOk result }
     {
@@ -49,9 +50,12 @@ impl TextArea<'_> {
     /// of the text to the last of all; says whether there was one. An open selection stays open, and a run of typing
     /// ends. Where there is none, nothing changes; without a pattern it takes no memory.
     pub fn search_back(&mut self, match_cursor: bool) -> Result<bool, AllocError>
-        ensures found { IfOk result (λ found. found ≡ is_some (previous_match self.old match_cursor)) }
-        ensures ok { OnOk result (self.new ≡ searched self.old (previous_match self.old match_cursor)) }
-        ensures place { OnOk result (IfSome (previous_match self.old match_cursor) (IsPlace self.old.document.text)) }
+        ensures found { IfOk result
+            (λ found. found ≡ is_some (previous_match self.old match_cursor)) }
+        ensures ok { OnOk result
+            (self.new ≡ searched self.old (previous_match self.old match_cursor)) }
+        ensures place { OnOk result
+            (IfSome (previous_match self.old match_cursor) (IsPlace self.old.document.text)) }
         ensures err { OnErr result (self.new ≡ self.old) }
         ensures no_pattern { self.old.pattern ≡ None → IsOk result }
     {
@@ -62,7 +66,8 @@ impl TextArea<'_> {
     // Where a search from the cursor leads.
     fn next_match(&self, match_cursor: bool) -> Result<Option<(usize, usize)>, AllocError>
         ensures found { IfOk result (λ place. place ≡ next_match self.now match_cursor) }
-        ensures place { OnOk result (IfSome (next_match self.now match_cursor) (IsPlace self.now.document.text)) }
+        ensures place { OnOk result
+            (IfSome (next_match self.now match_cursor) (IsPlace self.now.document.text)) }
         ensures no_pattern { self.now.pattern ≡ None → IsOk result }
     {
         let cursor = self.document.cursor();
@@ -73,7 +78,8 @@ impl TextArea<'_> {
     // Where a search back from the cursor leads.
     fn previous_match(&self, match_cursor: bool) -> Result<Option<(usize, usize)>, AllocError>
         ensures found { IfOk result (λ place. place ≡ previous_match self.now match_cursor) }
-        ensures place { OnOk result (IfSome (previous_match self.now match_cursor) (IsPlace self.now.document.text)) }
+        ensures place { OnOk result
+            (IfSome (previous_match self.now match_cursor) (IsPlace self.now.document.text)) }
         ensures no_pattern { self.now.pattern ≡ None → IsOk result }
     {
         let cursor = self.document.cursor();

@@ -1,6 +1,7 @@
 //! The selection, and what is yanked by it.
-ghost use Rattle.std.specs.Prelude.{◌≡◌, OnOk, OnErr, IsOk, IfOk, false, is_some, string_bytes};
+ghost use Rattle.std.specs.Prelude.{◌≡◌, OnOk, OnErr, IsOk, IfOk, IfSome, false, is_some, string_bytes};
 ghost use Rattle.std.specs.Str.{chars};
+ghost use Rattle.textarea_text.specs.Place.{IsPlace};
 ghost use Rattle.textarea_document.specs.Selection.{is_selected, selection};
 ghost use Rattle.textarea_pieces.specs.Given.{given, written};
 ghost use Rattle.tui_textarea.specs.Selection.{all_selected, selection_copied, selection_cut, selection_cancelled, selection_started, unselected};
@@ -44,7 +45,9 @@ impl TextArea<'_> {
 
     /// The two ends of the selection, the first one first; of an empty one too.
     pub fn selection_range(&self) -> Option<((usize, usize), (usize, usize))>
-        ensures { result ≡ selection self.now.document }
+        ensures value { result ≡ selection self.now.document }
+        ensures places { IfSome result (λ ends. IsPlace self.now.document.text ends.0
+            × IsPlace self.now.document.text ends.1) }
     {
         self.document.selection()
     }

@@ -38,7 +38,9 @@ impl Default for Settings {
 impl TextArea<'_> {
     /// Sets whether a tab is inserted as a tab character, and not as spaces.
     pub fn set_hard_tab_indent(&mut self, hard_tab_indent: bool)
-        ensures { self.new ≡ record self.old { settings = record self.old.settings { hard_tab_indent = hard_tab_indent } } }
+        ensures { self.new
+            ≡ record self.old
+            { settings = record self.old.settings { hard_tab_indent = hard_tab_indent } } }
     {
         self.settings.hard_tab_indent = hard_tab_indent;
     }
@@ -52,7 +54,9 @@ impl TextArea<'_> {
 
     /// What a tab at a line's start is: a tab character, or as many spaces as the tab length.
     pub fn indent(&self) -> &'static str
-        ensures { result.now ≡ cond self.now.settings.hard_tab_indent (9 ∷ []) (replicate (tab_length self.now.document) 32) }
+        ensures { result.now
+            ≡ cond self.now.settings.hard_tab_indent (9 ∷ [])
+            (replicate (tab_length self.now.document) 32) }
     {
         if self.settings.hard_tab_indent {
             "\t"
@@ -81,7 +85,8 @@ impl TextArea<'_> {
 
     /// Forgets all edits, and remembers so many from now on, done and undone together; at 0 none.
     pub fn set_max_histories(&mut self, max_histories: usize)
-        ensures { self.new ≡ with_document self.old (record self.old.document { log = empty_log max_histories }) }
+        ensures { self.new
+            ≡ with_document self.old (record self.old.document { log = empty_log max_histories }) }
     {
         self.document.set_max_histories(max_histories);
     }
@@ -89,7 +94,8 @@ impl TextArea<'_> {
     /// How many edits are remembered at most, done and undone together.
     pub fn max_histories(&self) -> usize
         ensures value { result ≡ self.now.document.log.maximum }
-        ensures bound { length self.now.document.log.done + length self.now.document.log.undone ≤ result }
+        ensures bound { length self.now.document.log.done + length self.now.document.log.undone
+            ≤ result }
     {
         self.document.max_histories()
     }

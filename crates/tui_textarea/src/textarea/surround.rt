@@ -14,7 +14,9 @@ use textarea_screen::screen::{Block, Style, Text};
 impl<'b> TextArea<'b> {
     /// Puts this block around the rows, in place of the one that was there.
     pub fn set_block(&mut self, block: Block<'b>)
-        ensures { self.new ≡ with_surround self.old (record self.old.surround { block = Some (shown_block block.entry) }) }
+        ensures { self.new
+            ≡ with_surround self.old
+            (record self.old.surround { block = Some (shown_block block.entry) }) }
     {
         self.surround.set_block(block);
     }
@@ -36,7 +38,8 @@ impl<'b> TextArea<'b> {
     /// Sets what is shown where the text is empty: one line of this text, a line feed in it included; with the empty text
     /// nothing is, and no memory is taken. The placeholder's style stays.
     pub fn set_placeholder_text(&mut self, text: &str) -> Result<(), AllocError>
-        ensures ok { OnOk result (self.new ≡ with_surround self.old (with_placeholder_text self.old.surround text.now)) }
+        ensures ok { OnOk result
+            (self.new ≡ with_surround self.old (with_placeholder_text self.old.surround text.now)) }
         ensures err { OnErr result (self.new ≡ self.old) }
         ensures empty { text.now ≡ [] → IsOk result }
     {
@@ -45,14 +48,17 @@ impl<'b> TextArea<'b> {
 
     /// Sets what is shown where the text is empty, its lines and its style; a text without lines means nothing.
     pub fn set_styled_placeholder(&mut self, placeholder: Text<'b>)
-        ensures { self.new ≡ with_surround self.old (record self.old.surround { placeholder = shown_text placeholder.entry }) }
+        ensures { self.new
+            ≡ with_surround self.old
+            (record self.old.surround { placeholder = shown_text placeholder.entry }) }
     {
         self.surround.set_styled_placeholder(placeholder);
     }
 
     /// Sets the style under those of the placeholder's lines, also where it has none.
     pub fn set_placeholder_style(&mut self, style: Style)
-        ensures { self.new ≡ with_surround self.old (with_placeholder_style self.old.surround style) }
+        ensures { self.new
+            ≡ with_surround self.old (with_placeholder_style self.old.surround style) }
     {
         self.surround.set_placeholder_style(style);
     }
@@ -73,7 +79,9 @@ impl<'b> TextArea<'b> {
 
     /// The style of the placeholder, or `None` where it has no line.
     pub fn placeholder_style(&self) -> Option<Style>
-        ensures { result ≡ style_with_lines self.now.surround.placeholder.lines self.now.surround.placeholder.style }
+        ensures { result
+            ≡ style_with_lines self.now.surround.placeholder.lines
+            self.now.surround.placeholder.style }
     {
         self.surround.placeholder_style()
     }

@@ -1,5 +1,13 @@
-use Rattle.tui_textarea.proofs.Copying.{pasted}
+use Rattle.std.proofs.Common.{◌≡◌, true, subst}
+use Rattle.textarea_document.specs.Selection.{is_selected}
+use Rattle.tui_textarea.specs.Law.{PastesCopy}
+use Rattle.tui_textarea.specs.State.{State}
+use Rattle.tui_textarea.proofs.Copying.{ends_known, pastes_copy}
 use Rattle.tui_textarea.proofs.textarea.TextArea.copy_then_paste.Goals as goal
 
 pub returns : goal.returns
-returns c = pasted c.args.self.now
+returns c = subst (λ (s : State). is_selected s.document ≡ true → PastesCopy s) c.self.view_is
+    (λ e.
+      let found = c.selected.ensures in
+      let known = ends_known c.self.inside.document c.selected.result e found.found found.ends found.places found.ordered in
+      pastes_copy _ e known.0 known.1)
