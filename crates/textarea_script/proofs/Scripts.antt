@@ -1,10 +1,14 @@
 -- The lines of a script, taken one after another with their index.
-use Rattle.std.proofs.Common.{◌≡◌, ℕ, ◌+◌, ◌<◌, List, length, take, get_or, nat_lt, true, ap, subst, sym, ◌∙◌, arith, zero-add}
+use Rattle.std.proofs.Common.{◌≡◌, ℕ, ◌+◌, ◌<◌, List, [], ◌∷◌, ◌++◌, length, map, take, get_or, nat_lt, true, ap, subst, sym, ◌∙◌, arith, zero-add}
+use Rattle.std.proofs.lemmas.List.{map-append, take_more}
 use Rattle.std.specs.List.{enumerate_from}
 use Rattle.std.proofs.lemmas.List.FromFn.{length-enumerate_from, get_or-enumerate_from}
 use Rattle.std.proofs.lemmas.List.Sums.{count_by_more_no, count_by_more_yes}
 use Rattle.std.proofs.lemmas.Bool.Decides.{nat_tests}
-use Rattle.textarea_script.specs.Script.{filled_lines, IsAtLine, IsFilledLine, NamesLine}
+use Rattle.textarea_script.specs.Script.{AreCallsOf, IsCallOf, filled_lines, IsAtLine, IsFilledLine, NamesLine}
+use Rattle.textarea_script.specs.declared.call.Call.{Call}
+use Rattle.textarea_script.specs.declared.commands.Command.{Command}
+use Rattle.textarea_script.specs.declared.commands.Content.{Content}
 use Rattle.textarea_script.specs.declared.commands.ReadError.{ReadError}
 use Rattle.textarea_script.specs.declared.commands.ReadError.TheVariants.{Line, Memory}
 
@@ -35,3 +39,25 @@ filled_lines-filled lines count index line turn some =
 pub names_line : (script : List ℕ) (number : ℕ) (error : ReadError) → IsFilledLine script number → IsAtLine number error → NamesLine script error
 names_line script number (Line named) filled is_there = subst (IsFilledLine script) (sym is_there) filled
 names_line script number Memory filled is_there = tt
+
+-- ---- the calls of commands
+
+abbrev contents : List Command → List Content
+contents commands = map (λ (command : Command). command.content) commands
+
+AreCallsOf-append : (first : List Content) (calls : List Call) (content : Content) (made : Call)
+    → AreCallsOf first calls → IsCallOf content made → AreCallsOf (first ++ content ∷ []) (calls ++ made ∷ [])
+AreCallsOf-append [] [] content made all is = (is, tt)
+AreCallsOf-append [] (call ∷ calls) content made all is = absurd all
+AreCallsOf-append (one ∷ first) [] content made all is = absurd all
+AreCallsOf-append (one ∷ first) (call ∷ calls) content made all is = (all.0, AreCallsOf-append first calls content made all.1 is)
+
+-- the calls of the commands up to the one at the index
+pub calls_more : (commands : List Command) (calls : List Call) (index : ℕ) (command : Command) (made : Call) → index < length commands
+    → command ≡ get_or commands index command → AreCallsOf (contents (take index commands)) calls → IsCallOf command.content made
+    → AreCallsOf (contents (take (index + 1) commands)) (calls ++ made ∷ [])
+calls_more commands calls index command made within at all is =
+    subst (λ (c : List Content). AreCallsOf c (calls ++ made ∷ []))
+    (sym (map-append (λ (command : Command). command.content) (take index commands) (command ∷ []))
+    ∙ ap contents (ap (λ (this : Command). take index commands ++ this ∷ []) at ∙ sym (take_more commands index command within)))
+    (AreCallsOf-append (contents (take index commands)) calls command.content made all is)

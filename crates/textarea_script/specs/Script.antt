@@ -5,7 +5,6 @@ use Rattle.std.specs.List.{slice_split}
 use Rattle.textarea_script.specs.Calls.{CanBeMade, CanBeMade-prop}
 use Rattle.textarea_script.specs.declared.call.Call.{Call}
 use Rattle.textarea_script.specs.declared.call.Call.TheVariants as call
-use Rattle.textarea_script.specs.declared.commands.Command.{Command}
 use Rattle.textarea_script.specs.declared.commands.Content.{Content}
 use Rattle.textarea_script.specs.declared.commands.Content.TheVariants.{Plain, InsertStr, SetYankText, TrySetAtomicRanges, SetLines, SetSearchPattern}
 use Rattle.textarea_script.specs.declared.commands.ReadError.{ReadError}
@@ -62,8 +61,8 @@ IsCallOf (SetSearchPattern text) (call.SetSearchPattern lent) = lent.now ≡ str
 IsCallOf (SetLines lines cursor) (call.SetLines lent place) = (lent.now ≡ lines.items) × (place ≡ cursor)
 IsCallOf content other = ⊥
 
--- the calls of the commands, one by one
-abbrev pub AreCallsOf : List Command → List Call → Type 0
+-- the calls of the commands of these contents, one by one
+abbrev pub AreCallsOf : List Content → List Call → Type 0
 AreCallsOf [] [] = Unit {0}
-AreCallsOf (command ∷ commands) (made ∷ rest) = IsCallOf command.content made × AreCallsOf commands rest
-AreCallsOf commands made = ⊥
+AreCallsOf (content ∷ contents) (made ∷ rest) = IsCallOf content made × AreCallsOf contents rest
+AreCallsOf contents made = ⊥

@@ -1,5 +1,5 @@
 // Reading a script: each line is a command, and stands for one call.
-ghost use Rattle.std.specs.Prelude.{◌≡◌, ◌+◌, All, IfOk, IfErr, IfSome, length, vec_len};
+ghost use Rattle.std.specs.Prelude.{◌≡◌, ◌+◌, All, IfOk, IfErr, IfSome, length, map, vec_len};
 ghost use Rattle.textarea_script.specs.Calls.{CanBeMade};
 ghost use Rattle.textarea_script.specs.Script.{lines_of, filled_lines, AreCallsOf, IsAtLine, IsCallOf, IsReady, IsReady-prop, NamesLine};
 
@@ -96,7 +96,8 @@ pub fn read(alloc: Global, script: &[u8]) -> Result<Vec<Command>, ReadError>
 /// The calls that the commands stand for, in their order.
 pub fn calls(alloc: Global, commands: &[Command]) -> Result<Vec<Call<'_>>, AllocError>
     ensures ready { IfOk result (λ calls. All CanBeMade calls.items) }
-    ensures each { IfOk result (λ calls. AreCallsOf commands.now calls.items) }
+    ensures each { IfOk result (λ calls.
+        AreCallsOf (map (λ command. command.content) commands.now) calls.items) }
 {
     let mut calls = Vec::new(alloc);
     for command in commands {
