@@ -1,10 +1,12 @@
 //! Laws of the map, each the contract of a function that does nothing.
 ghost use Rattle.std.specs.Prelude.{◌≡◌, ◌≤◌, ℕ, List, map};
 ghost use Rattle.textarea_text.specs.Place.{IsPlaceOf, Place};
+ghost use Rattle.textarea_text.specs.Size.{weight};
+ghost use Rattle.textarea_text.specs.Text.{following};
 ghost use Rattle.textarea_wrap.specs.RowsView.{RowsView};
 ghost use Rattle.textarea_map.specs.declared.layout.Wrapping.{Wrapping};
 ghost use Rattle.textarea_map.specs.Layout.{AreRowsOf};
-ghost use Rattle.textarea_map.specs.Map.{IsRowCount};
+ghost use Rattle.textarea_map.specs.Map.{IsRowCount, row_total, size_total};
 ghost use Rattle.textarea_map.specs.Rows.{greatest_column, row_at};
 ghost use Rattle.textarea_map.specs.Seen.{HasNoZeroWidth, IsAbove, IsBelow, IsPlaceAt, IsPlaceNear, IsVisualPosition};
 
@@ -66,3 +68,12 @@ pub fn one_row_count()
 {
     one_cutting();
 }
+
+/// Lines have no more rows than bytes and lines together, and the map reckons their size from their rows: so of right rows
+/// the limit on bytes and lines says the one on rows.
+pub fn few_rows()
+    ensures size { (wrapping : Wrapping) (lines : List (List ℕ)) (rows : List RowsView) →
+        AreRowsOf wrapping lines rows → size_total rows ≡ weight (following lines) }
+    ensures few { (wrapping : Wrapping) (lines : List (List ℕ)) (rows : List RowsView) →
+        AreRowsOf wrapping lines rows → row_total rows ≤ size_total rows }
+{}
