@@ -57,6 +57,10 @@ pub record IsNumbered (rows : List RowsView) (firsts : List ℕ) (total size : �
   pub size_is : size ≡ size_total rows
   pub limit : IsWithinLimit rows
 
+-- all rows after a preparation has taken its place among these
+abbrev pub rows_with : List RowsView → PreparedRows → List RowsView
+rows_with rows prepared = replaced rows prepared.row prepared.count prepared.rows.items
+
 -- The rows can be put into the map without memory: they take the place of those of lines that are there, there is room for
 -- them, their number and the size of their lines are known, and the map is within the limit afterwards.
 pub record IsReady (map : MapView) (prepared : PreparedRows) : Type 0 where
@@ -64,4 +68,4 @@ pub record IsReady (map : MapView) (prepared : PreparedRows) : Type 0 where
   pub room : vec_len prepared.rows ≤ prepared.count + map.room
   pub total : prepared.total ≡ row_total prepared.rows.items
   pub size : prepared.size ≡ size_total prepared.rows.items
-  pub limit : IsWithinLimit (replaced map.rows prepared.row prepared.count prepared.rows.items)
+  pub limit : IsWithinLimit (rows_with map.rows prepared)

@@ -57,7 +57,8 @@ pub fn rows_of(
     ensures counted { OnOk result (count.new ≡ count.old + length lines.now) }
     ensures never_less { count.old ≤ count.new }
     ensures rows { IfOk result (λ rows. AreRowsOf wrapping (lines_of lines.now) rows.items) }
-    ensures ticks { IfOk result (λ rows. ticks_of rows.items ≡ ticks_behind count.old (length lines.now)) }
+    ensures ticks { IfOk result (λ rows.
+        ticks_of rows.items ≡ ticks_behind count.old (length lines.now)) }
 {
     let mut rows = Vec::with_capacity(alloc, lines.len())?;
     push_rows(alloc, &mut rows, lines, wrapping, count)?;
@@ -81,7 +82,9 @@ pub(crate) fn size_of_rows(rows: &[Rows]) -> usize
 {
     let mut size = 0usize;
     for line in rows {
-        size = size.saturating_add(line_bytes(line.as_slice())).saturating_add(1);
+        size = size
+            .saturating_add(line_bytes(line.as_slice()))
+            .saturating_add(1);
     }
     size
 }

@@ -6,7 +6,7 @@ ghost use Rattle.textarea_text.specs.Size.{size_of};
 ghost use Rattle.textarea_text.specs.Text.{lines_of};
 ghost use Rattle.textarea_wrap.specs.declared.wrap.WrapMode.TheVariants as mode;
 ghost use Rattle.textarea_map.specs.Layout.{AreRowsOf, ticks_behind, ticks_of, with_tab_len};
-ghost use Rattle.textarea_map.specs.Map.{IsReady, IsWithinLimit, firsts_from, ranges_at, row_total, size_total};
+ghost use Rattle.textarea_map.specs.Map.{IsReady, IsWithinLimit, firsts_from, ranges_at, row_total, rows_with, size_total};
 
 use crate::layout::{Wrapping, count_rows, rows_of, size_of_rows};
 use std::alloc::{AllocError, Global};
@@ -37,7 +37,9 @@ impl Model for ScreenMap {
     ghost view = { λ map. record {
       rows = map.rows.items;
       wrapping = map.wrapping;
-      room = min (vec_capacity map.rows - vec_len map.rows) (vec_capacity map.firsts - vec_len map.firsts);
+      room = min
+          (vec_capacity map.rows - vec_len map.rows)
+          (vec_capacity map.firsts - vec_len map.firsts);
     } };
 
     ghost invariant = { λ map. IsNumbered map.rows.items map.firsts.items map.total map.size };
@@ -183,8 +185,7 @@ impl ScreenMap {
     /// touched; otherwise the lines behind are numbered anew.
     pub fn replace(&mut self, prepared: PreparedRows)
         requires { IsReady self.old prepared }
-        ensures rows { self.new.rows
-            ≡ replaced self.old.rows prepared.row prepared.count prepared.rows.items }
+        ensures rows { self.new.rows ≡ rows_with self.old.rows prepared }
         ensures wrapping { self.new.wrapping ≡ prepared.wrapping }
     {
         let PreparedRows {

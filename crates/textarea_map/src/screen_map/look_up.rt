@@ -95,11 +95,7 @@ impl ScreenMap {
     }
 
     /// The visual row in which a place of the map's lines is seen, and its display column there.
-    pub fn visual_position(
-        &self,
-        lines: &[String],
-        place: (usize, usize),
-    ) -> (usize, usize)
+    pub fn visual_position(&self, lines: &[String], place: (usize, usize)) -> (usize, usize)
         requires rows { AreRowsOf self.now.wrapping (lines_of lines.now) self.now.rows }
         requires place { IsPlaceOf (lines_of lines.now) place }
         ensures row { result.0 < row_total self.now.rows }
@@ -118,11 +114,7 @@ impl ScreenMap {
     /// The place that a visual row and a display column lead back to: the row's first place at that column, else the character
     /// that covers it, else the row's end. In a row that isn't its line's last, a column up to the row's greatest cursor column
     /// leads to a place that is seen in that row; the row's end is seen in the next one.
-    pub fn place_at(
-        &self,
-        lines: &[String],
-        seen: (usize, usize),
-    ) -> (usize, usize)
+    pub fn place_at(&self, lines: &[String], seen: (usize, usize)) -> (usize, usize)
         requires rows { AreRowsOf self.now.wrapping (lines_of lines.now) self.now.rows }
         requires row { seen.0 < row_total self.now.rows }
         ensures place { IsPlaceOf (lines_of lines.now) result }
@@ -136,11 +128,7 @@ impl ScreenMap {
 
     /// Where a cursor goes that is to stand in a visual row at a display column, or before it where the row's greatest cursor
     /// column is less: a place that is seen in that row.
-    pub fn place_near(
-        &self,
-        lines: &[String],
-        seen: (usize, usize),
-    ) -> (usize, usize)
+    pub fn place_near(&self, lines: &[String], seen: (usize, usize)) -> (usize, usize)
         requires rows { AreRowsOf self.now.wrapping (lines_of lines.now) self.now.rows }
         requires row { seen.0 < row_total self.now.rows }
         ensures place { IsPlaceOf (lines_of lines.now) result }
@@ -152,17 +140,14 @@ impl ScreenMap {
     }
 
     /// Where a cursor goes from a place, one visual row up; none from the first visual row.
-    pub fn above(
-        &self,
-        lines: &[String],
-        place: (usize, usize),
-    ) -> Option<(usize, usize)>
+    pub fn above(&self, lines: &[String], place: (usize, usize)) -> Option<(usize, usize)>
         requires rows { AreRowsOf self.now.wrapping (lines_of lines.now) self.now.rows }
         requires place { IsPlaceOf (lines_of lines.now) place }
         ensures { MatchOption result
             (IsInFirstRow self.now.wrapping.tab_len (lines_of lines.now) self.now.rows place)
             (λ target. IsPlaceOf (lines_of lines.now) target
-                × IsAbove self.now.wrapping.tab_len (lines_of lines.now) self.now.rows place target) }
+            × IsAbove self.now.wrapping.tab_len (lines_of lines.now) self.now.rows
+            place target) }
     {
         let (row, column) = self.visual_position(lines, place);
         if row == 0 {
@@ -172,17 +157,14 @@ impl ScreenMap {
     }
 
     /// Where a cursor goes from a place, one visual row down; none from the last visual row.
-    pub fn below(
-        &self,
-        lines: &[String],
-        place: (usize, usize),
-    ) -> Option<(usize, usize)>
+    pub fn below(&self, lines: &[String], place: (usize, usize)) -> Option<(usize, usize)>
         requires rows { AreRowsOf self.now.wrapping (lines_of lines.now) self.now.rows }
         requires place { IsPlaceOf (lines_of lines.now) place }
         ensures { MatchOption result
             (IsInLastRow self.now.wrapping.tab_len (lines_of lines.now) self.now.rows place)
             (λ target. IsPlaceOf (lines_of lines.now) target
-                × IsBelow self.now.wrapping.tab_len (lines_of lines.now) self.now.rows place target) }
+            × IsBelow self.now.wrapping.tab_len (lines_of lines.now) self.now.rows
+            place target) }
     {
         let total = self.total;
         let (row, column) = self.visual_position(lines, place);
