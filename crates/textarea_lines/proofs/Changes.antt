@@ -13,13 +13,14 @@ use Rattle.textarea_text.proofs.Replacing.{length-replaced}
 use Rattle.textarea_text.proofs.Sizes.{size_of_text, weight_inserted, weight_removed}
 use Rattle.textarea_wrap.specs.RowsView.{RowsView}
 use Rattle.textarea_map.specs.declared.layout.Wrapping.{Wrapping}
-use Rattle.textarea_map.specs.Layout.{AreRowsOf, ticks_behind, ticks_of}
+use Rattle.textarea_map.specs.Layout.{AreRowsOf, ticks_behind, ticks_of, with_tab_len}
+use Rattle.textarea_map.specs.Map.{MapView}
 use Rattle.textarea_lines.specs.declared.settings.LayoutSettings.{LayoutSettings}
 use Rattle.textarea_lines.specs.Layout.{LaidOut, Layout, applied_to, laid_out_anew, after_replacement, replaced_in, laid_out_with, wrapping_of}
 use Rattle.textarea_lines.specs.Stored.{IsStored, HoldsRows}
-use Rattle.textarea_lines.specs.Wrappings.{is_same, wrapping_for}
+use Rattle.textarea_lines.specs.Wrappings.{is_same, is_wrapped, wrapping_for}
 use Rattle.textarea_lines.proofs.Layouts.{lines_of-replaced}
-use Rattle.textarea_lines.proofs.SameCuts.{AreRowsOf-same}
+use Rattle.textarea_lines.proofs.SameCuts.{kept_whole, kept_wrapped}
 use Rattle.textarea_lines.proofs.Stores.{count_held, lines_held, seen}
 
 -- the text of the new lines
@@ -42,16 +43,17 @@ now_as old lent kept now new row count h = h.now_is ∙ ap (λ t. replaced t row
 pub text_now : {Z : Type 0} (old lent kept now new : List (String Z)) (row count : ℕ) → Replacing old lent kept now new row count → text_of now ≡ joined (replaced (lines (text_of old)) row count (lines_of new))
 text_now old lent kept now new row count h = ap text_of (now_as old lent kept now new row count h) ∙ text_replaced old new row count h.some
 
-pub holds_replaced : {Z : Type 0} (settings : LayoutSettings) (old lent kept now new : List (String Z)) (row count size n : ℕ) (was rows : List RowsView) → Replacing old lent kept now new row count → n ≡ length new → AreRowsOf (wrapping_for settings (length lent - count + n)) (lines_of (replaced lent row count new)) was → rows ≡ was → size ≡ weight (joined (replaced (lines (text_of old)) row count (lines_of new))) + 1 → size ≤ 2 ^ 48 → HoldsRows settings now size rows
-holds_replaced settings old lent kept now new row count size n was rows h n_is k rows_is size_is limit =
+pub holds_replaced : {Z : Type 0} (settings : LayoutSettings) (old lent kept now new : List (String Z)) (row count size n : ℕ) (wrapping : Wrapping) (was : List RowsView) (map : MapView) → Replacing old lent kept now new row count → n ≡ length new → wrapping ≡ wrapping_for settings (length lent - count + n) → AreRowsOf wrapping (lines_of (replaced lent row count new)) was → map.rows ≡ was → map.wrapping ≡ wrapping → size ≡ weight (joined (replaced (lines (text_of old)) row count (lines_of new))) + 1 → size ≤ 2 ^ 48 → HoldsRows settings now size map
+holds_replaced settings old lent kept now new row count size n wrapping was map h n_is cut_is k rows_is wrapping_is size_is limit =
     let is = now_as old lent kept now new row count h in
     let long : length now ≡ length lent - count + n = omega (arith, ap length is, length-replaced old row count new h.within, h.within, n_is, ap length h.lent_is) in
     let some : 0 < length now = omega (arith, ap length is, length-replaced old row count new h.within, h.within, h.new_some) in
     record {
       stored = record { some = some; size_is = omega (arith, size_is, size_of_text now some, ap weight (text_now old lent kept now new row count h)); limit = limit };
-      laid_out = subst (λ (t : List RowsView). AreRowsOf (wrapping_for settings (length now)) (lines_of now) t) (sym rows_is)
-          (subst (λ m. AreRowsOf (wrapping_for settings m) (lines_of now) was) (sym long)
-          (subst (λ (t : List (String _)). AreRowsOf (wrapping_for settings (length lent - count + n)) (lines_of t) was) (ap (λ t. replaced t row count new) h.lent_is ∙ sym is) k));
+      wrapping_is = wrapping_is ∙ cut_is ∙ ap (wrapping_for settings) (sym long);
+      laid_out = subst (λ (w : Wrapping). AreRowsOf w (lines_of now) map.rows) (sym wrapping_is)
+          (subst (λ (t : List RowsView). AreRowsOf wrapping (lines_of now) t) (sym rows_is)
+          (subst (λ (t : List (String _)). AreRowsOf wrapping (lines_of t) was) (ap (λ t. replaced t row count new) h.lent_is ∙ sym is) k));
     }
 
 pub layout_replaced : {Z : Type 0} (settings : LayoutSettings) (old lent kept now new : List (String Z)) (row count n before was after : ℕ) (first rows prepared : List RowsView) → Replacing old lent kept now new row count → n ≡ length new → was ≡ before → record { settings = settings; count = after; ticks = ticks_of prepared } ≡ after_replacement (record { settings = settings; count = was; ticks = ticks_of first }) (length lent) row count n → rows ≡ prepared → seen settings now after rows ≡ replaced_in (seen settings old before first) row count (lines_of new)
@@ -142,9 +144,11 @@ viewed_anew old settings items count now rows new laid before after h differs e 
     ∙ ap (λ (l : LaidOut). laid_out_anew settings l.layout.count l.text) h.is
     ∙ ap (λ (b : Bool). cond b (record { text = laid.text; layout = record { settings = settings; count = laid.layout.count; ticks = laid.layout.ticks } }) (laid_out_anew settings laid.layout.count laid.text)) (sym (test_is old settings items count rows laid before after h ∙ differs))
 
--- where the lines are cut as before, their rows stay right
-pub holds_viewed : {Z : Type 0} (old settings : LayoutSettings) (items : List (String Z)) (size count : ℕ) (rows : List RowsView) (laid : LaidOut) (before after : Wrapping) → Reviewing old settings items count rows laid before after → is_same after before ≡ true → HoldsRows old items size rows → HoldsRows settings items size rows
-holds_viewed old settings items size count rows laid before after h same k =
-    let test : is_same (wrapping_for settings (length items)) (wrapping_for old (length items)) ≡ true =
-    ap (λ w. is_same w (wrapping_for old (length items))) (sym h.after_is) ∙ ap (is_same after) (sym h.before_is) ∙ same in
-    record { stored = k.stored; laid_out = AreRowsOf-same (wrapping_for settings (length items)) (wrapping_for old (length items)) (lines_of items) rows test k.laid_out }
+-- where the lines are cut as before, their rows stay right: those of wrapped lines as they are, others at the new tab stops
+pub holds_wrapped : {Z : Type 0} (old settings : LayoutSettings) (items : List (String Z)) (size : ℕ) (map : MapView) → is_wrapped settings ≡ true → is_same (wrapping_for settings (length items)) map.wrapping ≡ true → HoldsRows old items size map → HoldsRows settings items size map
+holds_wrapped old settings items size map wrapped same k =
+    record { stored = k.stored; wrapping_is = kept_wrapped settings (length items) map.wrapping wrapped same; laid_out = k.laid_out }
+
+pub holds_whole : {Z : Type 0} (old settings : LayoutSettings) (items : List (String Z)) (size : ℕ) (map now : MapView) → is_wrapped settings ≡ false → is_same (wrapping_for settings (length items)) map.wrapping ≡ true → HoldsRows old items size map → now.wrapping ≡ with_tab_len map.wrapping settings.tab_len → AreRowsOf now.wrapping (lines_of items) now.rows → HoldsRows settings items size now
+holds_whole old settings items size map now whole same k wrapping_is right =
+    record { stored = k.stored; wrapping_is = wrapping_is ∙ kept_whole old settings (length items) map.wrapping k.wrapping_is whole same; laid_out = right }

@@ -2,29 +2,28 @@
 use Rattle.std.proofs.Common.{◌≡◌, ℕ, true, List, length, sym, ap, ◌∙◌, subst, String, Option, Some}
 use Rattle.std.specs.Option.{IfSome}
 use Rattle.textarea_text.specs.Text.{lines, lines_of, text_of}
-use Rattle.textarea_wrap.specs.RowsView.{RowsView}
 use Rattle.textarea_map.specs.declared.layout.Wrapping.{Wrapping}
 use Rattle.textarea_map.specs.Layout.{AreRowsOf}
-use Rattle.textarea_map.specs.Map.{IsRowCount, row_total}
+use Rattle.textarea_map.specs.Map.{IsRowCount, MapView, row_total}
 use Rattle.textarea_lines.specs.declared.measured.Measured.{Measured}
 use Rattle.textarea_lines.specs.declared.settings.LayoutSettings.{LayoutSettings}
 use Rattle.textarea_lines.specs.Layout.{LaidOut, wrapping_of}
 use Rattle.textarea_lines.specs.Stored.{HoldsRows}
 use Rattle.textarea_lines.specs.Wrappings.{cut_at_width, is_same, wrapping_for}
 use Rattle.textarea_lines.proofs.SameCuts.{AreRowsOf-same}
-use Rattle.textarea_lines.proofs.Stores.{count_held, lines_held, seen}
+use Rattle.textarea_lines.proofs.Stores.{count_held, lines_held, right_rows, seen}
 
 -- lines that are lent to be measured at a width, and how they are cut as they stand
-pub record Measuring {Z : Type 0} (settings : LayoutSettings) (items lent : List (String Z)) (size count inner_width : ℕ) (rows : List RowsView) (laid : LaidOut) (wrapping now : Wrapping) : Type 0 where
-  pub held : HoldsRows settings items size rows
-  pub is : seen settings items count rows ≡ laid
+pub record Measuring {Z : Type 0} (settings : LayoutSettings) (items lent : List (String Z)) (size count inner_width : ℕ) (map : MapView) (laid : LaidOut) (wrapping now : Wrapping) : Type 0 where
+  pub held : HoldsRows settings items size map
+  pub is : seen settings items count map.rows ≡ laid
   pub lent_is : lent ≡ items
   pub wrapping_is : wrapping ≡ cut_at_width settings inner_width (length lent)
   pub now_is : now ≡ wrapping_for settings (length lent)
 
 -- what was counted of the lines that are lent is so of the text's
-pub counted_in_text : {Z : Type 0} (settings : LayoutSettings) (items lent : List (String Z)) (size count inner_width : ℕ) (rows : List RowsView) (laid : LaidOut) (wrapping now : Wrapping) (n : ℕ) → Measuring settings items lent size count inner_width rows laid wrapping now → IsRowCount wrapping (lines_of lent) n → IsRowCount (cut_at_width laid.layout.settings inner_width (length (lines laid.text))) (lines laid.text) n
-counted_in_text settings items lent size count inner_width rows laid wrapping now n m h =
+pub counted_in_text : {Z : Type 0} (settings : LayoutSettings) (items lent : List (String Z)) (size count inner_width : ℕ) (map : MapView) (laid : LaidOut) (wrapping now : Wrapping) (n : ℕ) → Measuring settings items lent size count inner_width map laid wrapping now → IsRowCount wrapping (lines_of lent) n → IsRowCount (cut_at_width laid.layout.settings inner_width (length (lines laid.text))) (lines laid.text) n
+counted_in_text settings items lent size count inner_width map laid wrapping now n m h =
     let lent_lines : lines_of lent ≡ lines (text_of items) = ap lines_of m.lent_is ∙ sym (lines_held items m.held.stored.some) in
     let many : length lent ≡ length (lines (text_of items)) = ap length m.lent_is ∙ sym (count_held items m.held.stored.some) in
     subst (λ (l : LaidOut). IsRowCount (cut_at_width l.layout.settings inner_width (length (lines l.text))) (lines l.text) n) m.is
@@ -33,16 +32,16 @@ counted_in_text settings items lent size count inner_width rows laid wrapping no
     (subst (λ (t : List (List ℕ)). IsRowCount wrapping t n) lent_lines h)))
 
 -- where the lines are cut so as they stand, their rows are those that are kept
-pub counted_as_kept : {Z : Type 0} (settings : LayoutSettings) (items lent : List (String Z)) (size count inner_width : ℕ) (rows : List RowsView) (laid : LaidOut) (wrapping now : Wrapping) (n : ℕ) → Measuring settings items lent size count inner_width rows laid wrapping now → is_same wrapping now ≡ true → n ≡ row_total rows → IsRowCount wrapping (lines_of lent) n
-counted_as_kept settings items lent size count inner_width rows laid wrapping now n m same e =
-    let kept : AreRowsOf now (lines_of lent) rows =
-    subst (λ (w : Wrapping). AreRowsOf w (lines_of lent) rows) (sym m.now_is)
-    (subst (λ (t : List (String _)). AreRowsOf (wrapping_for settings (length t)) (lines_of t) rows) (sym m.lent_is) m.held.laid_out) in
-    (rows, AreRowsOf-same wrapping now (lines_of lent) rows same kept, e)
+pub counted_as_kept : {Z : Type 0} (settings : LayoutSettings) (items lent : List (String Z)) (size count inner_width : ℕ) (map : MapView) (laid : LaidOut) (wrapping now : Wrapping) (n : ℕ) → Measuring settings items lent size count inner_width map laid wrapping now → is_same wrapping now ≡ true → n ≡ row_total map.rows → IsRowCount wrapping (lines_of lent) n
+counted_as_kept settings items lent size count inner_width map laid wrapping now n m same e =
+    let kept : AreRowsOf now (lines_of lent) map.rows =
+    subst (λ (w : Wrapping). AreRowsOf w (lines_of lent) map.rows) (sym m.now_is)
+    (subst (λ (t : List (String _)). AreRowsOf (wrapping_for settings (length t)) (lines_of t) map.rows) (sym m.lent_is) (right_rows settings items size map m.held)) in
+    (map.rows, AreRowsOf-same wrapping now (lines_of lent) map.rows same kept, e)
 
 -- whether they are cut so as they stand, of the text and of the lines that are lent
-pub same_as_kept : {Z : Type 0} (settings : LayoutSettings) (items lent : List (String Z)) (size count inner_width : ℕ) (rows : List RowsView) (laid : LaidOut) (wrapping now : Wrapping) → Measuring settings items lent size count inner_width rows laid wrapping now → is_same (cut_at_width laid.layout.settings inner_width (length (lines laid.text))) (wrapping_of laid) ≡ is_same wrapping now
-same_as_kept settings items lent size count inner_width rows laid wrapping now m =
+pub same_as_kept : {Z : Type 0} (settings : LayoutSettings) (items lent : List (String Z)) (size count inner_width : ℕ) (map : MapView) (laid : LaidOut) (wrapping now : Wrapping) → Measuring settings items lent size count inner_width map laid wrapping now → is_same (cut_at_width laid.layout.settings inner_width (length (lines laid.text))) (wrapping_of laid) ≡ is_same wrapping now
+same_as_kept settings items lent size count inner_width map laid wrapping now m =
     ap (λ (l : LaidOut). is_same (cut_at_width l.layout.settings inner_width (length (lines l.text))) (wrapping_of l)) (sym m.is)
     ∙ ap (λ k. is_same (cut_at_width settings inner_width k) (wrapping_for settings k)) (count_held items m.held.stored.some ∙ ap length (sym m.lent_is))
     ∙ ap (λ w. is_same w (wrapping_for settings (length lent))) (sym m.wrapping_is)

@@ -13,10 +13,14 @@ use Rattle.textarea_lines.specs.Wrappings.{is_same, wrapping_for}
 use Rattle.textarea_lines.proofs.Layouts.{lines_of-replaced, map-replaced, replaced_whole}
 use Rattle.textarea_lines.proofs.SameCuts.{AreRowsOf-same}
 
--- what three clauses say together of a call that succeeded
+-- what three and four clauses say together of a call that succeeded
 pub IfOk-from_three : {T E : Type 0} (r : Result T E) (P Q R S : T → Type 0) → ((x : T) → P x → Q x → R x → S x) → IfOk r P → IfOk r Q → IfOk r R → IfOk r S
 IfOk-from_three (Ok x) P Q R S f p q h = f x p q h
 IfOk-from_three (Err e) P Q R S f p q h = tt
+
+pub IfOk-from_four : {T E : Type 0} (r : Result T E) (P Q R S U : T → Type 0) → ((x : T) → P x → Q x → R x → S x → U x) → IfOk r P → IfOk r Q → IfOk r R → IfOk r S → IfOk r U
+IfOk-from_four (Ok x) P Q R S U f p q h k = f x p q h k
+IfOk-from_four (Err e) P Q R S U f p q h k = tt
 
 -- ---- rows
 

@@ -1,14 +1,18 @@
 -- From a place of a text as it is laid out one place, or none, is found one visual row up or down.
-use Rattle.std.proofs.Common.{◌≡◌, ℕ, List, Option, None, Some, MatchOption, length, ap, refl, arith, subst}
-use Rattle.textarea_text.specs.Place.{Place}
-use Rattle.textarea_text.specs.Text.{lines}
+use Rattle.std.proofs.Common.{◌≡◌, ℕ, List, Option, None, Some, MatchOption, String, length, ap, refl, arith, subst}
+use Rattle.std.specs.Option.{IfSome}
+use Rattle.textarea_text.specs.Place.{Place, IsPlaceOf}
+use Rattle.textarea_text.specs.Text.{lines, lines_of}
 use Rattle.textarea_wrap.specs.RowsView.{RowsView}
 use Rattle.textarea_map.specs.declared.layout.Wrapping.{Wrapping}
 use Rattle.textarea_map.specs.Layout.{AreRowsOf}
+use Rattle.textarea_map.specs.Map.{MapView}
 use Rattle.textarea_map.specs.Seen.{IsAbove, IsBelow, IsInFirstRow, IsInLastRow, IsVisualPosition}
+use Rattle.textarea_lines.specs.declared.settings.LayoutSettings.{LayoutSettings}
+use Rattle.textarea_lines.specs.Stored.{HoldsRows}
 use Rattle.textarea_lines.specs.Rows.{IsLaidOutAs, OfRows}
 use Rattle.textarea_lines.specs.Layout.{LaidOut, wrapping_of}
-use Rattle.textarea_lines.proofs.Stores.{tab_len_of}
+use Rattle.textarea_lines.proofs.Stores.{in_text, laid_out_as, seen, tab_len_of}
 
 -- ---- steps, and places from which there is none, in rows at some tab stops
 
@@ -62,3 +66,16 @@ finds_once Ends Goes laid place found other one_list ends one h k =
     (λ target more. subst (λ n. Goes n text h.0 place target → Goes n text h.0 place more → target ≡ more) tab (one wrapping text h.0 place target more h.1.laid_out))
     h.2
     (subst (λ (rows : List RowsView). MatchOption other (Ends laid.layout.settings.tab_len text rows place) (Goes laid.layout.settings.tab_len text rows place)) (one_list k.0 h.0 k.1 h.1) k.2)
+
+-- of a target that is a place, both facts alone
+targets : {X : Type 0} (o : Option X) (P : Type 0) (Q R : X → Type 0) → MatchOption o P (λ x. Q x × R x) → IfSome o Q × MatchOption o P R
+targets None P Q R h = (tt, h)
+targets (Some x) P Q R h = h
+
+-- what the map finds in the lines that are lent
+pub found_in_text : {Z : Type 0} (Ends : Edge) (Goes : Step) (settings : LayoutSettings) (items lent : List (String Z)) (size count : ℕ) (map : MapView) (laid : LaidOut) (place : Place) (found : Option Place) → HoldsRows settings items size map → lent ≡ items → seen settings items count map.rows ≡ laid → MatchOption found (Ends map.wrapping.tab_len (lines_of lent) map.rows place) (λ target. IsPlaceOf (lines_of lent) target × Goes map.wrapping.tab_len (lines_of lent) map.rows place target) → IfSome found (IsPlaceOf (lines laid.text)) × Finds Ends Goes laid place found
+found_in_text Ends Goes settings items lent size count map laid place found held lent_is is h =
+    let tab_len = laid.layout.settings.tab_len in
+    let both = targets found (Ends tab_len (lines laid.text) map.rows place) (IsPlaceOf (lines laid.text)) (Goes tab_len (lines laid.text) map.rows place)
+    (in_text settings items lent size count map laid (λ t ls. MatchOption found (Ends t ls map.rows place) (λ target. IsPlaceOf ls target × Goes t ls map.rows place target)) held lent_is is h) in
+    (both.0, (map.rows, laid_out_as settings items size count map laid held is, both.1))

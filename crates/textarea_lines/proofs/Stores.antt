@@ -1,17 +1,18 @@
 -- Lines that are stored: how far a place can be, when the text is empty, and their size after a change.
-use Rattle.std.proofs.Common.{◌≡◌, ℕ, zero, suc, ◌+◌, ◌<◌, ◌≤◌, ◌^◌, Bool, true, false, cond, List, [], ◌∷◌, length, sym, ap, refl, ◌∙◌, arith, get_or, subst, String, string_bytes, encode_utf8_all, Option, None, Some}
-use Rattle.std.specs.Option.{IfSome, MatchOption}
+use Rattle.std.proofs.Common.{◌≡◌, ℕ, zero, suc, ◌+◌, ◌<◌, ◌≤◌, ◌^◌, Bool, true, false, cond, List, [], ◌∷◌, length, sym, ap, refl, ◌∙◌, arith, get_or, subst, String, string_bytes, encode_utf8_all, Option}
+use Rattle.std.specs.Option.{IfSome}
 use Rattle.std.proofs.lemmas.Str.{IsUtf8-string_bytes, length-le-encodes, encodes-chars}
 use Rattle.std.proofs.lemmas.List.{length-map}
 use Rattle.textarea_text.specs.Text.{characters_of, joined, lines, lines_of, text_of}
-use Rattle.textarea_text.specs.Place.{Place, IsPlace}
+use Rattle.textarea_text.specs.Place.{Place, IsPlace, IsPlaceOf}
 use Rattle.textarea_text.specs.Size.{size_of, weight}
 use Rattle.textarea_text.proofs.Sizes.{length-le-size_of, size_of_text}
 use Rattle.textarea_text.proofs.Splices.{lines-joined}
 use Rattle.textarea_text.proofs.StringRows.{row_within, rows_place}
 use Rattle.textarea_wrap.specs.RowsView.{RowsView}
 use Rattle.textarea_map.specs.Layout.{AreRowsOf, ticks_of}
-use Rattle.textarea_map.specs.Map.{IsRowCount}
+use Rattle.textarea_map.specs.declared.layout.Wrapping.{Wrapping}
+use Rattle.textarea_map.specs.Map.{IsRowCount, MapView}
 use Rattle.textarea_lines.specs.declared.measured.Measured.{Measured}
 use Rattle.textarea_lines.specs.declared.settings.LayoutSettings.{LayoutSettings}
 use Rattle.textarea_lines.specs.Wrappings.{cut_at_width, is_wrapped, whole_lines, wrapping_for}
@@ -47,13 +48,17 @@ count_held items some = ap length (lines_held items some) ∙ length-map items c
 abbrev pub seen : {Z : Type 0} → LayoutSettings → List (String Z) → ℕ → List RowsView → LaidOut
 seen settings items count rows = record { text = text_of items; layout = record { settings = settings; count = count; ticks = ticks_of rows } }
 
--- the rows that are kept are those of the text
-pub laid_out_as : {Z : Type 0} (settings : LayoutSettings) (items : List (String Z)) (size count : ℕ) (rows : List RowsView) (laid : LaidOut) → HoldsRows settings items size rows → seen settings items count rows ≡ laid → IsLaidOutAs laid rows
-laid_out_as settings items size count rows laid h is =
-    subst (λ (l : LaidOut). IsLaidOutAs l rows) is
+-- the rows that are kept, cut as the settings say
+pub right_rows : {Z : Type 0} (settings : LayoutSettings) (items : List (String Z)) (size : ℕ) (map : MapView) → HoldsRows settings items size map → AreRowsOf (wrapping_for settings (length items)) (lines_of items) map.rows
+right_rows settings items size map h = subst (λ (w : Wrapping). AreRowsOf w (lines_of items) map.rows) h.wrapping_is h.laid_out
+
+-- they are those of the text
+pub laid_out_as : {Z : Type 0} (settings : LayoutSettings) (items : List (String Z)) (size count : ℕ) (map : MapView) (laid : LaidOut) → HoldsRows settings items size map → seen settings items count map.rows ≡ laid → IsLaidOutAs laid map.rows
+laid_out_as settings items size count map laid h is =
+    subst (λ (l : LaidOut). IsLaidOutAs l map.rows) is
     (record {
-      laid_out = subst (λ (t : List (List ℕ)). AreRowsOf (wrapping_for settings (length t)) t rows) (sym (lines_held items h.stored.some))
-          (subst (λ n. AreRowsOf (wrapping_for settings n) (lines_of items) rows) (sym (length-map items characters_of)) h.laid_out);
+      laid_out = subst (λ (t : List (List ℕ)). AreRowsOf (wrapping_for settings (length t)) t map.rows) (sym (lines_held items h.stored.some))
+          (subst (λ n. AreRowsOf (wrapping_for settings n) (lines_of items) map.rows) (sym (length-map items characters_of)) (right_rows settings items size map h));
       ticks = refl;
     })
 
@@ -65,21 +70,25 @@ tab_len_of settings n = by (is_wrapped settings)
     by true = refl
     by false = refl
 
--- what is so of the lines that are lent, at their tab stops, is so of the text's
-pub in_text : {Z : Type 0} (settings : LayoutSettings) (items lent : List (String Z)) (count : ℕ) (rows : List RowsView) (laid : LaidOut) (tab_len : ℕ) (Fact : ℕ → List (List ℕ) → Type 0) → 0 < length items → lent ≡ items → tab_len ≡ settings.tab_len → seen settings items count rows ≡ laid → Fact tab_len (lines_of lent) → Fact laid.layout.settings.tab_len (lines laid.text)
-in_text settings items lent count rows laid tab_len Fact some lent_is tab is h =
-    subst (λ (l : LaidOut). Fact l.layout.settings.tab_len (lines l.text)) is
-    (subst (Fact settings.tab_len) (ap lines_of lent_is ∙ sym (lines_held items some))
-    (subst (λ n. Fact n (lines_of lent)) tab h))
+pub tab_len_kept : {Z : Type 0} (settings : LayoutSettings) (items : List (String Z)) (size : ℕ) (map : MapView) → HoldsRows settings items size map → map.wrapping.tab_len ≡ settings.tab_len
+tab_len_kept settings items size map h = ap (λ (w : Wrapping). w.tab_len) h.wrapping_is ∙ tab_len_of settings (length items)
 
--- of a target that is a place, both facts alone
-pub targets : {X : Type 0} (o : Option X) (P : Type 0) (Q R : X → Type 0) → MatchOption o P (λ x. Q x × R x) → IfSome o Q × MatchOption o P R
-targets None P Q R h = (tt, h)
-targets (Some x) P Q R h = h
+-- a place of the text is one of the lines that are lent
+pub place_in_lent : {Z : Type 0} (settings : LayoutSettings) (items lent : List (String Z)) (size count : ℕ) (map : MapView) (laid : LaidOut) (place : Place) → HoldsRows settings items size map → lent ≡ items → seen settings items count map.rows ≡ laid → IsPlace laid.text place → IsPlaceOf (lines_of lent) place
+place_in_lent settings items lent size count map laid place h lent_is is there =
+    subst (λ t. IsPlaceOf (lines_of t) place) (sym lent_is)
+    (rows_place items place h.stored.some (subst (λ (l : LaidOut). IsPlace l.text place) (sym is) there))
+
+-- what is so of the lines that are lent, at the map's tab stops, is so of the text's
+pub in_text : {Z : Type 0} (settings : LayoutSettings) (items lent : List (String Z)) (size count : ℕ) (map : MapView) (laid : LaidOut) (Fact : ℕ → List (List ℕ) → Type 0) → HoldsRows settings items size map → lent ≡ items → seen settings items count map.rows ≡ laid → Fact map.wrapping.tab_len (lines_of lent) → Fact laid.layout.settings.tab_len (lines laid.text)
+in_text settings items lent size count map laid Fact held lent_is is h =
+    subst (λ (l : LaidOut). Fact l.layout.settings.tab_len (lines l.text)) is
+    (subst (Fact settings.tab_len) (ap lines_of lent_is ∙ sym (lines_held items held.stored.some))
+    (subst (λ n. Fact n (lines_of lent)) (tab_len_kept settings items size map held) h))
 
 -- copies of the lines, with the same rows
-pub holds_copied : {Z : Type 0} (settings : LayoutSettings) (old copies : List (String Z)) (size : ℕ) (rows again : List RowsView) → HoldsRows settings old size rows → lines_of copies ≡ lines_of old → again ≡ rows → HoldsRows settings copies size again
-holds_copied settings old copies size rows again h e rows_are =
+pub holds_copied : {Z : Type 0} (settings : LayoutSettings) (old copies : List (String Z)) (size : ℕ) (map again : MapView) → HoldsRows settings old size map → lines_of copies ≡ lines_of old → (again.rows ≡ map.rows) × (again.wrapping ≡ map.wrapping) → HoldsRows settings copies size again
+holds_copied settings old copies size map again h e same =
     let long : length copies ≡ length old = omega (arith, length-map copies characters_of, length-map old characters_of, ap length e) in
     let some : 0 < length copies = omega (arith, long, h.stored.some) in
     record {
@@ -88,9 +97,10 @@ holds_copied settings old copies size rows again h e rows_are =
         size_is = omega (arith, h.stored.size_is, size_of_text old h.stored.some, size_of_text copies some, ap (λ t. weight (joined t)) e);
         limit = h.stored.limit;
       };
-      laid_out = subst (λ (t : List RowsView). AreRowsOf (wrapping_for settings (length copies)) (lines_of copies) t) (sym rows_are)
-          (subst (λ (t : List (List ℕ)). AreRowsOf (wrapping_for settings (length copies)) t rows) (sym e)
-          (subst (λ n. AreRowsOf (wrapping_for settings n) (lines_of old) rows) (sym long) h.laid_out));
+      wrapping_is = same.1 ∙ h.wrapping_is ∙ ap (wrapping_for settings) (sym long);
+      laid_out = subst (λ (w : Wrapping). AreRowsOf w (lines_of copies) again.rows) (sym same.1)
+          (subst (λ (t : List RowsView). AreRowsOf map.wrapping (lines_of copies) t) (sym same.0)
+          (subst (λ (t : List (List ℕ)). AreRowsOf map.wrapping t map.rows) (sym e) h.laid_out));
     }
 
 -- what was measured of the lines is true of the same lines elsewhere

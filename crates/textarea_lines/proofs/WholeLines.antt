@@ -6,10 +6,11 @@ use Rattle.textarea_text.specs.Place.{Place, end}
 use Rattle.textarea_text.specs.Replaced.{replaced}
 use Rattle.textarea_text.specs.Size.{weight}
 use Rattle.textarea_text.specs.Splice.{Splice, Fits, applied, place_before}
-use Rattle.textarea_text.specs.Text.{Symbol, characters_of, lines, lines_of, text_of}
+use Rattle.textarea_text.specs.Text.{Symbol, characters, characters_of, following, lines, lines_of, text_of}
 use Rattle.textarea_text.specs.Touched.{breaks_of, lines_coming, lines_going}
 use Rattle.textarea_text.proofs.Replacing.{length-replaced}
-use Rattle.textarea_text.proofs.Sizes.{length-le-size_of, size_of_text}
+use Rattle.textarea_text.proofs.Sizes.{length-le-size_of, size_of_text, weight-append, weight-characters, weight_of_following}
+use Rattle.textarea_text.proofs.Splices.{following-append}
 use Rattle.textarea_text.proofs.Touching.{ChangesLine, changes_line, end_row}
 use Rattle.textarea_wrap.specs.Cutting.{ranges_from}
 use Rattle.textarea_wrap.specs.RowsView.{RowsView}
@@ -17,16 +18,18 @@ use Rattle.textarea_wrap.specs.Wrapped.{IsWrapped}
 use Rattle.textarea_wrap.specs.declared.wrap.WrapMode.TheVariants as mode
 use Rattle.textarea_map.specs.declared.layout.Wrapping.{Wrapping}
 use Rattle.textarea_map.specs.Layout.{AreRowsOf, AreRowsOfLine, ticks_behind, ticks_of}
-use Rattle.textarea_map.specs.Map.{ranges_at, row_total}
-use Rattle.textarea_map.proofs.Layouts.{AreRowsOf-replaced, length-AreRowsOf}
+use Rattle.textarea_map.specs.Map.{MapView, line_bytes, ranges_at, row_total, size_total}
+use Rattle.textarea_map.proofs.Layouts.{AreRowsOf-drop, AreRowsOf-replaced, AreRowsOf-take, length-AreRowsOf}
 use Rattle.textarea_map.proofs.Numbers.{row_total-replaced}
+use Rattle.textarea_map.proofs.RowSizes.{size_of_lines, size_total-append}
 use Rattle.textarea_lines.specs.declared.settings.LayoutSettings.{LayoutSettings}
-use Rattle.textarea_lines.specs.Rows.{CanStayWhole, HasWholeLine}
+use Rattle.textarea_lines.specs.Rows.{CanStayWhole, HasWholeLine, line_size}
 use Rattle.textarea_lines.specs.Layout.{Layout, all_cut, applied_to, after_replacement, some_cut}
 use Rattle.textarea_lines.specs.Stored.{IsStored, HoldsRows}
-use Rattle.textarea_lines.specs.Wrappings.{cut_at_width, is_same, is_wrapped, whole_lines, wrapping_for}
+use Rattle.textarea_lines.specs.Wrappings.{is_same, is_wrapped, whole_lines, wrapping_for}
 use Rattle.textarea_lines.proofs.Layouts.{map-replaced}
-use Rattle.textarea_lines.proofs.Stores.{bytes_in_size, seen}
+use Rattle.textarea_lines.proofs.SameCuts.{whole_is}
+use Rattle.textarea_lines.proofs.Stores.{right_rows, seen, tab_len_kept}
 
 -- ---- one row a line
 
@@ -55,6 +58,11 @@ total_next (r ∷ rows) (suc i) within =
     ap (λ n. row_total (take n (r ∷ rows))) next ∙ omega (arith, total_next rows i (omega arith))
 
 -- a row that takes the place of one row
+pub size_of_one : (rows new : List RowsView) (cut : RowsView) (row bytes : ℕ) → new ≡ cut ∷ [] → line_bytes cut.ranges ≡ bytes → (bytes + 1 ≡ size_total new) × (size_total (replaced rows row 1 new) ≡ size_total (take row rows) + (bytes + 1) + size_total (drop (row + 1) rows))
+size_of_one rows new cut row bytes is e =
+    let size : size_total new ≡ bytes + 1 = ap size_total is ∙ omega (arith, e) in
+    (sym size, omega (arith, size, size_total-append (take row rows) (new ++ drop (row + 1) rows), size_total-append new (drop (row + 1) rows)))
+
 pub total_of_one : (rows new : List RowsView) (cut : RowsView) (row : ℕ) → row < length rows → length (ranges_at rows row) ≡ 1 → new ≡ cut ∷ [] → length cut.ranges ≡ 1 → row_total rows ≤ 2 ^ 48 → (1 ≡ row_total new) × (row_total (replaced rows row 1 new) ≤ 2 ^ 48)
 total_of_one rows new cut row within one is has few =
     let total : row_total new ≡ 1 = ap row_total is ∙ omega arith in
@@ -79,8 +87,8 @@ row_before splice none = by splice.inserts
     by false = omega (arith, end_row splice.place splice.symbols, none)
 
 -- an edit without a break was made in lines that aren't wrapped
-pub record Inside {Z : Type 0} (settings : LayoutSettings) (old now lent : List (String Z)) (size after : ℕ) (rows : List RowsView) (splice : Splice) (row : ℕ) : Type 0 where
-  pub holds : HoldsRows settings old size rows
+pub record Inside {Z : Type 0} (settings : LayoutSettings) (old now lent : List (String Z)) (size after : ℕ) (map : MapView) (splice : Splice) (row : ℕ) : Type 0 where
+  pub holds : HoldsRows settings old size map
   pub whole : is_wrapped settings ≡ false
   pub none : breaks_of splice.symbols ≡ 0
   pub fits : Fits (text_of old) splice
@@ -91,65 +99,78 @@ pub record Inside {Z : Type 0} (settings : LayoutSettings) (old now lent : List 
   pub after_is : after ≡ weight (applied (text_of old) splice) + 1
   pub limit : after ≤ 2 ^ 48
 
-whole_is : (settings : LayoutSettings) (n : ℕ) → is_wrapped settings ≡ false → wrapping_for settings n ≡ whole_lines settings
-whole_is settings n e = ap (λ (b : Bool). cond b (cut_at_width settings settings.inner_width n) (whole_lines settings)) e
-
-inside_line : {Z : Type 0} (settings : LayoutSettings) (old now lent : List (String Z)) (size after : ℕ) (rows : List RowsView) (splice : Splice) (row : ℕ) → Inside settings old now lent size after rows splice row → ChangesLine (lines_of old) (lines_of now) row
-inside_line settings old now lent size after rows splice row h =
+inside_line : {Z : Type 0} (settings : LayoutSettings) (old now lent : List (String Z)) (size after : ℕ) (map : MapView) (splice : Splice) (row : ℕ) → Inside settings old now lent size after map splice row → ChangesLine (lines_of old) (lines_of now) row
+inside_line settings old now lent size after map splice row h =
     subst (ChangesLine (lines_of old) (lines_of now)) (sym h.row_is)
     (changes_line (lines_of old) (lines_of now) splice (omega (arith, h.holds.stored.some, length-map old characters_of)) (omega (arith, h.now_some, length-map now characters_of)) h.fits h.none h.now_is)
 
-inside_rows : {Z : Type 0} (settings : LayoutSettings) (old now lent : List (String Z)) (size after : ℕ) (rows : List RowsView) (splice : Splice) (row : ℕ) → Inside settings old now lent size after rows splice row → AreRowsOf (whole_lines settings) (lines_of old) rows
-inside_rows settings old now lent size after rows splice row h =
-    subst (λ (w : Wrapping). AreRowsOf w (lines_of old) rows) (whole_is settings (length old) h.whole) h.holds.laid_out
+inside_rows : {Z : Type 0} (settings : LayoutSettings) (old now lent : List (String Z)) (size after : ℕ) (map : MapView) (splice : Splice) (row : ℕ) → Inside settings old now lent size after map splice row → AreRowsOf (whole_lines settings) (lines_of old) map.rows
+inside_rows settings old now lent size after map splice row h =
+    subst (λ (w : Wrapping). AreRowsOf w (lines_of old) map.rows) (whole_is settings (length old) h.whole) (right_rows settings old size map h.holds)
 
 -- there are as many lines
-as_many : {Z : Type 0} (settings : LayoutSettings) (old now lent : List (String Z)) (size after : ℕ) (rows : List RowsView) (splice : Splice) (row : ℕ) → Inside settings old now lent size after rows splice row → length now ≡ length old
-as_many settings old now lent size after rows splice row h =
-    let line = inside_line settings old now lent size after rows splice row h in
+as_many : {Z : Type 0} (settings : LayoutSettings) (old now lent : List (String Z)) (size after : ℕ) (map : MapView) (splice : Splice) (row : ℕ) → Inside settings old now lent size after map splice row → length now ≡ length old
+as_many settings old now lent size after map splice row h =
+    let line = inside_line settings old now lent size after map splice row h in
     omega (arith, length-map old characters_of, length-map now characters_of, ap length line.new_is, length-replaced (lines_of old) row 1 (line.line ∷ []) (omega (arith, line.within)))
 
-inside_stored : {Z : Type 0} (settings : LayoutSettings) (old now lent : List (String Z)) (size after : ℕ) (rows : List RowsView) (splice : Splice) (row : ℕ) → Inside settings old now lent size after rows splice row → IsStored now after
-inside_stored settings old now lent size after rows splice row h = record {
+inside_stored : {Z : Type 0} (settings : LayoutSettings) (old now lent : List (String Z)) (size after : ℕ) (map : MapView) (splice : Splice) (row : ℕ) → Inside settings old now lent size after map splice row → IsStored now after
+inside_stored settings old now lent size after map splice row h = record {
   some = h.now_some;
   size_is = omega (arith, h.after_is, size_of_text now h.now_some, ap weight h.now_is);
   limit = h.limit;
 }
 
--- the line can be cut
-pub can_cut : {Z : Type 0} (settings : LayoutSettings) (old now lent : List (String Z)) (size after : ℕ) (rows : List RowsView) (splice : Splice) (row : ℕ) → Inside settings old now lent size after rows splice row → CanStayWhole lent rows row
-can_cut settings old now lent size after rows splice row h =
-    let line = inside_line settings old now lent size after rows splice row h in
-    let right = inside_rows settings old now lent size after rows splice row h in
-    let many = as_many settings old now lent size after rows splice row h in
-    let stored = inside_stored settings old now lent size after rows splice row h in
-    let there : row < length now = omega (arith, line.within, many, length-map old characters_of) in
-    record {
-      within = omega (arith, there, ap length h.lent_is);
-      short = omega (arith, bytes_in_size now row there, stored.size_is, stored.limit, ap (λ t. length (encode_utf8_all (get_or (lines_of t) row []))) h.lent_is);
-      same = omega (arith, length-AreRowsOf (whole_lines settings) (lines_of old) rows right, length-map old characters_of, many, ap length h.lent_is);
-      one = one_range settings (lines_of old) rows row right line.within;
-      few = omega (arith, total_whole settings (lines_of old) rows right, length-map old characters_of, length-le-size_of old, h.holds.stored.size_is, h.holds.stored.limit);
-    }
+-- the bytes and the lines, where one line takes the place of another
+weight_replaced : (lines : List (List ℕ)) (row : ℕ) (line : List ℕ) → weight (following (replaced lines row 1 (line ∷ []))) ≡ weight (following (take row lines)) + line_size line + weight (following (drop (row + 1) lines))
+weight_replaced lines row line =
+    ap weight (following-append (take row lines) (line ∷ drop (row + 1) lines))
+    ∙ omega (arith, weight-append (following (take row lines)) (following (line ∷ drop (row + 1) lines)), weight-append (characters line) (following (drop (row + 1) lines)), weight-characters line)
 
-pub holds_inside : {Z : Type 0} (settings : LayoutSettings) (old now lent : List (String Z)) (size after : ℕ) (rows new : List RowsView) (splice : Splice) (row tick : ℕ) → Inside settings old now lent size after rows splice row → HasWholeLine settings.tab_len (get_or (lines_of lent) row []) row tick rows new → HoldsRows settings now after new
-holds_inside settings old now lent size after rows new splice row tick h k =
-    let line = inside_line settings old now lent size after rows splice row h in
-    let right = inside_rows settings old now lent size after rows splice row h in
+-- the line that is lent is the one that came
+line_lent : {Z : Type 0} (settings : LayoutSettings) (old now lent : List (String Z)) (size after : ℕ) (map : MapView) (splice : Splice) (row : ℕ) (h : Inside settings old now lent size after map splice row) → get_or (lines_of lent) row [] ≡ (inside_line settings old now lent size after map splice row h).line
+line_lent settings old now lent size after map splice row h =
+    let line = inside_line settings old now lent size after map splice row h in
     let above : length (take row (lines_of old)) ≡ row = length-take-le row (lines_of old) (omega (arith, line.within)) in
     let first : row - row ≡ 0 = omega arith in
-    let here : get_or (lines_of lent) row [] ≡ line.line =
     ap (λ t. get_or (lines_of t) row []) h.lent_is ∙ ap (λ t. get_or t row []) line.new_is
     ∙ get_or-append_right (take row (lines_of old)) (line.line ∷ drop (row + 1) (lines_of old)) row row [] above (omega arith)
-    ∙ ap (λ n. get_or (line.line ∷ drop (row + 1) (lines_of old)) n []) first in
-    let cut : AreRowsOfLine (whole_lines settings) line.line k.cut =
-    subst (λ (t : List ℕ). AreRowsOfLine (whole_lines settings) t k.cut) here (record { characters = k.characters; short = k.short; cut = k.right }) in
-    let all : AreRowsOf (whole_lines settings) (replaced (lines_of old) row 1 (line.line ∷ [])) (replaced rows row 1 (k.cut ∷ [])) =
-    AreRowsOf-replaced (whole_lines settings) (lines_of old) (line.line ∷ []) rows (k.cut ∷ []) row 1 right (cut, tt) in
+    ∙ ap (λ n. get_or (line.line ∷ drop (row + 1) (lines_of old)) n []) first
+
+-- the line can be cut
+pub can_cut : {Z : Type 0} (settings : LayoutSettings) (old now lent : List (String Z)) (size after : ℕ) (map : MapView) (splice : Splice) (row : ℕ) → Inside settings old now lent size after map splice row → CanStayWhole lent map.rows row
+can_cut settings old now lent size after map splice row h =
+    let line = inside_line settings old now lent size after map splice row h in
+    let right = inside_rows settings old now lent size after map splice row h in
+    let many = as_many settings old now lent size after map splice row h in
+    let stored = inside_stored settings old now lent size after map splice row h in
+    let whole = whole_lines settings in
+    let above = size_of_lines whole (take row (lines_of old)) (take row map.rows) (AreRowsOf-take whole row (lines_of old) map.rows right) in
+    let below = size_of_lines whole (drop (row + 1) (lines_of old)) (drop (row + 1) map.rows) (AreRowsOf-drop whole (row + 1) (lines_of old) map.rows right) in
     record {
-      stored = inside_stored settings old now lent size after rows splice row h;
-      laid_out = subst (λ (w : Wrapping). AreRowsOf w (lines_of now) new) (sym (whole_is settings (length now) h.whole))
-          (subst (λ (t : List (List ℕ)). AreRowsOf (whole_lines settings) t new) (sym line.new_is)
+      within = omega (arith, line.within, many, length-map old characters_of, ap length h.lent_is);
+      same = omega (arith, length-AreRowsOf whole (lines_of old) map.rows right, length-map old characters_of, many, ap length h.lent_is);
+      one = one_range settings (lines_of old) map.rows row right line.within;
+      few = omega (arith, total_whole settings (lines_of old) map.rows right, length-map old characters_of, length-le-size_of old, h.holds.stored.size_is, h.holds.stored.limit);
+      size = omega (arith, above.0, below.0, ap line_size (line_lent settings old now lent size after map splice row h), weight_replaced (lines_of old) row line.line, ap (λ t. weight (following t)) line.new_is, weight_of_following now, stored.size_is, stored.limit);
+    }
+
+pub holds_inside : {Z : Type 0} (settings : LayoutSettings) (old now lent : List (String Z)) (size after : ℕ) (map new : MapView) (splice : Splice) (row tick : ℕ) → Inside settings old now lent size after map splice row → HasWholeLine map.wrapping.tab_len (get_or (lines_of lent) row []) row tick map.rows new.rows → new.wrapping ≡ map.wrapping → HoldsRows settings now after new
+holds_inside settings old now lent size after map new splice row tick h whole_line same =
+    let line = inside_line settings old now lent size after map splice row h in
+    let right = inside_rows settings old now lent size after map splice row h in
+    let k = subst (λ n. HasWholeLine n (get_or (lines_of lent) row []) row tick map.rows new.rows) (tab_len_kept settings old size map h.holds) whole_line in
+    let cut : AreRowsOfLine (whole_lines settings) line.line k.cut =
+    subst (λ (t : List ℕ). AreRowsOfLine (whole_lines settings) t k.cut) (line_lent settings old now lent size after map splice row h) (record { characters = k.characters; short = k.short; cut = k.right }) in
+    let all : AreRowsOf (whole_lines settings) (replaced (lines_of old) row 1 (line.line ∷ [])) (replaced map.rows row 1 (k.cut ∷ [])) =
+    AreRowsOf-replaced (whole_lines settings) (lines_of old) (line.line ∷ []) map.rows (k.cut ∷ []) row 1 right (cut, tt) in
+    let wrapping : new.wrapping ≡ wrapping_for settings (length now) =
+    same ∙ h.holds.wrapping_is ∙ ap (wrapping_for settings) (sym (as_many settings old now lent size after map splice row h)) in
+    record {
+      stored = inside_stored settings old now lent size after map splice row h;
+      wrapping_is = wrapping;
+      laid_out = subst (λ (w : Wrapping). AreRowsOf w (lines_of now) new.rows) (sym (wrapping ∙ whole_is settings (length now) h.whole))
+          (subst (λ (t : List (List ℕ)). AreRowsOf (whole_lines settings) t new.rows) (sym line.new_is)
           (subst (λ (t : List RowsView). AreRowsOf (whole_lines settings) (replaced (lines_of old) row 1 (line.line ∷ [])) t) (sym k.new_is) all));
     }
 
@@ -167,13 +188,13 @@ going_one : (b : Bool) (breaks : ℕ) → breaks ≡ 0 → (cond b 1 (breaks + 1
 going_one true breaks e = (refl, omega arith)
 going_one false breaks e = (omega arith, refl)
 
-pub layout_inside : {Z : Type 0} (settings : LayoutSettings) (old now lent : List (String Z)) (size after count counted : ℕ) (rows new : List RowsView) (splice : Splice) (row : ℕ) → Inside settings old now lent size after rows splice row → HasWholeLine settings.tab_len (get_or (lines_of lent) row []) row (count + 1) rows new → counted ≡ count + 1 → seen settings now counted new ≡ applied_to (seen settings old count rows) splice
-layout_inside settings old now lent size after count counted rows new splice row h k counted_is =
+pub layout_inside : {Z : Type 0} (settings : LayoutSettings) (old now lent : List (String Z)) (size after count counted : ℕ) (map : MapView) (new : List RowsView) (splice : Splice) (row : ℕ) → Inside settings old now lent size after map splice row → HasWholeLine map.wrapping.tab_len (get_or (lines_of lent) row []) row (count + 1) map.rows new → counted ≡ count + 1 → seen settings now counted new ≡ applied_to (seen settings old count map.rows) splice
+layout_inside settings old now lent size after count counted map new splice row h k counted_is =
     let n = length (lines (text_of old)) in
     let numbers = going_one splice.inserts (breaks_of splice.symbols) h.none in
-    let layout : Layout = record { settings = settings; count = count; ticks = ticks_of rows } in
-    let ticks : ticks_of new ≡ replaced (ticks_of rows) row 1 (ticks_behind count 1) =
-    ap ticks_of k.new_is ∙ map-replaced (λ (r : RowsView). r.tick) rows (k.cut ∷ []) row 1 ∙ ap (λ (m : ℕ). replaced (ticks_of rows) row 1 (m ∷ [])) k.tick_is in
+    let layout : Layout = record { settings = settings; count = count; ticks = ticks_of map.rows } in
+    let ticks : ticks_of new ≡ replaced (ticks_of map.rows) row 1 (ticks_behind count 1) =
+    ap ticks_of k.new_is ∙ map-replaced (λ (r : RowsView). r.tick) map.rows (k.cut ∷ []) row 1 ∙ ap (λ (m : ℕ). replaced (ticks_of map.rows) row 1 (m ∷ [])) k.tick_is in
     let recut_is : record { settings = settings; count = counted; ticks = ticks_of new } ≡ after_replacement layout n splice.place.0 (lines_going splice) (lines_coming splice) =
     ap (λ (m : ℕ). record { settings = settings; count = m; ticks = ticks_of new }) counted_is
     ∙ ap (λ (t : List ℕ). record { settings = settings; count = count + 1; ticks = t }) ticks

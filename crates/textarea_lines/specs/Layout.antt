@@ -1,10 +1,13 @@
 -- What clauses see of lines with their rows, and what a change of the text makes of it.
-use Rattle.std.specs.Prelude.{ℕ, ◌+◌, ◌-◌, Bool, List, length, if◌then◌else◌}
-use Rattle.textarea_text.specs.Text.{Symbol, joined, lines}
+use Rattle.std.specs.Prelude.{ℕ, ◌+◌, ◌-◌, Bool, List, String, length, vec_len, if◌then◌else◌}
+use Rattle.std.specs.declared.alloc.Global.{Global}
+use Rattle.textarea_text.specs.Text.{Symbol, joined, lines, lines_of}
 use Rattle.textarea_text.specs.Replaced.{replaced}
 use Rattle.textarea_text.specs.Splice.{Splice, applied}
 use Rattle.textarea_text.specs.Touched.{lines_coming, lines_going}
-use Rattle.textarea_map.specs.Layout.{ticks_behind}
+use Rattle.textarea_text.specs.declared.rows.Replacement.{Replacement}
+use Rattle.textarea_wrap.specs.RowsView.{RowsView}
+use Rattle.textarea_map.specs.Layout.{ticks_behind, ticks_of}
 use Rattle.textarea_map.specs.declared.layout.Wrapping.{Wrapping}
 use Rattle.textarea_lines.specs.declared.settings.LayoutSettings.{LayoutSettings}
 use Rattle.textarea_lines.specs.Wrappings.{cut_at_width, is_same, wrapping_for}
@@ -15,6 +18,10 @@ pub record Layout : Type 0 where
   pub settings : LayoutSettings
   pub count : ℕ
   pub ticks : List ℕ
+
+-- the layout that these rows are part of
+abbrev pub layout_of : LayoutSettings → ℕ → List RowsView → Layout
+layout_of settings count rows = record { settings = settings; count = count; ticks = ticks_of rows }
 
 pub record LaidOut : Type 0 where
   pub text : List Symbol
@@ -52,6 +59,17 @@ replaced_in laid row going coming = record {
   text = joined (replaced (lines laid.text) row going coming);
   layout = after_replacement laid.layout (length (lines laid.text)) row going (length coming);
 }
+
+-- the same, by the lines that are ready
+abbrev pub with_replacement : LaidOut → Replacement → LaidOut
+with_replacement laid replacement = replaced_in laid replacement.row replacement.count (lines_of replacement.lines.items)
+
+-- the lines after a replacement, and how many they are where they were so many
+abbrev pub lines_after : List (String Global) → Replacement → List (List ℕ)
+lines_after lines replacement = lines_of (replaced lines replacement.row replacement.count replacement.lines.items)
+
+abbrev pub count_after : ℕ → Replacement → ℕ
+count_after line_count replacement = line_count - replacement.count + vec_len replacement.lines
 
 -- a text of which all lines are cut, where the count stood at this number
 abbrev pub laid_out_anew : LayoutSettings → ℕ → List Symbol → LaidOut

@@ -1,5 +1,5 @@
 -- The rows behind what clauses see of a text.
-use Rattle.std.specs.Prelude.{◌≡◌, ℕ, ◌<◌, ◌≤◌, ◌^◌, true, List, Option, MatchOption, String, [], ◌∷◌, encode_utf8_all, get_or, length}
+use Rattle.std.specs.Prelude.{◌≡◌, ℕ, ◌+◌, ◌<◌, ◌≤◌, ◌^◌, true, List, Option, MatchOption, String, [], ◌∷◌, encode_utf8_all, get_or, length, take, drop}
 use Rattle.std.specs.Str.{all_scalars}
 use Rattle.textarea_text.specs.Place.{Place}
 use Rattle.textarea_text.specs.Replaced.{replaced}
@@ -8,7 +8,7 @@ use Rattle.textarea_wrap.specs.RowsView.{RowsView}
 use Rattle.textarea_wrap.specs.Wrapped.{IsWrapped}
 use Rattle.textarea_wrap.specs.declared.wrap.WrapMode.TheVariants as mode
 use Rattle.textarea_map.specs.Layout.{AreRowsOf, ticks_of}
-use Rattle.textarea_map.specs.Map.{IsRowCount, ranges_at, row_total}
+use Rattle.textarea_map.specs.Map.{IsRowCount, ranges_at, row_total, size_total}
 use Rattle.textarea_map.specs.Seen.{IsAbove, IsBelow, IsInFirstRow, IsInLastRow}
 use Rattle.textarea_lines.specs.Layout.{LaidOut, wrapping_at, wrapping_of}
 
@@ -38,14 +38,18 @@ IsFoundBelow laid place found = OfRows laid (λ rows. MatchOption found
 abbrev pub IsRowCountAt : LaidOut → ℕ → ℕ → Type 0
 IsRowCountAt laid inner_width count = IsRowCount (wrapping_at laid inner_width) (lines laid.text) count
 
+-- the bytes of a line, and the line itself
+abbrev pub line_size : List ℕ → ℕ
+line_size line = length (encode_utf8_all line) + 1
+
 -- what has to hold of a line and of the rows that are kept, so that the line is cut as one that isn't wrapped and its one row
--- takes the place of the one that it had
+-- takes the place of the one that it had: with it, all lines are within the limit
 pub record CanStayWhole {Z : Type 0} (lines : List (String Z)) (rows : List RowsView) (row : ℕ) : Type 0 where
   pub within : row < length lines
-  pub short : length (encode_utf8_all (get_or (lines_of lines) row [])) < 2 ^ 48
   pub same : length rows ≡ length lines
   pub one : length (ranges_at rows row) ≡ 1
   pub few : row_total rows ≤ 2 ^ 48
+  pub size : size_total (take row rows) + line_size (get_or (lines_of lines) row []) + size_total (drop (row + 1) rows) ≤ 2 ^ 48
 
 -- the line in the row, given by its characters, each of them one of Unicode's, is shorter than 2^48 bytes and was cut as one
 -- that isn't wrapped, with this tick; all others keep their rows

@@ -1,11 +1,10 @@
 //! Rows of some lines, cut one after the other.
 ghost use Rattle.std.specs.Prelude.{◌≡◌, ◌+◌, ◌-◌, ◌^◌, ◌<◌, ◌≤◌, ◌++◌, List, ℕ, [], encode_utf8_all, get_or, length, vec_capacity, vec_len, IfOk, OnOk};
-ghost use Rattle.textarea_text.specs.Replaced.{replaced};
 ghost use Rattle.textarea_text.specs.Text.{lines_of};
 ghost use Rattle.textarea_map.specs.Layout.{AreRowsOf, ticks_behind, ticks_of};
-ghost use Rattle.textarea_map.specs.Map.{IsReady, ranges_at, row_total};
+ghost use Rattle.textarea_map.specs.Map.{IsReady, rows_with};
 ghost use Rattle.textarea_lines.specs.Rows.{CanStayWhole, HasWholeLine};
-ghost use Rattle.textarea_lines.specs.Layout.{after_replacement};
+ghost use Rattle.textarea_lines.specs.Layout.{after_replacement, count_after, layout_of, lines_after};
 ghost use Rattle.textarea_lines.specs.Wrappings.{wrapping_for};
 
 use crate::settings::{LayoutSettings, is_same, wrapping_for};
@@ -24,11 +23,13 @@ pub(crate) fn rows_after(
     count: &mut WrapCount,
 ) -> Result<Vec<Rows>, AllocError>
     requires { replacement.now.row + replacement.now.count ≤ length lines.now }
-    ensures counted { OnOk result (count.new ≡ count.old + (length lines.now - replacement.now.count + vec_len replacement.now.lines)) }
-    ensures rows { IfOk result (λ rows. AreRowsOf wrapping
-        (lines_of (replaced lines.now replacement.now.row replacement.now.count replacement.now.lines.items)) rows.items) }
+    ensures counted { OnOk result
+        (count.new ≡ count.old + count_after (length lines.now) replacement.now) }
+    ensures never_less { count.old ≤ count.new }
+    ensures rows { IfOk result (λ rows.
+        AreRowsOf wrapping (lines_after lines.now replacement.now) rows.items) }
     ensures ticks { IfOk result (λ rows. ticks_of rows.items
-        ≡ ticks_behind count.old (length lines.now - replacement.now.count + vec_len replacement.now.lines)) }
+        ≡ ticks_behind count.old (count_after (length lines.now) replacement.now)) }
 {
     let new = replacement.lines.as_slice();
     let mut rows = Vec::with_capacity(alloc, lines.len() - replacement.count + new.len())?;
@@ -49,29 +50,32 @@ pub(crate) fn prepare_rows(
     settings: LayoutSettings,
     count: &mut WrapCount,
 ) -> Result<PreparedRows, AllocError>
-    requires rows { AreRowsOf (wrapping_for settings (length lines.now)) (lines_of lines.now) map.old.rows }
+    requires rows { AreRowsOf map.old.wrapping (lines_of lines.now) map.old.rows }
+    requires wrapping { map.old.wrapping ≡ wrapping_for settings (length lines.now) }
     requires within { replacement.now.row + replacement.now.count ≤ length lines.now }
     requires few { length lines.now + vec_len replacement.now.lines < 2 ^ 63 }
     ensures same { map.new.rows ≡ map.old.rows }
+    ensures same_wrapping { map.new.wrapping ≡ map.old.wrapping }
     ensures ready { IfOk result (λ prepared. IsReady map.new prepared) }
-    ensures rows { IfOk result (λ prepared.
-        AreRowsOf (wrapping_for settings (length lines.now - replacement.now.count + vec_len replacement.now.lines))
-        (lines_of (replaced lines.now replacement.now.row replacement.now.count replacement.now.lines.items))
-        (replaced map.old.rows prepared.row prepared.count prepared.rows.items)) }
+    ensures wrapping { IfOk result (λ prepared. prepared.wrapping
+        ≡ wrapping_for settings (count_after (length lines.now) replacement.now)) }
+    ensures rows { IfOk result (λ prepared. AreRowsOf prepared.wrapping
+        (lines_after lines.now replacement.now) (rows_with map.old.rows prepared)) }
     ensures layout { IfOk result (λ prepared.
-        (record { settings = settings; count = count.new; ticks = ticks_of (replaced map.old.rows prepared.row prepared.count prepared.rows.items) })
-        ≡ after_replacement (record { settings = settings; count = count.old; ticks = ticks_of map.old.rows })
-        (length lines.now) replacement.now.row replacement.now.count (vec_len replacement.now.lines)) }
+        layout_of settings count.new (rows_with map.old.rows prepared)
+        ≡ after_replacement (layout_of settings count.old map.old.rows) (length lines.now)
+        replacement.now.row replacement.now.count (vec_len replacement.now.lines)) }
+    ensures never_less { count.old ≤ count.new }
 {
     let new = replacement.lines.as_slice();
-    let before = wrapping_for(settings, lines.len());
+    let before = map.wrapping();
     let after = wrapping_for(settings, lines.len() - replacement.count + new.len());
     if is_same(after, before) {
         let rows = rows_of(alloc, new, after, count)?;
-        return map.make_room(replacement.row, replacement.count, rows);
+        return map.make_room(replacement.row, replacement.count, rows, after);
     }
     let rows = rows_after(alloc, lines, replacement, after, count)?;
-    map.make_room(0, lines.len(), rows)
+    map.make_room(0, lines.len(), rows, after)
 }
 
 // Cuts a line that isn't wrapped, and puts its row in the place of the one that it had; `rows` has room for it, so this takes
@@ -82,22 +86,26 @@ pub(crate) fn put_whole_line(
     mut rows: Vec<Rows>,
     lines: &[String],
     row: usize,
-    tab_len: u8,
     count: &mut WrapCount,
 )
     requires empty { vec_len rows ≡ 0 }
     requires room { 1 ≤ vec_capacity rows }
     requires whole { CanStayWhole lines.now map.old.rows row }
-    ensures rows { HasWholeLine tab_len (get_or (lines_of lines.now) row []) row (count.old + 1) map.old.rows map.new.rows }
+    ensures rows { HasWholeLine map.old.wrapping.tab_len (get_or (lines_of lines.now) row []) row
+        (count.old + 1) map.old.rows map.new.rows }
+    ensures wrapping { map.new.wrapping ≡ map.old.wrapping }
     ensures counted { count.new ≡ count.old + 1 }
 {
+    let wrapping = map.wrapping();
     let line = lines[row].as_str();
-    let cut = line_ranges(alloc, line, WrapMode::None, 1, tab_len, count).unwrap();
+    let cut = line_ranges(alloc, line, WrapMode::None, 1, wrapping.tab_len, count).unwrap();
     let _ = rows.push(cut);
     map.replace(PreparedRows {
         row,
         count: 1,
         rows,
         total: 1,
+        size: line.len() + 1,
+        wrapping,
     });
 }

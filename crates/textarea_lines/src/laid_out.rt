@@ -8,7 +8,8 @@ ghost use Rattle.textarea_text.specs.Touched.{breaks_of};
 ghost use Rattle.textarea_map.specs.Map.{row_total};
 ghost use Rattle.textarea_map.specs.Seen.{IsVisualPosition};
 ghost use Rattle.textarea_lines.specs.Rows.{IsFoundAbove, IsFoundBelow, IsRowCountAt, OfRows};
-ghost use Rattle.textarea_lines.specs.Layout.{applied_to, is_cut_at, laid_out_anew, replaced_in, laid_out_with, stays_cut};
+ghost use Rattle.textarea_lines.specs.Layout.{applied_to, is_cut_at, laid_out_anew, laid_out_with, stays_cut, with_replacement};
+ghost use Rattle.textarea_lines.specs.Stored.{size_after};
 ghost use Rattle.textarea_lines.specs.Wrappings.{is_wrapped};
 
 use crate::cut::{prepare_rows, put_whole_line};
@@ -19,8 +20,7 @@ use std::marker::Model;
 use textarea_edit::edit::Change;
 use textarea_map::layout::rows_in;
 use textarea_map::screen_map::ScreenMap;
-use textarea_text::rows;
-use textarea_text::rows::{MAX_SIZE, Replacement};
+use textarea_text::rows::{Replacement, size_within_limit, within_limit};
 use textarea_wrap::wrap::WrapCount;
 
 /// Lines of text, one at least, and the rows into which each is cut. A change cuts the lines that it touches, and all lines
@@ -39,16 +39,19 @@ pub struct LaidOutLines {
 
 impl Model for LaidOutLines {
     ghost use Rattle.textarea_text.specs.Text.{text_of};
-    ghost use Rattle.textarea_lines.specs.Layout.{LaidOut};
+    ghost use Rattle.textarea_lines.specs.Layout.{LaidOut, layout_of};
 
     ghost Value = { LaidOut };
 
-    ghost use Rattle.textarea_map.specs.Layout.{ticks_of};
     ghost use Rattle.textarea_lines.specs.Stored.{KeepsRows};
 
-    ghost view = { λ laid. record { text = text_of laid.lines.items; layout = record { settings = laid.settings; count = laid.count; ticks = ticks_of laid.map.rows } } };
+    ghost view = { λ laid. record {
+      text = text_of laid.lines.items;
+      layout = layout_of laid.settings laid.count laid.map.rows;
+    } };
 
-    ghost invariant = { λ laid. KeepsRows laid.settings laid.lines.items laid.size laid.map.rows laid.measured };
+    ghost invariant = { λ laid.
+        KeepsRows laid.settings laid.lines.items laid.size laid.map laid.measured };
 }
 
 impl Clone for LaidOutLines {
@@ -92,10 +95,7 @@ impl LaidOutLines {
         requires { 0 < vec_len lines }
         ensures { IfOk result (λ laid. laid ≡ laid_out_anew settings count (text_of lines.items)) }
     {
-        let size = rows::size_of(lines.as_slice());
-        if MAX_SIZE < size {
-            return Err(AllocError);
-        }
+        let size = size_within_limit(lines.as_slice())?;
         let wrapping = wrapping_for(settings, lines.len());
         let alloc = *lines.allocator();
         let map = ScreenMap::new(alloc, lines.as_slice(), wrapping, &mut count)?;
@@ -116,7 +116,8 @@ impl LaidOutLines {
         ensures lines { lines_of result.now ≡ lines self.now.text }
         ensures some { 0 < length result.now }
         ensures limit { size_of result.now ≤ 2 ^ 48 }
-        ensures small { (place : Place) → IsPlace self.now.text place → (place.0 < 2 ^ 48) × (place.1 ≤ 2 ^ 48) }
+        ensures small { (place : Place) → IsPlace self.now.text place →
+            (place.0 < 2 ^ 48) × (place.1 ≤ 2 ^ 48) }
     {
         self.lines.as_slice()
     }
@@ -152,7 +153,8 @@ impl LaidOutLines {
     /// Holds these lines in place of the others, seen under the same settings. Each is cut once.
     pub fn set_lines(&mut self, lines: Vec<String>) -> Result<(), AllocError>
         requires { 0 < vec_len lines }
-        ensures ok { OnOk result (self.new ≡ laid_out_anew self.old.layout.settings self.old.layout.count (text_of lines.items)) }
+        ensures ok { OnOk result (self.new
+            ≡ laid_out_anew self.old.layout.settings self.old.layout.count (text_of lines.items)) }
         ensures err { OnErr result (self.new ≡ self.old) }
     {
         *self = LaidOutLines::lay_out(lines, self.settings, self.count.clone()?)?;
@@ -166,9 +168,12 @@ impl LaidOutLines {
         ensures err { OnErr result (self.new ≡ self.old) }
         ensures no_memory { stays_cut self.old settings ≡ true → IsOk result }
     {
-        let before = wrapping_for(self.settings, self.lines.len());
+        let before = self.map.wrapping();
         let after = wrapping_for(settings, self.lines.len());
         if is_same(after, before) {
+            if !is_wrapped(settings) {
+                self.map.set_tab_len(settings.tab_len);
+            }
             self.settings = settings;
             return Ok(());
         }
@@ -190,11 +195,10 @@ impl LaidOutLines {
     /// The visual row in which a place of the text is seen, and its display column there.
     pub fn visual_position(&self, place: (usize, usize)) -> (usize, usize)
         requires { IsPlace self.now.text place }
-        ensures { OfRows self.now (λ rows. IsVisualPosition self.now.layout.settings.tab_len (lines self.now.text) rows place result) }
+        ensures { OfRows self.now (λ rows.
+            IsVisualPosition self.now.layout.settings.tab_len (lines self.now.text) rows place result) }
     {
-        let lines = self.lines.as_slice();
-        let wrapping = wrapping_for(self.settings, lines.len());
-        self.map.visual_position(lines, wrapping, place)
+        self.map.visual_position(self.lines.as_slice(), place)
     }
 
     /// Where a cursor goes from a place of the text, one visual row up; none from the first visual row.
@@ -203,9 +207,7 @@ impl LaidOutLines {
         ensures place { IfSome result (IsPlace self.now.text) }
         ensures above { IsFoundAbove self.now place result }
     {
-        let lines = self.lines.as_slice();
-        let wrapping = wrapping_for(self.settings, lines.len());
-        self.map.above(lines, wrapping, place)
+        self.map.above(self.lines.as_slice(), place)
     }
 
     /// Where a cursor goes from a place of the text, one visual row down; none from the last visual row.
@@ -214,14 +216,12 @@ impl LaidOutLines {
         ensures place { IfSome result (IsPlace self.now.text) }
         ensures below { IsFoundBelow self.now place result }
     {
-        let lines = self.lines.as_slice();
-        let wrapping = wrapping_for(self.settings, lines.len());
-        self.map.below(lines, wrapping, place)
+        self.map.below(self.lines.as_slice(), place)
     }
 
     /// How many visual rows the lines would have in all in an inner area of this width, in columns. Where they are cut so as
-    /// they stand, and where the last answer was for lines cut so, no line is cut; else each is cut once and none of the rows
-    /// is kept. In the mode `None` it takes no memory. What is seen of the lines stays as it is, the count too.
+    /// they stand, and so always in the mode `None`, it takes no memory. What is seen of the lines stays as it is, the count
+    /// too.
     pub fn rows_at_width(&mut self, inner_width: u16) -> Result<usize, AllocError>
         ensures same { self.new ≡ self.old }
         ensures rows { IfOk result (IsRowCountAt self.old inner_width) }
@@ -229,7 +229,7 @@ impl LaidOutLines {
     {
         let lines = self.lines.as_slice();
         let wrapping = wrapping_at(self.settings, inner_width, lines.len());
-        if is_same(wrapping, wrapping_for(self.settings, lines.len())) {
+        if is_same(wrapping, self.map.wrapping()) {
             return Ok(self.map.row_count());
         }
         if let Some(measured) = self.measured {
@@ -278,7 +278,6 @@ impl LaidOutLines {
             rows,
             self.lines.as_slice(),
             row,
-            self.settings.tab_len,
             &mut self.count,
         );
         self.size = size;
@@ -291,9 +290,9 @@ impl LaidOutLines {
     fn replace(&mut self, replacement: Replacement, size: usize) -> Result<(), AllocError>
         requires within { replacement.row + replacement.count ≤ length (lines self.old.text) }
         requires some { 0 < vec_len replacement.lines }
-        requires size { size ≡ weight (replaced_in self.old replacement.row replacement.count (lines_of replacement.lines.items)).text + 1 }
+        requires size { size ≡ weight (with_replacement self.old replacement).text + 1 }
         requires limit { size ≤ 2 ^ 48 }
-        ensures ok { OnOk result (self.new ≡ replaced_in self.old replacement.row replacement.count (lines_of replacement.lines.items)) }
+        ensures ok { OnOk result (self.new ≡ with_replacement self.old replacement) }
         ensures err { OnErr result (self.new ≡ self.old) }
     {
         let alloc = *self.lines.allocator();
@@ -318,17 +317,12 @@ impl LaidOutLines {
 
 // How large the lines are after the change; more than the limit is out of memory.
 fn size_after(size: usize, change: &Change<'_>) -> Result<usize, AllocError>
-    requires { size ≤ 2 ^ 48 }
-    ensures size { IfOk result (λ after. after ≡ if change.now.inserts then size + weight change.now.symbols else size - weight change.now.symbols) }
-    ensures limit { IfOk result (λ after. after ≤ 2 ^ 48) }
+    ensures size { IfOk result (λ after. after ≡ size_after size change.now) }
+    ensures limit { IsOk result ↔ (size_after size change.now ≤ 2 ^ 48) }
 {
     let weight = change.weight();
-    if !change.inserts() {
-        return Ok(size.saturating_sub(weight));
+    if change.inserts() {
+        return within_limit(size.saturating_add(weight));
     }
-    let after = size.saturating_add(weight);
-    if MAX_SIZE < after {
-        return Err(AllocError);
-    }
-    Ok(after)
+    within_limit(size.saturating_sub(weight))
 }

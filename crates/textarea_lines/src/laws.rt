@@ -9,7 +9,8 @@ use textarea_map::laws::{one_map, seen_once};
 
 /// A text as it is laid out has one list of right rows: what is seen of it decides all of them.
 pub fn one_list_of_rows()
-    ensures { (laid : LaidOut) (rows others : List RowsView) → IsLaidOutAs laid rows → IsLaidOutAs laid others → rows ≡ others }
+    ensures { (laid : LaidOut) (rows others : List RowsView) →
+        IsLaidOutAs laid rows → IsLaidOutAs laid others → rows ≡ others }
 {
     one_map();
 }

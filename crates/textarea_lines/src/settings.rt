@@ -42,7 +42,12 @@ pub fn wrapping_for(settings: LayoutSettings, line_count: usize) -> Wrapping
 pub fn wrapping_at(settings: LayoutSettings, inner_width: u16, line_count: usize) -> Wrapping
     ensures { result ≡ cut_at_width settings inner_width line_count }
 {
-    let metrics = LayoutMetrics::new(inner_width, line_count, settings.line_numbers, settings.mode);
+    let metrics = LayoutMetrics::new(
+        inner_width,
+        line_count,
+        settings.line_numbers,
+        settings.mode,
+    );
     Wrapping {
         mode: settings.mode,
         width: metrics.wrap_width().unwrap_or(1),

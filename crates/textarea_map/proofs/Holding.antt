@@ -26,7 +26,7 @@ next_range at (t ∷ u ∷ rest) (suc k) within =
     ap (λ n. (range_at (ranges_from at (t ∷ u ∷ rest)) n).0) step ∙ next_range (at + length t) (u ∷ rest) k (omega arith)
 
 -- the last row ends where the line does
-last_range : (at : ℕ) (texts : List (List ℕ)) (k : ℕ) → k + 1 ≡ length (ranges_from at texts) → (range_at (ranges_from at texts) k).1 ≡ at + length (concat texts)
+pub last_range : (at : ℕ) (texts : List (List ℕ)) (k : ℕ) → k + 1 ≡ length (ranges_from at texts) → (range_at (ranges_from at texts) k).1 ≡ at + length (concat texts)
 last_range at [] k last = absurd (omega arith)
 last_range at (t ∷ []) zero last = omega (arith, length-append t [])
 last_range at (t ∷ []) (suc k) last = absurd (omega arith)
@@ -39,7 +39,7 @@ some_texts mode tab_len width [] texts cut joined = omega (arith, ap length cut)
 some_texts mode tab_len width (byte ∷ line) [] cut joined = absurd (omega (arith, ap length joined))
 some_texts mode tab_len width (byte ∷ line) (t ∷ texts) cut joined = omega arith
 
-length-ranges_from : (at : ℕ) (texts : List (List ℕ)) → length (ranges_from at texts) ≡ length texts
+pub length-ranges_from : (at : ℕ) (texts : List (List ℕ)) → length (ranges_from at texts) ≡ length texts
 length-ranges_from at [] = refl
 length-ranges_from at (t ∷ texts) = ap suc (length-ranges_from (at + length t) texts)
 

@@ -8,8 +8,10 @@ use Rattle.textarea_text.specs.Text.{characters_of, lines_of}
 use Rattle.textarea_text.proofs.StringRows.{line_at}
 use Rattle.textarea_wrap.specs.RowsView.{RowsView}
 use Rattle.textarea_wrap.specs.Wrapped.{IsWrapped}
+use Rattle.textarea_wrap.specs.declared.wrap.WrapMode.{WrapMode}
+use Rattle.textarea_wrap.specs.declared.wrap.WrapMode.TheVariants as mode
 use Rattle.textarea_map.specs.declared.layout.Wrapping.{Wrapping}
-use Rattle.textarea_map.specs.Layout.{AreRowsOf, AreRowsOfLine, ticks_behind, ticks_of}
+use Rattle.textarea_map.specs.Layout.{AreRowsOf, AreRowsOfLine, ticks_behind, ticks_of, with_tab_len}
 use Rattle.textarea_text.specs.Replaced.{replaced}
 
 pub AreRowsOf-append : (w : Wrapping) (lines more : List (List ℕ)) (rows others : List RowsView) → AreRowsOf w lines rows → AreRowsOf w more others → AreRowsOf w (lines ++ more) (rows ++ others)
@@ -95,3 +97,25 @@ ranges_same w (line ∷ lines) [] others one h k = absurd h
 ranges_same w (line ∷ lines) (r ∷ rows) [] one h k = absurd k
 ranges_same w (line ∷ lines) (r ∷ rows) (s ∷ others) one h k =
     ap₂ (λ (x : List (ℕ × ℕ)) (xs : List (List (ℕ × ℕ))). x ∷ xs) (one (encode_utf8_all line) r.ranges s.ranges h.0.cut k.0.cut) (ranges_same w lines rows others one h.1 k.1)
+
+-- where lines aren't wrapped, neither the width nor the tab stops count
+pub whole_anyhow : (tab_len width other_tab_len other_width : ℕ) (line : List ℕ) (ranges : List (ℕ × ℕ)) → IsWrapped mode.None tab_len width line ranges → IsWrapped mode.None other_tab_len other_width line ranges
+whole_anyhow tab_len width other_tab_len other_width [] ranges h =
+    record { texts = h.texts; cut = h.cut; joined = h.joined; ranges_are = h.ranges_are; placed = h.placed }
+whole_anyhow tab_len width other_tab_len other_width (b ∷ line) ranges h =
+    record { texts = h.texts; cut = h.cut; joined = h.joined; ranges_are = h.ranges_are; placed = h.placed }
+
+pub whole_at_tab_len : (w : Wrapping) (tab_len : ℕ) (lines : List (List ℕ)) (rows : List RowsView) → w.mode ≡ mode.None → AreRowsOf w lines rows → AreRowsOf (with_tab_len w tab_len) lines rows
+whole_at_tab_len w tab_len [] [] whole h = tt
+whole_at_tab_len w tab_len [] (r ∷ rows) whole h = absurd h
+whole_at_tab_len w tab_len (line ∷ lines) [] whole h = absurd h
+whole_at_tab_len w tab_len (line ∷ lines) (r ∷ rows) whole h =
+    let here : IsWrapped mode.None w.tab_len (max w.width 1) (encode_utf8_all line) r.ranges =
+    subst (λ (m : WrapMode). IsWrapped m w.tab_len (max w.width 1) (encode_utf8_all line) r.ranges) whole h.0.cut in (
+      record {
+        characters = h.0.characters;
+        short = h.0.short;
+        cut = subst (λ (m : WrapMode). IsWrapped m tab_len (max w.width 1) (encode_utf8_all line) r.ranges) (sym whole) (whole_anyhow w.tab_len (max w.width 1) tab_len (max w.width 1) (encode_utf8_all line) r.ranges here);
+      },
+      whole_at_tab_len w tab_len lines rows whole h.1,
+    )

@@ -6,3 +6,4 @@ pub mod Holding
 pub mod VisualRows
 pub mod ThereAndBack
 pub mod Once
+pub mod RowSizes

@@ -1,11 +1,12 @@
 -- The visual rows of all lines, each found by its line and its number there.
-use Rattle.std.proofs.Common.{◌≡◌, ℕ, zero, suc, ◌+◌, ◌-◌, ◌<◌, ◌≤◌, ◌^◌, inl, inr, true, false, nat_eq, Bool, List, [], ◌∷◌, ◌++◌, length, take, drop, get_or, sym, ap, refl, subst, ◌∙◌, arith, encode_utf8_all}
+use Rattle.std.proofs.Common.{◌≡◌, ℕ, zero, suc, ◌+◌, ◌-◌, ◌<◌, ◌≤◌, ◌^◌, inl, inr, true, false, nat_eq, Bool, List, [], ◌∷◌, ◌++◌, length, take, drop, get_or, sym, ap, refl, subst, ◌∙◌, arith, encode_utf8_all, String, string_bytes}
 use Rattle.std.proofs.lemmas.Bool.{cases_lt}
-use Rattle.std.proofs.lemmas.List.{get_or-append-add, get_or_append_left, length-append}
+use Rattle.std.proofs.lemmas.List.{get_or-append-add, get_or_append_left, length-append, length-map}
 use Rattle.std.proofs.lemmas.Bool.Decides.{nat_tests}
 use Rattle.std.proofs.lemmas.Str.{length-le-encodes}
 use Rattle.std.specs.Str.{IsUtf8, chars}
 use Rattle.textarea_text.specs.Place.{Place, IsPlaceOf}
+use Rattle.textarea_text.specs.Text.{characters_of, lines_of}
 use Rattle.textarea_text.proofs.Columns.{offset_in}
 use Rattle.textarea_wrap.specs.Columns.{display_end_column}
 use Rattle.textarea_wrap.specs.RowsView.{RowsView}
@@ -15,7 +16,7 @@ use Rattle.textarea_map.specs.Layout.{AreRowsOf}
 use Rattle.textarea_map.specs.Map.{ranges_at, range_at, row_total}
 use Rattle.textarea_map.specs.Rows.{VisualRow, rows_of_line, rows_from, visual_rows, row_at}
 use Rattle.textarea_map.specs.Seen.{IsVisualPosition}
-use Rattle.textarea_map.proofs.Holding.{cut_at, holds_offset, range_is, rows_at, some_bytes}
+use Rattle.textarea_map.proofs.Holding.{bytes_of_line, cut_at, holds_offset, range_is, rows_at, some_bytes}
 use Rattle.textarea_map.proofs.Layouts.{length-AreRowsOf}
 use Rattle.textarea_map.proofs.Parts.{Parts, characters_between, column_before, column_from, column_to, parts_of, row_within}
 
@@ -264,3 +265,20 @@ text_of_row w lines rows row line number ranges text h within there row_is range
     } in
     subst (λ (t : List ℕ). IsTextOfRow (row_at lines rows row) line number ranges t) (sym text_is)
     (subst (λ (r : List (ℕ × ℕ)). IsTextOfRow (row_at lines rows row) line number r bytes) (sym ranges_is) at_bytes)
+
+-- the same from the line and the row that are found, and from the lines that are lent
+pub record IsFoundRow {Z : Type 0} (items : List (String Z)) (rows : List RowsView) (row line number : ℕ) (ranges : List (ℕ × ℕ)) (text : List ℕ) : Type 0 where
+  pub within : line < length items
+  pub there : number < length ranges
+  pub text_is : IsTextOfRow (row_at (lines_of items) rows row) line number ranges text
+
+pub found_row : {Z : Type 0} (w : Wrapping) (items : List (String Z)) (rows : List RowsView) (row line number : ℕ) (ranges : List (ℕ × ℕ)) (item : String Z) (text : List ℕ) → AreRowsOf w (lines_of items) rows → line < length rows → row_total (take line rows) + number ≡ row → row < row_total (take (line + 1) rows) → ranges ≡ ranges_at rows line → item ≡ get_or items line item → text ≡ string_bytes item → IsFoundRow items rows row line number ranges text
+found_row w items rows row line number ranges item text h line_within row_is inside ranges_is read same =
+    let there = number_there rows line number row line_within row_is inside in
+    let in_lines : line < length (lines_of items) = omega (arith, line_within, length-AreRowsOf w (lines_of items) rows h) in
+    let within : line < length items = omega (arith, in_lines, length-map items characters_of) in
+    record {
+      within = within;
+      there = omega (arith, there, ap length ranges_is);
+      text_is = text_of_row w (lines_of items) rows row line number ranges text h in_lines there row_is ranges_is (bytes_of_line items line item text within read same);
+    }

@@ -14,6 +14,10 @@ pub record AreRowsOfLine (wrapping : Wrapping) (line : List ℕ) (rows : RowsVie
   pub short : length (encode_utf8_all line) < 2 ^ 48
   pub cut : IsWrapped wrapping.mode wrapping.tab_len (max wrapping.width 1) (encode_utf8_all line) rows.ranges
 
+-- lines are cut so, with so many columns between tab stops
+abbrev pub with_tab_len : Wrapping → ℕ → Wrapping
+with_tab_len wrapping tab_len = record { mode = wrapping.mode; width = wrapping.width; tab_len = tab_len }
+
 -- the rows are right cuttings of these lines, line by line and as many
 abbrev pub AreRowsOf : Wrapping → List (List ℕ) → List RowsView → Type 0
 AreRowsOf wrapping [] [] = Unit {0}

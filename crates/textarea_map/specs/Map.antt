@@ -1,14 +1,15 @@
 -- What clauses see of a screen map.
-use Rattle.std.specs.Prelude.{◌≡◌, ℕ, ◌+◌, ◌≤◌, ◌^◌, List, [], ◌∷◌, map, length, get_or, vec_len}
+use Rattle.std.specs.Prelude.{◌≡◌, ℕ, ◌+◌, ◌-◌, ◌≤◌, ◌^◌, List, [], ◌∷◌, map, length, get_or, vec_len}
 use Rattle.textarea_text.specs.Replaced.{replaced}
 use Rattle.textarea_wrap.specs.RowsView.{RowsView}
 use Rattle.textarea_map.specs.declared.layout.Wrapping.{Wrapping}
 use Rattle.textarea_map.specs.declared.screen_map.PreparedRows.{PreparedRows}
 use Rattle.textarea_map.specs.Layout.{AreRowsOf}
 
--- the rows of each line, and how many lines more the map can take without memory
+-- the rows of each line, how the lines are cut, and how many lines more the map can take without memory
 pub record MapView : Type 0 where
   pub rows : List RowsView
+  pub wrapping : Wrapping
   pub room : ℕ
 
 -- how many visual rows these lines have in all
@@ -33,17 +34,38 @@ ranges_at rows line = get_or (map (λ (r : RowsView). r.ranges) rows) line []
 abbrev pub range_at : List (ℕ × ℕ) → ℕ → ℕ × ℕ
 range_at ranges row = get_or ranges row (0, 0)
 
--- What each map keeps: its lines are numbered by the visual rows before them, and there are so few rows in all that no sum of
--- rows leaves a machine word.
-pub record IsNumbered (rows : List RowsView) (firsts : List ℕ) (total : ℕ) : Type 0 where
+-- the bytes of the line that has these rows: its last row ends behind all of them
+abbrev pub line_bytes : List (ℕ × ℕ) → ℕ
+line_bytes ranges = (range_at ranges (length ranges - 1)).1
+
+-- the bytes of the lines that have these rows and the number of lines, summed
+abbrev pub size_total : List RowsView → ℕ
+size_total [] = 0
+size_total (rows ∷ rest) = line_bytes rows.ranges + 1 + size_total rest
+
+-- The lines that have these rows are within the limit: at most 2^48 bytes and lines together, and no more rows than that. Right
+-- rows are never more than bytes and lines together (`laws::few_rows`), so of them the first says the second.
+pub record IsWithinLimit (rows : List RowsView) : Type 0 where
+  pub size : size_total rows ≤ 2 ^ 48
+  pub few : row_total rows ≤ 2 ^ 48
+
+-- What each map keeps: its lines are numbered by the visual rows before them, their rows and their size are known, and they are
+-- within the limit, so that no sum of rows leaves a machine word.
+pub record IsNumbered (rows : List RowsView) (firsts : List ℕ) (total size : ℕ) : Type 0 where
   pub numbers : firsts ≡ firsts_from 0 rows
   pub all : total ≡ row_total rows
-  pub small : total ≤ 2 ^ 48
+  pub size_is : size ≡ size_total rows
+  pub limit : IsWithinLimit rows
 
--- The rows can be put into the map without memory: they take the place of those of lines that are there, there is room for them,
--- their sum is known, and the map has at most 2^48 rows afterwards.
+-- all rows after a preparation has taken its place among these
+abbrev pub rows_with : List RowsView → PreparedRows → List RowsView
+rows_with rows prepared = replaced rows prepared.row prepared.count prepared.rows.items
+
+-- The rows can be put into the map without memory: they take the place of those of lines that are there, there is room for
+-- them, their number and the size of their lines are known, and the map is within the limit afterwards.
 pub record IsReady (map : MapView) (prepared : PreparedRows) : Type 0 where
   pub within : prepared.row + prepared.count ≤ length map.rows
   pub room : vec_len prepared.rows ≤ prepared.count + map.room
   pub total : prepared.total ≡ row_total prepared.rows.items
-  pub small : row_total (replaced map.rows prepared.row prepared.count prepared.rows.items) ≤ 2 ^ 48
+  pub size : prepared.size ≡ size_total prepared.rows.items
+  pub limit : IsWithinLimit (rows_with map.rows prepared)

@@ -20,6 +20,11 @@ pub record IsVisualPosition (tab_len : ℕ) (lines : List (List ℕ)) (rows : Li
   pub holds : IsInRow (row_at lines rows seen.0) place
   pub column : seen.1 ≡ column_at tab_len (row_at lines rows seen.0).text (place.1 - (row_at lines rows seen.0).first)
 
+-- the place is seen in this visual row, at this display column or before it
+abbrev pub IsSeenUpTo : ℕ → List (List ℕ) → List RowsView → Place → Place → Type 0
+IsSeenUpTo tab_len lines rows seen place =
+    (column : ℕ) × (column ≤ seen.1) × IsVisualPosition tab_len lines rows place (seen.0, column)
+
 -- ---- and back; a place of a row is given by the number of the row's characters before it
 
 -- the first place of the row at this display column

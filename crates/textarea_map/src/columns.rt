@@ -20,7 +20,8 @@ pub fn last_character_column(text: &str, tab_len: u8) -> usize
 /// column of its last character.
 pub fn greatest_cursor_column(text: &str, is_last: bool, tab_len: u8) -> usize
     requires { length text.now < 2 ^ 48 }
-    ensures { result ≡ (if is_last then display_end_column tab_len 0 (chars text.now) else column_at tab_len (chars text.now) (length (chars text.now) - 1)) }
+    ensures { result ≡ (if is_last then display_end_column tab_len 0 (chars text.now)
+        else column_at tab_len (chars text.now) (length (chars text.now) - 1)) }
 {
     if is_last {
         display_column_behind_text(text, 0, tab_len)

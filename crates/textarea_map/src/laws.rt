@@ -1,51 +1,64 @@
 //! Laws of the map, each the contract of a function that does nothing.
 ghost use Rattle.std.specs.Prelude.{◌≡◌, ◌≤◌, ℕ, List, map};
 ghost use Rattle.textarea_text.specs.Place.{IsPlaceOf, Place};
+ghost use Rattle.textarea_text.specs.Size.{weight};
+ghost use Rattle.textarea_text.specs.Text.{following};
 ghost use Rattle.textarea_wrap.specs.RowsView.{RowsView};
 ghost use Rattle.textarea_map.specs.declared.layout.Wrapping.{Wrapping};
 ghost use Rattle.textarea_map.specs.Layout.{AreRowsOf};
-ghost use Rattle.textarea_map.specs.Map.{IsRowCount};
+ghost use Rattle.textarea_map.specs.Map.{IsRowCount, row_total, size_total};
 ghost use Rattle.textarea_map.specs.Rows.{greatest_column, row_at};
-ghost use Rattle.textarea_map.specs.Seen.{HasNoZeroWidth, IsAbove, IsBelow, IsPlaceAt, IsPlaceNear, IsVisualPosition};
+ghost use Rattle.textarea_map.specs.Seen.{HasNoZeroWidth, IsAbove, IsBelow, IsPlaceAt, IsPlaceNear, IsSeenUpTo, IsVisualPosition};
 
 use textarea_wrap::laws::one_cutting;
 
 /// A place whose visual row has no character of display width 0 is found again from that row and its display column.
 pub fn found_again()
-    ensures { (tab_len : ℕ) (lines : List (List ℕ)) (rows : List RowsView) (place seen found : Place) →
-        IsVisualPosition tab_len lines rows place seen → HasNoZeroWidth (row_at lines rows seen.0).text →
+    ensures { (tab_len : ℕ) (lines : List (List ℕ)) (rows : List RowsView)
+        (place seen found : Place) →
+        IsVisualPosition tab_len lines rows place seen →
+        HasNoZeroWidth (row_at lines rows seen.0).text →
         IsPlaceAt tab_len lines rows seen found → found ≡ place }
 {}
 
 /// A visual row and a display column lead back to a place of the lines. Where the column is at most the row's greatest cursor
 /// column, that place is seen in that row, at that column or before it.
 pub fn seen_where_looked_up()
-    ensures place { (wrapping : Wrapping) (lines : List (List ℕ)) (rows : List RowsView) (seen place : Place) →
-        AreRowsOf wrapping lines rows → IsPlaceAt wrapping.tab_len lines rows seen place → IsPlaceOf lines place }
-    ensures seen { (wrapping : Wrapping) (lines : List (List ℕ)) (rows : List RowsView) (seen place : Place) →
+    ensures place { (wrapping : Wrapping) (lines : List (List ℕ)) (rows : List RowsView)
+        (seen place : Place) →
+        AreRowsOf wrapping lines rows → IsPlaceAt wrapping.tab_len lines rows seen place →
+        IsPlaceOf lines place }
+    ensures seen { (wrapping : Wrapping) (lines : List (List ℕ)) (rows : List RowsView)
+        (seen place : Place) →
         AreRowsOf wrapping lines rows → IsPlaceAt wrapping.tab_len lines rows seen place →
         seen.1 ≤ greatest_column wrapping.tab_len (row_at lines rows seen.0) →
-        ((column : ℕ) × (column ≤ seen.1) × IsVisualPosition wrapping.tab_len lines rows place (seen.0, column)) }
-    ensures near { (wrapping : Wrapping) (lines : List (List ℕ)) (rows : List RowsView) (seen place : Place) →
+        IsSeenUpTo wrapping.tab_len lines rows seen place }
+    ensures near { (wrapping : Wrapping) (lines : List (List ℕ)) (rows : List RowsView)
+        (seen place : Place) →
         AreRowsOf wrapping lines rows → IsPlaceNear wrapping.tab_len lines rows seen place →
-        ((column : ℕ) × (column ≤ seen.1) × IsVisualPosition wrapping.tab_len lines rows place (seen.0, column)) }
+        IsSeenUpTo wrapping.tab_len lines rows seen place }
 {}
 
 /// A visual row and a display column lead back to one place.
 pub fn one_place()
-    ensures { (tab_len : ℕ) (lines : List (List ℕ)) (rows : List RowsView) (seen place other : Place) →
-        IsPlaceAt tab_len lines rows seen place → IsPlaceAt tab_len lines rows seen other → place ≡ other }
+    ensures { (tab_len : ℕ) (lines : List (List ℕ)) (rows : List RowsView)
+        (seen place other : Place) →
+        IsPlaceAt tab_len lines rows seen place → IsPlaceAt tab_len lines rows seen other →
+        place ≡ other }
 {}
 
 /// A place is seen in one visual row at one column, and a cursor goes from it to one place up and to one place down.
 pub fn seen_once()
-    ensures seen { (wrapping : Wrapping) (lines : List (List ℕ)) (rows : List RowsView) (place seen other : Place) →
+    ensures seen { (wrapping : Wrapping) (lines : List (List ℕ)) (rows : List RowsView)
+        (place seen other : Place) →
         AreRowsOf wrapping lines rows → IsVisualPosition wrapping.tab_len lines rows place seen →
         IsVisualPosition wrapping.tab_len lines rows place other → seen ≡ other }
-    ensures above { (wrapping : Wrapping) (lines : List (List ℕ)) (rows : List RowsView) (place target other : Place) →
+    ensures above { (wrapping : Wrapping) (lines : List (List ℕ)) (rows : List RowsView)
+        (place target other : Place) →
         AreRowsOf wrapping lines rows → IsAbove wrapping.tab_len lines rows place target →
         IsAbove wrapping.tab_len lines rows place other → target ≡ other }
-    ensures below { (wrapping : Wrapping) (lines : List (List ℕ)) (rows : List RowsView) (place target other : Place) →
+    ensures below { (wrapping : Wrapping) (lines : List (List ℕ)) (rows : List RowsView)
+        (place target other : Place) →
         AreRowsOf wrapping lines rows → IsBelow wrapping.tab_len lines rows place target →
         IsBelow wrapping.tab_len lines rows place other → target ≡ other }
 {}
@@ -66,3 +79,12 @@ pub fn one_row_count()
 {
     one_cutting();
 }
+
+/// Lines have no more rows than bytes and lines together, and the map reckons their size from their rows: so of right rows
+/// the limit on bytes and lines says the one on rows.
+pub fn few_rows()
+    ensures size { (wrapping : Wrapping) (lines : List (List ℕ)) (rows : List RowsView) →
+        AreRowsOf wrapping lines rows → size_total rows ≡ weight (following lines) }
+    ensures few { (wrapping : Wrapping) (lines : List (List ℕ)) (rows : List RowsView) →
+        AreRowsOf wrapping lines rows → row_total rows ≤ size_total rows }
+{}

@@ -1,11 +1,12 @@
 //! The rows of several lines.
-ghost use Rattle.std.specs.Prelude.{◌≡◌, ◌+◌, ◌≤◌, ◌++◌, ◌^◌, ℕ, List, length, IfOk, OnOk};
+ghost use Rattle.std.specs.Prelude.{◌≡◌, ◌+◌, ◌≤◌, ◌++◌, ◌^◌, ℕ, List, length, min, IfOk, OnOk};
+ghost use Rattle.textarea_text.specs.Size.{size_of};
 ghost use Rattle.textarea_text.specs.Text.{lines_of};
 ghost use Rattle.textarea_map.specs.Layout.{AreRowsOf, ticks_behind, ticks_of};
-ghost use Rattle.textarea_map.specs.Map.{IsRowCount, row_total};
+ghost use Rattle.textarea_map.specs.Map.{IsRowCount, line_bytes, row_total, size_total};
 
 use std::alloc::{AllocError, Global};
-use textarea_text::rows::MAX_SIZE;
+use textarea_text::rows::size_within_limit;
 use textarea_wrap::wrap::{Rows, WrapCount, WrapMode, line_ranges};
 
 /// How lines are cut into rows: the mode, the width in columns, of which 0 counts as 1, and the columns between tab stops. In
@@ -17,10 +18,6 @@ pub struct Wrapping {
     pub tab_len: u8,
 }
 
-/// The most rows that a map holds. A row has a byte, or is that of an empty line, so lines of at most 2^48 bytes and breaks
-/// have no more.
-pub const MAX_ROWS: usize = MAX_SIZE;
-
 /// Cuts the lines, and puts their rows behind those of the lines before them. Each line adds one to `count`.
 pub fn push_rows(
     alloc: Global,
@@ -30,9 +27,11 @@ pub fn push_rows(
     count: &mut WrapCount,
 ) -> Result<(), AllocError>
     ensures counted { OnOk result (count.new ≡ count.old + length lines.now) }
+    ensures never_less { count.old ≤ count.new }
     ensures rows { (before : List (List ℕ)) → AreRowsOf wrapping before rows.old.items
         → OnOk result (AreRowsOf wrapping (before ++ lines_of lines.now) rows.new.items) }
-    ensures ticks { OnOk result (ticks_of rows.new.items ≡ ticks_of rows.old.items ++ ticks_behind count.old (length lines.now)) }
+    ensures ticks { OnOk result (ticks_of rows.new.items
+        ≡ ticks_of rows.old.items ++ ticks_behind count.old (length lines.now)) }
 {
     for i in 0..lines.len() {
         let cut = line_ranges(
@@ -56,34 +55,57 @@ pub fn rows_of(
     count: &mut WrapCount,
 ) -> Result<Vec<Rows>, AllocError>
     ensures counted { OnOk result (count.new ≡ count.old + length lines.now) }
+    ensures never_less { count.old ≤ count.new }
     ensures rows { IfOk result (λ rows. AreRowsOf wrapping (lines_of lines.now) rows.items) }
-    ensures ticks { IfOk result (λ rows. ticks_of rows.items ≡ ticks_behind count.old (length lines.now)) }
+    ensures ticks { IfOk result (λ rows.
+        ticks_of rows.items ≡ ticks_behind count.old (length lines.now)) }
 {
     let mut rows = Vec::with_capacity(alloc, lines.len())?;
     push_rows(alloc, &mut rows, lines, wrapping, count)?;
     Ok(rows)
 }
 
-/// How many rows these are in all. More than a map holds are answered with an `AllocError`.
-pub fn count_rows(rows: &[Rows]) -> Result<usize, AllocError>
-    ensures { IfOk result (λ total. (total ≡ row_total rows.now) × (total ≤ 2 ^ 48)) }
+// How many rows these are in all, or the greatest `usize` where that is less.
+pub(crate) fn count_rows(rows: &[Rows]) -> usize
+    ensures { result ≡ min (row_total rows.now) usize.MAX }
 {
-    let mut total = 0;
+    let mut total = 0usize;
     for line in rows {
-        let more = line.as_slice().len();
-        if more > MAX_ROWS - total {
-            return Err(AllocError);
-        }
-        total += more;
+        total = total.saturating_add(line.as_slice().len());
     }
-    Ok(total)
+    total
 }
 
-/// How many rows the lines have in all. Each is cut once, and no row is kept. More than a map holds are answered with an
-/// `AllocError`.
-pub fn rows_in(alloc: Global, lines: &[String], wrapping: Wrapping) -> Result<usize, AllocError>
-    ensures { IfOk result (IsRowCount wrapping (lines_of lines.now)) }
+// The bytes of the lines that have these rows and their number, summed, or the greatest `usize` where that is less.
+pub(crate) fn size_of_rows(rows: &[Rows]) -> usize
+    ensures { result ≡ min (size_total rows.now) usize.MAX }
 {
+    let mut size = 0usize;
+    for line in rows {
+        size = size
+            .saturating_add(line_bytes(line.as_slice()))
+            .saturating_add(1);
+    }
+    size
+}
+
+// The bytes of the line that has these rows.
+fn line_bytes(ranges: &[(usize, usize)]) -> usize
+    ensures { result ≡ line_bytes ranges.now }
+{
+    match ranges.last() {
+        Some(range) => range.1,
+        None => 0,
+    }
+}
+
+/// How many rows the lines have in all. Each is cut once, and no row is kept. Lines of more than 2^48 bytes and lines together
+/// are out of memory.
+pub fn rows_in(alloc: Global, lines: &[String], wrapping: Wrapping) -> Result<usize, AllocError>
+    ensures rows { IfOk result (IsRowCount wrapping (lines_of lines.now)) }
+    ensures limit { OnOk result (size_of lines.now ≤ 2 ^ 48) }
+{
+    size_within_limit(lines)?;
     let Wrapping {
         mode,
         width,
@@ -93,11 +115,7 @@ pub fn rows_in(alloc: Global, lines: &[String], wrapping: Wrapping) -> Result<us
     let mut total = 0;
     for line in lines {
         let cut = line_ranges(alloc, line.as_str(), mode, width, tab_len, &mut count)?;
-        let more = cut.as_slice().len();
-        if MAX_ROWS - total < more {
-            return Err(AllocError);
-        }
-        total += more;
+        total += cut.as_slice().len();
     }
     Ok(total)
 }

@@ -1,15 +1,18 @@
 //! The rows of each line of a text, kept line by line with the number of the line's first visual row. Visual rows are counted
 //! from 0 over all lines.
-ghost use Rattle.std.specs.Prelude.{◌≡◌, ◌+◌, ◌<◌, ◌≤◌, ◌^◌, length, take, drop, vec_len, vec_capacity, IfOk, OnOk};
-ghost use Rattle.textarea_text.specs.Text.{lines_of};
+ghost use Rattle.std.specs.Prelude.{◌≡◌, ◌+◌, ◌<◌, ◌≤◌, ◌^◌, ◌↔◌, ℕ, List, length, take, drop, vec_len, vec_capacity, IfOk, IsOk, OnOk};
 ghost use Rattle.textarea_text.specs.Replaced.{replaced};
-ghost use Rattle.textarea_map.specs.Layout.{AreRowsOf, ticks_behind, ticks_of};
-ghost use Rattle.textarea_map.specs.Map.{IsReady, firsts_from, ranges_at, row_total};
+ghost use Rattle.textarea_text.specs.Size.{size_of};
+ghost use Rattle.textarea_text.specs.Text.{lines_of};
+ghost use Rattle.textarea_wrap.specs.declared.wrap.WrapMode.TheVariants as mode;
+ghost use Rattle.textarea_map.specs.Layout.{AreRowsOf, ticks_behind, ticks_of, with_tab_len};
+ghost use Rattle.textarea_map.specs.Map.{IsReady, IsWithinLimit, firsts_from, ranges_at, row_total, rows_with, size_total};
 
-use crate::layout::{MAX_ROWS, Wrapping, count_rows, rows_of};
+use crate::layout::{Wrapping, count_rows, rows_of, size_of_rows};
 use std::alloc::{AllocError, Global};
 use std::marker::Model;
 use textarea_text::replace::replace_items;
+use textarea_text::rows::within_limit;
 use textarea_wrap::wrap::{Rows, WrapCount};
 
 mod look_up;
@@ -21,6 +24,8 @@ pub struct ScreenMap {
     rows: Vec<Rows>,
     firsts: Vec<usize>,
     total: usize,
+    size: usize,
+    wrapping: Wrapping,
 }
 
 impl Model for ScreenMap {
@@ -31,51 +36,64 @@ impl Model for ScreenMap {
 
     ghost view = { λ map. record {
       rows = map.rows.items;
-      room = min (vec_capacity map.rows - vec_len map.rows) (vec_capacity map.firsts - vec_len map.firsts);
+      wrapping = map.wrapping;
+      room = min
+          (vec_capacity map.rows - vec_len map.rows)
+          (vec_capacity map.firsts - vec_len map.firsts);
     } };
 
-    ghost invariant = { λ map. IsNumbered map.rows.items map.firsts.items map.total };
+    ghost invariant = { λ map. IsNumbered map.rows.items map.firsts.items map.total map.size };
 }
 
-/// Rows that are to take the place of those of the `count` lines from `row` on, and how many they are in all. A map made room
-/// for them.
+/// Rows that are to take the place of those of the `count` lines from `row` on, how many they are in all, the bytes and the
+/// number of their lines, summed, and how the map's lines are cut afterwards. A map made room for them.
 #[derive(Drop)]
 pub struct PreparedRows {
     pub row: usize,
     pub count: usize,
     pub rows: Vec<Rows>,
     pub total: usize,
+    pub size: usize,
+    pub wrapping: Wrapping,
 }
 
 impl Clone for ScreenMap {
-    ghost is_clone = { λ map copy. copy.rows ≡ map.rows };
+    ghost is_clone = { λ map copy. (copy.rows ≡ map.rows) × (copy.wrapping ≡ map.wrapping) };
 
-    /// A map with the same rows, ticks included, or an error where there is no memory for them. No line is cut.
+    /// A map with the same rows, ticks included, for the same wrapping, or an error where there is no memory for them. No line is cut.
     fn clone(&self) -> Result<ScreenMap, AllocError> {
         Ok(ScreenMap {
             rows: self.rows.clone()?,
             firsts: self.firsts.clone()?,
             total: self.total,
+            size: self.size,
+            wrapping: self.wrapping,
         })
     }
 }
 
 impl ScreenMap {
-    /// The map of the lines, each of which is cut once. Lines of more than 2^48 rows in all are answered with an `AllocError`.
+    /// The map of the lines, each of which is cut once. Lines of more than 2^48 bytes and lines together are out of memory.
     pub fn new(
         alloc: Global,
         lines: &[String],
         wrapping: Wrapping,
         counter: &mut WrapCount,
     ) -> Result<ScreenMap, AllocError>
+        ensures rows { IfOk result (λ map. AreRowsOf map.wrapping (lines_of lines.now) map.rows) }
+        ensures wrapping { IfOk result (λ map. map.wrapping ≡ wrapping) }
+        ensures ticks { IfOk result (λ map.
+            ticks_of map.rows ≡ ticks_behind counter.old (length lines.now)) }
         ensures counted { OnOk result (counter.new ≡ counter.old + length lines.now) }
-        ensures rows { IfOk result (λ map. AreRowsOf wrapping (lines_of lines.now) map.rows) }
-        ensures ticks { IfOk result (λ map. ticks_of map.rows ≡ ticks_behind counter.old (length lines.now)) }
+        ensures never_less { counter.old ≤ counter.new }
+        ensures limit { OnOk result (size_of lines.now ≤ 2 ^ 48) }
     {
         let mut map = ScreenMap {
             rows: Vec::new(alloc),
             firsts: Vec::new(alloc),
             total: 0,
+            size: 0,
+            wrapping,
         };
         let prepared = map.prepare(alloc, 0, 0, lines, wrapping, counter)?;
         map.replace(prepared);
@@ -83,7 +101,7 @@ impl ScreenMap {
     }
 
     /// Cuts the lines that are to take the place of the `count` lines from `row` on, each once, and makes room for their rows.
-    /// The rows of the map stay as they are. A map that would have more than 2^48 rows is answered with an `AllocError`.
+    /// The map stays as it is. More than 2^48 bytes and lines together would be out of memory.
     pub fn prepare(
         &mut self,
         alloc: Global,
@@ -95,37 +113,41 @@ impl ScreenMap {
     ) -> Result<PreparedRows, AllocError>
         requires { row + count ≤ length self.old.rows }
         ensures same { self.new.rows ≡ self.old.rows }
+        ensures same_wrapping { self.new.wrapping ≡ self.old.wrapping }
         ensures ready { IfOk result (λ prepared. IsReady self.new prepared) }
         ensures row { IfOk result (λ prepared. prepared.row ≡ row) }
         ensures count { IfOk result (λ prepared. prepared.count ≡ count) }
-        ensures rows { IfOk result (λ prepared. AreRowsOf wrapping (lines_of lines.now) prepared.rows.items) }
-        ensures ticks { IfOk result (λ prepared. ticks_of prepared.rows.items ≡ ticks_behind counter.old (length lines.now)) }
+        ensures wrapping { IfOk result (λ prepared. prepared.wrapping ≡ wrapping) }
+        ensures rows { IfOk result (λ prepared.
+            AreRowsOf wrapping (lines_of lines.now) prepared.rows.items) }
+        ensures ticks { IfOk result (λ prepared.
+            ticks_of prepared.rows.items ≡ ticks_behind counter.old (length lines.now)) }
         ensures counted { OnOk result (counter.new ≡ counter.old + length lines.now) }
+        ensures never_less { counter.old ≤ counter.new }
     {
         let rows = rows_of(alloc, lines, wrapping, counter)?;
-        self.make_room(row, count, rows)
+        self.make_room(row, count, rows, wrapping)
     }
 
-    /// Makes room for rows that are to take the place of those of the `count` lines from `row` on. The rows of the map stay as
-    /// they are. A map that would have more than 2^48 rows is answered with an `AllocError`.
+    /// Makes room for rows that are to take the place of those of the `count` lines from `row` on, and are cut so. The map
+    /// stays as it is. More than 2^48 bytes and lines together would be out of memory.
     pub fn make_room(
         &mut self,
         row: usize,
         count: usize,
         rows: Vec<Rows>,
+        wrapping: Wrapping,
     ) -> Result<PreparedRows, AllocError>
         requires { row + count ≤ length self.old.rows }
         ensures same { self.new.rows ≡ self.old.rows }
+        ensures same_wrapping { self.new.wrapping ≡ self.old.wrapping }
         ensures ready { IfOk result (λ prepared. IsReady self.new prepared) }
         ensures row { IfOk result (λ prepared. prepared.row ≡ row) }
         ensures count { IfOk result (λ prepared. prepared.count ≡ count) }
+        ensures wrapping { IfOk result (λ prepared. prepared.wrapping ≡ wrapping) }
         ensures rows { IfOk result (λ prepared. prepared.rows.items ≡ rows.items) }
     {
-        let total = count_rows(rows.as_slice())?;
-        let old = self.first_row(row + count) - self.first_row(row);
-        if total > MAX_ROWS - (self.total - old) {
-            return Err(AllocError);
-        }
+        let (total, size) = self.within_limit_with(row, count, rows.as_slice())?;
         let more = rows.len().saturating_sub(count);
         self.rows.reserve(more)?;
         self.firsts.reserve(more)?;
@@ -134,32 +156,79 @@ impl ScreenMap {
             count,
             rows,
             total,
+            size,
+            wrapping,
         })
+    }
+
+    // How many rows these are, and how large their lines; out of memory where the map wouldn't be within the limit with them
+    // in the place of those of the `count` lines from `row` on.
+    fn within_limit_with(
+        &self,
+        row: usize,
+        count: usize,
+        rows: &[Rows],
+    ) -> Result<(usize, usize), AllocError>
+        requires { row + count ≤ length self.now.rows }
+        ensures total { IfOk result (λ coming. coming.0 ≡ row_total rows.now) }
+        ensures size { IfOk result (λ coming. coming.1 ≡ size_total rows.now) }
+        ensures limit { IsOk result ↔ IsWithinLimit (replaced self.now.rows row count rows.now) }
+    {
+        let going = &self.rows.as_slice()[row..row + count];
+        let (total, size) = (count_rows(rows), size_of_rows(rows));
+        within_limit((self.size - size_of_rows(going)).saturating_add(size))?;
+        within_limit((self.total - count_rows(going)).saturating_add(total))?;
+        Ok((total, size))
     }
 
     /// Has the rows take their place, without memory; no line is cut. Where lines and rows stay as many as they were, no other line is
     /// touched; otherwise the lines behind are numbered anew.
     pub fn replace(&mut self, prepared: PreparedRows)
         requires { IsReady self.old prepared }
-        ensures { self.new.rows ≡ replaced self.old.rows prepared.row prepared.count prepared.rows.items }
+        ensures rows { self.new.rows ≡ rows_with self.old.rows prepared }
+        ensures wrapping { self.new.wrapping ≡ prepared.wrapping }
     {
         let PreparedRows {
             row,
             count,
             rows,
             total,
+            size,
+            wrapping,
         } = prepared;
         let len = rows.len();
         let first = self.first_row(row);
         let old = self.first_row(row + count) - first;
+        let old_size = size_of_rows(&self.rows.as_slice()[row..row + count]);
         replace_items(&mut self.rows, row, count, rows);
         self.total = self.total - old + total;
+        self.size = self.size - old_size + size;
+        self.wrapping = wrapping;
         let lines = self.rows.as_slice();
         if len == count && old == total {
             number(self.firsts.as_mut_slice(), lines, row, row + len, first);
         } else {
             number_from(&mut self.firsts, lines, row, first);
         }
+    }
+
+    /// Sets the columns between tab stops, where lines aren't wrapped: no line is cut, since the rows of lines that aren't
+    /// wrapped are the same at any tab stops.
+    pub fn set_tab_len(&mut self, tab_len: u8)
+        requires { self.old.wrapping.mode ≡ mode.None }
+        ensures same { self.new.rows ≡ self.old.rows }
+        ensures wrapping { self.new.wrapping ≡ with_tab_len self.old.wrapping tab_len }
+        ensures right { (lines : List (List ℕ)) → AreRowsOf self.old.wrapping lines self.old.rows
+            → AreRowsOf self.new.wrapping lines self.new.rows }
+    {
+        self.wrapping.tab_len = tab_len;
+    }
+
+    /// How the lines are cut.
+    pub fn wrapping(&self) -> Wrapping
+        ensures { result ≡ self.now.wrapping }
+    {
+        self.wrapping
     }
 
     /// How many visual rows there are.

@@ -1,5 +1,5 @@
 //! Lines that take the place of others: made ready while the old lines stand, and put there without memory.
-ghost use Rattle.std.specs.Prelude.{◌≡◌, ◌+◌, ◌-◌, ◌<◌, ◌≤◌, ◌++◌, ◌∷◌, length, take, drop, MatchOption, encode_utf8_all, vec_len, vec_capacity, min, IfOk, OnOk, OnErr};
+ghost use Rattle.std.specs.Prelude.{◌≡◌, ◌+◌, ◌-◌, ◌<◌, ◌≤◌, ◌++◌, ◌∷◌, ◌^◌, ◌↔◌, length, take, drop, MatchOption, encode_utf8_all, vec_len, vec_capacity, min, IfOk, IsOk, OnOk, OnErr};
 ghost use Rattle.std.specs.Str.{chars};
 ghost use Rattle.textarea_text.specs.Text.{characters, following, lines_of, symbol_in, text_of};
 ghost use Rattle.textarea_text.specs.Place.{IsPlaceOf, IsSymbolBefore, ReplacesRows, changed, index_of};
@@ -187,4 +187,23 @@ pub fn size_of(lines: &[String]) -> usize
         size = size.saturating_add(line.len()).saturating_add(1);
     }
     size
+}
+
+/// The size, where a text may have so many bytes and lines together; a larger one is out of memory.
+pub fn within_limit(size: usize) -> Result<usize, AllocError>
+    ensures size { IfOk result (λ same. same ≡ size) }
+    ensures limit { IsOk result ↔ (size ≤ 2 ^ 48) }
+{
+    if MAX_SIZE < size {
+        return Err(AllocError);
+    }
+    Ok(size)
+}
+
+/// The bytes of the lines and their number, summed; more than a text may have are out of memory.
+pub fn size_within_limit(lines: &[String]) -> Result<usize, AllocError>
+    ensures size { IfOk result (λ size. size ≡ size_of lines.now) }
+    ensures limit { IsOk result ↔ (size_of lines.now ≤ 2 ^ 48) }
+{
+    within_limit(size_of(lines))
 }

@@ -45,8 +45,7 @@ impl Document {
     }
 
     /// How many visual rows the text would have in all in an inner area of this width, in columns. Where the lines are cut so
-    /// as they stand, and where the last answer was for lines cut so, no line is cut, and no memory is taken. Nothing that is
-    /// seen of the document changes.
+    /// as they stand, no memory is taken. Nothing that is seen of the document changes.
     #[tactic(auto, unfolding(crate::specs::Rows::HasRowsAt))]
     pub fn rows_at_width(&mut self, inner_width: u16) -> Result<usize, AllocError>
         ensures same { self.new ≡ self.old }

@@ -1,6 +1,6 @@
 //! Look-ups of a screen map: where a place is seen, which place a visual row and a display column lead back to, and where a
-//! cursor goes up and down. None of them takes memory. The lines and the wrapping that the map was made for are lent. A tab
-//! reaches to the next tab stop, and takes one column where there are none.
+//! cursor goes up and down. None of them takes memory. The lines that the map was made for are lent. A tab reaches to the next
+//! tab stop, and takes one column where there are none.
 ghost use Rattle.std.specs.Prelude.{◌≡◌, ◌+◌, ◌<◌, ◌≤◌, ◌^◌, [], chars, length, get_or, min, MatchOption};
 ghost use Rattle.textarea_text.specs.Text.{lines_of};
 ghost use Rattle.textarea_text.specs.Place.{IsPlaceOf};
@@ -11,7 +11,6 @@ ghost use Rattle.textarea_map.specs.Seen.{IsAbove, IsBelow, IsInFirstRow, IsInLa
 
 use super::ScreenMap;
 use crate::columns::{character_at_column, greatest_cursor_column};
-use crate::layout::Wrapping;
 use textarea_text::rows::{byte_offset, column_count};
 use textarea_wrap::wrap::columns::display_column_behind_text;
 
@@ -47,13 +46,16 @@ fn row_holding(ranges: &[(usize, usize)], offset: usize) -> usize
 
 impl ScreenMap {
     // The text of a visual row.
-    fn row_text<'a>(&self, lines: &'a [String], wrapping: Wrapping, row: usize) -> RowText<'a>
-        requires rows { AreRowsOf wrapping (lines_of lines.now) self.now.rows }
+    fn row_text<'a>(&self, lines: &'a [String], row: usize) -> RowText<'a>
+        requires rows { AreRowsOf self.now.wrapping (lines_of lines.now) self.now.rows }
         requires row { row < row_total self.now.rows }
         ensures line { result.line ≡ (row_at (lines_of lines.now) self.now.rows row).line }
-        ensures first { length (chars result.before.now) ≡ (row_at (lines_of lines.now) self.now.rows row).first }
-        ensures text { chars result.text.now ≡ (row_at (lines_of lines.now) self.now.rows row).text }
-        ensures is_last { result.is_last ≡ (row_at (lines_of lines.now) self.now.rows row).is_last }
+        ensures first { length (chars result.before.now)
+            ≡ (row_at (lines_of lines.now) self.now.rows row).first }
+        ensures text { chars result.text.now
+            ≡ (row_at (lines_of lines.now) self.now.rows row).text }
+        ensures is_last { result.is_last
+            ≡ (row_at (lines_of lines.now) self.now.rows row).is_last }
         ensures before { length result.before.now < 2 ^ 48 }
         ensures short { length result.text.now < 2 ^ 48 }
     {
@@ -70,119 +72,105 @@ impl ScreenMap {
     }
 
     /// The display width of a visual row: the column behind all its characters, whitespace that hangs over included.
-    pub fn row_width(&self, lines: &[String], wrapping: Wrapping, row: usize) -> usize
-        requires rows { AreRowsOf wrapping (lines_of lines.now) self.now.rows }
+    pub fn row_width(&self, lines: &[String], row: usize) -> usize
+        requires rows { AreRowsOf self.now.wrapping (lines_of lines.now) self.now.rows }
         requires row { row < row_total self.now.rows }
-        ensures { result ≡ row_width wrapping.tab_len (row_at (lines_of lines.now) self.now.rows row) }
+        ensures { result
+            ≡ row_width self.now.wrapping.tab_len (row_at (lines_of lines.now) self.now.rows row) }
     {
-        let shown = self.row_text(lines, wrapping, row);
-        display_column_behind_text(shown.text, 0, wrapping.tab_len)
+        let shown = self.row_text(lines, row);
+        display_column_behind_text(shown.text, 0, self.wrapping.tab_len)
     }
 
     /// The greatest display column of a visual row at which a cursor can stand: the row's width in its line's last row, else the
     /// display column of its last character.
-    pub fn greatest_column(&self, lines: &[String], wrapping: Wrapping, row: usize) -> usize
-        requires rows { AreRowsOf wrapping (lines_of lines.now) self.now.rows }
+    pub fn greatest_column(&self, lines: &[String], row: usize) -> usize
+        requires rows { AreRowsOf self.now.wrapping (lines_of lines.now) self.now.rows }
         requires row { row < row_total self.now.rows }
-        ensures { result ≡ greatest_column wrapping.tab_len (row_at (lines_of lines.now) self.now.rows row) }
+        ensures { result ≡ greatest_column self.now.wrapping.tab_len
+            (row_at (lines_of lines.now) self.now.rows row) }
     {
-        let shown = self.row_text(lines, wrapping, row);
-        greatest_cursor_column(shown.text, shown.is_last, wrapping.tab_len)
+        let shown = self.row_text(lines, row);
+        greatest_cursor_column(shown.text, shown.is_last, self.wrapping.tab_len)
     }
 
     /// The visual row in which a place of the map's lines is seen, and its display column there.
-    pub fn visual_position(
-        &self,
-        lines: &[String],
-        wrapping: Wrapping,
-        place: (usize, usize),
-    ) -> (usize, usize)
-        requires rows { AreRowsOf wrapping (lines_of lines.now) self.now.rows }
+    pub fn visual_position(&self, lines: &[String], place: (usize, usize)) -> (usize, usize)
+        requires rows { AreRowsOf self.now.wrapping (lines_of lines.now) self.now.rows }
         requires place { IsPlaceOf (lines_of lines.now) place }
         ensures row { result.0 < row_total self.now.rows }
-        ensures seen { IsVisualPosition wrapping.tab_len (lines_of lines.now) self.now.rows place result }
+        ensures seen { IsVisualPosition self.now.wrapping.tab_len (lines_of lines.now)
+            self.now.rows place result }
     {
         let line = lines[place.0].as_str();
         let offset = byte_offset(line, place.1);
         let ranges = self.rows_of(place.0);
         let row = row_holding(ranges, offset);
         let start = ranges[row].0;
-        let column = display_column_behind_text(&line[start..offset], 0, wrapping.tab_len);
+        let column = display_column_behind_text(&line[start..offset], 0, self.wrapping.tab_len);
         (self.firsts[place.0] + row, column)
     }
 
     /// The place that a visual row and a display column lead back to: the row's first place at that column, else the character
     /// that covers it, else the row's end. In a row that isn't its line's last, a column up to the row's greatest cursor column
     /// leads to a place that is seen in that row; the row's end is seen in the next one.
-    pub fn place_at(
-        &self,
-        lines: &[String],
-        wrapping: Wrapping,
-        seen: (usize, usize),
-    ) -> (usize, usize)
-        requires rows { AreRowsOf wrapping (lines_of lines.now) self.now.rows }
+    pub fn place_at(&self, lines: &[String], seen: (usize, usize)) -> (usize, usize)
+        requires rows { AreRowsOf self.now.wrapping (lines_of lines.now) self.now.rows }
         requires row { seen.0 < row_total self.now.rows }
         ensures place { IsPlaceOf (lines_of lines.now) result }
-        ensures found { IsPlaceAt wrapping.tab_len (lines_of lines.now) self.now.rows seen result }
+        ensures found { IsPlaceAt self.now.wrapping.tab_len (lines_of lines.now)
+            self.now.rows seen result }
     {
-        let shown = self.row_text(lines, wrapping, seen.0);
-        let index = character_at_column(shown.text, seen.1, wrapping.tab_len);
+        let shown = self.row_text(lines, seen.0);
+        let index = character_at_column(shown.text, seen.1, self.wrapping.tab_len);
         (shown.line, column_count(shown.before) + index)
     }
 
     /// Where a cursor goes that is to stand in a visual row at a display column, or before it where the row's greatest cursor
     /// column is less: a place that is seen in that row.
-    pub fn place_near(
-        &self,
-        lines: &[String],
-        wrapping: Wrapping,
-        seen: (usize, usize),
-    ) -> (usize, usize)
-        requires rows { AreRowsOf wrapping (lines_of lines.now) self.now.rows }
+    pub fn place_near(&self, lines: &[String], seen: (usize, usize)) -> (usize, usize)
+        requires rows { AreRowsOf self.now.wrapping (lines_of lines.now) self.now.rows }
         requires row { seen.0 < row_total self.now.rows }
         ensures place { IsPlaceOf (lines_of lines.now) result }
-        ensures near { IsPlaceNear wrapping.tab_len (lines_of lines.now) self.now.rows seen result }
+        ensures near { IsPlaceNear self.now.wrapping.tab_len (lines_of lines.now)
+            self.now.rows seen result }
     {
-        let greatest = self.greatest_column(lines, wrapping, seen.0);
-        self.place_at(lines, wrapping, (seen.0, seen.1.min(greatest)))
+        let greatest = self.greatest_column(lines, seen.0);
+        self.place_at(lines, (seen.0, seen.1.min(greatest)))
     }
 
     /// Where a cursor goes from a place, one visual row up; none from the first visual row.
-    pub fn above(
-        &self,
-        lines: &[String],
-        wrapping: Wrapping,
-        place: (usize, usize),
-    ) -> Option<(usize, usize)>
-        requires rows { AreRowsOf wrapping (lines_of lines.now) self.now.rows }
+    pub fn above(&self, lines: &[String], place: (usize, usize)) -> Option<(usize, usize)>
+        requires rows { AreRowsOf self.now.wrapping (lines_of lines.now) self.now.rows }
         requires place { IsPlaceOf (lines_of lines.now) place }
-        ensures { MatchOption result (IsInFirstRow wrapping.tab_len (lines_of lines.now) self.now.rows place)
-            (λ target. IsPlaceOf (lines_of lines.now) target × IsAbove wrapping.tab_len (lines_of lines.now) self.now.rows place target) }
+        ensures { MatchOption result
+            (IsInFirstRow self.now.wrapping.tab_len (lines_of lines.now) self.now.rows place)
+            (λ target. IsPlaceOf (lines_of lines.now) target
+            × IsAbove self.now.wrapping.tab_len (lines_of lines.now) self.now.rows
+            place target) }
     {
-        let (row, column) = self.visual_position(lines, wrapping, place);
+        let (row, column) = self.visual_position(lines, place);
         if row == 0 {
             return None;
         }
-        Some(self.place_near(lines, wrapping, (row - 1, column)))
+        Some(self.place_near(lines, (row - 1, column)))
     }
 
     /// Where a cursor goes from a place, one visual row down; none from the last visual row.
-    pub fn below(
-        &self,
-        lines: &[String],
-        wrapping: Wrapping,
-        place: (usize, usize),
-    ) -> Option<(usize, usize)>
-        requires rows { AreRowsOf wrapping (lines_of lines.now) self.now.rows }
+    pub fn below(&self, lines: &[String], place: (usize, usize)) -> Option<(usize, usize)>
+        requires rows { AreRowsOf self.now.wrapping (lines_of lines.now) self.now.rows }
         requires place { IsPlaceOf (lines_of lines.now) place }
-        ensures { MatchOption result (IsInLastRow wrapping.tab_len (lines_of lines.now) self.now.rows place)
-            (λ target. IsPlaceOf (lines_of lines.now) target × IsBelow wrapping.tab_len (lines_of lines.now) self.now.rows place target) }
+        ensures { MatchOption result
+            (IsInLastRow self.now.wrapping.tab_len (lines_of lines.now) self.now.rows place)
+            (λ target. IsPlaceOf (lines_of lines.now) target
+            × IsBelow self.now.wrapping.tab_len (lines_of lines.now) self.now.rows
+            place target) }
     {
         let total = self.total;
-        let (row, column) = self.visual_position(lines, wrapping, place);
+        let (row, column) = self.visual_position(lines, place);
         if row + 1 == total {
             return None;
         }
-        Some(self.place_near(lines, wrapping, (row + 1, column)))
+        Some(self.place_near(lines, (row + 1, column)))
     }
 }

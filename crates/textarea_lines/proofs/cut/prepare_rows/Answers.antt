@@ -1,58 +1,69 @@
 use Rattle.std.proofs.Common.{◌≡◌, ◌+◌, ◌-◌, ◌∙◌, ap, refl, sym, arith, length, true}
 use Rattle.std.proofs.lemmas.List.{length-map}
-use Rattle.textarea_text.specs.Replaced.{replaced}
+use Rattle.std.proofs.lemmas.Result.{IfOk-weaker}
 use Rattle.textarea_text.specs.Text.{characters_of, lines_of}
 use Rattle.textarea_map.proofs.Layouts.{length-AreRowsOf}
+use Rattle.textarea_lines.specs.Layout.{lines_after}
 use Rattle.textarea_lines.specs.Wrappings.{is_same, wrapping_for}
-use Rattle.textarea_lines.proofs.Preparing.{IfOk-from_three, rows_of_all, rows_of_some, screen_of_all, screen_of_some}
+use Rattle.textarea_lines.proofs.Preparing.{IfOk-from_four, IfOk-from_three, rows_of_all, rows_of_some, screen_of_all, screen_of_some}
 use Rattle.textarea_lines.proofs.cut.prepare_rows.Goals as goal
 
 pub make_room-requires : goal.make_room-requires
 make_room-requires c =
-    omega (arith, c.requires.within, length-AreRowsOf (wrapping_for c.args.settings (length c.args.lines.now)) (lines_of c.args.lines.now) c.args.map.now.rows c.requires.rows, length-map c.args.lines.now characters_of)
+    omega (arith, c.requires.within, length-AreRowsOf c.args.map.now.wrapping (lines_of c.args.lines.now) c.args.map.now.rows c.requires.rows, length-map c.args.lines.now characters_of)
+
+pub returns-then-is_same-clause-wrapping : goal.returns-then-is_same-clause-wrapping
+returns-then-is_same-clause-wrapping c =
+    let items = c.args.lines.now in
+    let new = c.args.replacement.now in
+    IfOk-weaker c.make_room.result _ _ (λ p e. e ∙ c.wrapping_for-after.ensures ∙ ap (λ n. wrapping_for c.args.settings (length items - new.count + n)) c.as_slice-new.ensures.len) c.make_room.ensures.wrapping
 
 pub returns-then-is_same-clause-rows : goal.returns-then-is_same-clause-rows
 returns-then-is_same-clause-rows c =
     let items = c.args.lines.now in
     let new = c.args.replacement.now in
-    let same : is_same c.wrapping_for-after.result (wrapping_for c.args.settings (length items)) ≡ true =
-    ap (is_same c.wrapping_for-after.result) (sym c.wrapping_for-before.ensures) ∙ sym c.is_same.ensures ∙ c.if-is_same.true in
-    let after = c.wrapping_for-after.ensures ∙ ap (λ n. wrapping_for c.args.settings (length items - new.count + n)) c.as_slice-new.ensures.len in
-    IfOk-from_three c.make_room.result _ _ _ _
-    (λ p row count rows. rows_of_some _ _ c.wrapping_for-after.result items new.lines.items c.as_slice-new.result.now new.row new.count p.row p.count c.args.map.now.rows c.in_ok-rows.rows.items p.rows.items same after c.requires.rows c.as_slice-new.ensures.value c.in_ok-rows.ensures.rows row count rows)
-    c.make_room.ensures.row c.make_room.ensures.count c.make_room.ensures.rows
+    let same : is_same c.wrapping_for-after.result c.args.map.now.wrapping ≡ true =
+    ap (is_same c.wrapping_for-after.result) (sym c.wrapping-before.ensures) ∙ sym c.is_same.ensures ∙ c.if-is_same.true in
+    IfOk-from_four c.make_room.result _ _ _ _ _
+    (λ p row count rows wrapping. rows_of_some _ _ c.wrapping_for-after.result items new.lines.items c.as_slice-new.result.now new.row new.count p.row p.count c.args.map.now.rows c.in_ok-rows.rows.items p.rows.items same (sym wrapping) c.requires.rows c.as_slice-new.ensures.value c.in_ok-rows.ensures.rows row count rows)
+    c.make_room.ensures.row c.make_room.ensures.count c.make_room.ensures.rows c.make_room.ensures.wrapping
 
 pub returns-then-is_same-clause-layout : goal.returns-then-is_same-clause-layout
 returns-then-is_same-clause-layout c =
     let items = c.args.lines.now in
     let new = c.args.replacement.now in
     let after = c.wrapping_for-after.ensures ∙ ap (λ n. wrapping_for c.args.settings (length items - new.count + n)) c.as_slice-new.ensures.len in
-    let same = ap (λ w. is_same w (wrapping_for c.args.settings (length items))) (sym after) ∙ ap (is_same c.wrapping_for-after.result) (sym c.wrapping_for-before.ensures) ∙ sym c.is_same.ensures ∙ c.if-is_same.true in
+    let same = ap (λ w. is_same w (wrapping_for c.args.settings (length items))) (sym after) ∙ ap (is_same c.wrapping_for-after.result) (sym (c.wrapping-before.ensures ∙ c.requires.wrapping)) ∙ sym c.is_same.ensures ∙ c.if-is_same.true in
     IfOk-from_three c.make_room.result _ _ _ _
     (λ p row count rows. screen_of_some c.args.settings c.args.count.now c.rows_of.new.count (length items) new.row new.count _ (length c.as_slice-new.result.now) p.row p.count c.args.map.now.rows c.in_ok-rows.rows.items p.rows.items same c.in_ok-rows.ensures.counted c.as_slice-new.ensures.len c.in_ok-rows.ensures.ticks row count rows)
     c.make_room.ensures.row c.make_room.ensures.count c.make_room.ensures.rows
 
 pub make_room-requires-2 : goal.make_room-requires-2
 make_room-requires-2 c =
-    omega (arith, c.requires.within, length-AreRowsOf (wrapping_for c.args.settings (length c.args.lines.now)) (lines_of c.args.lines.now) c.args.map.now.rows c.requires.rows, length-map c.args.lines.now characters_of)
+    omega (arith, c.requires.within, length-AreRowsOf c.args.map.now.wrapping (lines_of c.args.lines.now) c.args.map.now.rows c.requires.rows, length-map c.args.lines.now characters_of)
+
+pub returns-clause-wrapping : goal.returns-clause-wrapping
+returns-clause-wrapping c =
+    let items = c.args.lines.now in
+    let new = c.args.replacement.now in
+    IfOk-weaker c.make_room-2.result _ _ (λ p e. e ∙ c.wrapping_for-after.ensures ∙ ap (λ n. wrapping_for c.args.settings (length items - new.count + n)) c.as_slice-new.ensures.len) c.make_room-2.ensures.wrapping
 
 pub returns-clause-rows : goal.returns-clause-rows
 returns-clause-rows c =
     let items = c.args.lines.now in
     let new = c.args.replacement.now in
-    let long : length c.args.map.now.rows ≡ length items = length-AreRowsOf _ (lines_of items) c.args.map.now.rows c.requires.rows ∙ length-map items characters_of in
-    let after = c.wrapping_for-after.ensures ∙ ap (λ n. wrapping_for c.args.settings (length items - new.count + n)) c.as_slice-new.ensures.len in
-    IfOk-from_three c.make_room-2.result _ _ _ _
-    (λ p row count rows. rows_of_all _ c.wrapping_for-after.result (lines_of (replaced items new.row new.count new.lines.items)) (length items) p.row p.count c.args.map.now.rows c.in_ok-rows-2.rows.items p.rows.items long after c.in_ok-rows-2.ensures.rows row count rows)
-    c.make_room-2.ensures.row c.make_room-2.ensures.count c.make_room-2.ensures.rows
+    let long : length c.args.map.now.rows ≡ length items = length-AreRowsOf c.args.map.now.wrapping (lines_of c.args.lines.now) c.args.map.now.rows c.requires.rows ∙ length-map items characters_of in
+    IfOk-from_four c.make_room-2.result _ _ _ _ _
+    (λ p row count rows wrapping. rows_of_all _ c.wrapping_for-after.result (lines_after items new) (length items) p.row p.count c.args.map.now.rows c.in_ok-rows-2.rows.items p.rows.items long (sym wrapping) c.in_ok-rows-2.ensures.rows row count rows)
+    c.make_room-2.ensures.row c.make_room-2.ensures.count c.make_room-2.ensures.rows c.make_room-2.ensures.wrapping
 
 pub returns-clause-layout : goal.returns-clause-layout
 returns-clause-layout c =
     let items = c.args.lines.now in
     let new = c.args.replacement.now in
-    let long : length c.args.map.now.rows ≡ length items = length-AreRowsOf _ (lines_of items) c.args.map.now.rows c.requires.rows ∙ length-map items characters_of in
+    let long : length c.args.map.now.rows ≡ length items = length-AreRowsOf c.args.map.now.wrapping (lines_of c.args.lines.now) c.args.map.now.rows c.requires.rows ∙ length-map items characters_of in
     let after = c.wrapping_for-after.ensures ∙ ap (λ n. wrapping_for c.args.settings (length items - new.count + n)) c.as_slice-new.ensures.len in
-    let differs = ap (λ w. is_same w (wrapping_for c.args.settings (length items))) (sym after) ∙ ap (is_same c.wrapping_for-after.result) (sym c.wrapping_for-before.ensures) ∙ sym c.is_same.ensures ∙ c.if-is_same.false in
+    let differs = ap (λ w. is_same w (wrapping_for c.args.settings (length items))) (sym after) ∙ ap (is_same c.wrapping_for-after.result) (sym (c.wrapping-before.ensures ∙ c.requires.wrapping)) ∙ sym c.is_same.ensures ∙ c.if-is_same.false in
     IfOk-from_three c.make_room-2.result _ _ _ _
     (λ p row count rows. screen_of_all c.args.settings c.args.count.now c.rows_after.new.count (length items) new.row new.count _ _ p.row p.count c.args.map.now.rows c.in_ok-rows-2.rows.items p.rows.items differs long c.in_ok-rows-2.ensures.counted refl c.in_ok-rows-2.ensures.ticks row count rows)
     c.make_room-2.ensures.row c.make_room-2.ensures.count c.make_room-2.ensures.rows

@@ -4,6 +4,4 @@ use Rattle.textarea_map.proofs.layout.count_rows.Goals as goal
 
 pub loop-line-preserved : goal.loop-line-preserved
 loop-line-preserved c =
-    let more = row_total-more c.args.rows.now c.loop-line.line-index c.line-item.result (omega arith) c.line-item.is in
-    let cut = ap length c.as_slice-more.ensures in
-    (omega (arith, more, cut, c.loop-line.invariant.0), omega arith)
+    omega (arith, row_total-more c.args.rows.now c.loop-line.line-index c.line-item.result (omega arith) c.line-item.is, ap length c.as_slice.ensures, c.loop-line.invariant)

@@ -32,9 +32,9 @@ invariant_of-self-2 c =
       new_some = omega (arith, c.requires.some, replacement.lines.ok.0);
     } in
     record {
-      held = holds_replaced inside.settings inside.lines.items c.as_slice.result.now c.reserve.new.self.items c.replace_in.new.lines.items replacement.lines.items replacement.row replacement.count c.args.size _ _ c.replace.new.self.rows steps replacement.lines.ok.0 c.in_ok-prepared.ensures.rows
-          (c.replace.ensures ∙ ap (λ t. replaced t c.in_ok-prepared.prepared.row c.in_ok-prepared.prepared.count c.in_ok-prepared.prepared.rows.items) c.in_ok-prepared.ensures.same)
-          (c.requires.size ∙ sym text) c.requires.limit;
+      held = holds_replaced inside.settings inside.lines.items c.as_slice.result.now c.reserve.new.self.items c.replace_in.new.lines.items replacement.lines.items replacement.row replacement.count c.args.size _ c.in_ok-prepared.prepared.wrapping _ c.replace.new.self steps replacement.lines.ok.0 c.in_ok-prepared.ensures.wrapping c.in_ok-prepared.ensures.rows
+          (c.replace.ensures.rows ∙ ap (λ t. replaced t c.in_ok-prepared.prepared.row c.in_ok-prepared.prepared.count c.in_ok-prepared.prepared.rows.items) c.in_ok-prepared.ensures.same)
+          c.replace.ensures.wrapping (c.requires.size ∙ sym text) c.requires.limit;
       measured = tt;
     }
 
@@ -54,5 +54,5 @@ returns-clause-ok c =
       new_some = omega (arith, c.requires.some, replacement.lines.ok.0);
     } in
     layout_replaced inside.settings inside.lines.items c.as_slice.result.now c.reserve.new.self.items c.replace_in.new.lines.items replacement.lines.items replacement.row replacement.count _ inside.count c.in_ok-count.count c.prepare_rows.new.count inside.map.rows c.replace.new.self.rows _ steps replacement.lines.ok.0 c.in_ok-count.ensures.cases c.in_ok-prepared.ensures.layout
-    (c.replace.ensures ∙ ap (λ t. replaced t c.in_ok-prepared.prepared.row c.in_ok-prepared.prepared.count c.in_ok-prepared.prepared.rows.items) c.in_ok-prepared.ensures.same)
+    (c.replace.ensures.rows ∙ ap (λ t. replaced t c.in_ok-prepared.prepared.row c.in_ok-prepared.prepared.count c.in_ok-prepared.prepared.rows.items) c.in_ok-prepared.ensures.same)
     ∙ ap (λ (s : LaidOut). replaced_in s replacement.row replacement.count (lines_of replacement.lines.items)) c.self.view_is

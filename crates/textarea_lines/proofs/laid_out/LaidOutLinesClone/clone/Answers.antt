@@ -10,7 +10,7 @@ invariant_of-result c =
     let copies = c.in_ok-clone.field-0.items in
     let same = lines_copied inside.lines.items copies c.in_ok-clone.ensures.cases.0 in
     record {
-      held = holds_copied inside.settings inside.lines.items copies inside.size inside.map.rows c.in_ok-clone-2.field-0.rows c.self.invariant.held same c.in_ok-clone-2.ensures.cases;
+      held = holds_copied inside.settings inside.lines.items copies inside.size inside.map c.in_ok-clone-2.field-0 c.self.invariant.held same c.in_ok-clone-2.ensures.cases;
       measured = measured_of (lines_of inside.lines.items) (lines_of copies) inside.measured (sym same) c.self.invariant.measured;
     }
 
@@ -19,5 +19,5 @@ returns c =
     let inside = c.self.inside in
     let copies = c.in_ok-clone.field-0.items in
     record {
-      cases = seen_copied inside.settings inside.lines.items copies inside.count c.in_ok-clone-3.field-0 inside.map.rows c.in_ok-clone-2.field-0.rows (lines_copied inside.lines.items copies c.in_ok-clone.ensures.cases.0) c.in_ok-clone-3.ensures.cases c.in_ok-clone-2.ensures.cases ∙ c.self.view_is;
+      cases = seen_copied inside.settings inside.lines.items copies inside.count c.in_ok-clone-3.field-0 inside.map.rows c.in_ok-clone-2.field-0.rows (lines_copied inside.lines.items copies c.in_ok-clone.ensures.cases.0) c.in_ok-clone-3.ensures.cases c.in_ok-clone-2.ensures.cases.0 ∙ c.self.view_is;
     }

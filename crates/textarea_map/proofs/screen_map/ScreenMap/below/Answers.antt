@@ -6,9 +6,9 @@ use Rattle.textarea_map.proofs.screen_map.ScreenMap.below.Goals as goal
 
 pub overflow_add-row : goal.overflow_add-row
 overflow_add-row c =
-    omega (arith, c.visual_position-row.ensures.row, c.self.invariant.small, c.self.invariant.all, ap (λ (v : MapView). row_total v.rows) c.self.view_is)
+    omega (arith, c.visual_position-row.ensures.row, c.self.invariant.limit.few, c.self.invariant.all, ap (λ (v : MapView). row_total v.rows) c.self.view_is)
 
 pub returns-then-row-total : goal.returns-then-row-total
 returns-then-row-total c =
-    let count = row_count c.args.wrapping (lines_of c.args.lines.now) c.args.self.now.rows c.requires.rows in
+    let count = row_count c.args.self.now.wrapping (lines_of c.args.lines.now) c.args.self.now.rows c.requires.rows in
     (c.visual_position-row.result, c.visual_position-row.ensures.seen, omega (arith, count, c.self.invariant.all, ap (λ (v : MapView). row_total v.rows) c.self.view_is, c.if-row-total.true))

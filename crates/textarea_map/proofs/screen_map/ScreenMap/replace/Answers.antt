@@ -1,9 +1,10 @@
-use Rattle.std.proofs.Common.{◌≡◌, ◌+◌, ◌≤◌, ◌∙◌, ap, sym, arith, length, take, drop}
+use Rattle.std.proofs.Common.{◌≡◌, ◌+◌, ◌≤◌, ◌∙◌, ap, sym, arith, subst, length, take, drop}
 use Rattle.std.proofs.lemmas.List.{take_at}
-use Rattle.textarea_map.specs.Map.{row_total, firsts_from, MapView}
+use Rattle.textarea_map.specs.Map.{IsWithinLimit, row_total, size_total, firsts_from, MapView}
 use Rattle.textarea_text.specs.Replaced.{replaced}
 use Rattle.textarea_text.proofs.Replacing.{length-replaced}
 use Rattle.textarea_map.proofs.Numbers.{row_total-span, row_total-take_le, total_replaced, length-firsts, numbers_above, numbers_below}
+use Rattle.textarea_map.proofs.RowSizes.{sizes_exchanged}
 use Rattle.textarea_map.proofs.screen_map.ScreenMap.replace.Goals as goal
 
 pub overflow_sub-old : goal.overflow_sub-old
@@ -17,7 +18,17 @@ overflow_sub-self c =
 
 pub overflow_add-self : goal.overflow_add-self
 overflow_add-self c =
-    omega (arith, c.requires.small, total_replaced c.args.self.now.rows c.args.prepared.rows.items c.args.prepared.row c.args.prepared.count c.self.inside.total c.first_row-first.result c.first_row.result c.args.prepared.total c.first_row-first.ensures c.first_row.ensures (c.self.invariant.all ∙ ap (λ (v : MapView). row_total v.rows) c.self.view_is) c.requires.total)
+    omega (arith, c.requires.limit.few, total_replaced c.args.self.now.rows c.args.prepared.rows.items c.args.prepared.row c.args.prepared.count c.self.inside.total c.first_row-first.result c.first_row.result c.args.prepared.total c.first_row-first.ensures c.first_row.ensures (c.self.invariant.all ∙ ap (λ (v : MapView). row_total v.rows) c.self.view_is) c.requires.total)
+
+pub overflow_sub-self-2 : goal.overflow_sub-self-2
+overflow_sub-self-2 c =
+    let sizes = sizes_exchanged c.args.self.now.rows c.as_slice.result.now c.args.prepared.rows.items c.args.prepared.row c.args.prepared.count (c.as_slice.ensures.value ∙ ap (λ (v : MapView). v.rows) c.self.view_is) in
+    omega (arith, sizes.part, c.size_of_rows-old_size.ensures, c.self.invariant.size_is, ap (λ (v : MapView). size_total v.rows) c.self.view_is, c.self.invariant.limit.size)
+
+pub overflow_add-self-2 : goal.overflow_add-self-2
+overflow_add-self-2 c =
+    let sizes = sizes_exchanged c.args.self.now.rows c.as_slice.result.now c.args.prepared.rows.items c.args.prepared.row c.args.prepared.count (c.as_slice.ensures.value ∙ ap (λ (v : MapView). v.rows) c.self.view_is) in
+    omega (arith, sizes.after, sizes.part, c.size_of_rows-old_size.ensures, c.self.invariant.size_is, ap (λ (v : MapView). size_total v.rows) c.self.view_is, c.self.invariant.limit.size, c.requires.size, c.requires.limit.size)
 
 pub number-requires-clause-len : goal.number-requires-clause-len
 number-requires-clause-len c =
@@ -53,7 +64,11 @@ pub invariant_of-self : goal.invariant_of-self
 invariant_of-self c = record {
   numbers = take_at c.number.new.firsts _ _ (omega (arith, c.as_mut_slice.ensures.len)) ∙ c.number.ensures ∙ ap (firsts_from 0) c.as_slice-lines.ensures.value;
   all = total_replaced c.args.self.now.rows c.args.prepared.rows.items c.args.prepared.row c.args.prepared.count c.self.inside.total c.first_row-first.result c.first_row.result c.args.prepared.total c.first_row-first.ensures c.first_row.ensures (c.self.invariant.all ∙ ap (λ (v : MapView). row_total v.rows) c.self.view_is) c.requires.total ∙ ap row_total (sym (c.replace_items.ensures.items ∙ ap (λ (v : MapView). replaced v.rows c.args.prepared.row c.args.prepared.count c.args.prepared.rows.items) c.self.view_is));
-  small = omega (arith, c.requires.small, total_replaced c.args.self.now.rows c.args.prepared.rows.items c.args.prepared.row c.args.prepared.count c.self.inside.total c.first_row-first.result c.first_row.result c.args.prepared.total c.first_row-first.ensures c.first_row.ensures (c.self.invariant.all ∙ ap (λ (v : MapView). row_total v.rows) c.self.view_is) c.requires.total);
+  size_is =
+      let sizes = sizes_exchanged c.args.self.now.rows c.as_slice.result.now c.args.prepared.rows.items c.args.prepared.row c.args.prepared.count (c.as_slice.ensures.value ∙ ap (λ (v : MapView). v.rows) c.self.view_is) in
+      omega (arith, sizes.after, sizes.part, c.size_of_rows-old_size.ensures, c.self.invariant.size_is, ap (λ (v : MapView). size_total v.rows) c.self.view_is, c.self.invariant.limit.size, c.requires.size)
+      ∙ ap size_total (sym (c.replace_items.ensures.items ∙ ap (λ (v : MapView). replaced v.rows c.args.prepared.row c.args.prepared.count c.args.prepared.rows.items) c.self.view_is));
+  limit = subst IsWithinLimit (sym (c.replace_items.ensures.items ∙ ap (λ (v : MapView). replaced v.rows c.args.prepared.row c.args.prepared.count c.args.prepared.rows.items) c.self.view_is)) c.requires.limit;
 }
 
 pub number_from-requires-clause-room : goal.number_from-requires-clause-room
@@ -76,5 +91,9 @@ pub invariant_of-self-else-len-count : goal.invariant_of-self-else-len-count
 invariant_of-self-else-len-count c = record {
   numbers = c.number_from.ensures ∙ ap (firsts_from 0) c.as_slice-lines.ensures.value;
   all = total_replaced c.args.self.now.rows c.args.prepared.rows.items c.args.prepared.row c.args.prepared.count c.self.inside.total c.first_row-first.result c.first_row.result c.args.prepared.total c.first_row-first.ensures c.first_row.ensures (c.self.invariant.all ∙ ap (λ (v : MapView). row_total v.rows) c.self.view_is) c.requires.total ∙ ap row_total (sym (c.replace_items.ensures.items ∙ ap (λ (v : MapView). replaced v.rows c.args.prepared.row c.args.prepared.count c.args.prepared.rows.items) c.self.view_is));
-  small = omega (arith, c.requires.small, total_replaced c.args.self.now.rows c.args.prepared.rows.items c.args.prepared.row c.args.prepared.count c.self.inside.total c.first_row-first.result c.first_row.result c.args.prepared.total c.first_row-first.ensures c.first_row.ensures (c.self.invariant.all ∙ ap (λ (v : MapView). row_total v.rows) c.self.view_is) c.requires.total);
+  size_is =
+      let sizes = sizes_exchanged c.args.self.now.rows c.as_slice.result.now c.args.prepared.rows.items c.args.prepared.row c.args.prepared.count (c.as_slice.ensures.value ∙ ap (λ (v : MapView). v.rows) c.self.view_is) in
+      omega (arith, sizes.after, sizes.part, c.size_of_rows-old_size.ensures, c.self.invariant.size_is, ap (λ (v : MapView). size_total v.rows) c.self.view_is, c.self.invariant.limit.size, c.requires.size)
+      ∙ ap size_total (sym (c.replace_items.ensures.items ∙ ap (λ (v : MapView). replaced v.rows c.args.prepared.row c.args.prepared.count c.args.prepared.rows.items) c.self.view_is));
+  limit = subst IsWithinLimit (sym (c.replace_items.ensures.items ∙ ap (λ (v : MapView). replaced v.rows c.args.prepared.row c.args.prepared.count c.args.prepared.rows.items) c.self.view_is)) c.requires.limit;
 }

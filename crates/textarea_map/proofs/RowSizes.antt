@@ -1,0 +1,118 @@
+-- How large lines are by their rows, and that they have no more rows than that.
+use Rattle.std.proofs.Common.{◌≡◌, ℕ, ◌+◌, ◌-◌, ◌<◌, ◌≤◌, inl, inr, max, List, [], ◌∷◌, ◌++◌, length, take, drop, get_or, sym, ap, refl, ◌∙◌, arith, subst, encode_utf8_all, String}
+use Rattle.std.proofs.lemmas.Bool.{cases_lt}
+use Rattle.std.proofs.lemmas.List.{take_more, take-append-drop, drop-drop, length-append}
+use Rattle.std.specs.List.{concat, AllByRecursion}
+use Rattle.textarea_text.specs.Replaced.{replaced}
+use Rattle.textarea_text.specs.Size.{size_of, weight}
+use Rattle.textarea_text.specs.Text.{characters, following, lines_of}
+use Rattle.textarea_text.proofs.Sizes.{size_of-append, weight-append, weight-characters, weight_of_following}
+use Rattle.textarea_wrap.specs.Cutting.{ranges_from}
+use Rattle.textarea_wrap.specs.RowsView.{RowsView}
+use Rattle.textarea_wrap.specs.Wrapped.{AreRowTexts, IsRowRange, IsWrapped}
+use Rattle.textarea_wrap.specs.declared.wrap.WrapMode.{WrapMode}
+use Rattle.textarea_map.specs.declared.layout.Wrapping.{Wrapping}
+use Rattle.textarea_map.specs.Layout.{AreRowsOf}
+use Rattle.textarea_map.specs.Map.{line_bytes, row_total, size_total}
+use Rattle.textarea_map.proofs.Numbers.{row_total-append}
+use Rattle.textarea_map.proofs.Holding.{last_range, length-ranges_from, some_rows}
+
+pub size_total-append : (rows more : List RowsView) → size_total (rows ++ more) ≡ size_total rows + size_total more
+size_total-append [] more = omega arith
+size_total-append (r ∷ rows) more = omega (arith, size_total-append rows more)
+
+-- one line more
+pub size_total-more : (rows : List RowsView) (i : ℕ) (r : RowsView) → i < length rows → r ≡ get_or rows i r → size_total (take (i + 1) rows) ≡ size_total (take i rows) + line_bytes r.ranges + 1
+size_total-more rows i r within e =
+    ap size_total (take_more rows i r within ∙ ap (λ s. take i rows ++ s ∷ []) (sym e))
+    ∙ omega (arith, size_total-append (take i rows) (r ∷ []))
+
+-- ---- lines give place to others
+
+-- A sum over lines: of their rows, or of their sizes.
+abbrev pub Sum : Type 0
+Sum = List RowsView → ℕ
+
+abbrev IsSum : Sum → Type 0
+IsSum total = (rows more : List RowsView) → total (rows ++ more) ≡ total rows + total more
+
+-- what the lines that go have is part of the whole, and with what comes in its place it is what all have afterwards
+pub record Exchange (total : Sum) (rows going new : List RowsView) (row count : ℕ) : Type 0 where
+  pub part : total going ≤ total rows
+  pub after : total rows - total going + total new ≡ total (replaced rows row count new)
+
+exchange : (total : Sum) (rows going new : List RowsView) (row count : ℕ) → IsSum total → going ≡ take count (drop row rows) → Exchange total rows going new row count
+exchange total rows going new row count sum is =
+    let below = drop (row + count) rows in
+    let whole : total rows ≡ total (take row rows) + (total going + total below) =
+    sym (ap total (take-append-drop row rows)) ∙ sum (take row rows) (drop row rows)
+    ∙ ap (λ n. total (take row rows) + n) (sym (ap total (take-append-drop count (drop row rows))) ∙ sum (take count (drop row rows)) (drop count (drop row rows)) ∙ omega (arith, ap total is, ap total (drop-drop count row rows))) in
+    record {
+      part = omega (arith, whole);
+      after = omega (arith, whole, sum (take row rows) (new ++ below), sum new below);
+    }
+
+-- the lines that go, as the code cuts them out of those that are kept
+abbrev pub going : List RowsView → ℕ → ℕ → List RowsView
+going kept row count = take (row + count - row) (drop row kept)
+
+going_are : (rows kept : List RowsView) (row count : ℕ) → kept ≡ rows → going kept row count ≡ take count (drop row rows)
+going_are rows kept row count is =
+    let size : row + count - row ≡ count = omega arith in
+    ap (λ n. take n (drop row kept)) size ∙ ap (λ t. take count (drop row t)) is
+
+pub sizes_exchanged : (rows kept new : List RowsView) (row count : ℕ) → kept ≡ rows → Exchange size_total rows (going kept row count) new row count
+sizes_exchanged rows kept new row count is =
+    exchange size_total rows (going kept row count) new row count size_total-append (going_are rows kept row count is)
+
+pub rows_exchanged : (rows kept new : List RowsView) (row count : ℕ) → kept ≡ rows → Exchange row_total rows (going kept row count) new row count
+rows_exchanged rows kept new row count is =
+    exchange row_total rows (going kept row count) new row count row_total-append (going_are rows kept row count is)
+
+-- ---- right rows
+
+-- rows that aren't empty are no more than their bytes
+rows_within : (line : List ℕ) (at : ℕ) (texts : List (List ℕ)) → (line ≡ [] → ⊥) → AllByRecursion (IsRowRange line) (ranges_from at texts) → length (ranges_from at texts) ≤ length (concat texts)
+rows_within line at [] some h = omega arith
+rows_within line at (t ∷ texts) some h =
+    elim (cases_lt 0 (length t)) [
+      | inl more ↦ omega (arith, more, rows_within line (at + length t) texts some h.1, length-append t (concat texts))
+      | inr none ↦ absurd (some (h.0.nonempty (omega (arith, none))))
+    ]
+
+-- the rows of a line end where the line does, and are no more than its bytes and itself
+pub size_of_line : (mode : WrapMode) (tab_len width : ℕ) (line : List ℕ) (ranges : List (ℕ × ℕ)) → IsWrapped mode tab_len width line ranges → (line_bytes ranges ≡ length line) × (length ranges ≤ length line + 1)
+size_of_line mode tab_len width line ranges h =
+    let some = some_rows mode tab_len width line ranges h in
+    let size : length ranges ≡ length (ranges_from 0 h.texts) = ap length h.ranges_are in
+    let last : line_bytes ranges ≡ length (concat h.texts) =
+    ap line_bytes h.ranges_are ∙ last_range 0 h.texts (length (ranges_from 0 h.texts) - 1) (omega (arith, some, size)) ∙ omega arith in
+    (last ∙ ap length h.joined, few line h.texts ranges h.ranges_are h.cut h.joined h.placed)
+  where
+    few : (line : List ℕ) (texts : List (List ℕ)) (ranges : List (ℕ × ℕ)) → ranges ≡ ranges_from 0 texts → AreRowTexts mode tab_len width line texts → concat texts ≡ line → AllByRecursion (IsRowRange line) ranges → length ranges ≤ length line + 1
+    few [] texts ranges is cut joined placed = omega (arith, ap length is, length-ranges_from 0 texts, ap length cut)
+    few (byte ∷ line) texts ranges is cut joined placed =
+        omega (arith, ap length is, ap length joined, rows_within (byte ∷ line) 0 texts (λ e. absurd (omega (arith, ap length e))) (subst (AllByRecursion (IsRowRange (byte ∷ line))) is placed))
+
+-- lines are as large as their rows say, and have no more rows than that
+pub size_of_lines : (w : Wrapping) (lines : List (List ℕ)) (rows : List RowsView) → AreRowsOf w lines rows → (size_total rows ≡ weight (following lines)) × (row_total rows ≤ size_total rows)
+size_of_lines w [] [] h = (refl, omega arith)
+size_of_lines w [] (r ∷ rows) h = absurd h
+size_of_lines w (line ∷ lines) [] h = absurd h
+size_of_lines w (line ∷ lines) (r ∷ rows) h =
+    let first = size_of_line w.mode w.tab_len (max w.width 1) (encode_utf8_all line) r.ranges h.0.cut in
+    let rest = size_of_lines w lines rows h.1 in (
+      omega (arith, first.0, rest.0, weight-append (characters line) (following lines), weight-characters line),
+      omega (arith, first.0, first.1, rest.1),
+    )
+
+-- the same of lines as they are kept
+pub size_of_items : {Z : Type 0} (w : Wrapping) (items : List (String Z)) (rows : List RowsView) → AreRowsOf w (lines_of items) rows → (size_total rows ≡ size_of items) × (row_total rows ≤ size_of items)
+size_of_items w items rows h =
+    let known = size_of_lines w (lines_of items) rows h in
+    let size : size_total rows ≡ size_of items = known.0 ∙ weight_of_following items in
+    (size, omega (arith, size, known.1))
+
+-- the first lines are no larger than all
+pub size_of_take : {Z : Type 0} (items : List (String Z)) (n : ℕ) → size_of (take n items) ≤ size_of items
+size_of_take items n = omega (arith, size_of-append (take n items) (drop n items), ap size_of (take-append-drop n items))
