@@ -1,4 +1,6 @@
 //! The edits that were made and taken back, with a greatest number, and runs of typing that grow in place.
+pub mod laws;
+
 ghost use Rattle.std.specs.VecDeque.{deque_capacity};
 ghost use Rattle.std.specs.Prelude.{drop, ◌≡◌, ◌<◌, ◌≤◌, ◌+◌, length, OnOk, OnErr, IfOk, IfSome, IsSome, IsOk, MatchOption, Some, ◌∷◌, [], vec_len, true, false};
 ghost use Rattle.std.specs.Duration.{as_nanos};
