@@ -171,7 +171,8 @@ impl History {
         requires room { 0 < self.old.room }
         requires some { 0 < self.old.log.maximum }
         ensures { self.new.log ≡ with_done self.old.log
-            (done_appended self.old.log edit.splice) (is_typed edit.splice coalesce) (as_nanos now) }
+            (done_appended self.old.log edit.splice) (is_typed edit.splice coalesce)
+            (as_nanos now) }
     {
         self.make_place();
         let typed = typed_character(&edit, coalesce);
