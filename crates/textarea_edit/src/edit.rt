@@ -31,7 +31,7 @@ impl Clone for EditKind {
 
     ghost is_clone = { λ kind copy. IsCopyOfKind kind copy };
 
-    /// The same kind with the same text or pieces, or an error where there is no memory for them.
+    /// The same kind, or out of memory for its text or pieces.
     fn clone(&self) -> Result<EditKind, AllocError> {
         match self {
             EditKind::InsertChar(c) => Ok(EditKind::InsertChar(*c)),
@@ -97,7 +97,7 @@ impl Clone for Edit {
 
     ghost is_clone = { λ edit copy. IsCopyOfEdit edit copy };
 
-    /// The same edit, or an error where there is no memory for its text.
+    /// The same edit, or out of memory for its text.
     fn clone(&self) -> Result<Edit, AllocError> {
         Ok(Edit {
             content: self.content.clone()?,

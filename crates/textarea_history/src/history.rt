@@ -52,7 +52,7 @@ impl Model for History {
 impl Clone for History {
     ghost is_clone = { λ history copy. copy.log ≡ history.log };
 
-    /// A history with the same edits, done and undone, or an error where there is no memory for them.
+    /// A history with the same edits, done and undone, or out of memory for them.
     fn clone(&self) -> Result<History, AllocError> {
         Ok(History {
             items: self.items.clone()?,
@@ -65,6 +65,7 @@ impl Clone for History {
 }
 
 impl History {
+    /// A history without edits, which keeps at most that many, done and undone together.
     pub fn new(alloc: Global, max_items: usize) -> Self
         ensures { result.log ≡ empty_log max_items }
     {
@@ -77,7 +78,7 @@ impl History {
         }
     }
 
-    /// How many edits are kept at most, done and undone together.
+    /// How many edits are kept at most.
     pub fn max_items(&self) -> usize
         ensures value { result ≡ self.now.log.maximum }
         ensures bound { length self.now.log.done + length self.now.log.undone ≤ result }
@@ -165,7 +166,7 @@ impl History {
         }
     }
 
-    /// Puts the edit behind the done ones.
+    /// Appends the edit to the done ones.
     fn append(&mut self, mut edit: Edit, coalesce: bool, now: Duration)
         requires well_formed { IsWellFormed edit }
         requires room { 0 < self.old.room }

@@ -1,7 +1,7 @@
 -- The classes of characters, and where words begin and end in a line.
 --
 -- A line is the list of its characters' codes, and a column is an index of that list. A word is a
--- longest run of characters of one class that is not Space.
+-- longest stretch of characters of one class that is not Space.
 use Rattle.std.specs.Prelude.{ℕ, ◌+◌, ◌-◌, Bool, true, false, ◌&&◌, ◌||◌, not, ◌==◌, nat_lt, nat_le, List, length, slice_index, Option, if◌then◌else◌}
 use Rattle.std.specs.Char.{is_whitespace, is_ascii_punctuation}
 use Rattle.textarea_word.specs.Nearest.{least_below, greatest_below}
@@ -27,11 +27,6 @@ is_same Space Space = true
 is_same Punct Punct = true
 is_same Other Other = true
 is_same _ _ = false
-
--- the character is white space or of the class of the other: with these two codes, typing goes on
--- in one run with `c` after it grew by `last`
-abbrev pub is_space_or_like : ℕ → ℕ → Bool
-is_space_or_like c last = is_space (class_of c) || is_same (class_of c) (class_of last)
 
 -- a word begins with a character of the second class that follows one of the first
 abbrev pub begins : CharKind → CharKind → Bool

@@ -1,8 +1,8 @@
 //! The classes of characters, and searches for the words of a line.
 //!
-//! A word is a longest run of characters of one class other than [`CharKind::Space`]. Columns
-//! count characters from 0. A search takes no memory, goes over the line once, and takes any start
-//! column, also one past the line's end.
+//! A word is a longest stretch of characters of one class other than [`CharKind::Space`]. Columns
+//! count characters from 0. A search goes over the line once, and takes any start column, also one
+//! past the line's end.
 
 ghost use Rattle.std.specs.Prelude.{◌≡◌, ◌<◌, ◌≤◌, length, IfSome};
 ghost use Rattle.std.specs.Str.{chars};

@@ -1,5 +1,5 @@
 //! Laws of a text and the log of its edits, each the contract of a function without a body. They hold for every history
-//! whose edits were each made on the lines as it was recorded. That a text is the same says that the lines are
+//! whose edits were each made on the lines when they were recorded. Lines of the same text are the same lines
 //! (`lines_are_the_text`).
 ghost use Rattle.std.specs.Prelude.{◌≡◌, ◌≤◌, ℕ, Bool, List, Option, Some, length};
 ghost use Rattle.textarea_text.specs.Text.{Symbol};
@@ -8,7 +8,8 @@ ghost use Rattle.textarea_text.specs.Splice.{Splice, Fits};
 ghost use Rattle.textarea_history.specs.Log.{Logged, Redoes, Undoes, empty_log, newest, redone, undone};
 ghost use Rattle.textarea_history.specs.Law.{EachFits, GivesBack, IsRedone, IsSound, edited};
 
-/// Each text without a past is sound, and stays so with each edit that fits it and is recorded, each undo and each redo.
+/// What the other laws ask for, that the done edits can be taken back from the text and the undone ones made again,
+/// holds of a text without a past, and still after each edit that fits and is recorded, each undo and each redo.
 pub fn stays_sound()
     ensures fresh { (text : List Symbol) (maximum : ℕ) →
         IsSound (record { text = text; log = empty_log maximum }) }
