@@ -37,10 +37,6 @@ has_break kept inserts told start to edit now view view' h none (inr found) =
     let long = length-map pieces characters_of in
     omega (arith, none, many, long, ap breaks_of (symbols_of_change kept inserts told start to edit now view view'), ap (λ k. breaks_of (symbols_in inserts k)) found.1, breaks_of-joined (lines_of pieces) (omega (arith, many, long)))
 
--- an edit whose places are in one row has no break
-pub stays_in_row : (edit : Stored) → IsWellFormed edit → edit.end.0 ≡ edit.splice.place.0 → breaks_of edit.splice.symbols ≡ 0
-stays_in_row edit h same = omega (arith, same, ap (λ (p : Place). p.0) h.ends, end_row edit.splice.place edit.splice.symbols)
-
 -- ---- removals
 
 -- the two ends are places, in order, and the text without what stands between them is the one after the splice

@@ -1,3 +1,3 @@
-pub mod Runs
+mod Runs
 mod Weights
 mod Changes

@@ -36,15 +36,27 @@ pieces_of (InsertChunk pieces) = Some (length pieces.items)
 pieces_of (DeleteChunk pieces) = Some (length pieces.items)
 pieces_of kind = None
 
--- a copy of a kind inserts or removes the same symbols, and has as many pieces of a chunk
-pub record IsCopyOfKind (kind copy : EditKind) : Type 0 where
-  pub symbols : symbols_of copy ≡ symbols_of kind
-  pub inserts : inserts_of copy ≡ inserts_of kind
-  pub pieces : pieces_of copy ≡ pieces_of kind
+-- a copy of a kind is of the same variant, with the same character, the characters of the same text, or those of the
+-- same pieces one by one
+abbrev pub IsCopyOfKind : EditKind → EditKind → Type 0
+IsCopyOfKind (InsertChar c) (InsertChar copy) = copy ≡ c
+IsCopyOfKind (DeleteChar c) (DeleteChar copy) = copy ≡ c
+IsCopyOfKind InsertNewline InsertNewline = Unit {0}
+IsCopyOfKind DeleteNewline DeleteNewline = Unit {0}
+IsCopyOfKind (InsertStr s) (InsertStr copy) = characters_of copy ≡ characters_of s
+IsCopyOfKind (DeleteStr s) (DeleteStr copy) = characters_of copy ≡ characters_of s
+IsCopyOfKind (InsertChunk pieces) (InsertChunk copy) = lines_of copy.items ≡ lines_of pieces.items
+IsCopyOfKind (DeleteChunk pieces) (DeleteChunk copy) = lines_of copy.items ≡ lines_of pieces.items
+IsCopyOfKind kind copy = ⊥
 
--- the splice, of the cursor's places before and after it: at the first where it inserts, and at the second where it removes
+-- the splice, of the cursor's places before and after it: at the first where it inserts, and at the second where it
+-- removes
 abbrev pub splice_of : EditKind → Place → Place → Splice
-splice_of kind before after = record { place = cond (inserts_of kind) before after; symbols = symbols_of kind; inserts = inserts_of kind }
+splice_of kind before after = record {
+  place = cond (inserts_of kind) before after;
+  symbols = symbols_of kind;
+  inserts = inserts_of kind;
+}
 
 -- the place that is handed in as the end of the symbols
 abbrev pub end_of_kind : EditKind → Place → Place → Place
@@ -77,8 +89,7 @@ before_of edit = cond edit.splice.inserts edit.splice.place edit.end
 abbrev pub after_of : Stored → Place
 after_of edit = cond edit.splice.inserts edit.end edit.splice.place
 
--- a copy of an edit has the same splice between the same places, and grows where it does; the memory that it has for
--- that may be another
+-- a copy of an edit is the same in all that others see of it, but for the memory that it has to grow
 pub record IsCopyOfEdit (edit copy : Stored) : Type 0 where
   pub splice : copy.splice ≡ edit.splice
   pub end : copy.end ≡ edit.end

@@ -1,3 +1,4 @@
+pub mod Change
 pub mod Edit
 pub mod Run
 pub mod Law

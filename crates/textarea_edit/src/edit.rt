@@ -2,9 +2,10 @@
 mod change;
 mod run;
 
-ghost use Rattle.std.specs.Prelude.{◌≡◌, ◌<◌, IsOk, OnOk, OnErr, true, false, vec_len};
+ghost use Rattle.std.specs.Prelude.{◌≡◌, ◌<◌, IsOk, OnOk, OnErr, vec_len, true, false};
 ghost use Rattle.textarea_text.specs.Text.{text_of};
-ghost use Rattle.textarea_text.specs.Splice.{Fits, applied, inverse, place_after, place_before};
+ghost use Rattle.textarea_text.specs.Splice.{Fits, inverse, place_after, place_before};
+ghost use Rattle.textarea_edit.specs.Change.{IsRemovalInLine, Makes};
 
 pub use change::Change;
 use std::alloc::AllocError;
@@ -30,7 +31,7 @@ impl Clone for EditKind {
 
     ghost is_clone = { λ kind copy. IsCopyOfKind kind copy };
 
-    /// The same kind with the same symbols, or an error where there is no memory for its text.
+    /// The same kind, or out of memory for its text or pieces.
     fn clone(&self) -> Result<EditKind, AllocError> {
         match self {
             EditKind::InsertChar(c) => Ok(EditKind::InsertChar(*c)),
@@ -96,7 +97,7 @@ impl Clone for Edit {
 
     ghost is_clone = { λ edit copy. IsCopyOfEdit edit copy };
 
-    /// The same edit, or an error where there is no memory for its text.
+    /// The same edit, or out of memory for its text.
     fn clone(&self) -> Result<Edit, AllocError> {
         Ok(Edit {
             content: self.content.clone()?,
@@ -113,8 +114,10 @@ impl Edit {
     /// An edit between the cursor's positions before and after it. Their byte offsets are for the caller: no rule
     /// reads them.
     pub fn new(kind: EditKind, before: Pos, after: Pos) -> Self
-        ensures splice { result.splice ≡ splice_of kind (before.row, before.col) (after.row, after.col) }
-        ensures end { result.end ≡ end_of_kind kind (before.row, before.col) (after.row, after.col) }
+        ensures splice { result.splice
+            ≡ splice_of kind (before.row, before.col) (after.row, after.col) }
+        ensures end { result.end
+            ≡ end_of_kind kind (before.row, before.col) (after.row, after.col) }
         ensures pieces { result.pieces ≡ pieces_of kind }
     {
         Edit::between(kind, (before.row, before.col), (after.row, after.col))
@@ -198,15 +201,15 @@ impl Edit {
         }
     }
 
-    /// Makes the edit on lines that it fits, as its change does.
+    /// Makes the edit on lines that it fits.
     pub fn redo(&self, lines: &mut Vec<String>) -> Result<(), AllocError>
         requires well_formed { IsWellFormed self.now }
         requires nonempty { 0 < vec_len lines.old }
         requires fits { Fits (text_of lines.old.items) self.now.splice }
-        ensures ok { OnOk result (text_of lines.new.items ≡ applied (text_of lines.old.items) self.now.splice) }
+        ensures ok { OnOk result (Makes self.now.splice lines.old.items lines.new.items) }
         ensures err { OnErr result (lines.new.items ≡ lines.old.items) }
         ensures nonempty { 0 < vec_len lines.new }
-        ensures no_memory { self.now.splice.inserts ≡ false → self.now.end.0 ≡ self.now.splice.place.0 → IsOk result }
+        ensures no_memory { IsRemovalInLine self.now.splice → IsOk result }
     {
         self.change().apply(lines)
     }
@@ -216,10 +219,10 @@ impl Edit {
         requires well_formed { IsWellFormed self.now }
         requires nonempty { 0 < vec_len lines.old }
         requires fits { Fits (text_of lines.old.items) (inverse self.now.splice) }
-        ensures ok { OnOk result (text_of lines.new.items ≡ applied (text_of lines.old.items) (inverse self.now.splice)) }
+        ensures ok { OnOk result (Makes (inverse self.now.splice) lines.old.items lines.new.items) }
         ensures err { OnErr result (lines.new.items ≡ lines.old.items) }
         ensures nonempty { 0 < vec_len lines.new }
-        ensures no_memory { self.now.splice.inserts ≡ true → self.now.end.0 ≡ self.now.splice.place.0 → IsOk result }
+        ensures no_memory { IsRemovalInLine (inverse self.now.splice) → IsOk result }
     {
         self.inverse().apply(lines)
     }

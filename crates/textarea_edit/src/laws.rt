@@ -7,7 +7,8 @@ ghost use Rattle.textarea_edit.specs.Law.{IsTakenBack};
 /// `Edit::undo` after `Edit::redo` gives the same text: wherever an edit fits, its inverse fits the text after it, and
 /// brings the text back.
 pub fn undo_takes_back()
-    ensures { (text : List Symbol) (splice : Splice) → Fits text splice → IsTakenBack text splice }
+    ensures { (text : List Symbol) (splice : Splice) →
+        Fits text splice → IsTakenBack text splice }
 {}
 
 /// A text has one list of lines, so lines that hold the same text are the same lines.

@@ -1,4 +1,5 @@
 pub mod Joins
-pub mod Stores
+mod Stores
+pub mod LogLaws
 pub mod UndoLaws
 mod Copies

@@ -1,12 +1,12 @@
--- The law of undo: what taking back the last changes leads to, and that making them again leads back.
-use Rattle.std.proofs.Common.{◌≡◌, ◌<◌, arith, Bool, true, false, not, List, [], ◌∷◌, ◌++◌, length, drop, reverse, sym, ap, refl, ◌∙◌, subst}
-use Rattle.std.proofs.lemmas.List.{append_assoc, length-append, reverse-append, take-append-drop}
+-- Changes one after another, and what takes back a run and the edit that joins it.
+use Rattle.std.proofs.Common.{◌≡◌, ◌<◌, arith, Bool, true, false, not, List, [], ◌∷◌, ◌++◌, length, drop, sym, ap, refl, ◌∙◌, subst}
+use Rattle.std.proofs.lemmas.List.{append_assoc, length-append, take-append-drop}
 use Rattle.textarea_text.specs.Text.{Symbol}
 use Rattle.textarea_text.specs.Place.{Place, IsPlace, StandsAt, end, inserted, removed}
-use Rattle.textarea_text.specs.Splice.{Splice, Fits, applied, inverse, place_before, place_after, CanApply, CanTakeBack, applied_all, taken_back_all, StoodBefore}
+use Rattle.textarea_text.specs.Splice.{Splice, Fits, applied, inverse, place_before, place_after, CanApply, CanTakeBack, applied_all}
 use Rattle.textarea_edit.specs.Run.{merged}
 use Rattle.textarea_text.proofs.Splices.{end-append, inserted_at, removed_at, stands_at}
-use Rattle.textarea_text.proofs.Places.{takes_back, parted, standing, place_parted, index_parted}
+use Rattle.textarea_text.proofs.Places.{parted, standing, place_parted, index_parted}
 
 pub inverse-inverse : (splice : Splice) → inverse (inverse splice) ≡ splice
 inverse-inverse splice = ap (λ (b : Bool). record splice { inserts = b }) (not-not splice.inserts)
@@ -22,24 +22,6 @@ applied_all-last text (change ∷ changes) splice = applied_all-last (applied te
 pub CanApply-last : (text : List Symbol) (changes : List Splice) (splice : Splice) → CanApply text changes → Fits (applied_all text changes) splice → CanApply text (changes ++ splice ∷ [])
 CanApply-last text [] splice can fits = (fits, tt)
 CanApply-last text (change ∷ changes) splice can fits = (can.0, CanApply-last (applied text change) changes splice can.1 fits)
-
--- taking back changes, the newest first, gives the text before them
-pub undo_law : (text : List Symbol) (newest_first : List Splice) → CanTakeBack text newest_first → StoodBefore (taken_back_all text newest_first) text (reverse newest_first)
-undo_law text [] can = record { can = tt; leads = refl }
-undo_law text (splice ∷ rest) can =
-    let one = applied text (inverse splice) in
-    let before = taken_back_all one rest in
-    let earlier = undo_law one rest can.1 in
-    let taken = takes_back text (inverse splice) can.0 in
-    let same = inverse-inverse splice in
-    let fits : Fits one splice = subst (Fits one) same taken.fits in
-    let back : applied one splice ≡ text = ap (applied one) (sym same) ∙ taken.back in
-    let order : reverse rest ++ splice ∷ [] ≡ reverse (splice ∷ rest) = sym (reverse-append (splice ∷ []) rest) in
-    subst (StoodBefore before text) order
-    (record {
-      can = CanApply-last before (reverse rest) splice earlier.can (subst (λ t. Fits t splice) (sym earlier.leads) fits);
-      leads = applied_all-last before (reverse rest) splice ∙ ap (λ t. applied t splice) earlier.leads ∙ back;
-    })
 
 -- ---- a run and the edit that joins it
 

@@ -1,7 +1,7 @@
 -- What a history holds, whichever way it is kept.
-use Rattle.std.specs.Prelude.{◌≡◌, Some, None, ℕ, ◌+◌, ◌-◌, ◌*◌, ◌==◌, ◌&&◌, ◌||◌, nat_lt, Bool, true, false, if◌then◌else◌, List, [], ◌∷◌, ◌++◌, length, take, drop, Option, is_some, slice_get}
+use Rattle.std.specs.Prelude.{◌≡◌, Some, None, ℕ, ◌+◌, ◌-◌, ◌*◌, ◌==◌, ◌&&◌, ◌||◌, nat_lt, Bool, true, false, if◌then◌else◌, List, [], ◌∷◌, ◌++◌, length, take, drop, Option, option_map, is_some, slice_get, String}
 use Rattle.std.specs.Char.{is_whitespace}
-use Rattle.textarea_text.specs.Text.{Symbol, Character, Break}
+use Rattle.textarea_text.specs.Text.{Symbol, Character, Break, text_of}
 use Rattle.textarea_text.specs.Place.{Place}
 use Rattle.textarea_text.specs.Splice.{Splice, applied, inverse, place_before, place_after}
 use Rattle.textarea_word.specs.Words.{class_of, is_same}
@@ -49,7 +49,8 @@ is_same_place first second = (first.0 == second.0) && (first.1 == second.1)
 -- the edit goes on where the run ended
 abbrev pub continues : Splice → Splice → Bool
 continues run edit =
-    is_same_direction run.inserts edit.inserts && (is_same_place (place_after run) (place_before edit) && goes_on (edge_of run) (character_of edit.symbols))
+    is_same_direction run.inserts edit.inserts
+    && (is_same_place (place_after run) (place_before edit) && goes_on (edge_of run) (character_of edit.symbols))
 
 abbrev pub continues_newest : Option Splice → Splice → Bool
 continues_newest None edit = false
@@ -69,10 +70,12 @@ newest log = slice_get log.done (length log.done - 1)
 abbrev pub pause : ℕ
 pause = 500 * 1_000_000
 
--- the edit joins the newest change: it is typed, the run is open, nothing is undone, less than the pause went by, and it goes on
+-- the edit joins the newest change: it is typed, the run is open, nothing is undone, less than the pause went by, and it
+-- goes on
 abbrev pub joins : Log → Splice → Bool → ℕ → Bool
 joins log edit coalesce now =
-    (is_typed edit coalesce && log.run_open) && (is_empty log.undone && (nat_lt (now - log.last) pause && continues_newest (newest log) edit))
+    (is_typed edit coalesce && log.run_open)
+    && (is_empty log.undone && (nat_lt (now - log.last) pause && continues_newest (newest log) edit))
 
 -- the newest change, grown by the edit
 abbrev pub grown : Option Splice → Splice → Splice
@@ -98,7 +101,8 @@ with_done log done run_open now = record { done = done; undone = []; maximum = l
 
 abbrev pub recorded : Log → Splice → Bool → ℕ → Log
 recorded log edit coalesce now =
-    if log.maximum == 0 then log else with_done log (done_after log edit (joins log edit coalesce now)) (is_typed edit coalesce) now
+    if log.maximum == 0 then log
+    else with_done log (done_after log edit (joins log edit coalesce now)) (is_typed edit coalesce) now
 
 -- ---- undo and redo
 
@@ -118,19 +122,39 @@ pub record Kept : Type 0 where
   pub log : Log
   pub room : ℕ
 
--- one undo of a text and its log: nothing to take back, or the newest change taken back
-abbrev pub UndoesBy : Option Splice → Log → Log → List Symbol → List Symbol → Option Place → Type 0
-UndoesBy None old new was now place = (place ≡ None) × (new ≡ old) × (now ≡ was)
-UndoesBy (Some splice) old new was now place =
-    (place ≡ Some (place_before splice)) × (new ≡ taken_back old splice) × (now ≡ applied was (inverse splice))
+-- ---- undo and redo of a text
 
-abbrev pub Undoes : Log → Log → List Symbol → List Symbol → Option Place → Type 0
-Undoes old new was now place = UndoesBy (newest old) old new was now place
+-- a text with the log of its edits
+pub record Logged : Type 0 where
+  pub text : List Symbol
+  pub log : Log
 
-abbrev pub RedoesBy : Option Splice → Log → Log → List Symbol → List Symbol → Option Place → Type 0
-RedoesBy None old new was now place = (place ≡ None) × (new ≡ old) × (now ≡ was)
-RedoesBy (Some splice) old new was now place =
-    (place ≡ Some (place_after splice)) × (new ≡ made_again old splice) × (now ≡ applied was splice)
+-- lines with the log of their edits
+abbrev pub logged_of : {Z : Type 0} → List (String Z) → Log → Logged
+logged_of lines log = record { text = text_of lines; log = log }
 
-abbrev pub Redoes : Log → Log → List Symbol → List Symbol → Option Place → Type 0
-Redoes old new was now place = RedoesBy (next old) old new was now place
+-- the newest edit is taken back, if there is one
+abbrev pub undone_by : Option Splice → Logged → Logged
+undone_by None logged = logged
+undone_by (Some splice) logged = record { text = applied logged.text (inverse splice); log = taken_back logged.log splice }
+
+abbrev pub undone : Logged → Logged
+undone logged = undone_by (newest logged.log) logged
+
+-- the edit that was taken back last is made again, if there is one
+abbrev pub redone_by : Option Splice → Logged → Logged
+redone_by None logged = logged
+redone_by (Some splice) logged = record { text = applied logged.text splice; log = made_again logged.log splice }
+
+abbrev pub redone : Logged → Logged
+redone logged = redone_by (next logged.log) logged
+
+-- one undo, with the place where the cursor goes: where it stood before the edit; none where there is no edit
+pub record Undoes (old new : Logged) (place : Option Place) : Type 0 where
+  pub is_undone : new ≡ undone old
+  pub cursor : place ≡ option_map place_before (newest old.log)
+
+-- one redo: the cursor goes where the edit had left it
+pub record Redoes (old new : Logged) (place : Option Place) : Type 0 where
+  pub is_redone : new ≡ redone old
+  pub cursor : place ≡ option_map place_after (next old.log)

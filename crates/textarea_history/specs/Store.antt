@@ -9,7 +9,13 @@ abbrev pub splice_in : Stored → Splice
 splice_in edit = edit.splice
 
 abbrev pub log_at : List Splice → ℕ → ℕ → Bool → ℕ → Log
-log_at splices index maximum run_open last = record { done = take index splices; undone = drop index splices; maximum = maximum; run_open = run_open; last = last }
+log_at splices index maximum run_open last = record {
+  done = take index splices;
+  undone = drop index splices;
+  maximum = maximum;
+  run_open = run_open;
+  last = last;
+}
 
 abbrev pub spare_in : Option Stored → ℕ
 spare_in None = 0
@@ -26,7 +32,9 @@ pub record IsRun (edit : Stored) (edge : ℕ) : Type 0 where
 
 abbrev pub RunIs : List Stored → ℕ → Option ℕ → Type 0
 RunIs items index None = Unit {0}
-RunIs items index (Some edge) = (index ≡ length items) × (0 < length items) × IfSome (slice_get items (length items - 1)) (λ edit. IsRun edit edge)
+RunIs items index (Some edge) =
+    (index ≡ length items) × (0 < length items)
+    × IfSome (slice_get items (length items - 1)) (λ edit. IsRun edit edge)
 
 -- each edit is well formed, done and undone edits together are at most the maximum, and an open run is the newest edit
 pub record IsStore (items : List Stored) (index maximum : ℕ) (run : Option ℕ) : Type 0 where

@@ -1,11 +1,13 @@
 //! The edits that were made and taken back, with a greatest number, and runs of typing that grow in place.
+pub mod laws;
+
 ghost use Rattle.std.specs.VecDeque.{deque_capacity};
 ghost use Rattle.std.specs.Prelude.{drop, ◌≡◌, ◌<◌, ◌≤◌, ◌+◌, length, OnOk, OnErr, IfOk, IfSome, IsSome, IsOk, MatchOption, Some, ◌∷◌, [], vec_len, true, false};
 ghost use Rattle.std.specs.Duration.{as_nanos};
 ghost use Rattle.textarea_text.specs.Text.{Character, text_of};
 ghost use Rattle.textarea_text.specs.Splice.{Splice, Fits, inverse};
 ghost use Rattle.textarea_edit.specs.Edit.{IsWellFormed};
-ghost use Rattle.textarea_history.specs.Log.{continues, edge_of, empty_log, recorded, joins, typed_character, with_done, done_joined, done_appended, is_typed, kept, Undoes, Redoes, newest, next, taken_back, made_again};
+ghost use Rattle.textarea_history.specs.Log.{continues, edge_of, empty_log, recorded, joins, typed_character, with_done, done_joined, done_appended, is_typed, kept, logged_of, Undoes, Redoes, newest, next, taken_back, made_again};
 
 use std::alloc::{AllocError, Global};
 use std::collections::VecDeque;
@@ -39,7 +41,8 @@ impl Model for History {
     ghost use Rattle.textarea_history.specs.Store.{IsStore, log_at, room_at, splice_in};
 
     ghost view = { λ h. record {
-      log = log_at (map splice_in h.items.items) h.index h.max_items (is_some h.run) (as_nanos h.last);
+      log = log_at (map splice_in h.items.items) h.index h.max_items (is_some h.run)
+          (as_nanos h.last);
       room = room_at h.items.items h.run (deque_capacity h.items - deque_len h.items);
     } };
 
@@ -49,7 +52,7 @@ impl Model for History {
 impl Clone for History {
     ghost is_clone = { λ history copy. copy.log ≡ history.log };
 
-    /// A history with the same edits, done and undone, or an error where there is no memory for them.
+    /// A history with the same edits, done and undone, or out of memory for them.
     fn clone(&self) -> Result<History, AllocError> {
         Ok(History {
             items: self.items.clone()?,
@@ -62,6 +65,7 @@ impl Clone for History {
 }
 
 impl History {
+    /// A history without edits, which keeps at most that many, done and undone together.
     pub fn new(alloc: Global, max_items: usize) -> Self
         ensures { result.log ≡ empty_log max_items }
     {
@@ -74,7 +78,7 @@ impl History {
         }
     }
 
-    /// How many edits are kept at most, done and undone together.
+    /// How many edits are kept at most.
     pub fn max_items(&self) -> usize
         ensures value { result ≡ self.now.log.maximum }
         ensures bound { length self.now.log.done + length self.now.log.undone ≤ result }
@@ -92,7 +96,8 @@ impl History {
     /// Records the edit, as one typed with coalescing on or not.
     pub fn push(&mut self, edit: Edit, coalesce: bool, now: Duration) -> Result<(), AllocError>
         requires { IsWellFormed edit }
-        ensures ok { OnOk result (self.new.log ≡ recorded self.old.log edit.splice coalesce (as_nanos now)) }
+        ensures ok { OnOk result (self.new.log
+            ≡ recorded self.old.log edit.splice coalesce (as_nanos now)) }
         ensures err { OnErr result (self.new.log ≡ self.old.log) }
     {
         self.reserve()?;
@@ -150,7 +155,8 @@ impl History {
         requires well_formed { IsWellFormed edit.now }
         requires room { 0 < self.old.room }
         requires joins { joins self.old.log edit.now.splice true (as_nanos now) ≡ true }
-        ensures { self.new.log ≡ with_done self.old.log (done_joined self.old.log edit.now.splice) true (as_nanos now) }
+        ensures { self.new.log ≡ with_done self.old.log
+            (done_joined self.old.log edit.now.splice) true (as_nanos now) }
     {
         if let Some(c) = typed_character(edit, true) {
             let newest = &mut self.items[self.index - 1];
@@ -160,12 +166,14 @@ impl History {
         }
     }
 
-    /// Puts the edit behind the done ones.
+    /// Appends the edit to the done ones.
     fn append(&mut self, mut edit: Edit, coalesce: bool, now: Duration)
         requires well_formed { IsWellFormed edit }
         requires room { 0 < self.old.room }
         requires some { 0 < self.old.log.maximum }
-        ensures { self.new.log ≡ with_done self.old.log (done_appended self.old.log edit.splice) (is_typed edit.splice coalesce) (as_nanos now) }
+        ensures { self.new.log ≡ with_done self.old.log
+            (done_appended self.old.log edit.splice) (is_typed edit.splice coalesce)
+            (as_nanos now) }
     {
         self.make_place();
         let typed = typed_character(&edit, coalesce);
@@ -180,7 +188,8 @@ impl History {
     fn make_place(&mut self)
         requires room { 0 < self.old.room }
         requires some { 0 < self.old.log.maximum }
-        ensures log { self.new.log ≡ record self.old.log { done = kept self.old.log; undone = []; run_open = false } }
+        ensures log { self.new.log
+            ≡ record self.old.log { done = kept self.old.log; undone = []; run_open = false } }
         ensures place { length self.new.log.done < self.new.log.maximum }
         ensures room { 0 < self.new.room }
     {
@@ -194,7 +203,8 @@ impl History {
 
     /// The newest done edit, which `undo` takes back next.
     pub fn newest(&self) -> Option<&Edit>
-        ensures edit { MatchOption result (newest self.now.log ≡ None) (λ edit. newest self.now.log ≡ Some edit.now.splice) }
+        ensures edit { MatchOption result (newest self.now.log ≡ None)
+            (λ edit. newest self.now.log ≡ Some edit.now.splice) }
         ensures well_formed { IfSome result (λ edit. IsWellFormed edit.now) }
     {
         if self.index == 0 {
@@ -205,7 +215,8 @@ impl History {
 
     /// The edit that was undone last, which `redo` makes again next.
     pub fn next(&self) -> Option<&Edit>
-        ensures edit { MatchOption result (next self.now.log ≡ None) (λ edit. next self.now.log ≡ Some edit.now.splice) }
+        ensures edit { MatchOption result (next self.now.log ≡ None)
+            (λ edit. next self.now.log ≡ Some edit.now.splice) }
         ensures well_formed { IfSome result (λ edit. IsWellFormed edit.now) }
     {
         if self.index == self.items.len() {
@@ -217,7 +228,8 @@ impl History {
     /// Moves the newest done edit, which was taken back, to the undone ones, and ends the run.
     pub fn step_back(&mut self)
         requires { IsSome (newest self.old.log) }
-        ensures { (splice : Splice) → newest self.old.log ≡ Some splice → self.new.log ≡ taken_back self.old.log splice }
+        ensures { (splice : Splice) → newest self.old.log ≡ Some splice →
+            self.new.log ≡ taken_back self.old.log splice }
     {
         self.index -= 1;
         self.run = None;
@@ -226,7 +238,8 @@ impl History {
     /// Moves the edit that was undone last, which was made again, to the done ones, and ends the run.
     pub fn step_forward(&mut self)
         requires { IsSome (next self.old.log) }
-        ensures { (splice : Splice) → next self.old.log ≡ Some splice → self.new.log ≡ made_again self.old.log splice }
+        ensures { (splice : Splice) → next self.old.log ≡ Some splice →
+            self.new.log ≡ made_again self.old.log splice }
     {
         self.index += 1;
         self.run = None;
@@ -234,12 +247,15 @@ impl History {
 
     /// Takes back the newest edit, and says where the cursor goes; with nothing to take back nothing changes.
     pub fn undo(&mut self, lines: &mut Vec<String>) -> Result<Option<(usize, usize)>, AllocError>
-        requires nonempty { 0 < vec_len lines.old }
-        requires fits { IfSome (newest self.old.log) (λ splice. Fits (text_of lines.old.items) (inverse splice)) }
-        ensures ok { IfOk result (λ place. Undoes self.old.log self.new.log (text_of lines.old.items) (text_of lines.new.items) place) }
-        ensures err { OnErr result ((self.new.log ≡ self.old.log) × (lines.new.items ≡ lines.old.items)) }
-        ensures nonempty { 0 < vec_len lines.new }
-        ensures nothing { newest self.old.log ≡ None → IsOk result }
+        requires nonempty { IsSome (newest self.old.log) → 0 < vec_len lines.old }
+        requires fits { IfSome (newest self.old.log)
+            (λ splice. Fits (text_of lines.old.items) (inverse splice)) }
+        ensures ok { IfOk result (Undoes (logged_of lines.old.items self.old.log)
+            (logged_of lines.new.items self.new.log)) }
+        ensures err { OnErr result (self.new.log ≡ self.old.log) }
+        ensures lines { OnErr result (lines.new.items ≡ lines.old.items) }
+        ensures nonempty { 0 < vec_len lines.old → 0 < vec_len lines.new }
+        ensures nothing { newest self.old.log ≡ None → IsOk result × (lines.new ≡ lines.old) }
     {
         let Some(edit) = self.newest() else {
             return Ok(None);
@@ -254,12 +270,14 @@ impl History {
     /// Makes again the edit that was undone last, and says where the cursor goes; with nothing to make again nothing
     /// changes.
     pub fn redo(&mut self, lines: &mut Vec<String>) -> Result<Option<(usize, usize)>, AllocError>
-        requires nonempty { 0 < vec_len lines.old }
-        requires fits { IfSome (next self.old.log) (λ splice. Fits (text_of lines.old.items) splice) }
-        ensures ok { IfOk result (λ place. Redoes self.old.log self.new.log (text_of lines.old.items) (text_of lines.new.items) place) }
-        ensures err { OnErr result ((self.new.log ≡ self.old.log) × (lines.new.items ≡ lines.old.items)) }
-        ensures nonempty { 0 < vec_len lines.new }
-        ensures nothing { next self.old.log ≡ None → IsOk result }
+        requires nonempty { IsSome (next self.old.log) → 0 < vec_len lines.old }
+        requires fits { IfSome (next self.old.log) (Fits (text_of lines.old.items)) }
+        ensures ok { IfOk result (Redoes (logged_of lines.old.items self.old.log)
+            (logged_of lines.new.items self.new.log)) }
+        ensures err { OnErr result (self.new.log ≡ self.old.log) }
+        ensures lines { OnErr result (lines.new.items ≡ lines.old.items) }
+        ensures nonempty { 0 < vec_len lines.old → 0 < vec_len lines.new }
+        ensures nothing { next self.old.log ≡ None → IsOk result × (lines.new ≡ lines.old) }
     {
         let Some(edit) = self.next() else {
             return Ok(None);

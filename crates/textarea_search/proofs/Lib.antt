@@ -1,7 +1,7 @@
-pub mod ColumnLemmas
-pub mod FailureLemmas
-pub mod ListedLemmas
-pub mod PatternLemmas
-pub mod PlaceLemmas
-pub mod SpanLemmas
-pub mod StartLemmas
+mod ColumnLemmas
+mod FailureLemmas
+mod ListedLemmas
+mod PatternLemmas
+mod PlaceLemmas
+mod SpanLemmas
+mod StartLemmas

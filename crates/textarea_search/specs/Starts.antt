@@ -1,9 +1,11 @@
 -- Where the matches of a text start, and which of them a search finds.
-use Rattle.std.specs.Prelude.{ℕ, ◌+◌, ◌-◌, ◌<◌, ◌≤◌, Bool, ◌==◌, ◌&&◌, ◌||◌, nat_lt, List, [], ◌∷◌, ◌++◌, map, length, find, reverse, slice_get, slice_index_or, Option, None, Some, String, string_bytes}
+use Rattle.std.specs.Prelude.{◌≡◌, ℕ, ◌+◌, ◌-◌, ◌<◌, ◌≤◌, Bool, ◌==◌, ◌&&◌, ◌||◌, nat_lt, List, [], ◌∷◌, ◌++◌, map, length, find, reverse, slice_get, slice_index_or, Option, None, Some, String, string_bytes}
 use Rattle.std.specs.Option.{option_or}
 use Rattle.std.specs.Str.{chars}
 use Rattle.std.proofs.Common.{Global}
+use Rattle.regex.specs.Patterns.{Re}
 use Rattle.textarea_search.specs.Matches.{match_columns}
+use Rattle.textarea_search.specs.Spans.{columns_in}
 
 -- the places, as row and column, at which the matches of these lines start, in the order of the text
 abbrev pub starts_from : (List ℕ → List ℕ) → ℕ → List (List ℕ) → List (ℕ × ℕ)
@@ -11,10 +13,18 @@ starts_from columns row [] = []
 starts_from columns row (line ∷ lines) =
     map (λ column. (row, column)) (columns line) ++ starts_from columns (row + 1) lines
 
+-- the starts of the matches that a pattern's tree has in these lines, the first of which is the given row
+abbrev pub starts_by : Re → ℕ → List (String Global) → List (ℕ × ℕ)
+starts_by tree row lines = starts_from (columns_in tree) row (map string_bytes lines)
+
 -- the starts of a pattern's matches in a text, and none without a pattern
 abbrev pub starts_of : Option (List ℕ) → List (String Global) → List (ℕ × ℕ)
 starts_of None lines = []
 starts_of (Some pattern) lines = starts_from (match_columns pattern) 0 (map string_bytes lines)
+
+-- the matches that a tree has start where those of the pattern do
+abbrev pub IsTreeOf : List ℕ → Re → Type 0
+IsTreeOf pattern tree = (lines : List (String Global)) → starts_by tree 0 lines ≡ starts_of (Some pattern) lines
 
 -- the column stands behind the cursor's or, where that counts, at it
 abbrev pub is_ahead_in_line : ℕ → Bool → ℕ → Bool

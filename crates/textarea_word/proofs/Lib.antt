@@ -1,2 +1,2 @@
 pub mod NearestLemmas
-pub mod WordLemmas
+mod WordLemmas

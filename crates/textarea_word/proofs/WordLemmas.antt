@@ -9,9 +9,11 @@ use Rattle.std.proofs.lemmas.List.{length_push, get_or_default, get_or-take, len
 use Rattle.std.specs.List.{enumerate_from}
 use Rattle.std.proofs.lemmas.Bool.Decides.{nat_tests}
 use Rattle.std.proofs.lemmas.List.FromFn.{get_or-enumerate_from, length-enumerate_from}
-use Rattle.textarea_word.specs.Words.{class_of, class_at, is_space, begins, ends, is_word_start, is_behind_word, is_word_last, is_later_word_start, is_later_behind_word, is_word_last_from, is_earlier_word_start}
+use Rattle.textarea_word.specs.Words.{class_of, class_at, is_space, begins, ends, is_edge, is_word_start, is_behind_word, is_word_last, is_later_edge, is_word_last_from, is_earlier_word_start, lies_between}
 use Rattle.textarea_word.specs.declared.word.CharKind.{CharKind}
 use Rattle.textarea_word.specs.declared.word.CharKind.TheVariants.{Space, Punct, Other}
+use Rattle.textarea_word.specs.declared.word.Edge.{Edge}
+use Rattle.textarea_word.specs.declared.word.Edge.TheVariants.{Start, Behind}
 
 -- the class of the character before a column, and Space at the line's start
 abbrev pub class_before : List ℕ → ℕ → CharKind
@@ -83,6 +85,10 @@ is_behind_word-class_before line (suc e) within =
     let before : suc e - 1 ≡ e = omega arith in
     rw (inside, later, before) refl
 
+is_edge-class_before : (edge : Edge) (line : List ℕ) (e : ℕ) → e < length line → is_edge edge line e ≡ lies_between edge (class_before line e) (class_at line e)
+is_edge-class_before Start = is_word_start-class_before
+is_edge-class_before Behind = is_behind_word-class_before
+
 -- a word's last character is followed by one of another class
 pub is_word_last-inside : (line : List ℕ) (e : ℕ) → suc e < length line → is_word_last line e ≡ ends (class_at line e) (class_at line (suc e))
 is_word_last-inside line e within =
@@ -104,37 +110,26 @@ is_earlier_word_start-turn line start n column before kind b earlier turn behind
     let first : nat_lt n start ≡ true = grind (arith, nat_tests) in
     rw (first, is_word_start-class_before line n turn.within, ← behind, ← turn.kind_is) tells
 
-pub is_later_word_start-turn : (line : List ℕ) (start n column : ℕ) (before kind : CharKind) (b : Bool) → start < column → IsTurn line n column kind → before ≡ class_before line n → begins before kind ≡ b → is_later_word_start line start n ≡ b
-is_later_word_start-turn line start n column before kind b later turn behind tells =
+pub is_later_edge-turn : (edge : Edge) (line : List ℕ) (start n column : ℕ) (before kind : CharKind) (b : Bool) → start < column → IsTurn line n column kind → before ≡ class_before line n → lies_between edge before kind ≡ b → is_later_edge edge line start n ≡ b
+is_later_edge-turn edge line start n column before kind b later turn behind tells =
     let first : nat_lt start n ≡ true = grind (arith, nat_tests, turn.column_is) in
-    rw (first, is_word_start-class_before line n turn.within, ← behind, ← turn.kind_is) tells
-
-pub is_later_behind_word-turn : (line : List ℕ) (start n column : ℕ) (before kind : CharKind) (b : Bool) → start < column → IsTurn line n column kind → before ≡ class_before line n → ends before kind ≡ b → is_later_behind_word line start n ≡ b
-is_later_behind_word-turn line start n column before kind b later turn behind tells =
-    let first : nat_lt start n ≡ true = grind (arith, nat_tests, turn.column_is) in
-    rw (first, is_behind_word-class_before line n turn.within, ← behind, ← turn.kind_is) tells
+    rw (first, is_edge-class_before edge line n turn.within, ← behind, ← turn.kind_is) tells
 
 -- ---- where a test can't hold: on the wrong side of the start, or past the line
 
-pub is_later_word_start-early : (line : List ℕ) (start n column : ℕ) (kind : CharKind) → column ≤ start → IsTurn line n column kind → is_later_word_start line start n ≡ false
-is_later_word_start-early line start n column kind early turn =
+pub is_later_edge-early : (edge : Edge) (line : List ℕ) (start n column : ℕ) (kind : CharKind) → column ≤ start → IsTurn line n column kind → is_later_edge edge line start n ≡ false
+is_later_edge-early edge line start n column kind early turn =
     let first : nat_lt start n ≡ false = grind (arith, nat_tests, turn.column_is) in
     rw first refl
 
-pub is_later_behind_word-early : (line : List ℕ) (start n column : ℕ) (kind : CharKind) → column ≤ start → IsTurn line n column kind → is_later_behind_word line start n ≡ false
-is_later_behind_word-early line start n column kind early turn =
-    let first : nat_lt start n ≡ false = grind (arith, nat_tests, turn.column_is) in
-    rw first refl
-
-pub is_later_word_start-past : (line : List ℕ) (start e : ℕ) → length line ≤ e → is_later_word_start line start e ≡ false
-is_later_word_start-past line start e past =
+pub is_later_edge-past : (edge : Edge) (line : List ℕ) (start e : ℕ) → length line ≤ e → is_later_edge edge line start e ≡ false
+is_later_edge-past edge line start e past =
     let outside : nat_lt e (length line) ≡ false = grind (arith, nat_tests) in
-    rw outside (and-false (nat_lt start e))
-
-pub is_later_behind_word-past : (line : List ℕ) (start e : ℕ) → length line ≤ e → is_later_behind_word line start e ≡ false
-is_later_behind_word-past line start e past =
-    let outside : nat_lt e (length line) ≡ false = grind (arith, nat_tests) in
-    rw outside (and-false (nat_lt start e))
+    by edge outside
+  where
+    by : (edge : Edge) → nat_lt e (length line) ≡ false → is_later_edge edge line start e ≡ false
+    by Start outside = rw outside (and-false (nat_lt start e))
+    by Behind outside = rw outside (and-false (nat_lt start e))
 
 pub is_word_last_from-past : (line : List ℕ) (start e : ℕ) → length line ≤ e → is_word_last_from line start e ≡ false
 is_word_last_from-past line start e past =

@@ -5,12 +5,14 @@ use Rattle.std.specs.Option.{option_or}
 -- `found` is the least index that passes, and `None` where no index does
 abbrev pub IsLeast : (ℕ → Bool) → Option ℕ → Type 0
 IsLeast test found =
-    MatchOption found ((e : ℕ) → test e ≡ false) (λ least. (test least ≡ true) × ((e : ℕ) → e < least → test e ≡ false))
+    MatchOption found ((e : ℕ) → test e ≡ false)
+    (λ least. (test least ≡ true) × ((e : ℕ) → e < least → test e ≡ false))
 
 -- `found` is the greatest index that passes, and `None` where no index does
 abbrev pub IsGreatest : (ℕ → Bool) → Option ℕ → Type 0
 IsGreatest test found =
-    MatchOption found ((e : ℕ) → test e ≡ false) (λ greatest. (test greatest ≡ true) × ((e : ℕ) → greatest < e → test e ≡ false))
+    MatchOption found ((e : ℕ) → test e ≡ false)
+    (λ greatest. (test greatest ≡ true) × ((e : ℕ) → greatest < e → test e ≡ false))
 
 -- the index, where it passes
 abbrev pub passing : (ℕ → Bool) → ℕ → Option ℕ

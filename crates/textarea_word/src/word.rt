@@ -1,13 +1,13 @@
 //! The classes of characters, and searches for the words of a line.
 //!
-//! A word is a longest run of characters of one class other than [`CharKind::Space`]. Columns
-//! count characters from 0. A search takes no memory, goes over the line once, and takes any start
-//! column, also one past the line's end.
+//! A word is a longest stretch of characters of one class other than [`CharKind::Space`]. Columns
+//! count characters from 0. A search goes over the line once, and takes any start column, also one
+//! past the line's end.
 
 ghost use Rattle.std.specs.Prelude.{◌≡◌, ◌<◌, ◌≤◌, length, IfSome};
 ghost use Rattle.std.specs.Str.{chars};
 ghost use Rattle.textarea_word.specs.Nearest.{IsLeast, IsGreatest};
-ghost use Rattle.textarea_word.specs.Words.{class_of, begins, ends, is_later_word_start, next_word_start, is_later_behind_word, next_behind_word, is_word_last_from, next_word_last, is_earlier_word_start, previous_word_start};
+ghost use Rattle.textarea_word.specs.Words.{class_of, begins, ends, lies_between, is_later_edge, next_edge, is_later_word_start, next_word_start, is_later_behind_word, next_behind_word, is_word_last_from, next_word_last, is_earlier_word_start, previous_word_start};
 
 /// The class of a character.
 #[derive(Clone, Copy, Debug, PartialEq, Eq)]
@@ -50,21 +50,49 @@ impl CharKind {
     }
 }
 
+/// An edge of a word: at its first character, or at the one right behind its last.
+#[derive(Clone, Copy)]
+enum Edge {
+    Start,
+    Behind,
+}
+
+impl Edge {
+    /// Whether it lies at a character of class `kind` that follows one of class `before`.
+    fn lies_between(self, before: CharKind, kind: CharKind) -> bool
+        ensures { result ≡ lies_between self before kind }
+    {
+        match self {
+            Edge::Start => kind.begins_word(before),
+            Edge::Behind => before.ends_word(kind),
+        }
+    }
+}
+
+/// The least column after `start_column` at which such an edge lies.
+fn find_edge_forward(line: &str, start_column: usize, edge: Edge) -> Option<usize>
+    ensures least { IsLeast (is_later_edge edge (chars line.now) start_column) result }
+    ensures value { result ≡ next_edge edge (chars line.now) start_column }
+    ensures within { IfSome result (λ e. (start_column < e) × (e < length (chars line.now))) }
+{
+    let mut before = CharKind::Space;
+    for (column, c) in line.chars().enumerate() {
+        let kind = CharKind::new(c);
+        if start_column < column && edge.lies_between(before, kind) {
+            return Some(column);
+        }
+        before = kind;
+    }
+    None
+}
+
 /// The least column after `start_column` at which a word begins.
 pub fn find_word_start_forward(line: &str, start_column: usize) -> Option<usize>
     ensures least { IsLeast (is_later_word_start (chars line.now) start_column) result }
     ensures value { result ≡ next_word_start (chars line.now) start_column }
     ensures within { IfSome result (λ e. (start_column < e) × (e < length (chars line.now))) }
 {
-    let mut before = CharKind::Space;
-    for (column, c) in line.chars().enumerate() {
-        let kind = CharKind::new(c);
-        if start_column < column && kind.begins_word(before) {
-            return Some(column);
-        }
-        before = kind;
-    }
-    None
+    find_edge_forward(line, start_column, Edge::Start)
 }
 
 /// The least column after `start_column` that holds a character right behind a word's last.
@@ -73,15 +101,7 @@ pub fn find_word_exclusive_end_forward(line: &str, start_column: usize) -> Optio
     ensures value { result ≡ next_behind_word (chars line.now) start_column }
     ensures within { IfSome result (λ e. (start_column < e) × (e < length (chars line.now))) }
 {
-    let mut before = CharKind::Space;
-    for (column, c) in line.chars().enumerate() {
-        let kind = CharKind::new(c);
-        if start_column < column && before.ends_word(kind) {
-            return Some(column);
-        }
-        before = kind;
-    }
-    None
+    find_edge_forward(line, start_column, Edge::Behind)
 }
 
 /// The least column from `start_column` on that holds a word's last character.

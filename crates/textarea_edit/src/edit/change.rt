@@ -4,8 +4,9 @@ ghost use Rattle.std.specs.Str.{chars};
 ghost use Rattle.textarea_text.specs.Text.{characters, following, lines_of, text_of};
 ghost use Rattle.textarea_text.specs.Size.{weight};
 ghost use Rattle.textarea_text.specs.Place.{end};
-ghost use Rattle.textarea_text.specs.Splice.{Fits, applied, place_after, place_before};
+ghost use Rattle.textarea_text.specs.Splice.{Fits, place_after, place_before};
 ghost use Rattle.textarea_text.specs.Touched.{IsReplacementFor, breaks_of};
+ghost use Rattle.textarea_edit.specs.Change.{IsRemovalInLine, Makes};
 
 use super::{Content, Edit};
 use crate::texts::reverse_text;
@@ -100,15 +101,14 @@ impl<'a> Change<'a> {
         }
     }
 
-    /// Makes the change on lines that it fits: in place where it has no line break, so that to remove such symbols takes no
-    /// memory. Out of memory leaves the lines as they were.
+    /// Makes the change on lines that it fits, in place where it has no line break.
     pub fn apply(&self, lines: &mut Vec<String>) -> Result<(), AllocError>
         requires nonempty { 0 < vec_len lines.old }
         requires fits { Fits (text_of lines.old.items) self.now }
-        ensures ok { OnOk result (text_of lines.new.items ≡ applied (text_of lines.old.items) self.now) }
+        ensures ok { OnOk result (Makes self.now lines.old.items lines.new.items) }
         ensures err { OnErr result (lines.new.items ≡ lines.old.items) }
         ensures nonempty { 0 < vec_len lines.new }
-        ensures no_memory { self.now.inserts ≡ false → breaks_of self.now.symbols ≡ 0 → IsOk result }
+        ensures no_memory { IsRemovalInLine self.now → IsOk result }
     {
         if self.is_inside_line() {
             return self.apply_inside(lines);
@@ -122,7 +122,7 @@ impl<'a> Change<'a> {
         requires inside { breaks_of self.now.symbols ≡ 0 }
         requires nonempty { 0 < vec_len lines.old }
         requires fits { Fits (text_of lines.old.items) self.now }
-        ensures ok { OnOk result (text_of lines.new.items ≡ applied (text_of lines.old.items) self.now) }
+        ensures ok { OnOk result (Makes self.now lines.old.items lines.new.items) }
         ensures err { OnErr result (lines.new.items ≡ lines.old.items) }
         ensures len { vec_len lines.new ≡ vec_len lines.old }
         ensures no_memory { self.now.inserts ≡ false → IsOk result }
@@ -156,7 +156,7 @@ impl<'a> Change<'a> {
         requires inside { breaks_of self.now.symbols ≡ 0 }
         requires nonempty { 0 < vec_len lines.old }
         requires fits { Fits (text_of lines.old.items) self.now }
-        ensures text { text_of lines.new.items ≡ applied (text_of lines.old.items) self.now }
+        ensures text { Makes self.now lines.old.items lines.new.items }
         ensures len { vec_len lines.new ≡ vec_len lines.old }
     {
         let start = self.start();
@@ -170,7 +170,7 @@ impl<'a> Change<'a> {
         requires symbols { characters (chars text.now) ≡ self.now.symbols }
         requires nonempty { 0 < vec_len lines.old }
         requires fits { Fits (text_of lines.old.items) self.now }
-        ensures ok { OnOk result (text_of lines.new.items ≡ applied (text_of lines.old.items) self.now) }
+        ensures ok { OnOk result (Makes self.now lines.old.items lines.new.items) }
         ensures err { OnErr result (lines.new.items ≡ lines.old.items) }
         ensures len { vec_len lines.new ≡ vec_len lines.old }
     {
@@ -229,7 +229,8 @@ impl<'a> Change<'a> {
         rest: &[String],
     ) -> Result<Replacement, AllocError>
         requires inserts { self.now.inserts ≡ true }
-        requires symbols { characters (chars first.now) ++ following (lines_of rest.now) ≡ self.now.symbols }
+        requires symbols { characters (chars first.now) ++ following (lines_of rest.now)
+            ≡ self.now.symbols }
         requires nonempty { 0 < length lines.now }
         requires fits { Fits (text_of lines.now) self.now }
         ensures { IfOk result (IsReplacementFor lines.now self.now) }

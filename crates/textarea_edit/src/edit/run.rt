@@ -10,7 +10,8 @@ use crate::texts::only_character;
 use std::alloc::{AllocError, Global};
 
 impl Edit {
-    /// The character of an edit that has just one symbol, and that a character.
+    /// For a history: the character of an edit that has just one symbol, and that a character. Only such an edit
+    /// begins a run of typing or joins one.
     pub fn character(&self) -> Option<char>
         requires { IsWellFormed self.now }
         ensures { result ≡ character_of self.now.splice.symbols }
@@ -24,7 +25,7 @@ impl Edit {
         }
     }
 
-    /// Makes a run of an edit that counts as typed.
+    /// For a history: makes a run of an edit that counts as typed, so that it can grow.
     pub fn start_run(&mut self, typed: Option<char>)
         requires well_formed { IsWellFormed self.old }
         requires typed { IfSome typed (λ c. self.old.splice.symbols ≡ Character c ∷ []) }
@@ -37,7 +38,7 @@ impl Edit {
         }
     }
 
-    /// Makes room for one more character of the run, so that `grow` takes no memory.
+    /// For a history: makes room for one more character of the run, so that `grow` takes no memory.
     pub fn reserve(&mut self, alloc: Global) -> Result<(), AllocError>
         requires well_formed { IsWellFormed self.old }
         requires grows { self.old.grows ≡ true }
@@ -59,7 +60,7 @@ impl Edit {
         }
     }
 
-    /// Takes the typed edit of the character into the run.
+    /// For a history: takes the typed edit of the character into the run, for which there is room.
     pub fn grow(&mut self, edit: &Edit, c: char)
         requires well_formed { IsWellFormed self.old }
         requires other { IsWellFormed edit.now }

@@ -1,12 +1,11 @@
-ghost use Rattle.std.specs.Prelude.{◌≡◌, ◌≢◌, ◌<◌, [], length, Some, IfOk, IfErr, IfSome};
+ghost use Rattle.std.specs.Prelude.{◌≡◌, ◌≢◌, [], IfOk, IfErr};
 ghost use Rattle.regex.specs.Strings.{regex_pattern, regex_source, regex_config, matcher_pattern, IsReadFromSource};
 ghost use Rattle.regex.specs.Patterns.{default_config};
 ghost use Rattle.textarea_search.specs.Failures.{IsPatternFailure, IsCarried};
 ghost use Rattle.textarea_search.specs.Matches.{match_spans};
-ghost use Rattle.textarea_search.specs.Starts.{starts_of, next_start, previous_start, IsPlaceIn};
+ghost use Rattle.textarea_search.specs.Starts.{IsTreeOf};
 
 use crate::search::error::SearchError;
-use crate::search::lines::{next_start, previous_start};
 use regex::{Matcher, Regex};
 use std::alloc::{AllocError, Global};
 use std::rc::Rc;
@@ -46,7 +45,7 @@ impl Compiled {
         self.regex.as_str()
     }
 
-    /// The same pattern once more. Only a refused count of the owners makes it fail.
+    /// The same pattern once more. It fails only where no more owners can be counted.
     pub(crate) fn share(&self) -> Result<Compiled, AllocError>
         ensures { IfOk result (λ c. c.regex.value ≡ self.now.regex.value) }
     {
@@ -58,7 +57,10 @@ impl Compiled {
 
     /// What goes over the matches of line after line.
     pub(crate) fn matcher(&self) -> Result<Matcher<'_>, AllocError>
-        ensures { IfOk result (λ m. matcher_pattern m ≡ regex_pattern self.now.regex.value) }
+        ensures pattern { IfOk result (λ m. matcher_pattern m
+            ≡ regex_pattern self.now.regex.value) }
+        ensures starts { IfOk result (λ m. IsTreeOf (regex_source self.now.regex.value)
+            (matcher_pattern m)) }
     {
         self.regex.matcher(self.alloc)
     }
@@ -74,37 +76,5 @@ impl Compiled {
             spans.push((found.start(), found.end()))?;
         }
         Ok(spans)
-    }
-
-    /// Where a search from the cursor goes, by one matcher.
-    pub(crate) fn forward(
-        &self,
-        lines: &[String],
-        cursor: (usize, usize),
-        match_cursor: bool,
-    ) -> Result<Option<(usize, usize)>, AllocError>
-        requires { cursor.0 < length lines.now }
-        ensures found { IfOk result (λ place. place ≡ next_start
-            (starts_of (Some (regex_source self.now.regex.value)) lines.now) cursor match_cursor) }
-        ensures within { IfOk result (λ place. IfSome place (IsPlaceIn lines.now)) }
-    {
-        let mut matcher = self.matcher()?;
-        Ok(next_start(&mut matcher, lines, cursor, match_cursor))
-    }
-
-    /// Where a search back from the cursor goes, by one matcher.
-    pub(crate) fn back(
-        &self,
-        lines: &[String],
-        cursor: (usize, usize),
-        match_cursor: bool,
-    ) -> Result<Option<(usize, usize)>, AllocError>
-        requires { cursor.0 < length lines.now }
-        ensures found { IfOk result (λ place. place ≡ previous_start
-            (starts_of (Some (regex_source self.now.regex.value)) lines.now) cursor match_cursor) }
-        ensures within { IfOk result (λ place. IfSome place (IsPlaceIn lines.now)) }
-    {
-        let mut matcher = self.matcher()?;
-        Ok(previous_start(&mut matcher, lines, cursor, match_cursor))
     }
 }

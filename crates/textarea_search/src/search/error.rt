@@ -4,7 +4,7 @@ use thiserror::Error;
 /// Why a pattern was not set.
 #[derive(Debug, Drop, Error)]
 pub enum SearchError {
-    /// Memory for the pattern was refused.
+    /// Out of memory for the pattern.
     #[error(transparent)]
     Memory(AllocError),
     /// What `regex` answered for the pattern, as it is. It may also stand for memory.

@@ -1,8 +1,7 @@
 //! The way from a cursor to the next start of a match in a text, by one matcher for all lines.
-ghost use Rattle.std.specs.Prelude.{◌≡◌, ◌+◌, ◌^◌, ◌<◌, map, length, reverse, slice_get, string_bytes, IfSome};
+ghost use Rattle.std.specs.Prelude.{◌≡◌, ◌+◌, ◌^◌, ◌<◌, length, reverse, slice_get, IfSome};
 ghost use Rattle.regex.specs.Strings.{matcher_pattern};
-ghost use Rattle.textarea_search.specs.Spans.{columns_in};
-ghost use Rattle.textarea_search.specs.Starts.{starts_from, next_start, previous_start, IsPlaceFrom, IsPlaceIn};
+ghost use Rattle.textarea_search.specs.Starts.{starts_by, next_start, previous_start, IsPlaceFrom, IsPlaceIn};
 
 use crate::search::listed::{column_ahead, column_behind, first_column, last_column};
 use regex::Matcher;
@@ -14,8 +13,8 @@ fn first_start(
     first_row: usize,
 ) -> Option<(usize, usize)>
     requires { first_row + length lines.now < 2 ^ 64 }
-    ensures found { result ≡ slice_get (starts_from (columns_in (matcher_pattern matcher.old)) first_row
-        (map string_bytes lines.now)) 0 }
+    ensures found { result
+        ≡ slice_get (starts_by (matcher_pattern matcher.old) first_row lines.now) 0 }
     ensures within { IfSome result (IsPlaceFrom first_row lines.now) }
     ensures same { matcher_pattern matcher.new ≡ matcher_pattern matcher.old }
 {
@@ -34,8 +33,8 @@ fn last_start(
     first_row: usize,
 ) -> Option<(usize, usize)>
     requires { first_row + length lines.now < 2 ^ 64 }
-    ensures found { result ≡ slice_get (reverse (starts_from (columns_in (matcher_pattern matcher.old)) first_row
-        (map string_bytes lines.now))) 0 }
+    ensures found { result
+        ≡ slice_get (reverse (starts_by (matcher_pattern matcher.old) first_row lines.now)) 0 }
     ensures within { IfSome result (IsPlaceFrom first_row lines.now) }
     ensures same { matcher_pattern matcher.new ≡ matcher_pattern matcher.old }
 {
@@ -57,8 +56,8 @@ pub(crate) fn next_start(
     match_cursor: bool,
 ) -> Option<(usize, usize)>
     requires { cursor.0 < length lines.now }
-    ensures found { result ≡ next_start (starts_from (columns_in (matcher_pattern matcher.old)) 0
-        (map string_bytes lines.now)) cursor match_cursor }
+    ensures found { result
+        ≡ next_start (starts_by (matcher_pattern matcher.old) 0 lines.now) cursor match_cursor }
     ensures within { IfSome result (IsPlaceIn lines.now) }
 {
     let (row, column) = cursor;
@@ -79,8 +78,8 @@ pub(crate) fn previous_start(
     match_cursor: bool,
 ) -> Option<(usize, usize)>
     requires { cursor.0 < length lines.now }
-    ensures found { result ≡ previous_start (starts_from (columns_in (matcher_pattern matcher.old)) 0
-        (map string_bytes lines.now)) cursor match_cursor }
+    ensures found { result
+        ≡ previous_start (starts_by (matcher_pattern matcher.old) 0 lines.now) cursor match_cursor }
     ensures within { IfSome result (IsPlaceIn lines.now) }
 {
     let (row, column) = cursor;

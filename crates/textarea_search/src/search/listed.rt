@@ -11,11 +11,12 @@ use regex::{Match, Matcher};
 
 /// The first listed match behind the one that ended at `after - 1`, or the first of all where `after` is 0.
 fn next_listed<'h>(matcher: &mut Matcher<'_>, line: &'h str, after: usize) -> Option<Match<'h>>
-    ensures found { MatchOption result (spans_after (matcher_pattern matcher.old) line.now after ≡ [])
-        (λ m. spans_after (matcher_pattern matcher.old) line.now after
-        ≡ match_span m ∷ spans_after (matcher_pattern matcher.old) line.now ((match_span m).1 + 1)) }
+    ensures found { let left = spans_after (matcher_pattern matcher.old) line.now in
+        MatchOption result (left after ≡ [])
+        (λ m. left after ≡ match_span m ∷ left ((match_span m).1 + 1)) }
     ensures within { IfSome result (λ m. match_haystack m ≡ line.now) }
-    ensures forth { IfSome result (λ m. (after ≤ (match_span m).0 + 1) × (after ≤ (match_span m).1)) }
+    ensures forth { IfSome result (λ m.
+        (after ≤ (match_span m).0 + 1) × (after ≤ (match_span m).1)) }
     ensures same { matcher_pattern matcher.new ≡ matcher_pattern matcher.old }
 {
     let found = matcher.find_at(line, after.saturating_sub(1))?;
@@ -84,7 +85,8 @@ fn last_behind<'h>(
 /// The byte at which the column's character begins, or the length of the line for the column at its end. For a column
 /// past that it is greater than the length.
 fn byte_of(line: &str, column: usize) -> usize
-    ensures inside { column ≤ length (chars line.now) → result ≡ length (encode_utf8_all (take column (chars line.now))) }
+    ensures inside { column ≤ length (chars line.now) →
+        result ≡ length (encode_utf8_all (take column (chars line.now))) }
     ensures past { length (chars line.now) < column → length line.now < result }
 {
     let mut rest = line.chars();
@@ -104,6 +106,17 @@ fn column_of(line: &str, byte: usize) -> usize
     line[..byte].chars().count()
 }
 
+/// The column at which a match of a line starts.
+fn start_column(line: &str, found: Option<Match<'_>>) -> Option<usize>
+    requires { IfSome found (λ m. match_haystack m ≡ line.now) }
+    ensures column { result
+        ≡ option_map (λ s. column_at line.now s.0) (option_map match_span found.entry) }
+    ensures within { IfSome result (λ start. start ≤ length (chars line.now)) }
+{
+    let found = found?;
+    Some(column_of(line, found.start()))
+}
+
 /// The first column behind the given one or, where that counts, at it, at which a listed match starts.
 pub(crate) fn column_ahead(
     matcher: &mut Matcher<'_>,
@@ -117,8 +130,7 @@ pub(crate) fn column_ahead(
     ensures same { matcher_pattern matcher.new ≡ matcher_pattern matcher.old }
 {
     let byte = byte_of(line, column);
-    let found = first_ahead(matcher, line, byte, at_column)?;
-    Some(column_of(line, found.start()))
+    start_column(line, first_ahead(matcher, line, byte, at_column))
 }
 
 /// The last column before the given one or, where that counts, at it, at which a listed match starts.
@@ -134,8 +146,7 @@ pub(crate) fn column_behind(
     ensures same { matcher_pattern matcher.new ≡ matcher_pattern matcher.old }
 {
     let byte = byte_of(line, column);
-    let found = last_behind(matcher, line, byte, at_column)?;
-    Some(column_of(line, found.start()))
+    start_column(line, last_behind(matcher, line, byte, at_column))
 }
 
 /// The first column at which a listed match starts.
@@ -144,16 +155,15 @@ pub(crate) fn first_column(matcher: &mut Matcher<'_>, line: &str) -> Option<usiz
     ensures within { IfSome result (λ start. start ≤ length (chars line.now)) }
     ensures same { matcher_pattern matcher.new ≡ matcher_pattern matcher.old }
 {
-    let found = first_ahead(matcher, line, 0, true)?;
-    Some(column_of(line, found.start()))
+    start_column(line, first_ahead(matcher, line, 0, true))
 }
 
 /// The last column at which a listed match starts.
 pub(crate) fn last_column(matcher: &mut Matcher<'_>, line: &str) -> Option<usize>
-    ensures found { result ≡ slice_get (reverse (columns_in (matcher_pattern matcher.old) line.now)) 0 }
+    ensures found { result
+        ≡ slice_get (reverse (columns_in (matcher_pattern matcher.old) line.now)) 0 }
     ensures within { IfSome result (λ start. start ≤ length (chars line.now)) }
     ensures same { matcher_pattern matcher.new ≡ matcher_pattern matcher.old }
 {
-    let found = last_behind(matcher, line, line.len(), true)?;
-    Some(column_of(line, found.start()))
+    start_column(line, last_behind(matcher, line, line.len(), true))
 }

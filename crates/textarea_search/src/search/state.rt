@@ -6,6 +6,7 @@ ghost use Rattle.textarea_search.specs.Starts.{starts_of, next_start, previous_s
 
 use crate::search::compiled::Compiled;
 use crate::search::error::SearchError;
+use crate::search::lines::{next_start, previous_start};
 use crate::search::matches::Matches;
 use std::alloc::{AllocError, Global};
 use std::marker::Model;
@@ -22,12 +23,12 @@ impl Model for Search {
 
     ghost Value = { Option (List ℕ) };
 
-    ghost view = { λ search. option_map (λ compiled. regex_source compiled.regex.value) search.compiled };
+    ghost view = { λ search.
+        option_map (λ compiled. regex_source compiled.regex.value) search.compiled };
 }
 
 impl Search {
-    /// Searches for this pattern from now on, in the syntax of `regex`, and for none if it is empty. The empty text and
-    /// that of the present pattern take no memory.
+    /// Searches for this pattern from now on, in the syntax of `regex`, and for none if it is empty.
     pub fn set_pattern(&mut self, alloc: Global, pattern: &str) -> Result<(), SearchError>
         ensures empty { pattern.now ≡ [] → IsOk result × IsNone self.new }
         ensures set { pattern.now ≢ [] → OnOk result (self.new ≡ Some pattern.now) }
@@ -72,7 +73,7 @@ impl Search {
 
     /// The row and column, in characters, of the next start of a match behind the cursor or, with `match_cursor`, at
     /// it; past the last of them the search goes on from the beginning of the text. It reads no line behind the one in
-    /// which it finds. Without a pattern it takes no memory.
+    /// which it finds.
     pub fn forward(
         &self,
         lines: &[String],
@@ -85,15 +86,16 @@ impl Search {
         ensures within { IfOk result (λ place. IfSome place (IsPlaceIn lines.now)) }
         ensures no_pattern { IsNone self.now → IsOk result }
     {
-        match &self.compiled {
-            Some(compiled) => compiled.forward(lines, cursor, match_cursor),
-            None => Ok(None),
-        }
+        let Some(compiled) = &self.compiled else {
+            return Ok(None);
+        };
+        let mut matcher = compiled.matcher()?;
+        Ok(next_start(&mut matcher, lines, cursor, match_cursor))
     }
 
     /// The row and column, in characters, of the last start of a match before the cursor or, with `match_cursor`, at
     /// it; past the first of them the search goes on from the end of the text. It reads no line before the one in which
-    /// it finds. Without a pattern it takes no memory.
+    /// it finds.
     pub fn back(
         &self,
         lines: &[String],
@@ -106,10 +108,11 @@ impl Search {
         ensures within { IfOk result (λ place. IfSome place (IsPlaceIn lines.now)) }
         ensures no_pattern { IsNone self.now → IsOk result }
     {
-        match &self.compiled {
-            Some(compiled) => compiled.back(lines, cursor, match_cursor),
-            None => Ok(None),
-        }
+        let Some(compiled) = &self.compiled else {
+            return Ok(None);
+        };
+        let mut matcher = compiled.matcher()?;
+        Ok(previous_start(&mut matcher, lines, cursor, match_cursor))
     }
 
     /// A search for the same pattern, which the two share.

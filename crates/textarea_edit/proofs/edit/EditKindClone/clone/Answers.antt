@@ -1,32 +1,17 @@
-use Rattle.std.proofs.Common.{◌∙◌, Some, ap, sym, ℕ}
-use Rattle.textarea_text.specs.Text.{joined}
-use Rattle.textarea_edit.specs.Edit.{inserts_of, pieces_of, symbols_of}
+use Rattle.std.proofs.Common.{subst, sym}
 use Rattle.textarea_text.proofs.Copies.{lines_copied}
-use Rattle.std.proofs.lemmas.List.Elements.{length_all_zip}
+use Rattle.textarea_edit.specs.Edit.{IsCopyOfKind}
+use Rattle.textarea_edit.specs.declared.edit.EditKind.TheVariants.{InsertChunk, DeleteChunk}
 use Rattle.textarea_edit.proofs.edit.EditKindClone.clone.Goals as goal
 
 pub returns-in_ok-clone-in-InsertChunk : goal.returns-in_ok-clone-in-InsertChunk
 returns-in_ok-clone-in-InsertChunk c =
-    let pieces = c.in-InsertChunk.pieces in
     let copy = c.in_ok-clone-in-InsertChunk.field-0 in
-    let same = c.in_ok-clone-in-InsertChunk.ensures.cases in
-    record {
-      cases = record {
-        symbols = ap joined (lines_copied pieces.items copy.items same.0) ∙ ap symbols_of (sym c.in-InsertChunk.is);
-        inserts = ap inserts_of (sym c.in-InsertChunk.is);
-        pieces = ap (λ (n : ℕ). Some n) (sym (length_all_zip _ pieces.items copy.items same.0)) ∙ ap pieces_of (sym c.in-InsertChunk.is);
-      };
-    }
+    let same = lines_copied c.in-InsertChunk.pieces.items copy.items c.in_ok-clone-in-InsertChunk.ensures.cases.0 in
+    record { cases = subst (λ kind. IsCopyOfKind kind (InsertChunk copy)) (sym c.in-InsertChunk.is) same }
 
 pub returns-in_ok-clone-in-DeleteChunk : goal.returns-in_ok-clone-in-DeleteChunk
 returns-in_ok-clone-in-DeleteChunk c =
-    let pieces = c.in-DeleteChunk.pieces in
     let copy = c.in_ok-clone-in-DeleteChunk.field-0 in
-    let same = c.in_ok-clone-in-DeleteChunk.ensures.cases in
-    record {
-      cases = record {
-        symbols = ap joined (lines_copied pieces.items copy.items same.0) ∙ ap symbols_of (sym c.in-DeleteChunk.is);
-        inserts = ap inserts_of (sym c.in-DeleteChunk.is);
-        pieces = ap (λ (n : ℕ). Some n) (sym (length_all_zip _ pieces.items copy.items same.0)) ∙ ap pieces_of (sym c.in-DeleteChunk.is);
-      };
-    }
+    let same = lines_copied c.in-DeleteChunk.pieces.items copy.items c.in_ok-clone-in-DeleteChunk.ensures.cases.0 in
+    record { cases = subst (λ kind. IsCopyOfKind kind (DeleteChunk copy)) (sym c.in-DeleteChunk.is) same }

@@ -1,11 +1,11 @@
 use Rattle.std.proofs.Common.{◌≡◌, ℕ, ◌<◌, false, length}
 use Rattle.std.specs.Str.{chars}
-use Rattle.textarea_word.specs.Words.{is_later_word_start}
+use Rattle.textarea_word.specs.Words.{is_later_edge}
 use Rattle.textarea_word.proofs.WordLemmas.{class_before}
-use Rattle.textarea_word.proofs.word.find_word_start_forward.Given as goal
+use Rattle.textarea_word.proofs.word.find_edge_forward.Given as goal
 
 abbrev pub invariant-loop-column : goal.invariant-loop-column
 invariant-loop-column l = record {
   before : l.before ≡ class_before (chars l.line) (length l.yielded);
-  failed : (e : ℕ) → e < length l.yielded → is_later_word_start (chars l.line) l.start_column e ≡ false;
+  failed : (e : ℕ) → e < length l.yielded → is_later_edge l.edge (chars l.line) l.start_column e ≡ false;
 }
