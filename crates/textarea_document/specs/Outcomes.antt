@@ -12,7 +12,7 @@ use Rattle.textarea_document.specs.State.{DocumentState}
 abbrev pub ranges_after : List AtomicRange → Splice → List AtomicRange
 ranges_after ranges splice = []
 
--- what is seen of the text after a change: the lines that it touches are cut, each once, and all others keep their rows; all
+-- the layout of the text after a change: the lines that it touches are cut, each once, and all others keep their rows; all
 -- lines are cut where their number changes how they are cut
 abbrev pub layout_after : DocumentState → Splice → Layout
 layout_after document splice = after_splice document.layout (length (lines document.text)) splice

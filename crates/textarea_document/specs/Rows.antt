@@ -6,7 +6,7 @@ use Rattle.textarea_lines.specs.Rows.{IsFoundAbove, IsFoundBelow, IsRowCountAt}
 use Rattle.textarea_lines.specs.Layout.{LaidOut, laid_out_with}
 use Rattle.textarea_document.specs.State.{DocumentState}
 
--- the text with what is seen of it
+-- the text with its layout
 abbrev pub laid_out_of : DocumentState → LaidOut
 laid_out_of document = record { text = document.text; layout = document.layout }
 

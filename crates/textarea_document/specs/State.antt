@@ -7,7 +7,7 @@ use Rattle.textarea_lines.specs.declared.settings.LayoutSettings.{LayoutSettings
 use Rattle.textarea_lines.specs.Layout.{Layout, all_cut}
 use Rattle.textarea_ranges.specs.declared.atomic.AtomicRange.{AtomicRange}
 
--- the text as one flat list of symbols; what is seen of it, with the ticks of its lines' rows; where the cursor stands; where
+-- the text as one flat list of symbols; its layout, with the ticks of its lines' rows; where the cursor stands; where
 -- the selection began, if there is one; the atomic ranges; and the changes made and taken back
 pub record DocumentState : Type 0 where
   pub text : List Symbol
