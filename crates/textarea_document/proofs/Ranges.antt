@@ -136,7 +136,7 @@ break_at_end text place h stands =
     not_both symbols c e e' = cc
 
 -- the symbol before a place, where no range is hit before it, takes each range whole or not at all
-before_by : (text : List Symbol) (ranges : List AtomicRange) (place from : Place) (symbol : Symbol) → AreValid (lines text) ranges → hit ranges place DeleteBackward ≡ None → IsPlace text from → StandsAt text from (symbol ∷ []) → place ≡ end from (symbol ∷ []) → TakesWhole ranges from place
+pub before_by : (text : List Symbol) (ranges : List AtomicRange) (place from : Place) (symbol : Symbol) → AreValid (lines text) ranges → hit ranges place DeleteBackward ≡ None → IsPlace text from → StandsAt text from (symbol ∷ []) → place ≡ end from (symbol ∷ []) → TakesWhole ranges from place
 before_by text ranges place from (Character c) valid none h stands ends =
     let free = none_hit ranges place DeleteBackward none in
     let row : place.0 ≡ from.0 = ap (λ (p : Place). p.0) ends in
