@@ -1,23 +1,22 @@
 -- What stands directly behind a place.
-use Rattle.std.proofs.Common.{◌≡◌, ◌≢◌, ℕ, zero, suc, Bool, false, cond, ◌==◌, ◌-◌, ◌+◌, ◌≤◌, ◌<◌, List, [], ◌∷◌, ◌++◌, length, take, drop, get_or, sym, ap, refl, ◌∙◌, arith, String, subst, Option, Some, None, ◌^◌, encode_utf8, encode_utf8_all}
+use Rattle.std.proofs.Common.{◌≡◌, ◌≢◌, ℕ, Bool, false, cond, ◌==◌, ◌+◌, ◌≤◌, ◌<◌, List, [], ◌∷◌, ◌++◌, length, take, drop, get_or, sym, ap, refl, ◌∙◌, arith, String, subst, Option, Some, None, ◌^◌, encode_utf8, encode_utf8_all}
 use Rattle.std.specs.Option.{MatchOption}
 use Rattle.std.specs.Str.{chars, IsCharBoundary, IsUtf8}
-use Rattle.std.proofs.lemmas.List.{drop_all, length-drop, length-map}
+use Rattle.std.proofs.lemmas.List.{drop_all, length-drop}
 use Rattle.std.proofs.lemmas.Str.{length-le-encodes}
 use Rattle.textarea_text.proofs.Columns.{IsCharBoundary-column, offset_in}
 use Rattle.textarea_text.proofs.Befores.{next_is}
 use Rattle.textarea_document.proofs.Area.{column_bound}
-use Rattle.textarea_text.specs.Text.{Symbol, Character, Break, characters_of, joined, lines, lines_of, text_of}
-use Rattle.textarea_text.specs.Place.{Place, IsPlace, IsPlaceOf, index_of}
-use Rattle.textarea_text.proofs.Befores.{break_stands, character_stands, text_place}
-use Rattle.textarea_text.proofs.StringRows.{line_at}
+use Rattle.textarea_text.specs.Text.{Symbol, Character, Break, joined, lines, lines_of}
+use Rattle.textarea_text.specs.Place.{Place, IsPlace, IsPlaceOf, StandsAt, index_of, line_end}
+use Rattle.textarea_text.proofs.Befores.{break_stands, character_stands}
 use Rattle.textarea_text.specs.Splice.{Fits}
 use Rattle.textarea_edit.specs.Edit.{inserts_of, splice_of, symbols_of}
 use Rattle.textarea_edit.specs.declared.edit.EditKind.{EditKind}
 use Rattle.textarea_document.specs.State.{DocumentState}
 use Rattle.textarea_document.specs.Outcomes.{edited, unanchored}
-use Rattle.textarea_document.specs.Edits.{IsSymbolBehind, break_removal, symbol_removal, symbol_removed_behind, break_removed_before}
-use Rattle.textarea_text.proofs.Places.{place_of-index}
+use Rattle.textarea_document.specs.Edits.{IsSymbolBehind, break_removal, symbol_removal, symbol_removed_behind}
+use Rattle.textarea_text.proofs.Places.{joined-lines, place_of-index}
 use Rattle.std.proofs.lemmas.Bool.Decides.{nat_tests}
 
 -- an index at which a symbol stands is not the text's end
@@ -51,28 +50,15 @@ column_in_string items place h = omega (arith, h.1, column_bound items place.0)
 
 -- ---- the break before a row
 
--- its removal fits the text
-pub break_removal_fits : {Z : Type 0} (items : List (String Z)) (text : List Symbol) (row column : ℕ) (line : String Z) → text_of items ≡ text → row + 1 < length items → line ≡ get_or items row line → column ≡ length (characters_of line) → Fits text (record { place = (row, column); symbols = Break ∷ []; inserts = false })
-break_removal_fits items text row column line e within read column_is =
-    let rows = lines_of items in
-    let at : column ≡ length (get_or rows row []) = column_is ∙ ap length (sym (line_at items row line (omega arith) read)) in
-    let more : row + 1 < length rows = omega (arith, length-map items characters_of) in
-    subst (λ t. Fits t (record { place = (row, column); symbols = Break ∷ []; inserts = false })) e
-    (record {
+-- the removal of the break at the end of a row's line fits the text, where another row follows
+pub break_removal_fits : (text : List Symbol) (row : ℕ) → row + 1 < length (lines text) → Fits text (break_removal text row)
+break_removal_fits text row within =
+    let rows = lines text in
+    record {
       some = omega arith;
-      is_place = text_place items (row, column) (omega arith, omega arith);
-      allowed = ap (λ (n : ℕ). take 1 (drop (index_of (joined rows) (row, n)) (joined rows))) at ∙ break_stands rows row more;
-    })
-
--- and it is the one that the definition means
-pub break_removal_is : {Z : Type 0} (items : List (String Z)) (text : List Symbol) (row column : ℕ) (line : String Z) → lines_of items ≡ lines text → row < length items → line ≡ get_or items row line → column ≡ length (characters_of line) → record { place = (row, column); symbols = Break ∷ []; inserts = false } ≡ break_removal text row
-break_removal_is items text row column line e within read column_is =
-    let at : column ≡ length (get_or (lines text) row []) = column_is ∙ ap length (sym (line_at items row line within read)) ∙ ap (λ rows. length (get_or rows row [])) e in
-    ap (λ (n : ℕ). record { place = (row, n); symbols = Break ∷ []; inserts = false }) at
-
-pub break_removed_in : (document : DocumentState) (row now : ℕ) → row ≢ 0 → break_removed_before document row now ≡ edited document (break_removal document.text (row - 1)) false now
-break_removed_in document zero now apart = absurd (apart refl)
-break_removed_in document (suc row) now apart = ap (λ n. edited document (break_removal document.text n) false now) (let same : row ≡ suc row - 1 = omega arith in same)
+      is_place = (omega arith, omega arith);
+      allowed = subst (λ t. StandsAt t (line_end rows row) (Break ∷ [])) (joined-lines text) (break_stands rows row within);
+    }
 
 -- ---- the symbol behind the cursor
 

@@ -6,3 +6,4 @@ pub mod Orders
 pub mod Parts
 pub mod Ranges
 pub mod Sounds
+pub mod StepLaw

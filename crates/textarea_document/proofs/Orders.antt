@@ -1,16 +1,26 @@
 -- Places in the order of the text.
-use Rattle.std.proofs.Common.{◌≡◌, inl, inr, ◌≤◌, ◌<◌, nat_lt, Bool, true, false, List, arith, sym, refl, subst}
+use Rattle.std.proofs.Common.{◌≡◌, ◌<◌, nat_lt, Bool, true, false, List, arith, refl}
 use Rattle.std.proofs.lemmas.Bool.Decides.{nat_tests}
-use Rattle.textarea_text.specs.Text.{Symbol, joined, lines}
-use Rattle.textarea_text.specs.Place.{Place, IsPlace, index_of}
-use Rattle.textarea_text.proofs.Places.{joined-lines}
-use Rattle.textarea_pieces.proofs.PartLemmas.{IsBefore, before_from_index}
-use Rattle.textarea_document.specs.Selection.{is_before}
+use Rattle.textarea_text.specs.Text.{Symbol}
+use Rattle.textarea_text.specs.Place.{Place, IsBefore, IsPlace, IsUpTo, index_of, is_before}
+use Rattle.textarea_document.proofs.Ranges.{up_to_from_index}
+
+-- the test of two places, and the relation
+pub IsBefore-is_before : (first second : Place) → is_before first second ≡ true → IsBefore first second
+IsBefore-is_before first second e = (grind (arith, nat_tests), λ same. grind (arith, nat_tests))
+
+pub IsUpTo-is_before : (first second : Place) → is_before first second ≡ false → IsUpTo second first
+IsUpTo-is_before first second e = (grind (arith, nat_tests), λ same. grind (arith, nat_tests))
+
+pub IsUpTo-IsBefore : (first second : Place) → IsBefore first second → IsUpTo first second
+IsUpTo-IsBefore first second h = (h.0, λ same. omega (arith, h.1 same))
 
 -- a place that comes before another is not behind it
-not_behind : (first second : Place) → is_before first second ≡ true → IsBefore second first → ⊥
-not_behind first second e (inl below) = grind (arith, nat_tests)
-not_behind first second e (inr same) = let rows : second.0 ≡ first.0 = same.0 in let columns : second.1 ≤ first.1 = same.1 in grind (arith, nat_tests)
+not_behind : (first second : Place) → IsBefore first second → IsUpTo second first → ⊥
+not_behind first second h k =
+    let same : first.0 ≡ second.0 = omega (arith, h.0, k.0) in
+    let back : second.0 ≡ first.0 = omega (arith, h.0, k.0) in
+    omega (arith, h.1 same, k.1 back)
 
 -- a place that comes before another has the lesser index
 pub index_before : (text : List Symbol) (first second : Place) → IsPlace text first → IsPlace text second → is_before first second ≡ true → index_of text first < index_of text second
@@ -19,6 +29,4 @@ index_before text first second h h' e = by (nat_lt (index_of text first) (index_
     by : (b : Bool) → nat_lt (index_of text first) (index_of text second) ≡ b → index_of text first < index_of text second
     by true less = grind (arith, nat_tests)
     by false less =
-        let whole = joined-lines text in
-        let ordered : index_of (joined (lines text)) second ≤ index_of (joined (lines text)) first = subst (λ t. index_of t second ≤ index_of t first) (sym whole) (grind (arith, nat_tests)) in
-        absurd (not_behind first second e (before_from_index (lines text) second first h' h ordered))
+        absurd (not_behind first second (IsBefore-is_before first second e) (up_to_from_index text second first h' h (grind (arith, nat_tests))))

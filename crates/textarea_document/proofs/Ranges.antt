@@ -8,17 +8,17 @@ use Rattle.std.proofs.lemmas.List.Elements.{All-contains}
 use Rattle.std.specs.List.{AllZip}
 use Rattle.std.proofs.lemmas.Slice.Zip.{AllZip-map}
 use Rattle.textarea_text.specs.Text.{Symbol, Character, Break, lines}
-use Rattle.textarea_text.specs.Place.{Place, IsPlace, IsSymbolBefore, StandsAt, end, index_of}
+use Rattle.textarea_text.specs.Place.{Place, IsPlace, IsSymbolBefore, IsUpTo, StandsAt, end, index_of, is_same_place}
 use Rattle.textarea_text.specs.Splice.{Fits}
 use Rattle.textarea_text.proofs.Befores.{character_stands}
 use Rattle.textarea_text.proofs.Places.{index_within, joined-lines}
-use Rattle.textarea_pieces.proofs.PartLemmas.{IsBefore, before_from_index}
+use Rattle.textarea_pieces.proofs.PartLemmas.{up_to_from_index as up_to_in_lines}
 use Rattle.textarea_ranges.specs.declared.atomic.AtomicRange.{AtomicRange}
 use Rattle.textarea_ranges.specs.declared.atomic.AtomicCursorBias.TheVariants.{Backward}
 use Rattle.textarea_ranges.specs.declared.atomic.AtomicDeleteDirection.{AtomicDeleteDirection}
-use Rattle.textarea_document.specs.Ranges.{CutsNone, anchor_out, is_same, unless_empty}
+use Rattle.textarea_document.specs.Ranges.{CutsNone, anchor_out, unless_empty}
 use Rattle.textarea_ranges.specs.declared.atomic.AtomicDeleteDirection.TheVariants.{Backward as DeleteBackward, Forward as DeleteForward}
-use Rattle.textarea_ranges.specs.Held.{IsHit, IsInside, IsUpTo, TakesWhole, hit, moved_out, range_start, range_end}
+use Rattle.textarea_ranges.specs.Held.{IsHit, IsInside, TakesWhole, hit, moved_out, range_start, range_end}
 use Rattle.textarea_ranges.specs.Valid.{AreValid, IsPart}
 use Rattle.textarea_ranges.proofs.HeldLemmas.{IsPlaceOf-moved_out, MatchOption-hit, taken}
 
@@ -31,12 +31,7 @@ valid_none rows = record { parts = λ k d within. absurd (omega arith); disjoint
 -- a place of no greater index comes before, or is the same
 pub up_to_from_index : (text : List Symbol) (from to : Place) → IsPlace text from → IsPlace text to → index_of text from ≤ index_of text to → IsUpTo from to
 up_to_from_index text from to h h' ordered =
-    let whole = joined-lines text in
-    by (before_from_index (lines text) from to h h' (subst (λ t. index_of t from ≤ index_of t to) (sym whole) ordered))
-  where
-    by : IsBefore from to → IsUpTo from to
-    by (inl above) = (omega arith, λ same. omega arith)
-    by (inr same) = (omega arith, λ _. same.1)
+    up_to_in_lines (lines text) from to h h' (subst (λ t. index_of t from ≤ index_of t to) (sym (joined-lines text)) ordered)
 
 -- and the other way round
 pub index_from_up_to : (text : List Symbol) (from to : Place) → IsPlace text from → IsPlace text to → IsUpTo from to → index_of text from ≤ index_of text to
@@ -141,7 +136,7 @@ break_at_end text place h stands =
     not_both symbols c e e' = cc
 
 -- the symbol before a place, where no range is hit before it, takes each range whole or not at all
-before_by : (text : List Symbol) (ranges : List AtomicRange) (place from : Place) (symbol : Symbol) → AreValid (lines text) ranges → hit ranges place DeleteBackward ≡ None → IsPlace text from → StandsAt text from (symbol ∷ []) → place ≡ end from (symbol ∷ []) → TakesWhole ranges from place
+pub before_by : (text : List Symbol) (ranges : List AtomicRange) (place from : Place) (symbol : Symbol) → AreValid (lines text) ranges → hit ranges place DeleteBackward ≡ None → IsPlace text from → StandsAt text from (symbol ∷ []) → place ≡ end from (symbol ∷ []) → TakesWhole ranges from place
 before_by text ranges place from (Character c) valid none h stands ends =
     let free = none_hit ranges place DeleteBackward none in
     let row : place.0 ≡ from.0 = ap (λ (p : Place). p.0) ends in
@@ -171,7 +166,7 @@ whole_behind ranges place to Break none ends =
 -- where a selection began, moved out of a range, is a place still
 unless_empty_place : (text : List Symbol) (anchor : Option Place) (cursor : Place) → IfSome anchor (IsPlace text) → IfSome (unless_empty anchor cursor) (IsPlace text)
 unless_empty_place text None cursor h = tt
-unless_empty_place text (Some place) cursor h = by (is_same place cursor)
+unless_empty_place text (Some place) cursor h = by (is_same_place place cursor)
   where
     by : (same : Bool) → IfSome (cond same None (Some place)) (IsPlace text)
     by true = tt

@@ -13,6 +13,7 @@ use Rattle.textarea_history.proofs.Joins.{joins_newest}
 use Rattle.textarea_history.proofs.UndoLaws.{CanTakeBack-merged, inverse-inverse}
 use Rattle.textarea_text.proofs.Places.{IsPlace-end, takes_back}
 use Rattle.textarea_ranges.specs.declared.atomic.AtomicRange.{AtomicRange}
+use Rattle.textarea_ranges.specs.Order.{AreInOrder}
 use Rattle.textarea_document.proofs.Ranges.{valid_none}
 use Rattle.textarea_lines.specs.declared.settings.LayoutSettings.{LayoutSettings}
 use Rattle.textarea_lines.specs.Layout.{LaidOut, Layout, all_cut, laid_out_anew, laid_out_with, wrapping_of}
@@ -100,6 +101,7 @@ sound_edited document splice typed now h fits = by (document.log.maximum == 0) r
           cursor = (takes_back document.text splice fits).is_place;
           anchor = tt;
           ranges = valid_none (lines (applied document.text splice));
+          in_order = refl;
           undo = subst (λ d. CanTakeBack (applied document.text splice) (reverse d)) (sym no_done) tt;
           redo = subst (CanApply (applied document.text splice)) (sym no_undone) tt;
           bounded = h.bounded;
@@ -107,11 +109,11 @@ sound_edited document splice typed now h fits = by (document.log.maximum == 0) r
     by false e =
         let some : log.maximum ≢ 0 = λ same. cc (e, eq-eqb log.maximum 0 same) in
         let done = changed_done document splice typed now h fits (omega arith) (joins log splice typed now) refl in
-        record { cursor = (takes_back document.text splice fits).is_place; anchor = tt; ranges = valid_none (lines (applied document.text splice)); undo = done.0; redo = tt; bounded = omega (arith, done.1) }
+        record { cursor = (takes_back document.text splice fits).is_place; anchor = tt; ranges = valid_none (lines (applied document.text splice)); in_order = refl; undo = done.0; redo = tt; bounded = omega (arith, done.1) }
 
 -- what is seen of the text changes nothing of this
 pub resound : (document : DocumentState) (layout : Layout) → IsSound document → IsSound (record document { layout = layout })
-resound document layout h = record { cursor = h.cursor; anchor = h.anchor; ranges = h.ranges; undo = h.undo; redo = h.redo; bounded = h.bounded }
+resound document layout h = record { cursor = h.cursor; anchor = h.anchor; ranges = h.ranges; in_order = h.in_order; undo = h.undo; redo = h.redo; bounded = h.bounded }
 
 -- the same, of what a step left that has nothing selected and no ranges
 pub sound_left : (outcome : DocumentState) (text : List Symbol) (layout : Layout) (cursor : Place) (held : List AtomicRange) (log : Log) → IsSound outcome → text ≡ outcome.text → cursor ≡ outcome.cursor → held ≡ [] → log ≡ outcome.log → IsSound (record { text = text; layout = layout; cursor = cursor; anchor = None; ranges = held; log = log })
@@ -119,6 +121,7 @@ sound_left outcome text layout cursor held log h text_is cursor_is held_is log_i
   cursor = rw (text_is, cursor_is) h.cursor;
   anchor = tt;
   ranges = rw held_is (valid_none (lines text));
+  in_order = subst AreInOrder (sym held_is) refl;
   undo = rw (text_is, log_is) h.undo;
   redo = rw (text_is, log_is) h.redo;
   bounded = rw log_is h.bounded;
@@ -149,6 +152,7 @@ sound_undone document splice h e =
       cursor = taken.is_place;
       anchor = tt;
       ranges = valid_none (lines text);
+      in_order = refl;
       undo = back.1;
       redo = (fits, subst (λ t. CanApply t document.log.undone) (sym again) h.redo);
       bounded = omega (arith, h.bounded, length-take-le (length document.log.done - 1) document.log.done (omega arith));
@@ -163,6 +167,7 @@ sound_redone document splice h e =
       cursor = taken.is_place;
       anchor = tt;
       ranges = valid_none (lines (applied document.text splice));
+      in_order = refl;
       undo = subst (CanTakeBack (applied document.text splice)) (sym (reverse-append document.log.done (splice ∷ []))) (taken.fits, subst (λ t. CanTakeBack t (reverse document.log.done)) (sym taken.back) h.undo);
       redo = ahead.1;
       bounded = omega (arith, h.bounded, length-append document.log.done (splice ∷ []), ap length split);
@@ -170,7 +175,7 @@ sound_redone document splice h e =
 
 -- a document without a past
 pub sound_fresh : (text : List Symbol) (settings : LayoutSettings) (count : ℕ) (cursor : Place) (maximum : ℕ) → IsPlace text cursor → IsSound (fresh_document text settings count cursor maximum)
-sound_fresh text settings count cursor maximum h = record { cursor = h; anchor = tt; ranges = valid_none (lines text); undo = tt; redo = tt; bounded = omega arith }
+sound_fresh text settings count cursor maximum h = record { cursor = h; anchor = tt; ranges = valid_none (lines text); in_order = refl; undo = tt; redo = tt; bounded = omega arith }
 
 pub fresh_is : (text : List Symbol) (settings : LayoutSettings) (count : ℕ) (cursor : Place) (maximum : ℕ) (laid : LaidOut) (held : List AtomicRange) (log : Log) → laid ≡ laid_out_anew settings count text → held ≡ [] → log ≡ empty_log maximum → record { text = laid.text; layout = laid.layout; cursor = cursor; anchor = None; ranges = held; log = log } ≡ fresh_document text settings count cursor maximum
 fresh_is text settings count cursor maximum laid held log laid_is held_is log_is =

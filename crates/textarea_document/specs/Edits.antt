@@ -1,7 +1,7 @@
 -- What the edits make of a document that has nothing selected.
-use Rattle.std.specs.Prelude.{◌≡◌, ◌≢◌, Bool, true, false, ℕ, zero, suc, ◌-◌, ◌==◌, List, [], ◌∷◌, length, take, drop, slice_index_or, if◌then◌else◌, Option, None, Some}
+use Rattle.std.specs.Prelude.{◌≡◌, ◌≢◌, ◌<◌, Bool, true, false, ℕ, ◌-◌, ◌==◌, List, [], ◌∷◌, length, take, drop, if◌then◌else◌, Option, None, Some}
 use Rattle.textarea_text.specs.Text.{Symbol, Character, Break, lines}
-use Rattle.textarea_text.specs.Place.{Place, end, index_of, place_of}
+use Rattle.textarea_text.specs.Place.{Place, IsPlace, end, index_of, line_end, place_of}
 use Rattle.textarea_text.specs.Splice.{Splice}
 use Rattle.textarea_pieces.specs.Part.{part}
 use Rattle.textarea_ranges.specs.declared.atomic.AtomicRange.{AtomicRange}
@@ -12,60 +12,11 @@ use Rattle.textarea_ranges.specs.Held.{hit, moved_out, range_start, range_end, w
 use Rattle.textarea_document.specs.State.{DocumentState}
 use Rattle.textarea_document.specs.Outcomes.{edited, unanchored}
 
--- ---- insertions
-
--- the symbols, inserted at the place
-abbrev pub insertion : Place → List Symbol → Splice
-insertion place symbols = record { place = place; symbols = symbols; inserts = true }
+-- ---- where the calls insert, and what they remove
 
 -- where an insertion goes: to the cursor, or to the end of the range that strictly holds the cursor
 abbrev pub insertion_place : DocumentState → Place
 insertion_place document = moved_out document.ranges document.cursor Forward
-
--- the character is inserted there, as a typed one or not
-abbrev pub character_inserted : DocumentState → ℕ → Bool → ℕ → DocumentState
-character_inserted document c typed now = edited document (insertion (insertion_place document) (Character c ∷ [])) typed now
-
--- the line is broken there
-abbrev pub break_inserted : DocumentState → ℕ → DocumentState
-break_inserted document now = edited document (insertion (insertion_place document) (Break ∷ [])) false now
-
--- whether there is a symbol
-abbrev pub is_filled : List Symbol → Bool
-is_filled [] = false
-is_filled (symbol ∷ symbols) = true
-
--- nothing is inserted, and nothing recorded: the cursor goes to where an insertion goes, and nothing is selected any more
-abbrev pub nothing_inserted : DocumentState → DocumentState
-nothing_inserted document = unanchored (record document { cursor = insertion_place document })
-
--- the symbols are inserted there, and not as typed ones; where there are none, nothing is
-abbrev pub symbols_inserted : DocumentState → List Symbol → ℕ → DocumentState
-symbols_inserted document [] now = nothing_inserted document
-symbols_inserted document (symbol ∷ symbols) now = edited document (insertion (insertion_place document) (symbol ∷ symbols)) false now
-
--- ---- removals
-
--- what stands between two places of the text, removed
-abbrev pub removal : List Symbol → Place → Place → Splice
-removal text from to = record { place = from; symbols = part text from to; inserts = false }
-
--- the same, widened over each atomic range that it overlaps
-abbrev pub widened_removal : DocumentState → Place → Place → Splice
-widened_removal document from to = removal document.text (widened document.ranges from to).0 (widened document.ranges from to).1
-
--- what stands between the two places, and the ranges that it overlaps, is removed, and not as typed
-unfoldable pub part_removed : DocumentState → Place → Place → ℕ → DocumentState
-part_removed document from to now = edited document (widened_removal document from to) false now
-
--- the symbols that are then removed
-abbrev pub taken_symbols : DocumentState → Place → Place → List Symbol
-taken_symbols document from to = (widened_removal document from to).symbols
-
--- the range is removed, where one was hit; else it is the other document
-abbrev pub range_removed_or : Option AtomicRange → DocumentState → ℕ → DocumentState → DocumentState
-range_removed_or None document now other = other
-range_removed_or (Some range) document now other = part_removed document (range_start range) (range_end range) now
 
 -- the range that is hit from the cursor in this direction: before it, or behind it
 abbrev pub hit_at_cursor : DocumentState → AtomicDeleteDirection → Option AtomicRange
@@ -88,43 +39,132 @@ is_at_start document = cursor_index document == 0
 abbrev pub is_at_end : DocumentState → Bool
 is_at_end document = cursor_index document == length document.text
 
+-- ---- the splices
+
+-- the symbols, inserted at the place
+abbrev pub insertion : Place → List Symbol → Splice
+insertion place symbols = record { place = place; symbols = symbols; inserts = true }
+
+-- what stands between two places of the text, removed
+abbrev pub removal : List Symbol → Place → Place → Splice
+removal text from to = record { place = from; symbols = part text from to; inserts = false }
+
+-- the same, widened over each atomic range that it overlaps
+abbrev pub widened_removal : DocumentState → Place → Place → Splice
+widened_removal document from to =
+    let wide = widened document.ranges from to in
+    removal document.text wide.0 wide.1
+
 -- the one symbol of this index, removed at its place
 abbrev pub symbol_removal : List Symbol → ℕ → Splice
 symbol_removal text index = record { place = place_of text index; symbols = take 1 (drop index text); inserts = false }
 
+-- the break at the end of the row's line, removed
+abbrev pub break_removal : List Symbol → ℕ → Splice
+break_removal text row = record { place = line_end (lines text) row; symbols = Break ∷ []; inserts = false }
+
+-- What a call that inserts or removes does to the text, each in one of these five ways: it inserts symbols where an insertion
+-- goes; it removes what stands between two places, with the ranges that this overlaps; or it removes the symbol before the
+-- cursor, the one behind it, or the break before the cursor's line.
+pub data Step : Type 0 where
+  Insert : List Symbol → Step
+  Remove : Place → Place → Step
+  RemoveBefore : Step
+  RemoveBehind : Step
+  RemoveBreak : Step
+
+-- the splice of a step
+abbrev pub splice_of : DocumentState → Step → Splice
+splice_of document (Insert symbols) = insertion (insertion_place document) symbols
+splice_of document (Remove from to) = widened_removal document from to
+splice_of document RemoveBefore = symbol_removal document.text (cursor_index document - 1)
+splice_of document RemoveBehind = symbol_removal document.text (cursor_index document)
+splice_of document RemoveBreak = break_removal document.text (document.cursor.0 - 1)
+
+-- when a step is made: there is a symbol to insert, or to remove; and a symbol beside the cursor is removed alone only where no
+-- range is hit there
+abbrev pub IsMade : DocumentState → Step → Type 0
+IsMade document (Insert symbols) = 0 < length symbols
+IsMade document (Remove from to) =
+    IsPlace document.text from × IsPlace document.text to × (index_of document.text from < index_of document.text to)
+IsMade document RemoveBefore = (hit_before document ≡ None) × (cursor_index document ≢ 0)
+IsMade document RemoveBehind = (hit_behind document ≡ None) × (cursor_index document ≢ length document.text)
+IsMade document RemoveBreak = document.cursor.0 ≢ 0
+
+-- the step is made and recorded, as a typed one or not, at the moment. Each outcome below is this, or leaves the text as it was
+abbrev pub stepped : DocumentState → Step → Bool → ℕ → DocumentState
+stepped document step typed now = edited document (splice_of document step) typed now
+
+-- ---- insertions
+
+-- the character is inserted, as a typed one or not
+abbrev pub character_inserted : DocumentState → ℕ → Bool → ℕ → DocumentState
+character_inserted document c typed now = stepped document (Insert (Character c ∷ [])) typed now
+
+-- the line is broken
+abbrev pub break_inserted : DocumentState → ℕ → DocumentState
+break_inserted document now = stepped document (Insert (Break ∷ [])) false now
+
+-- whether there is a symbol
+abbrev pub is_filled : List Symbol → Bool
+is_filled [] = false
+is_filled (symbol ∷ symbols) = true
+
+-- nothing is inserted, and nothing recorded: the cursor goes to where an insertion goes, and nothing is selected any more
+abbrev pub nothing_inserted : DocumentState → DocumentState
+nothing_inserted document = unanchored (record document { cursor = insertion_place document })
+
+-- the symbols are inserted, and not as typed ones; where there are none, nothing is
+abbrev pub symbols_inserted : DocumentState → List Symbol → ℕ → DocumentState
+symbols_inserted document [] now = nothing_inserted document
+symbols_inserted document (symbol ∷ symbols) now = stepped document (Insert (symbol ∷ symbols)) false now
+
+-- ---- removals
+
+-- what stands between the two places, and the ranges that it overlaps, is removed, and not as typed
+unfoldable pub part_removed : DocumentState → Place → Place → ℕ → DocumentState
+part_removed document from to now = stepped document (Remove from to) false now
+
+-- the symbols that are then removed
+abbrev pub taken_symbols : DocumentState → Place → Place → List Symbol
+taken_symbols document from to = (widened_removal document from to).symbols
+
+-- the range is removed, where one was hit; else it is the other document
+abbrev pub range_removed_or : Option AtomicRange → DocumentState → ℕ → DocumentState → DocumentState
+range_removed_or None document now other = other
+range_removed_or (Some range) document now other = part_removed document (range_start range) (range_end range) now
+
+-- the range that is hit from the cursor in this direction is removed, if there is one
+abbrev pub hit_removed : DocumentState → AtomicDeleteDirection → ℕ → DocumentState
+hit_removed document direction now = range_removed_or (hit_at_cursor document direction) document now document
+
 -- the symbol before the cursor is removed, if there is one, as a typed edit or not
 abbrev pub symbol_removed_before : DocumentState → Bool → ℕ → DocumentState
 symbol_removed_before document typed now =
-    if is_at_start document then unanchored document else edited document (symbol_removal document.text (cursor_index document - 1)) typed now
+    if is_at_start document then unanchored document else stepped document RemoveBefore typed now
 
 -- the symbol behind the cursor is removed, if there is one, as a typed edit or not
 abbrev pub symbol_removed_behind : DocumentState → Bool → ℕ → DocumentState
 symbol_removed_behind document typed now =
-    if is_at_end document then unanchored document else edited document (symbol_removal document.text (cursor_index document)) typed now
+    if is_at_end document then unanchored document else stepped document RemoveBehind typed now
 
 -- the range that is hit before the cursor is removed, or else the symbol there
 unfoldable pub removed_before : DocumentState → Bool → ℕ → DocumentState
-removed_before document typed now = range_removed_or (hit_before document) document now (symbol_removed_before document typed now)
+removed_before document typed now =
+    range_removed_or (hit_before document) document now (symbol_removed_before document typed now)
 
 -- the range that is hit behind the cursor is removed, or else the symbol there
 unfoldable pub removed_behind : DocumentState → Bool → ℕ → DocumentState
-removed_behind document typed now = range_removed_or (hit_behind document) document now (symbol_removed_behind document typed now)
+removed_behind document typed now =
+    range_removed_or (hit_behind document) document now (symbol_removed_behind document typed now)
 
--- the symbol stands directly behind the place, and ends at the stop: the place is not the text's end
+-- the symbol stands directly behind the place, and ends where the end says: the place is not the text's end
 pub record IsSymbolBehind (text : List Symbol) (place to : Place) (symbol : Symbol) : Type 0 where
   pub index : index_of text place ≢ length text
   pub symbol_is : take 1 (drop (index_of text place) text) ≡ symbol ∷ []
   pub ends : to ≡ end place (symbol ∷ [])
 
--- the break at the end of the row
-abbrev pub break_removal : List Symbol → ℕ → Splice
-break_removal text row = record { place = (row, length (slice_index_or (lines text) row [])); symbols = Break ∷ []; inserts = false }
-
--- the break before the row is removed, if there is one
-abbrev pub break_removed_before : DocumentState → ℕ → ℕ → DocumentState
-break_removed_before document zero now = unanchored document
-break_removed_before document (suc row) now = edited document (break_removal document.text row) false now
-
 -- the break before the cursor's line is removed, if there is one
 abbrev pub break_removed : DocumentState → ℕ → DocumentState
-break_removed document now = break_removed_before document document.cursor.0 now
+break_removed document now =
+    if document.cursor.0 == 0 then unanchored document else stepped document RemoveBreak false now

@@ -1,7 +1,7 @@
 -- What the calls for atomic ranges make of a document, and what each edit keeps of them.
-use Rattle.std.specs.Prelude.{ℕ, ◌==◌, ◌&&◌, Bool, true, false, List, [], All, Option, None, Some, option_map, if◌then◌else◌}
+use Rattle.std.specs.Prelude.{ℕ, Bool, true, false, List, [], All, Option, None, Some, option_map, if◌then◌else◌}
 use Rattle.textarea_text.specs.Text.{lines}
-use Rattle.textarea_text.specs.Place.{Place, end}
+use Rattle.textarea_text.specs.Place.{Place, end, is_same_place}
 use Rattle.textarea_text.specs.Splice.{Splice}
 use Rattle.textarea_pieces.specs.Part.{clip}
 use Rattle.textarea_ranges.specs.declared.atomic.AtomicRange.{AtomicRange}
@@ -20,14 +20,10 @@ CutsNoneBy false ranges place to = TakesWhole ranges place to
 abbrev pub CutsNone : List AtomicRange → Splice → Type 0
 CutsNone ranges splice = CutsNoneBy splice.inserts ranges splice.place (end splice.place splice.symbols)
 
--- whether two places are the same
-abbrev pub is_same : Place → Place → Bool
-is_same first second = (first.0 == second.0) && (first.1 == second.1)
-
 -- a selection that began at the cursor is dropped
 abbrev pub unless_empty : Option Place → Place → Option Place
 unless_empty None cursor = None
-unless_empty (Some anchor) cursor = if is_same anchor cursor then None else Some anchor
+unless_empty (Some anchor) cursor = if is_same_place anchor cursor then None else Some anchor
 
 -- the place where the selection began, moved out of the range that strictly holds it, to its start
 abbrev pub anchor_out : List AtomicRange → Option Place → Option Place
@@ -61,4 +57,5 @@ anchored document anchor = record document { anchor = option_map (clip (lines do
 -- the range is removed, where one was hit, and the selection kept
 abbrev pub range_removed : Option AtomicRange → DocumentState → ℕ → DocumentState
 range_removed None document now = document
-range_removed (Some range) document now = anchored (part_removed document (range_start range) (range_end range) now) document.anchor
+range_removed (Some range) document now =
+    anchored (part_removed document (range_start range) (range_end range) now) document.anchor

@@ -1,14 +1,10 @@
 -- What is selected in a document.
-use Rattle.std.specs.Prelude.{Bool, ℕ, ◌==◌, ◌&&◌, ◌||◌, nat_lt, List, Option, Some, None, unwrap_or, if◌then◌else◌}
+use Rattle.std.specs.Prelude.{Bool, ℕ, List, Option, Some, None, unwrap_or, if◌then◌else◌}
 use Rattle.textarea_text.specs.Text.{Symbol}
-use Rattle.textarea_text.specs.Place.{Place}
+use Rattle.textarea_text.specs.Place.{Place, is_before}
 use Rattle.textarea_pieces.specs.Part.{part}
 use Rattle.textarea_document.specs.State.{DocumentState}
-use Rattle.textarea_document.specs.Edits.{part_removed}
-
--- a place before another: in a row above, or in the same row and a column before
-abbrev pub is_before : Place → Place → Bool
-is_before first second = nat_lt first.0 second.0 || ((first.0 == second.0) && nat_lt first.1 second.1)
+use Rattle.textarea_document.specs.Edits.{part_removed, taken_symbols}
 
 -- where the selection began; the cursor where there is none
 abbrev pub origin : DocumentState → Place
@@ -41,3 +37,7 @@ selected document = part document.text (selection_start document) (selection_end
 abbrev pub selected_removed : DocumentState → ℕ → DocumentState
 selected_removed document now =
     if is_selected document then part_removed document (selection_start document) (selection_end document) now else document
+
+-- the symbols that go then: those selected, and those of the ranges that they overlap
+abbrev pub selected_taken : DocumentState → List Symbol
+selected_taken document = taken_symbols document (selection_start document) (selection_end document)

@@ -3,15 +3,17 @@ use Rattle.std.specs.Prelude.{◌+◌, ◌≤◌, length, reverse, IfSome}
 use Rattle.textarea_text.specs.Text.{lines}
 use Rattle.textarea_text.specs.Place.{IsPlace}
 use Rattle.textarea_text.specs.Splice.{CanApply, CanTakeBack}
+use Rattle.textarea_ranges.specs.Order.{AreInOrder}
 use Rattle.textarea_ranges.specs.Valid.{AreValid}
 use Rattle.textarea_document.specs.State.{DocumentState}
 
--- the cursor and the anchor are places of the text, and the ranges are valid for it; the done changes can be taken back, the
--- newest first; the undone ones can be made again, the next one first; together they are at most the maximum
+-- the cursor and the anchor are places of the text, and the ranges are valid for it and in order; the done changes can be taken
+-- back, the newest first; the undone ones can be made again, the next one first; together they are at most the maximum
 pub record IsSound (document : DocumentState) : Type 0 where
   pub cursor : IsPlace document.text document.cursor
   pub anchor : IfSome document.anchor (IsPlace document.text)
   pub ranges : AreValid (lines document.text) document.ranges
+  pub in_order : AreInOrder document.ranges
   pub undo : CanTakeBack document.text (reverse document.log.done)
   pub redo : CanApply document.text document.log.undone
   pub bounded : length document.log.done + length document.log.undone ≤ document.log.maximum

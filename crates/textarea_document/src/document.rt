@@ -1,4 +1,5 @@
 //! The document: lines, a cursor, an anchor, atomic ranges and a history.
+mod edits;
 pub mod insertions;
 mod laws;
 mod ranges;

@@ -3,7 +3,7 @@ use Rattle.std.proofs.Common.{◌≡◌, ℕ, zero, suc, ◌+◌, ◌-◌, ◌<�
 use Rattle.std.proofs.lemmas.Bool.{cases_order}
 use Rattle.std.proofs.lemmas.List.{append-nil, append_assoc, drop_more, drop_at, take_at, get_or_at, get_or_append_left, get_or-drop, get_or-take, length-append, length-drop, length-take-le, map-append}
 use Rattle.textarea_text.specs.Text.{Symbol, characters, characters_of, following, joined, leading, lines_of, text_of}
-use Rattle.textarea_text.specs.Place.{Place, IsPlaceOf, index_of, row_start}
+use Rattle.textarea_text.specs.Place.{Place, IsPlaceOf, IsUpTo, index_of, row_start}
 use Rattle.textarea_text.proofs.Splices.{joined-append}
 use Rattle.textarea_text.proofs.StringRows.{line_at}
 use Rattle.textarea_text.proofs.Places.{part_rows, index_parted}
@@ -36,18 +36,25 @@ pub lines_until-last : (rows : List (List ℕ)) (place : Place) → place.0 < le
 lines_until-last rows place within =
     get_or_at (take place.0 rows) (take place.1 (get_or rows place.0 [])) [] [] place.0 (length-take-le place.0 rows (omega arith))
 
--- ---- a place before another
+-- ---- a place up to another
 
-abbrev pub IsBefore : Place → Place → Type 0
-IsBefore from to = (from.0 < to.0) ⊎ ((from.0 ≡ to.0) × (from.1 ≤ to.1))
+-- it is in a row above, or in the same row and not behind the other
+cases_up_to : (from to : Place) → IsUpTo from to → (from.0 < to.0) ⊎ ((from.0 ≡ to.0) × (from.1 ≤ to.1))
+cases_up_to from to up =
+    elim (cases_order from.0 to.0) [
+      | inl same ↦ inr (same, up.1 same)
+      | inr apart ↦ elim apart [ inl above ↦ inl above | inr below ↦ absurd (omega (arith, up.0)) ]
+    ]
 
-place_until : (rows : List (List ℕ)) (from to : Place) → IsPlaceOf rows from → IsPlaceOf rows to → IsBefore from to → IsPlaceOf (lines_until rows to) from
-place_until rows from to h h' (inl below) =
-    (omega (arith, length-lines_until rows to h'.0), omega (arith, h.1, ap length (lines_until-before rows to from.0 h'.0 below)))
-place_until rows from to h h' (inr same) = (
-  omega (arith, length-lines_until rows to h'.0, same.0),
-  omega (arith, same.1, ap length (ap (λ n. get_or (lines_until rows to) n []) same.0 ∙ lines_until-last rows to h'.0), length-take-le to.1 (get_or rows to.0 []) h'.1),
-)
+place_until : (rows : List (List ℕ)) (from to : Place) → IsPlaceOf rows from → IsPlaceOf rows to → IsUpTo from to → IsPlaceOf (lines_until rows to) from
+place_until rows from to h h' up =
+    elim (cases_up_to from to up) [
+      | inl below ↦ (omega (arith, length-lines_until rows to h'.0), omega (arith, h.1, ap length (lines_until-before rows to from.0 h'.0 below)))
+      | inr same ↦ (
+        omega (arith, length-lines_until rows to h'.0, same.0),
+        omega (arith, same.1, ap length (ap (λ n. get_or (lines_until rows to) n []) same.0 ∙ lines_until-last rows to h'.0), length-take-le to.1 (get_or rows to.0 []) h'.1),
+      )
+    ]
 
 -- the text, cut at two places
 record Between (rows : List (List ℕ)) (from to : Place) : Type 0 where
@@ -70,7 +77,7 @@ back_is : (rows : List (List ℕ)) (from : Place) (h : IsPlaceOf rows from) → 
 unfolding part_rows
 back_is rows from h = ap (λ t. joined (lines_from_column from.1 t)) (sym (drop_more rows from.0 [] h.0))
 
-between : (rows : List (List ℕ)) (from to : Place) → IsPlaceOf rows from → IsPlaceOf rows to → IsBefore from to → Between rows from to
+between : (rows : List (List ℕ)) (from to : Place) → IsPlaceOf rows from → IsPlaceOf rows to → IsUpTo from to → Between rows from to
 between rows from to h h' before =
     let until = lines_until rows to in
     let inside = place_until rows from to h h' before in
@@ -97,7 +104,7 @@ length-following (line ∷ rest) = omega (arith, length-following rest, length-a
 index-lower : (rows : List (List ℕ)) (place lower : Place) → IsPlaceOf rows place → IsPlaceOf rows lower → place.0 < lower.0 → index_of (joined rows) place < index_of (joined rows) lower
 index-lower rows place lower h h' below =
     let until = lines_until rows lower in
-    let parts = between rows place lower h h' (inl below) in
+    let parts = between rows place lower h h' (omega arith, λ same. omega arith) in
     let inside : place.0 + 1 < length until = omega (arith, length-lines_until rows lower h'.0) in
     omega (
       arith,
@@ -108,19 +115,15 @@ index-lower rows place lower h h' below =
       length-drop (place.0 + 1) until,
     )
 
-pub before_from_index : (rows : List (List ℕ)) (from to : Place) → IsPlaceOf rows from → IsPlaceOf rows to → index_of (joined rows) from ≤ index_of (joined rows) to → IsBefore from to
-before_from_index rows from to h h' ordered =
+pub up_to_from_index : (rows : List (List ℕ)) (from to : Place) → IsPlaceOf rows from → IsPlaceOf rows to → index_of (joined rows) from ≤ index_of (joined rows) to → IsUpTo from to
+up_to_from_index rows from to h h' ordered =
     elim (cases_order from.0 to.0) [
-      | inl same ↦ inr (same, omega (arith, ap (row_start (joined rows)) same))
+      | inl same ↦ (omega arith, λ _. omega (arith, ap (row_start (joined rows)) same))
       | inr apart ↦ elim apart [
-        | inl above ↦ inl above
+        | inl above ↦ (omega arith, λ same. omega arith)
         | inr below ↦ absurd (omega (arith, index-lower rows to from h' h below))
       ]
     ]
-
-pub ordered_rows : (from to : Place) → IsBefore from to → from.0 ≤ to.0
-ordered_rows from to (inl above) = omega arith
-ordered_rows from to (inr same) = omega (arith, same.0)
 
 -- ---- pieces, cut out line by line
 
@@ -153,13 +156,13 @@ pieces_done pieces more piece rows from to row column within last h is cut =
     (sym (ap (λ n. drop n until) last ∙ drop_at (take to.0 rows) (take to.1 (get_or rows to.0 []) ∷ []) to.0 (length-take-le to.0 rows (omega arith))))
     ∙ h
 
-pub part_from_lines : {Z : Type 0} (lines pieces : List (String Z)) (from to : Place) → IsPlaceOf (lines_of lines) from → IsPlaceOf (lines_of lines) to → IsBefore from to → lines_of pieces ≡ part_lines (lines_of lines) from to → text_of pieces ≡ part (text_of lines) from to
+pub part_from_lines : {Z : Type 0} (lines pieces : List (String Z)) (from to : Place) → IsPlaceOf (lines_of lines) from → IsPlaceOf (lines_of lines) to → IsUpTo from to → lines_of pieces ≡ part_lines (lines_of lines) from to → text_of pieces ≡ part (text_of lines) from to
 part_from_lines lines pieces from to h h' before e = ap joined e ∙ sym (between (lines_of lines) from to h h' before).part_is
 
 -- ---- the rows from the start's to the end's, counted from the start's
 
-pub before_in_text : {Z : Type 0} (lines : List (String Z)) (from to : Place) → IsPlaceOf (lines_of lines) from → IsPlaceOf (lines_of lines) to → index_of (text_of lines) from ≤ index_of (text_of lines) to → IsBefore from to
-before_in_text lines from to h h' ordered = before_from_index (lines_of lines) from to h h' ordered
+pub up_to_in_text : {Z : Type 0} (lines : List (String Z)) (from to : Place) → IsPlaceOf (lines_of lines) from → IsPlaceOf (lines_of lines) to → index_of (text_of lines) from ≤ index_of (text_of lines) to → IsUpTo from to
+up_to_in_text lines from to h h' ordered = up_to_from_index (lines_of lines) from to h h' ordered
 
 pub line_in_part : {Z : Type 0} (lines : List (String Z)) (start count i : ℕ) (line : String Z) → start + count ≤ length lines → i < count → line ≡ get_or (take count (drop start lines)) i line → get_or (lines_of lines) (start + i) [] ≡ characters_of line
 line_in_part lines start count i line within below is =
@@ -172,7 +175,6 @@ pub column_within : (rows : List (List ℕ)) (from : Place) (i column : ℕ) →
 column_within rows from zero column h first later = omega (arith, first refl, h.1, ap (λ n. length (get_or rows n [])) (plus-zero from.0))
 column_within rows from (suc i) column h first later = omega (arith, later (omega arith))
 
-pub column_within_last : (from to : Place) (i column : ℕ) → IsBefore from to → from.0 + i ≡ to.0 → (i ≡ 0 → column ≡ from.1) → (0 < i → column ≡ 0) → column ≤ to.1
-column_within_last from to zero column (inl above) e first later = absurd (omega arith)
-column_within_last from to zero column (inr same) e first later = omega (arith, first refl, same.1)
-column_within_last from to (suc i) column before e first later = omega (arith, later (omega arith))
+pub column_within_last : (from to : Place) (i column : ℕ) → IsUpTo from to → from.0 + i ≡ to.0 → (i ≡ 0 → column ≡ from.1) → (0 < i → column ≡ 0) → column ≤ to.1
+column_within_last from to zero column up e first later = omega (arith, first refl, up.1 (omega arith))
+column_within_last from to (suc i) column up e first later = omega (arith, later (omega arith))

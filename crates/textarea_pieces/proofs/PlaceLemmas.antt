@@ -1,6 +1,5 @@
 -- Places as indices, rows one below another, and where pieces end.
 use Rattle.std.proofs.Common.{◌≡◌, ℕ, zero, suc, ◌+◌, ◌-◌, ◌<◌, ◌≤◌, List, [], ◌∷◌, ◌++◌, length, min, take, drop, get_or, refl, sym, ap, subst, ◌∙◌, arith, String, string_bytes}
-use Rattle.std.specs.Str.{chars}
 use Rattle.std.proofs.lemmas.List.{append-nil, drop_all, length-append, length-take-le, take_all, take_more, take_at}
 use Rattle.std.proofs.lemmas.Str.{encodes-chars, IsUtf8-string_bytes, length-le-encodes}
 use Rattle.textarea_text.specs.Text.{Break, characters, characters_of, following, joined, leading, lines_of}
@@ -9,7 +8,7 @@ use Rattle.textarea_text.specs.Size.{size_of}
 use Rattle.textarea_text.proofs.Splices.{end-append, end-characters, end-leading, joined-append, lines-joined}
 use Rattle.textarea_text.proofs.Places.{part_rows, index_parted}
 use Rattle.textarea_text.proofs.Befores.{break_stands}
-use Rattle.textarea_text.proofs.StringRows.{line_at, stands_until}
+use Rattle.textarea_text.proofs.StringRows.{stands_until}
 
 -- ---- a place is where its index says
 
@@ -64,11 +63,6 @@ ahead_last rows row last column left step wanted all same inside stepped e =
     let line = ap (λ n. length (get_or rows n [])) same in
     let begins = ap (row_start (joined rows)) same in
     is_at rows (last, column + step) (min wanted (length (joined rows))) (omega arith, omega arith) (omega arith)
-
--- how long the row's line is, from a count of its characters
-pub length-line_at : {Z : Type 0} (lines : List (String Z)) (row : ℕ) (line : String Z) (text : List ℕ) (count : ℕ) → row < length lines → line ≡ get_or lines row line → text ≡ string_bytes line → count ≡ length (chars text) → count ≡ length (get_or (lines_of lines) row [])
-length-line_at lines row line text count within is same e =
-    e ∙ ap (λ t. length (chars t)) same ∙ ap length (sym (line_at lines row line within is))
 
 -- ---- where pieces end
 

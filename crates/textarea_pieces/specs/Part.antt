@@ -1,7 +1,7 @@
 -- Parts of a text, and the nearest places of lines.
-use Rattle.std.specs.Prelude.{ℕ, ◌-◌, List, [], take, drop, length, min, slice_index_or}
+use Rattle.std.specs.Prelude.{ℕ, ◌-◌, List, take, drop, length, min}
 use Rattle.textarea_text.specs.Text.{Symbol}
-use Rattle.textarea_text.specs.Place.{Place, index_of}
+use Rattle.textarea_text.specs.Place.{Place, index_of, last_row, line_of}
 
 -- the symbols of the text between two places
 abbrev pub part : List Symbol → Place → Place → List Symbol
@@ -10,5 +10,5 @@ part text from to = take (index_of text to - index_of text from) (drop (index_of
 -- the nearest place of the lines: the row at most the last one, the column at most the length of that row's line
 abbrev pub clip : List (List ℕ) → Place → Place
 clip rows place =
-    let row = min place.0 (length rows - 1) in
-    (row, min place.1 (length (slice_index_or rows row [])))
+    let row = min place.0 (last_row rows) in
+    (row, min place.1 (length (line_of rows row)))

@@ -4,13 +4,13 @@ use Rattle.std.proofs.lemmas.Bool.{cases_lt}
 use Rattle.std.proofs.lemmas.List.{get_or_default}
 use Rattle.std.proofs.lemmas.Bool.Decides.{nat_tests}
 use Rattle.std.proofs.lemmas.List.Elements.{All-contains}
-use Rattle.textarea_text.specs.Place.{Place, IsPlaceOf}
+use Rattle.textarea_text.specs.Place.{Place, IsBefore, IsPlaceOf, IsUpTo}
 use Rattle.textarea_ranges.specs.declared.atomic.AtomicRange.{AtomicRange}
 use Rattle.textarea_ranges.specs.declared.atomic.AtomicCursorBias.{AtomicCursorBias}
 use Rattle.textarea_ranges.specs.declared.atomic.AtomicCursorBias.TheVariants.{Backward, Forward}
 use Rattle.textarea_ranges.specs.declared.atomic.AtomicDeleteDirection.{AtomicDeleteDirection}
 use Rattle.textarea_ranges.specs.declared.atomic.AtomicDeleteDirection.TheVariants.{Backward as DeleteBackward, Forward as DeleteForward}
-use Rattle.textarea_ranges.specs.Held.{IsHit, hit, is_hit, IsInside, is_inside, range_start, range_end, inside, border, border_or, moved_out, IsUpTo, IsBefore, IsWithin, IsBeside, Overlaps, TakesWhole, widened, IsWidened}
+use Rattle.textarea_ranges.specs.Held.{IsHit, hit, is_hit, IsInside, is_inside, range_start, range_end, inside, border, border_or, moved_out, IsWithin, IsBeside, Overlaps, TakesWhole, widened, IsWidened}
 use Rattle.textarea_ranges.specs.Valid.{IsPart, AreDisjoint, AreValid}
 use Rattle.textarea_ranges.proofs.Finds.{Found, Found-find, fails-find}
 
@@ -159,21 +159,23 @@ overlaps_at_end from to range up h =
     let before : IsBefore to (range_end range) = (omega arith, λ same. omega arith) in
     ((omega arith, λ same. omega arith), up_to_before from to (range_end range) up before)
 
+-- a removal that holds another one, and takes each range whole or not at all, takes those whole that the other one overlaps
+taken_over : (ranges : List AtomicRange) (from to first last : Place) (test : AtomicRange → Bool) (range : AtomicRange) → IsUpTo first from → IsUpTo to last → TakesWhole ranges first last → Found test ranges range → Overlaps from to range → IsWithin first last range
+taken_over ranges from to first last test range starts ends whole found overlap =
+    let P : AtomicRange → Type 0 = λ r. IsWithin first last r ⊎ IsBeside first last r in
+    within_from first last range (overlaps_more from to first last range starts ends overlap) (subst P (found.at range) (whole found.index range found.within))
+
 least_start : (ranges : List AtomicRange) (from to first last : Place) → IsUpTo from to → IsUpTo first from → IsUpTo to last → TakesWhole ranges first last → (found : Option AtomicRange) → inside ranges from ≡ found → IsUpTo first (border_or found from Backward)
 least_start ranges from to first last up starts ends whole None e = starts
 least_start ranges from to first last up starts ends whole (Some range) e =
     let found = Found-find (is_inside from) ranges range e in
-    let P : AtomicRange → Type 0 = λ r. IsWithin first last r ⊎ IsBeside first last r in
-    let overlap = overlaps_at_start from to range up (IsInside-is_inside from range found.passes) in
-    (within_from first last range (overlaps_more from to first last range starts ends overlap) (subst P (found.at range) (whole found.index range found.within))).0
+    (taken_over ranges from to first last (is_inside from) range starts ends whole found (overlaps_at_start from to range up (IsInside-is_inside from range found.passes))).0
 
 least_end : (ranges : List AtomicRange) (from to first last : Place) → IsUpTo from to → IsUpTo first from → IsUpTo to last → TakesWhole ranges first last → (found : Option AtomicRange) → inside ranges to ≡ found → IsUpTo (border_or found to Forward) last
 least_end ranges from to first last up starts ends whole None e = ends
 least_end ranges from to first last up starts ends whole (Some range) e =
     let found = Found-find (is_inside to) ranges range e in
-    let P : AtomicRange → Type 0 = λ r. IsWithin first last r ⊎ IsBeside first last r in
-    let overlap = overlaps_at_end from to range up (IsInside-is_inside to range found.passes) in
-    (within_from first last range (overlaps_more from to first last range starts ends overlap) (subst P (found.at range) (whole found.index range found.within))).1
+    (taken_over ranges from to first last (is_inside to) range starts ends whole found (overlaps_at_end from to range up (IsInside-is_inside to range found.passes))).1
 
 -- each range is taken whole or not at all
 pub TakesWhole-widened : (rows : List (List ℕ)) (ranges : List AtomicRange) (from to : Place) → AreValid rows ranges → TakesWhole ranges (widened ranges from to).0 (widened ranges from to).1

@@ -7,7 +7,7 @@ use Rattle.std.specs.List.{AllByRecursion}
 use Rattle.std.specs.Cmp.{IsStrictWeakOrder, nat_cmp_total, on_total, then_total}
 use Rattle.std.specs.List.Sorted.{IsStableBy, ties}
 use Rattle.textarea_ranges.specs.declared.atomic.AtomicRange.{AtomicRange}
-use Rattle.textarea_ranges.specs.Order.{IsInOrder, in_order, is_before, insert_among}
+use Rattle.textarea_ranges.specs.Order.{AreInOrder, IsInOrder, in_order, is_before, insert_among}
 use Rattle.textarea_ranges.proofs.Lists.{EachLater}
 use Rattle.textarea_ranges.proofs.Sorts.{NotBefore, IsSortedBy-later, each_from_put, each_put, later-IsSortedBy, later_from_put, later_put, put, same_sorted, sorted_put, stable_put}
 
@@ -50,6 +50,10 @@ IsInOrder-in_order ranges = record { same = same-in_order ranges; sorted = IsSor
 
 pub in_order-IsInOrder : (ranges ordered : List AtomicRange) → IsInOrder ranges ordered → ordered ≡ in_order ranges
 in_order-IsInOrder ranges ordered h = in_order-sorted ranges ordered (later-IsSortedBy is_before order_of_ranges ordered h.sorted) h.stable
+
+-- ranges that are in order stay as they are
+pub AreInOrder-in_order : (ranges : List AtomicRange) → AreInOrder (in_order ranges)
+AreInOrder-in_order ranges = sym (in_order-sorted (in_order ranges) (in_order ranges) (sorted-in_order ranges) (λ z. refl))
 
 -- ---- what doesn't depend on the order
 

@@ -8,12 +8,13 @@ use Rattle.textarea_ranges.specs.declared.atomic.AtomicRange.{AtomicRange}
 use Rattle.textarea_ranges.specs.declared.atomic.RejectedAtomicRange.{RejectedAtomicRange}
 use Rattle.textarea_ranges.specs.declared.atomic.AtomicRangeRejectReason.{AtomicRangeRejectReason}
 use Rattle.textarea_ranges.specs.declared.atomic.AtomicRangeRejectReason.TheVariants.{Empty, RowOutOfBounds, ColumnOutOfBounds, OverlapsPrevious}
-use Rattle.textarea_ranges.specs.Order.{in_order, is_before}
+use Rattle.textarea_ranges.specs.Order.{AreInOrder, in_order, is_before}
 use Rattle.textarea_ranges.specs.Rejected.{free_from, last_valid, reason, rejected_behind, rejected_of, with_reason, AreAccepted, AreRefused}
-use Rattle.textarea_ranges.specs.Valid.{AreDisjoint, AreValid, IsPart, line_of}
+use Rattle.textarea_text.specs.Place.{line_of}
+use Rattle.textarea_ranges.specs.Valid.{AreDisjoint, AreValid, IsPart}
 use Rattle.textarea_ranges.proofs.Lists.{AllPairs-later, EachLater, each_both, each_weaker, later-AllPairs}
 use Rattle.textarea_ranges.proofs.Sorts.{NotBefore}
-use Rattle.textarea_ranges.proofs.OrderLemmas.{each-in_order, each_from_in_order, later-in_order, later_from_in_order, sorted-in_order}
+use Rattle.textarea_ranges.proofs.OrderLemmas.{AreInOrder-in_order, each-in_order, each_from_in_order, later-in_order, later_from_in_order, sorted-in_order}
 
 -- ---- one range
 
@@ -183,7 +184,7 @@ accepted_if_valid rows ranges = (λ h. valid_from_in_order rows ranges (valid-no
 pub AreAccepted-in_order : (rows : List (List ℕ)) (given held : List AtomicRange) (rejected : List RejectedAtomicRange) → held ≡ in_order given → rejected ≡ rejected_of rows held → rejected ≡ [] → AreAccepted rows given held
 AreAccepted-in_order rows given held rejected order listed none =
     let nothing : rejected_of rows held ≡ [] = sym listed ∙ none in
-    record { order = order; valid = subst (AreValid rows) (sym order) (valid-none_rejected rows given (ap (rejected_of rows) (sym order) ∙ nothing)); none = nothing }
+    record { order = order; sorted = subst AreInOrder (sym order) (AreInOrder-in_order given); valid = subst (AreValid rows) (sym order) (valid-none_rejected rows given (ap (rejected_of rows) (sym order) ∙ nothing)); none = nothing }
 
 pub AreRefused-in_order : (rows : List (List ℕ)) (given held : List AtomicRange) (rejected : List RejectedAtomicRange) → held ≡ in_order given → rejected ≡ rejected_of rows held → rejected ≢ [] → AreRefused rows given rejected
 AreRefused-in_order rows given held rejected order listed some =

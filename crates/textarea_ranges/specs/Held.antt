@@ -1,6 +1,6 @@
 -- Look-ups in a list of atomic ranges: which of them holds a place, which is hit, and what a removal takes.
 use Rattle.std.specs.Prelude.{◌≡◌, ◌<◌, ◌≤◌, ◌==◌, nat_lt, nat_le, ◌&&◌, ◌⊎◌, Bool, List, find, All, Option, Some, None}
-use Rattle.textarea_text.specs.Place.{Place}
+use Rattle.textarea_text.specs.Place.{Place, IsBefore, IsUpTo}
 use Rattle.textarea_ranges.specs.declared.atomic.AtomicRange.{AtomicRange}
 use Rattle.textarea_ranges.specs.declared.atomic.AtomicCursorBias.{AtomicCursorBias}
 use Rattle.textarea_ranges.specs.declared.atomic.AtomicCursorBias.TheVariants.{Backward, Forward}
@@ -62,14 +62,6 @@ hit ranges place direction = find (is_hit place direction) ranges
 
 -- ---- what a removal takes
 
--- the one place comes before the other in the text, or is the same
-abbrev pub IsUpTo : Place → Place → Type 0
-IsUpTo one other = (one.0 ≤ other.0) × (one.0 ≡ other.0 → one.1 ≤ other.1)
-
--- the one place comes before the other in the text
-abbrev pub IsBefore : Place → Place → Type 0
-IsBefore one other = (one.0 ≤ other.0) × (one.0 ≡ other.0 → one.1 < other.1)
-
 -- a removal between the two places takes the whole range
 abbrev pub IsWithin : Place → Place → AtomicRange → Type 0
 IsWithin from to range = IsUpTo from (range_start range) × IsUpTo (range_end range) to
@@ -97,4 +89,5 @@ pub record IsWidened (ranges : List AtomicRange) (from to : Place) (wide : Place
   pub ends : IsUpTo to wide.1
   pub overlapping : All (λ range. Overlaps from to range → IsWithin wide.0 wide.1 range) ranges
   pub whole : TakesWhole ranges wide.0 wide.1
-  pub least : (first last : Place) → IsUpTo first from → IsUpTo to last → TakesWhole ranges first last → IsUpTo first wide.0 × IsUpTo wide.1 last
+  pub least : (first last : Place) → IsUpTo first from → IsUpTo to last → TakesWhole ranges first last
+      → IsUpTo first wide.0 × IsUpTo wide.1 last

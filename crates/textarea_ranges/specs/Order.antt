@@ -1,5 +1,5 @@
 -- The order of atomic ranges: by row, then by start.
-use Rattle.std.specs.Prelude.{Bool, List, [], ◌∷◌, if◌then◌else◌}
+use Rattle.std.specs.Prelude.{◌≡◌, Bool, List, [], ◌∷◌, if◌then◌else◌}
 use Rattle.std.specs.Ordering.{is_lt, nat_cmp, ordering_then}
 use Rattle.std.specs.List.Sorted.{IsPermutation, IsSortedBy, IsStableBy}
 use Rattle.textarea_ranges.specs.declared.atomic.AtomicRange.{AtomicRange}
@@ -17,6 +17,10 @@ insert_among range (first ∷ rest) = if is_before first range then first ∷ in
 abbrev pub in_order : List AtomicRange → List AtomicRange
 in_order [] = []
 in_order (range ∷ rest) = insert_among range (in_order rest)
+
+-- the ranges stand in order
+abbrev pub AreInOrder : List AtomicRange → Type 0
+AreInOrder ranges = in_order ranges ≡ ranges
 
 -- a list with the same ranges, in order, in which ranges that start at one place stand as they did
 pub record IsInOrder (ranges ordered : List AtomicRange) : Type 0 where

@@ -4,8 +4,9 @@ use Rattle.textarea_ranges.specs.declared.atomic.AtomicRange.{AtomicRange}
 use Rattle.textarea_ranges.specs.declared.atomic.RejectedAtomicRange.{RejectedAtomicRange}
 use Rattle.textarea_ranges.specs.declared.atomic.AtomicRangeRejectReason.{AtomicRangeRejectReason}
 use Rattle.textarea_ranges.specs.declared.atomic.AtomicRangeRejectReason.TheVariants.{Empty, RowOutOfBounds, ColumnOutOfBounds, OverlapsPrevious}
-use Rattle.textarea_ranges.specs.Order.{in_order}
-use Rattle.textarea_ranges.specs.Valid.{AreValid, line_of}
+use Rattle.textarea_text.specs.Place.{line_of}
+use Rattle.textarea_ranges.specs.Order.{AreInOrder, in_order}
+use Rattle.textarea_ranges.specs.Valid.{AreValid}
 
 -- the first column of the row behind the last valid range: its end where it is of that row, else 0
 abbrev pub free_from : Option AtomicRange → ℕ → ℕ
@@ -45,6 +46,7 @@ rejected_of rows ranges = rejected_behind rows None ranges
 -- the given ranges are accepted: they are held in order, they are valid, and none is rejected
 pub record AreAccepted (rows : List (List ℕ)) (given held : List AtomicRange) : Type 0 where
   pub order : held ≡ in_order given
+  pub sorted : AreInOrder held
   pub valid : AreValid rows held
   pub none : rejected_of rows held ≡ []
 

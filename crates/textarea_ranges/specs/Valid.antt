@@ -1,15 +1,13 @@
 -- Which lists of atomic ranges are valid for some lines.
-use Rattle.std.specs.Prelude.{◌≡◌, ℕ, ◌<◌, ◌≤◌, ◌⊎◌, List, [], length, slice_index_or, All, AllPairs}
+use Rattle.std.specs.Prelude.{◌≡◌, ℕ, ◌<◌, ◌≤◌, ◌⊎◌, List, length, All, AllPairs}
+use Rattle.textarea_text.specs.Place.{line_of}
 use Rattle.textarea_ranges.specs.declared.atomic.AtomicRange.{AtomicRange}
-
--- the characters of the row's line
-abbrev pub line_of : List (List ℕ) → ℕ → List ℕ
-line_of rows row = slice_index_or rows row []
 
 -- the range is a part of a line, with a character at least: its row exists, it starts before its end, and ends within
 -- its line
 abbrev pub IsPart : List (List ℕ) → AtomicRange → Type 0
-IsPart rows range = (range.row < length rows) × (range.start_col < range.end_col) × (range.end_col ≤ length (line_of rows range.row))
+IsPart rows range =
+    (range.row < length rows) × (range.start_col < range.end_col) × (range.end_col ≤ length (line_of rows range.row))
 
 -- no character is in both: of two ranges of one row, one ends before the other starts, or where it does
 abbrev pub AreDisjoint : AtomicRange → AtomicRange → Type 0

@@ -4,15 +4,16 @@ ghost use Rattle.textarea_text.specs.Place.{Place};
 ghost use Rattle.textarea_ranges.specs.declared.atomic.AtomicDeleteDirection.{AtomicDeleteDirection};
 ghost use Rattle.textarea_ranges.specs.declared.atomic.AtomicRange.{AtomicRange};
 ghost use Rattle.textarea_ranges.specs.Held.{IsHit, IsInside, hit, inside};
-ghost use Rattle.textarea_ranges.specs.Order.{IsInOrder, in_order};
+ghost use Rattle.textarea_ranges.specs.Order.{AreInOrder, IsInOrder, in_order};
 ghost use Rattle.textarea_ranges.specs.Rejected.{rejected_of};
 ghost use Rattle.textarea_ranges.specs.Valid.{AreValid};
 
-/// Ranges in order are the same ranges by row and start, those that start at one place as they stood; and no other list
-/// is that.
+/// Ranges in order are the same ranges by row and start, those that start at one place as they stood; no other list is
+/// that; and ranges that were put in order stay as they are when they are put in order again.
 pub fn one_order()
     ensures in_order { (ranges : List AtomicRange) → IsInOrder ranges (in_order ranges) }
     ensures only { (ranges ordered : List AtomicRange) → IsInOrder ranges ordered → ordered ≡ in_order ranges }
+    ensures again { (ranges : List AtomicRange) → AreInOrder (in_order ranges) }
 {}
 
 /// A list is accepted exactly if it is valid.

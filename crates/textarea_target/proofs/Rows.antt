@@ -1,14 +1,14 @@
 -- Searches over the rows of some lines: for a row that holds a word, and for one at which a paragraph begins.
-use Rattle.std.proofs.Common.{◌≡◌, ℕ, ◌^◌, ◌==◌, ◌<◌, ◌≤◌, nat_lt, Bool, true, false, List, [], ◌∷◌, length, encode_utf8_all, sym, ap, refl, ◌∙◌, arith, Option, String, string_len, string_bytes}
+use Rattle.std.proofs.Common.{◌≡◌, ℕ, ◌==◌, ◌<◌, ◌≤◌, nat_lt, ◌&&◌, Bool, true, false, List, [], ◌∷◌, length, encode_utf8_all, sym, ap, refl, ◌∙◌, arith, Option, String, string_len, string_bytes}
 use Rattle.std.proofs.lemmas.Bool.Decides.{nat_tests}
 use Rattle.std.proofs.lemmas.Str.{encodes-chars, length-le-encodes, IsUtf8-string_bytes}
 use Rattle.std.specs.Option.{is_some}
 use Rattle.textarea_text.specs.Text.{characters_of, lines, lines_of, text_of}
-use Rattle.textarea_text.specs.Place.{Place, IsPlaceOf}
+use Rattle.textarea_text.specs.Place.{Place, IsPlaceOf, line_of}
 use Rattle.textarea_text.proofs.Splices.{lines-joined}
 use Rattle.textarea_word.specs.Paragraphs.{is_empty_line, is_paragraph_start, is_later_paragraph_start, is_earlier_paragraph_start}
 use Rattle.textarea_word.specs.Words.{next_word_last}
-use Rattle.textarea_target.specs.Target.{is_later_word_row, line_of, target}
+use Rattle.textarea_target.specs.Target.{is_later_word_row, target}
 use Rattle.textarea_data.specs.declared.cursor.CursorMove.{CursorMove}
 
 -- the lines that some `String`s hold are those of the text that they hold
@@ -16,9 +16,9 @@ pub rows_of_text : {Z : Type 0} (items : List (String Z)) (place : Place) → Is
 rows_of_text items place h = sym (lines-joined (lines_of items) (omega (arith, h.0)))
 
 -- where a move leads is told from the lines: the move is the one that is meant
-pub leads : {Z : Type 0} (items : List (String Z)) (cursor : Place) (cursor_move meant : CursorMove) (found : Option Place) (of_rows : List (List ℕ) → Option Place) → IsPlaceOf (lines_of items) cursor → cursor_move ≡ meant → found ≡ of_rows (lines_of items) → of_rows (lines (text_of items)) ≡ target (text_of items) cursor meant → found ≡ target (text_of items) cursor cursor_move
-leads items cursor cursor_move meant found of_rows h is told same =
-    told ∙ ap of_rows (rows_of_text items cursor h) ∙ same ∙ ap (target (text_of items) cursor) (sym is)
+pub leads : {Z : Type 0} (above below : Option Place) (items : List (String Z)) (cursor : Place) (cursor_move meant : CursorMove) (found : Option Place) (of_rows : List (List ℕ) → Option Place) → IsPlaceOf (lines_of items) cursor → cursor_move ≡ meant → found ≡ of_rows (lines_of items) → of_rows (lines (text_of items)) ≡ target above below (text_of items) cursor meant → found ≡ target above below (text_of items) cursor cursor_move
+leads above below items cursor cursor_move meant found of_rows h is told same =
+    told ∙ ap of_rows (rows_of_text items cursor h) ∙ same ∙ ap (target above below (text_of items) cursor) (sym is)
 
 -- ---- empty lines
 
@@ -34,33 +34,32 @@ is_empty_line-string line =
 
 -- ---- what the searches know of a row
 
+-- a test whose first part is that a number is less than another
+not_less_and : (m n : ℕ) (b : Bool) → n ≤ m → (nat_lt m n && b) ≡ false
+not_less_and m n b h =
+    let first : nat_lt m n ≡ false = grind (arith, nat_tests) in
+    rw first refl
+
+less_and : (m n : ℕ) (b : Bool) → m < n → (nat_lt m n && b) ≡ b
+less_and m n b h =
+    let first : nat_lt m n ≡ true = grind (arith, nat_tests) in
+    rw first refl
+
 -- a row that is not below the start is none that a search down looks for
 pub is_later_word_row-early : (rows : List (List ℕ)) (start row : ℕ) → row ≤ start → is_later_word_row rows start row ≡ false
-is_later_word_row-early rows start row early =
-    let first : nat_lt start row ≡ false = grind (arith, nat_tests) in
-    rw first refl
+is_later_word_row-early rows start row early = not_less_and start row (is_some (next_word_last (line_of rows row) 0)) early
 
 pub is_later_word_row-at : (rows : List (List ℕ)) (start row : ℕ) (found : Option ℕ) → start < row → found ≡ next_word_last (line_of rows row) 0 → is_later_word_row rows start row ≡ is_some found
-is_later_word_row-at rows start row found later e =
-    let first : nat_lt start row ≡ true = grind (arith, nat_tests) in
-    rw first (ap is_some (sym e))
+is_later_word_row-at rows start row found later e = less_and start row (is_some (next_word_last (line_of rows row) 0)) later ∙ ap is_some (sym e)
 
 pub is_later_paragraph_start-early : (rows : List (List ℕ)) (start row : ℕ) → row ≤ start → is_later_paragraph_start rows start row ≡ false
-is_later_paragraph_start-early rows start row early =
-    let first : nat_lt start row ≡ false = grind (arith, nat_tests) in
-    rw first refl
+is_later_paragraph_start-early rows start row early = not_less_and start row (is_paragraph_start rows row) early
 
 pub is_later_paragraph_start-at : (rows : List (List ℕ)) (start row : ℕ) (b : Bool) → start < row → is_paragraph_start rows row ≡ b → is_later_paragraph_start rows start row ≡ b
-is_later_paragraph_start-at rows start row b later e =
-    let first : nat_lt start row ≡ true = grind (arith, nat_tests) in
-    rw first e
+is_later_paragraph_start-at rows start row b later e = less_and start row (is_paragraph_start rows row) later ∙ e
 
 pub is_earlier_paragraph_start-late : (rows : List (List ℕ)) (start row : ℕ) → start ≤ row → is_earlier_paragraph_start rows start row ≡ false
-is_earlier_paragraph_start-late rows start row late =
-    let first : nat_lt row start ≡ false = grind (arith, nat_tests) in
-    rw first refl
+is_earlier_paragraph_start-late rows start row late = not_less_and row start (is_paragraph_start rows row) late
 
 pub is_earlier_paragraph_start-at : (rows : List (List ℕ)) (start row : ℕ) (b : Bool) → row < start → is_paragraph_start rows row ≡ b → is_earlier_paragraph_start rows start row ≡ b
-is_earlier_paragraph_start-at rows start row b earlier e =
-    let first : nat_lt row start ≡ true = grind (arith, nat_tests) in
-    rw first e
+is_earlier_paragraph_start-at rows start row b earlier e = less_and row start (is_paragraph_start rows row) earlier ∙ e

@@ -1,14 +1,14 @@
 -- One symbol on from a place of some lines, and one back.
-use Rattle.std.proofs.Common.{◌≡◌, ℕ, ◌+◌, ◌-◌, ◌==◌, ◌≢◌, ◌<◌, ◌≤◌, nat_lt, true, false, List, [], ◌∷◌, ◌++◌, length, take, drop, get_or, sym, ap, subst, refl, ◌∙◌, arith, Some, None}
+use Rattle.std.proofs.Common.{◌≡◌, ℕ, ◌+◌, ◌-◌, ◌==◌, ◌≢◌, ◌<◌, ◌≤◌, nat_lt, true, false, List, [], ◌∷◌, ◌++◌, length, drop, get_or, sym, ap, subst, refl, ◌∙◌, arith, Some, None}
 use Rattle.std.proofs.lemmas.Bool.Decides.{nat_tests}
-use Rattle.std.proofs.lemmas.List.{take_at, length-append, drop_all, drop_more}
+use Rattle.std.proofs.lemmas.List.{length-append, drop_all, drop_more}
 use Rattle.textarea_text.specs.Text.{Symbol, Character, Break, characters, following, joined}
-use Rattle.textarea_text.specs.Place.{Place, IsPlace, IsPlaceOf, StandsAt, end, index_of, place_of}
+use Rattle.textarea_text.specs.Place.{Place, IsPlace, IsPlaceOf, StandsAt, end, index_of, line_end, place_of}
 use Rattle.textarea_text.proofs.Splices.{lines-joined}
 use Rattle.textarea_text.proofs.Places.{index_parted, index_within, part_rows, place_of-index}
 use Rattle.textarea_text.proofs.StringRows.{stands_until}
 use Rattle.textarea_text.proofs.Befores.{character_stands, break_stands}
-use Rattle.textarea_target.specs.Target.{next_place, previous_place, row_end}
+use Rattle.textarea_target.specs.Target.{next_place, previous_place}
 
 -- ---- neighbours
 
@@ -87,10 +87,10 @@ IsNext-column-back rows place h some =
     subst (λ (n : ℕ). IsNext (joined rows) (place.0, place.1 - 1) (place.0, n)) same (IsNext-column rows place.0 (place.1 - 1) h.0 (omega (arith, h.1)))
 
 -- the end of the line above a place at a line's start
-pub IsNext-line-back : (rows : List (List ℕ)) (place previous : Place) → IsPlaceOf rows place → place.1 ≡ 0 → place.0 ≢ 0 → previous ≡ row_end rows (place.0 - 1) → IsNext (joined rows) previous place
+pub IsNext-line-back : (rows : List (List ℕ)) (place previous : Place) → IsPlaceOf rows place → place.1 ≡ 0 → place.0 ≢ 0 → previous ≡ line_end rows (place.0 - 1) → IsNext (joined rows) previous place
 IsNext-line-back rows place previous h none later is =
     let first : place.0 - 1 + 1 ≡ place.0 = omega arith in
     subst (λ (p : Place). IsNext (joined rows) p place) (sym is)
-    (subst (λ (n : ℕ). IsNext (joined rows) (row_end rows (place.0 - 1)) (place.0, n)) (sym none)
-    (subst (λ (n : ℕ). IsNext (joined rows) (row_end rows (place.0 - 1)) (n, 0)) first
+    (subst (λ (n : ℕ). IsNext (joined rows) (line_end rows (place.0 - 1)) (place.0, n)) (sym none)
+    (subst (λ (n : ℕ). IsNext (joined rows) (line_end rows (place.0 - 1)) (n, 0)) first
     (IsNext-line rows (place.0 - 1) (length (get_or rows (place.0 - 1) [])) (omega (arith, h.0)) refl)))

@@ -1,31 +1,13 @@
--- Where the moves of a cursor lead over a text whose every line is one row.
-use Rattle.std.specs.Prelude.{ℕ, ◌+◌, ◌-◌, ◌==◌, nat_lt, ◌&&◌, min, Bool, List, [], length, slice_index_or, Option, Some, None, is_some, unwrap_or, if◌then◌else◌}
+-- Where the moves of a cursor lead.
+use Rattle.std.specs.Prelude.{ℕ, ◌+◌, ◌-◌, ◌==◌, nat_lt, ◌&&◌, Bool, true, false, List, length, Option, Some, None, is_some, unwrap_or, if◌then◌else◌}
 use Rattle.textarea_text.specs.Text.{Symbol, lines}
-use Rattle.textarea_text.specs.Place.{Place, index_of, place_of}
+use Rattle.textarea_text.specs.Place.{Place, index_of, last_row, line_end, line_of, place_of}
 use Rattle.textarea_word.specs.Nearest.{least_below}
 use Rattle.textarea_word.specs.Words.{next_word_start, next_word_last, previous_word_start, next_behind_word}
 use Rattle.textarea_word.specs.Paragraphs.{next_paragraph_start, previous_paragraph_start}
 use Rattle.textarea_pieces.specs.Part.{clip}
 use Rattle.textarea_data.specs.declared.cursor.CursorMove.{CursorMove}
 use Rattle.textarea_data.specs.declared.cursor.CursorMove.TheVariants.{Forward, Back, Up, Down, Head, End, Top, Bottom, WordForward, WordEnd, WordBack, ParagraphForward, ParagraphBack, Jump, InViewport}
-
--- ---- places of some lines
-
--- the line of a row
-abbrev pub line_of : List (List ℕ) → ℕ → List ℕ
-line_of rows row = slice_index_or rows row []
-
--- the row of the last line
-abbrev pub last_row : List (List ℕ) → ℕ
-last_row rows = length rows - 1
-
--- the place behind a row's last character
-abbrev pub row_end : List (List ℕ) → ℕ → Place
-row_end rows row = (row, length (line_of rows row))
-
--- the column in a row, or the row's end where the row is shorter
-abbrev pub clipped : List (List ℕ) → ℕ → ℕ → Place
-clipped rows row column = (row, min column (length (line_of rows row)))
 
 -- ---- the neighbours of a place
 
@@ -48,11 +30,11 @@ found_or (Some column) row other = (row, column)
 
 -- the start of the next row, or this row's end where it is the last
 abbrev pub next_head : List (List ℕ) → ℕ → Place
-next_head rows row = if nat_lt (row + 1) (length rows) then (row + 1, 0) else row_end rows row
+next_head rows row = if nat_lt (row + 1) (length rows) then (row + 1, 0) else line_end rows row
 
 -- the end of the previous row, or the text's start in the first row
 abbrev pub previous_end : List (List ℕ) → ℕ → Place
-previous_end rows row = if row == 0 then (0, 0) else row_end rows (row - 1)
+previous_end rows row = if row == 0 then (0, 0) else line_end rows (row - 1)
 
 -- the row lies below the other and holds a word
 abbrev pub is_later_word_row : List (List ℕ) → ℕ → ℕ → Bool
@@ -64,8 +46,8 @@ next_word_row rows start = least_below (is_later_word_row rows start) (length ro
 
 -- the last character of the first word of the row that was found, or the text's end where none was
 abbrev pub first_word_end : List (List ℕ) → Option ℕ → Place
-first_word_end rows None = row_end rows (last_row rows)
-first_word_end rows (Some row) = found_or (next_word_last (line_of rows row) 0) row (row_end rows (last_row rows))
+first_word_end rows None = line_end rows (last_row rows)
+first_word_end rows (Some row) = found_or (next_word_last (line_of rows row) 0) row (line_end rows (last_row rows))
 
 -- the start of the next word of the row, else the next row's start, else the row's end
 abbrev pub word_forward : List (List ℕ) → Place → Place
@@ -84,33 +66,39 @@ word_back rows place = found_or (previous_word_start (line_of rows place.0) plac
 
 -- the column in the row at which the next paragraph begins, or in the last row
 abbrev pub paragraph_forward : List (List ℕ) → Place → Place
-paragraph_forward rows place = clipped rows (unwrap_or (next_paragraph_start rows place.0) (last_row rows)) place.1
+paragraph_forward rows place = clip rows (unwrap_or (next_paragraph_start rows place.0) (last_row rows), place.1)
 
 -- the column in the nearest row above at which a paragraph begins, or in the first row: none from the first row
 abbrev pub paragraph_back : List (List ℕ) → Place → Option Place
 paragraph_back rows place =
-    if place.0 == 0 then None else Some (clipped rows (unwrap_or (previous_paragraph_start rows place.0) 0) place.1)
+    if place.0 == 0 then None else Some (clip rows (unwrap_or (previous_paragraph_start rows place.0) 0, place.1))
 
 -- ---- all moves
 
--- where a move leads from a cursor: none where it has no target. Up, Down and InViewport are moves over the rows of a
--- screen, and have none here
-abbrev pub target : List Symbol → Place → CursorMove → Option Place
-target text cursor Forward = next_place text cursor
-target text cursor Back = previous_place text cursor
-target text cursor Up = None
-target text cursor Down = None
-target text cursor Head = Some (cursor.0, 0)
-target text cursor End = Some (row_end (lines text) cursor.0)
-target text cursor Top = Some (clipped (lines text) 0 cursor.1)
-target text cursor Bottom = Some (clipped (lines text) (last_row (lines text)) cursor.1)
-target text cursor WordForward = Some (word_forward (lines text) cursor)
-target text cursor WordEnd = Some (word_end (lines text) cursor)
-target text cursor WordBack = Some (word_back (lines text) cursor)
-target text cursor ParagraphForward = Some (paragraph_forward (lines text) cursor)
-target text cursor ParagraphBack = paragraph_back (lines text) cursor
-target text cursor (Jump row column) = Some (clip (lines text) (row, column))
-target text cursor InViewport = None
+-- Where a move leads from a cursor, of the places one visual row above it and one below it: none where it leads nowhere. Each move
+-- but Up and Down is told from the text alone. InViewport goes over what was drawn, and leads nowhere yet.
+abbrev pub target : Option Place → Option Place → List Symbol → Place → CursorMove → Option Place
+target above below text cursor Forward = next_place text cursor
+target above below text cursor Back = previous_place text cursor
+target above below text cursor Up = above
+target above below text cursor Down = below
+target above below text cursor Head = Some (cursor.0, 0)
+target above below text cursor End = Some (line_end (lines text) cursor.0)
+target above below text cursor Top = Some (clip (lines text) (0, cursor.1))
+target above below text cursor Bottom = Some (clip (lines text) (last_row (lines text), cursor.1))
+target above below text cursor WordForward = Some (word_forward (lines text) cursor)
+target above below text cursor WordEnd = Some (word_end (lines text) cursor)
+target above below text cursor WordBack = Some (word_back (lines text) cursor)
+target above below text cursor ParagraphForward = Some (paragraph_forward (lines text) cursor)
+target above below text cursor ParagraphBack = paragraph_back (lines text) cursor
+target above below text cursor (Jump row column) = Some (clip (lines text) (row, column))
+target above below text cursor InViewport = None
+
+-- whether the move goes over visual rows
+abbrev pub is_vertical : CursorMove → Bool
+is_vertical Up = true
+is_vertical Down = true
+is_vertical other = false
 
 -- ---- the ends of what a removal of a word takes
 

@@ -5,7 +5,7 @@ ghost use Rattle.textarea_text.specs.Text.{lines_of, text_of};
 ghost use Rattle.textarea_text.specs.Place.{IsPlaceOf, index_of};
 ghost use Rattle.textarea_target.specs.Target.{next_place, previous_place, word_end_after, word_start_before};
 
-use crate::places::{row_end, row_length};
+use textarea_pieces::places::{line_end, line_length};
 use textarea_text::rows::column_count;
 use textarea_word::word::{find_word_exclusive_end_forward, find_word_start_backward};
 
@@ -18,7 +18,7 @@ pub fn next_place(lines: &[String], place: (usize, usize)) -> Option<(usize, usi
         (λ next. index_of (text_of lines.now) next ≡ index_of (text_of lines.now) place + 1) }
 {
     let (row, column) = place;
-    if column < row_length(lines, row) {
+    if column < line_length(lines, row) {
         return Some((row, column + 1));
     }
     if row + 1 < lines.len() {
@@ -42,7 +42,7 @@ pub fn previous_place(lines: &[String], place: (usize, usize)) -> Option<(usize,
     if row == 0 {
         return None;
     }
-    Some(row_end(lines, row - 1))
+    Some(line_end(lines, row - 1))
 }
 
 /// The column from which the removal of the word before the column takes: the start of that word, or 0.

@@ -4,7 +4,7 @@ ghost use Rattle.textarea_text.specs.Text.{lines_of};
 ghost use Rattle.textarea_text.specs.Place.{IsPlaceOf};
 ghost use Rattle.textarea_target.specs.Target.{first_word_end, next_head, next_word_row, previous_end, word_back, word_end, word_forward};
 
-use crate::places::{last_row, line_of, row_end};
+use textarea_pieces::places::{last_row, line_end, line_of};
 use textarea_word::word::{
     find_word_inclusive_end_forward, find_word_start_backward, find_word_start_forward,
 };
@@ -57,7 +57,7 @@ fn next_head(lines: &[String], row: usize) -> (usize, usize)
     if row + 1 < lines.len() {
         (row + 1, 0)
     } else {
-        row_end(lines, row)
+        line_end(lines, row)
     }
 }
 
@@ -70,7 +70,7 @@ fn previous_end(lines: &[String], row: usize) -> (usize, usize)
     if row == 0 {
         (0, 0)
     } else {
-        row_end(lines, row - 1)
+        line_end(lines, row - 1)
     }
 }
 
@@ -85,5 +85,5 @@ fn later_word_end(lines: &[String], start: usize) -> (usize, usize)
             return (row, column);
         }
     }
-    row_end(lines, last_row(lines))
+    line_end(lines, last_row(lines))
 }

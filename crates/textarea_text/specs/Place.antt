@@ -1,5 +1,5 @@
 -- Places of a text: as an index, and as a row and a column.
-use Rattle.std.specs.Prelude.{◌≡◌, ◌≢◌, ◌-◌, ℕ, zero, suc, ◌+◌, ◌<◌, ◌≤◌, List, [], ◌∷◌, ◌++◌, take, drop, length, slice_index_or}
+use Rattle.std.specs.Prelude.{◌≡◌, ◌≢◌, ◌-◌, ◌==◌, nat_lt, ◌&&◌, ◌||◌, Bool, ℕ, zero, suc, ◌+◌, ◌<◌, ◌≤◌, List, [], ◌∷◌, ◌++◌, take, drop, length, slice_index_or}
 use Rattle.textarea_text.specs.Text.{Symbol, Character, Break, characters, lines, joined}
 
 -- a row and a column, as a cursor is given
@@ -33,6 +33,36 @@ IsPlaceOf rows place = (place.0 < length rows) × (place.1 ≤ length (slice_ind
 
 abbrev pub IsPlace : List Symbol → Place → Type 0
 IsPlace text place = IsPlaceOf (lines text) place
+
+-- the line of a row; where there is no such row, a line without characters
+abbrev pub line_of : List (List ℕ) → ℕ → List ℕ
+line_of rows row = slice_index_or rows row []
+
+-- the row of the last line
+abbrev pub last_row : List (List ℕ) → ℕ
+last_row rows = length rows - 1
+
+-- the place behind the last character of a row's line
+abbrev pub line_end : List (List ℕ) → ℕ → Place
+line_end rows row = (row, length (line_of rows row))
+
+-- ---- the order of places
+
+-- the one place comes before the other in the text: in a row above, or in the same row and a column before
+abbrev pub IsBefore : Place → Place → Type 0
+IsBefore one other = (one.0 ≤ other.0) × (one.0 ≡ other.0 → one.1 < other.1)
+
+-- the same as a test
+abbrev pub is_before : Place → Place → Bool
+is_before one other = nat_lt one.0 other.0 || ((one.0 == other.0) && nat_lt one.1 other.1)
+
+-- it comes before the other, or is the same
+abbrev pub IsUpTo : Place → Place → Type 0
+IsUpTo one other = (one.0 ≤ other.0) × (one.0 ≡ other.0 → one.1 ≤ other.1)
+
+-- whether two places are the same
+abbrev pub is_same_place : Place → Place → Bool
+is_same_place one other = (one.0 == other.0) && (one.1 == other.1)
 
 -- the text after the symbols were inserted at the place
 abbrev pub inserted : List Symbol → Place → List Symbol → List Symbol

@@ -1,12 +1,14 @@
 //! Insertions at the cursor of a document, or at the end of the atomic range that strictly holds it.
-ghost use Rattle.std.specs.Prelude.{◌≡◌, ◌<◌, ◌≤◌, ◌^◌, OnOk, OnErr, IsOk, IfOk, IfSome, All, [], length, vec_len};
+ghost use Rattle.std.specs.Prelude.{◌≡◌, ◌↔◌, ◌<◌, ◌≤◌, ◌^◌, true, IsTrue, OnOk, OnErr, IsOk, IfOk, All, []};
 ghost use Rattle.std.specs.Duration.{as_nanos};
 ghost use Rattle.textarea_text.specs.Text.{text_of};
 ghost use Rattle.textarea_text.specs.Place.{IsPlace};
+ghost use Rattle.textarea_text.specs.Size.{size_of};
 ghost use Rattle.textarea_ranges.specs.Held.{IsInside};
-ghost use Rattle.textarea_document.specs.Edits.{insertion, insertion_place, is_filled, break_inserted, character_inserted, nothing_inserted, symbols_inserted};
+ghost use Rattle.textarea_document.specs.Edits.{break_inserted, character_inserted, insertion_place, is_filled, nothing_inserted, symbols_inserted};
 
 use crate::document::Document;
+use crate::document::edits::edit_of;
 use std::alloc::AllocError;
 use std::time::Duration;
 use textarea_edit::edit::{Edit, EditKind};
@@ -73,23 +75,25 @@ impl Document {
     }
 
     /// Inserts the pieces, with a line break between each two, where an insertion goes, and says whether there was a symbol
-    /// to insert. Without one the cursor goes there and the selection is dropped, and no memory is taken.
+    /// to insert. Without one the cursor goes there and the selection is dropped, and no memory is taken. Pieces too large
+    /// for any text are answered as out of memory.
     pub fn insert(&mut self, pieces: Vec<String>, now: Duration) -> Result<bool, AllocError>
         ensures inserted { IfOk result (λ inserted. inserted ≡ is_filled (text_of pieces.items)) }
         ensures ok { OnOk result (self.new ≡ symbols_inserted self.old (text_of pieces.items) (as_nanos now)) }
         ensures err { OnErr result (self.new ≡ self.old) }
         ensures nothing { text_of pieces.items ≡ [] → IsOk result }
+        ensures limit { IfOk result (λ inserted. inserted ≡ true → size_of pieces.items ≤ 2 ^ 48) }
     {
         if !has_symbol(pieces.as_slice()) {
             self.insert_nothing();
             return Ok(false);
         }
-        if rows::MAX_SIZE < rows::size_of(pieces.as_slice()) {
+        if is_too_large(pieces.as_slice()) {
             return Err(AllocError);
         }
         let start = self.insertion_place();
         let end = end_of(start, pieces.as_slice());
-        self.edit(insertion_of(pieces, start, end), false, now)?;
+        self.edit(edit_of(pieces, true, start, end), false, now)?;
         Ok(true)
     }
 }
@@ -104,16 +108,9 @@ pub fn has_symbol(pieces: &[String]) -> bool
     1 < pieces.len() || !pieces[0].is_empty()
 }
 
-// The pieces, inserted between two places.
-fn insertion_of(mut pieces: Vec<String>, start: (usize, usize), end: (usize, usize)) -> Edit
-    requires { 0 < vec_len pieces }
-    ensures splice { result.splice ≡ insertion start (text_of pieces.items) }
-    ensures end { result.end ≡ end }
-    ensures pieces { IfSome result.pieces (λ n. 2 ≤ n) }
+// Whether the pieces are too large for any text: their bytes and their number together are more than 2^48.
+fn is_too_large(pieces: &[String]) -> bool
+    ensures { IsTrue result ↔ (2 ^ 48 < size_of pieces.now) }
 {
-    if 1 < pieces.len() {
-        return Edit::between(EditKind::InsertChunk(pieces), start, end);
-    }
-    let text = pieces.pop().unwrap();
-    Edit::between(EditKind::InsertStr(text), start, end)
+    rows::MAX_SIZE < rows::size_of(pieces)
 }

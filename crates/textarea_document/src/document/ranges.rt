@@ -4,6 +4,7 @@ ghost use Rattle.std.specs.Duration.{as_nanos};
 ghost use Rattle.textarea_text.specs.Text.{lines};
 ghost use Rattle.textarea_text.specs.Place.{IsPlace, index_of};
 ghost use Rattle.textarea_ranges.specs.Held.{inside, range_start, range_end};
+ghost use Rattle.textarea_ranges.specs.Order.{AreInOrder};
 ghost use Rattle.textarea_ranges.specs.Rejected.{AreRefused};
 ghost use Rattle.textarea_ranges.specs.Valid.{AreValid};
 ghost use Rattle.textarea_ranges.specs.declared.atomic.AtomicDeleteDirection.TheVariants.{Backward, Forward};
@@ -25,6 +26,7 @@ impl Document {
     pub fn ranges(&self) -> &[AtomicRange]
         ensures value { result.now ≡ self.now.ranges }
         ensures valid { AreValid (lines self.now.text) result.now }
+        ensures in_order { AreInOrder result.now }
     {
         self.ranges.as_slice()
     }
@@ -54,7 +56,8 @@ impl Document {
 
     // Holds these ranges, which are in order.
     fn hold(&mut self, ranges: Vec<AtomicRange>)
-        requires { AreValid (lines self.old.text) ranges.items }
+        requires valid { AreValid (lines self.old.text) ranges.items }
+        requires in_order { AreInOrder ranges.items }
         ensures { self.new ≡ holding self.old ranges.items }
     {
         let cursor = held::moved_out(ranges.as_slice(), self.cursor, AtomicCursorBias::Forward);
@@ -109,10 +112,9 @@ impl Document {
         ensures nothing { hit_at_cursor self.old direction ≡ None → IsOk result }
     {
         let anchor = self.anchor();
-        let Some(range) = self.range_at_cursor(direction) else {
+        let Some(range) = self.remove_hit(direction, now)? else {
             return Ok(None);
         };
-        self.remove_range(range, now)?;
         self.set_clipped_anchor(anchor);
         Ok(Some(range))
     }

@@ -4,16 +4,20 @@ ghost use Rattle.std.specs.Str.{chars};
 ghost use Rattle.std.specs.Duration.{as_nanos};
 ghost use Rattle.textarea_text.specs.Text.{lines_of, symbol_in, text_of};
 ghost use Rattle.textarea_text.specs.Place.{IsPlace, IsPlaceOf, index_of};
-ghost use Rattle.textarea_edit.specs.Edit.{inserts_of, pieces_of, symbols_of};
+ghost use Rattle.textarea_pieces.specs.Part.{part};
+ghost use Rattle.textarea_ranges.specs.declared.atomic.AtomicDeleteDirection.TheVariants.{Backward, Forward};
 ghost use Rattle.textarea_ranges.specs.Held.{TakesWhole, range_start, range_end, widened};
-ghost use Rattle.textarea_document.specs.Edits.{IsSymbolBehind, hit_before, hit_behind, is_at_end, is_at_start, removal, taken_symbols, removed_before, removed_behind, break_removed, part_removed, symbol_removed_before, symbol_removed_behind};
+ghost use Rattle.textarea_document.specs.Edits.{IsSymbolBehind, hit_at_cursor, hit_before, hit_behind, hit_removed, is_at_end, is_at_start, removal, taken_symbols, removed_before, removed_behind, break_removed, part_removed, symbol_removed_before, symbol_removed_behind};
 ghost use Rattle.textarea_document.specs.Outcomes.{edited};
 
 use crate::document::Document;
+use crate::document::edits::{deletion_of, edit_of};
 use std::alloc::AllocError;
 use std::time::Duration;
 use textarea_edit::edit::{Edit, EditKind};
+use textarea_pieces::given::copy_pieces;
 use textarea_pieces::part::between;
+use textarea_pieces::places::line_end;
 use textarea_ranges::atomic::{AtomicDeleteDirection, AtomicRange};
 use textarea_ranges::held;
 use textarea_text::rows;
@@ -34,7 +38,8 @@ impl Document {
         ensures err { OnErr result (self.new ≡ self.old) }
     {
         let (start, end) = self.widened(from, to);
-        self.remove_whole(start, end, now)
+        let pieces = between(self.allocator(), self.lines(), start, end)?;
+        self.remove_whole(pieces, start, end, now)
     }
 
     /// Removes what stands between two places of the text, and each range that it overlaps, and hands that out as pieces
@@ -55,13 +60,15 @@ impl Document {
     {
         let (start, end) = self.widened(from, to);
         let pieces = between(self.allocator(), self.lines(), start, end)?;
-        self.remove_whole(start, end, now)?;
-        Ok(pieces)
+        let taken = copy_pieces(self.allocator(), pieces.as_slice())?;
+        self.remove_whole(pieces, start, end, now)?;
+        Ok(taken)
     }
 
-    // Removes what stands between two places of the text, which takes each range whole or not at all.
+    // Removes these pieces, which stand between two places of the text; that takes each range whole or not at all.
     fn remove_whole(
         &mut self,
+        pieces: Vec<String>,
         from: (usize, usize),
         to: (usize, usize),
         now: Duration,
@@ -69,12 +76,12 @@ impl Document {
         requires from { IsPlace self.old.text from }
         requires to { IsPlace self.old.text to }
         requires ordered { index_of self.old.text from < index_of self.old.text to }
+        requires pieces { text_of pieces.items ≡ part self.old.text from to }
         requires whole { TakesWhole self.old.ranges from to }
         ensures ok { OnOk result (self.new ≡ edited self.old (removal self.old.text from to) false (as_nanos now)) }
         ensures err { OnErr result (self.new ≡ self.old) }
     {
-        let pieces = between(self.allocator(), self.lines(), from, to)?;
-        self.edit(removal_of(pieces, from, to), false, now)
+        self.edit(edit_of(pieces, false, from, to), false, now)
     }
 
     // The two ends of a removal, widened over each range that it overlaps.
@@ -103,6 +110,31 @@ impl Document {
         self.remove(start, (range.row, range.end_col), now)
     }
 
+    /// Removes the range that the direction hits from the cursor, and hands it out; nothing is selected then. None where no
+    /// range is hit, and then nothing changes and no memory is taken.
+    pub fn remove_hit(
+        &mut self,
+        direction: AtomicDeleteDirection,
+        now: Duration,
+    ) -> Result<Option<AtomicRange>, AllocError>
+        ensures removed { IfOk result (λ range. range ≡ hit_at_cursor self.old direction) }
+        ensures ok { OnOk result (self.new ≡ hit_removed self.old direction (as_nanos now)) }
+        ensures err { OnErr result (self.new ≡ self.old) }
+        ensures nothing { hit_at_cursor self.old direction ≡ None → IsOk result }
+        ensures before { direction ≡ Backward →
+            IfOk result (λ range. IfSome range (λ _. is_at_start self.old ≡ false)) }
+        ensures behind { direction ≡ Forward →
+            IfOk result (λ range. IfSome range (λ _. is_at_end self.old ≡ false)) }
+        ensures start { direction ≡ Backward → is_at_start self.old ≡ true → IsOk result }
+        ensures end { direction ≡ Forward → is_at_end self.old ≡ true → IsOk result }
+    {
+        let Some(range) = self.range_at_cursor(direction) else {
+            return Ok(None);
+        };
+        self.remove_range(range, now)?;
+        Ok(Some(range))
+    }
+
     /// Removes the range before the cursor that is hit, or else the character there, or at column 0 the line break, as a
     /// typed edit or not, and says whether there was one. At the start of the text it takes no memory.
     #[tactic(auto, unfolding(crate::specs::Edits::removed_before))]
@@ -112,11 +144,10 @@ impl Document {
         ensures err { OnErr result (self.new ≡ self.old) }
         ensures nothing { is_at_start self.old ≡ true → IsOk result }
     {
-        let Some(range) = self.range_at_cursor(AtomicDeleteDirection::Backward) else {
-            return self.remove_symbol_before(typed, now);
-        };
-        self.remove_range(range, now)?;
-        Ok(true)
+        match self.remove_hit(AtomicDeleteDirection::Backward, now)? {
+            Some(_) => Ok(true),
+            None => self.remove_symbol_before(typed, now),
+        }
     }
 
     /// Removes the range behind the cursor that is hit, or else the character there, or at a line's end the line break,
@@ -128,11 +159,10 @@ impl Document {
         ensures err { OnErr result (self.new ≡ self.old) }
         ensures nothing { is_at_end self.old ≡ true → IsOk result }
     {
-        let Some(range) = self.range_at_cursor(AtomicDeleteDirection::Forward) else {
-            return self.remove_symbol_behind(typed, now);
-        };
-        self.remove_range(range, now)?;
-        Ok(true)
+        match self.remove_hit(AtomicDeleteDirection::Forward, now)? {
+            Some(_) => Ok(true),
+            None => self.remove_symbol_behind(typed, now),
+        }
     }
 
     // Removes the character before the cursor, or at column 0 the line break there, as a typed edit or not, and says
@@ -186,8 +216,7 @@ impl Document {
             self.set_anchor(None);
             return Ok(false);
         }
-        let column = rows::column_count(self.lines()[row - 1].as_str());
-        let start = (row - 1, column);
+        let start = line_end(self.lines(), row - 1);
         self.edit(
             Edit::between(EditKind::DeleteNewline, (row, 0), start),
             false,
@@ -232,30 +261,4 @@ fn character_behind(line: &str, column: usize) -> Option<char>
     ensures { MatchOption result (column ≡ length (chars line.now)) (λ c. drop column (chars line.now) ≡ c ∷ drop (column + 1) (chars line.now)) }
 {
     line[rows::byte_offset(line, column)..].chars().next()
-}
-
-// The pieces, which stand between two places, removed.
-fn removal_of(mut pieces: Vec<String>, start: (usize, usize), end: (usize, usize)) -> Edit
-    requires { 0 < vec_len pieces }
-    ensures splice { result.splice ≡ record { place = start; symbols = text_of pieces.items; inserts = false } }
-    ensures end { result.end ≡ end }
-    ensures pieces { IfSome result.pieces (λ n. 2 ≤ n) }
-{
-    if 1 < pieces.len() {
-        return Edit::between(EditKind::DeleteChunk(pieces), end, start);
-    }
-    let text = pieces.pop().unwrap();
-    Edit::between(EditKind::DeleteStr(text), end, start)
-}
-
-// The removal of a character, or of a break where there is none.
-fn deletion_of(character: Option<char>) -> EditKind
-    ensures symbols { symbols_of result ≡ symbol_in character ∷ [] }
-    ensures inserts { inserts_of result ≡ false }
-    ensures pieces { pieces_of result ≡ None }
-{
-    match character {
-        Some(c) => EditKind::DeleteChar(c),
-        None => EditKind::DeleteNewline,
-    }
 }

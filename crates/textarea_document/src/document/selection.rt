@@ -1,8 +1,9 @@
 //! What is selected in a document.
-ghost use Rattle.std.specs.Prelude.{◌≡◌, ◌<◌, ◌≤◌, OnOk, OnErr, IsOk, IfOk, IfSome, MatchOption, true, false};
+ghost use Rattle.std.specs.Prelude.{◌≡◌, ◌<◌, ◌≤◌, OnOk, OnErr, IsOk, IfOk, IfSome, MatchOption, is_some, true, false};
 ghost use Rattle.std.specs.Duration.{as_nanos};
-ghost use Rattle.textarea_text.specs.Place.{IsPlace, index_of};
-ghost use Rattle.textarea_document.specs.Selection.{is_before, is_selected, selection, selection_end, selection_start, selected_removed};
+ghost use Rattle.textarea_text.specs.Text.{text_of};
+ghost use Rattle.textarea_text.specs.Place.{IsPlace, IsUpTo, index_of, is_before};
+ghost use Rattle.textarea_document.specs.Selection.{is_selected, selected_removed, selected_taken, selection, selection_end, selection_start};
 
 use crate::document::Document;
 use std::alloc::AllocError;
@@ -13,6 +14,7 @@ impl Document {
     pub fn selection(&self) -> Option<((usize, usize), (usize, usize))>
         ensures value { result ≡ selection self.now }
         ensures places { IfSome result (λ ends. IsPlace self.now.text ends.0 × IsPlace self.now.text ends.1) }
+        ensures ordered { IfSome result (λ ends. IsUpTo ends.0 ends.1) }
     {
         let cursor = self.cursor();
         let anchor = self.anchor()?;
@@ -50,6 +52,23 @@ impl Document {
         };
         self.remove(start, end, now)?;
         Ok(true)
+    }
+
+    /// Removes what is selected, and hands out what went as pieces, with a line break between each two. None where no symbol
+    /// is selected: an empty selection stays, and no memory is taken.
+    pub fn take_selection(&mut self, now: Duration) -> Result<Option<Vec<String>>, AllocError>
+        ensures found { IfOk result (λ taken. is_some taken ≡ is_selected self.old) }
+        ensures taken { IfOk result (λ taken.
+            IfSome taken (λ pieces. text_of pieces.items ≡ selected_taken self.old)) }
+        ensures ok { OnOk result (self.new ≡ selected_removed self.old (as_nanos now)) }
+        ensures err { OnErr result (self.new ≡ self.old) }
+        ensures nothing { is_selected self.old ≡ false → IsOk result }
+    {
+        let Some((start, end)) = self.selected() else {
+            return Ok(None);
+        };
+        let pieces = self.take(start, end, now)?;
+        Ok(Some(pieces))
     }
 }
 

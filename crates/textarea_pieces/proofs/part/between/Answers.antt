@@ -3,25 +3,25 @@ use Rattle.std.specs.Str.{chars}
 use Rattle.std.proofs.lemmas.List.{length-take-le}
 use Rattle.textarea_text.specs.Text.{lines_of}
 use Rattle.textarea_text.proofs.StringRows.{line_at, row_within}
-use Rattle.textarea_pieces.proofs.PartLemmas.{before_in_text, column_within, column_within_last, line_in_part, ordered_rows, part_from_lines, pieces_done, pieces_more}
+use Rattle.textarea_pieces.proofs.PartLemmas.{up_to_in_text, column_within, column_within_last, line_in_part, part_from_lines, pieces_done, pieces_more}
 use Rattle.textarea_pieces.proofs.part.between.Goals as goal
 
 pub overflow_sub-to : goal.overflow_sub-to
 overflow_sub-to c =
-    ordered_rows c.args.from c.args.to (before_in_text c.args.lines.now c.args.from c.args.to c.requires.from c.requires.to c.requires.ordered)
+    (up_to_in_text c.args.lines.now c.args.from c.args.to c.requires.from c.requires.to c.requires.ordered).0
 
 pub slice_bounds-line-items-count : goal.slice_bounds-line-items-count
 slice_bounds-line-items-count c =
-    ordered_rows c.args.from c.args.to (before_in_text c.args.lines.now c.args.from c.args.to c.requires.from c.requires.to c.requires.ordered)
+    (up_to_in_text c.args.lines.now c.args.from c.args.to c.requires.from c.requires.to c.requires.ordered).0
 
 pub slice_bounds-line-items-start : goal.slice_bounds-line-items-start
 slice_bounds-line-items-start c =
-    ordered_rows c.args.from c.args.to (before_in_text c.args.lines.now c.args.from c.args.to c.requires.from c.requires.to c.requires.ordered)
+    (up_to_in_text c.args.lines.now c.args.from c.args.to c.requires.from c.requires.to c.requires.ordered).0
 
 pub text_behind-requires : goal.text_behind-requires
 text_behind-requires c =
     let line = c.line-item.result in
-    let ordered = ordered_rows c.args.from c.args.to (before_in_text c.args.lines.now c.args.from c.args.to c.requires.from c.requires.to c.requires.ordered) in
+    let ordered = (up_to_in_text c.args.lines.now c.args.from c.args.to c.requires.from c.requires.to c.requires.ordered).0 in
     let here = line_in_part c.args.lines.now c.args.from.0 (c.args.to.0 - c.args.from.0) c.loop-line.line-index line
     (omega (arith, row_within c.args.lines.now c.args.to c.requires.to)) (omega arith) c.line-item.is in
     omega (
@@ -34,7 +34,7 @@ text_behind-requires c =
 pub loop-line-preserved : goal.loop-line-preserved
 loop-line-preserved c =
     let line = c.line-item.result in
-    let ordered = ordered_rows c.args.from c.args.to (before_in_text c.args.lines.now c.args.from c.args.to c.requires.from c.requires.to c.requires.ordered) in
+    let ordered = (up_to_in_text c.args.lines.now c.args.from c.args.to c.requires.from c.requires.to c.requires.ordered).0 in
     let here = line_in_part c.args.lines.now c.args.from.0 (c.args.to.0 - c.args.from.0) c.loop-line.line-index line
     (omega (arith, row_within c.args.lines.now c.args.to c.requires.to)) (omega arith) c.line-item.is in
     record {
@@ -48,30 +48,30 @@ loop-line-preserved c =
 
 pub text_behind-requires-2 : goal.text_behind-requires-2
 text_behind-requires-2 c =
-    let before = before_in_text c.args.lines.now c.args.from c.args.to c.requires.from c.requires.to c.requires.ordered in
-    let ordered = ordered_rows c.args.from c.args.to before in
+    let up = up_to_in_text c.args.lines.now c.args.from c.args.to c.requires.from c.requires.to c.requires.ordered in
+    let ordered = up.0 in
     let here = line_at c.args.lines.now c.args.to.0 c.index-lines-to.result (row_within c.args.lines.now c.args.to c.requires.to) c.index-lines-to.is in
     let within = c.requires.to.1 in
     omega (
       arith,
-      column_within_last c.args.from c.args.to c.loop-line.line-index c.loop-line.start before (omega arith) c.loop-line.invariant.first c.loop-line.invariant.later,
+      column_within_last c.args.from c.args.to c.loop-line.line-index c.loop-line.start up (omega arith) c.loop-line.invariant.first c.loop-line.invariant.later,
       ap length c.text_before-last.ensures,
       length-take-le c.args.to.1 (chars c.as_str-2.result.now) (omega (arith, ap length here, ap (λ t. length (chars t)) c.as_str-2.ensures.value)),
     )
 
 pub returns-clause-len : goal.returns-clause-len
 returns-clause-len c =
-    let before = before_in_text c.args.lines.now c.args.from c.args.to c.requires.from c.requires.to c.requires.ordered in
-    let ordered = ordered_rows c.args.from c.args.to before in
+    let up = up_to_in_text c.args.lines.now c.args.from c.args.to c.requires.from c.requires.to c.requires.ordered in
+    let ordered = up.0 in
     omega (arith, c.in_ok-push-2.ensures.len, c.loop-line.invariant.len)
 
 pub returns-clause-text : goal.returns-clause-text
 returns-clause-text c =
     let rows = lines_of c.args.lines.now in
-    let before = before_in_text c.args.lines.now c.args.from c.args.to c.requires.from c.requires.to c.requires.ordered in
-    let ordered = ordered_rows c.args.from c.args.to before in
+    let up = up_to_in_text c.args.lines.now c.args.from c.args.to c.requires.from c.requires.to c.requires.ordered in
+    let ordered = up.0 in
     let here = line_at c.args.lines.now c.args.to.0 c.index-lines-to.result (row_within c.args.lines.now c.args.to c.requires.to) c.index-lines-to.is in
     let last = c.text_before-last.ensures ∙ ap (λ t. take c.args.to.1 (chars t)) c.as_str-2.ensures.value ∙ ap (take c.args.to.1) (sym here) in
-    part_from_lines c.args.lines.now c.push-2.new.self.items c.args.from c.args.to c.requires.from c.requires.to before
+    part_from_lines c.args.lines.now c.push-2.new.self.items c.args.from c.args.to c.requires.from c.requires.to up
     (pieces_done c.loop-line.pieces.items c.push-2.new.self.items c.in_ok-text_behind-2.field-0 rows c.args.from c.args.to (c.args.from.0 + c.loop-line.line-index) c.loop-line.start c.requires.to.0 (omega arith) c.loop-line.invariant.cut c.in_ok-push-2.ensures.items
     (c.in_ok-text_behind-2.ensures ∙ ap (drop c.loop-line.start) last))

@@ -4,8 +4,8 @@ use Rattle.std.proofs.lemmas.List.{length-map}
 use Rattle.textarea_target.proofs.Steps.{index_of-text_end, IsNext-column, IsNext-line, next_place-is, next_place-none}
 use Rattle.textarea_target.proofs.ends.next_place.Goals as goal
 
-pub returns-then-column-row_length-clause-value : goal.returns-then-column-row_length-clause-value
-returns-then-column-row_length-clause-value c =
+pub returns-then-column-line_length-clause-value : goal.returns-then-column-line_length-clause-value
+returns-then-column-line_length-clause-value c =
     next_place-is (text_of c.args.lines.now) c.args.place (c.args.place.0, c.args.place.1 + 1)
     (IsNext-column (lines_of c.args.lines.now) c.args.place.0 c.args.place.1 c.requires.0 (omega arith))
 

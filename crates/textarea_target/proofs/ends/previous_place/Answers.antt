@@ -10,9 +10,9 @@ returns-then-column-gt0-clause-value c =
 
 pub returns-clause-value : goal.returns-clause-value
 returns-clause-value c =
-    previous_place-is (text_of c.args.lines.now) c.row_end.result c.args.place
-    (IsNext-line-back (lines_of c.args.lines.now) c.args.place c.row_end.result c.requires (omega arith) (omega arith) c.row_end.ensures.value)
+    previous_place-is (text_of c.args.lines.now) c.line_end.result c.args.place
+    (IsNext-line-back (lines_of c.args.lines.now) c.args.place c.line_end.result c.requires (omega arith) (omega arith) c.line_end.ensures.value)
 
 pub returns-clause-index : goal.returns-clause-index
 returns-clause-index c =
-    sym (IsNext-line-back (lines_of c.args.lines.now) c.args.place c.row_end.result c.requires (omega arith) (omega arith) c.row_end.ensures.value).index
+    sym (IsNext-line-back (lines_of c.args.lines.now) c.args.place c.line_end.result c.requires (omega arith) (omega arith) c.line_end.ensures.value).index

@@ -1,9 +1,10 @@
 use Rattle.std.proofs.Common.{◌≡◌, ◌∙◌, ap, sym, arith, length, Some, None, Option, ℕ, List}
 use Rattle.std.proofs.lemmas.List.{length-map}
 use Rattle.textarea_text.specs.Text.{characters_of, lines_of}
+use Rattle.textarea_text.specs.Place.{last_row, line_end, line_of}
 use Rattle.textarea_word.specs.Words.{next_word_last}
 use Rattle.textarea_word.proofs.NearestLemmas.{least_below-found, least_below-none}
-use Rattle.textarea_target.specs.Target.{first_word_end, found_or, is_later_word_row, last_row, line_of, next_word_row, row_end}
+use Rattle.textarea_target.specs.Target.{first_word_end, found_or, is_later_word_row, next_word_row}
 use Rattle.textarea_target.proofs.Rows.{is_later_word_row-at}
 use Rattle.textarea_target.proofs.words.later_word_end.Goals as goal
 
@@ -17,7 +18,7 @@ returns-in-Some-clause-value c =
     least_below-found (is_later_word_row rows c.args.start) row (length rows) c.loop-row.invariant
     (is_later_word_row-at rows c.args.start row (Some c.in-Some.column) (omega arith) found)
     (omega (arith, length-map c.args.lines.now characters_of)) in
-    ap (λ (o : Option ℕ). found_or o row (row_end rows (last_row rows))) found ∙ ap (first_word_end rows) (sym first)
+    ap (λ (o : Option ℕ). found_or o row (line_end rows (last_row rows))) found ∙ ap (first_word_end rows) (sym first)
 
 pub returns-clause-value : goal.returns-clause-value
 returns-clause-value c =
@@ -25,4 +26,4 @@ returns-clause-value c =
     let none : next_word_row rows c.args.start ≡ None =
     least_below-none (is_later_word_row rows c.args.start) (length rows)
     (λ e below. c.loop-row.invariant e (omega (arith, length-map c.args.lines.now characters_of))) in
-    c.row_end.ensures.value ∙ ap (row_end rows) c.last_row.ensures.value ∙ ap (first_word_end rows) (sym none)
+    c.line_end.ensures.value ∙ ap (line_end rows) c.last_row.ensures.value ∙ ap (first_word_end rows) (sym none)

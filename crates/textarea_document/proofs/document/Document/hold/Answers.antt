@@ -12,7 +12,7 @@ pub invariant_of-self : goal.invariant_of-self
 invariant_of-self c =
     let text = c.self.inside.laid.text in
     let given = c.args.ranges.items in
-    let valid : AreValid (lines text) given = subst (λ (s : DocumentState). AreValid (lines s.text) given) (sym c.self.view_is) c.requires in
+    let valid : AreValid (lines text) given = subst (λ (s : DocumentState). AreValid (lines s.text) given) (sym c.self.view_is) c.requires.valid in
     let first : AreValid (lines text) c.as_slice.result.now = subst (AreValid (lines text)) (sym c.as_slice.ensures.value) valid in
     let old = c.self.invariant in
     record {
@@ -21,6 +21,7 @@ invariant_of-self c =
           (subst (λ o. IfSome (unless_empty o c.moved_out-cursor.result) (IsPlace text)) (sym c.anchor_out-anchor.ensures)
           (anchor_place text c.as_slice-2.result.now c.self.inside.anchor c.moved_out-cursor.result (subst (AreValid (lines text)) (sym c.as_slice-2.ensures.value) valid) old.anchor));
       ranges = valid;
+      in_order = c.requires.in_order;
       undo = old.undo;
       redo = old.redo;
       bounded = old.bounded;

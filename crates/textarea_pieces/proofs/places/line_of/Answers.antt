@@ -1,6 +1,6 @@
 use Rattle.std.proofs.Common.{length, ap, arith}
 use Rattle.textarea_text.proofs.StringRows.{characters_bound, line_at}
-use Rattle.textarea_target.proofs.places.line_of.Goals as goal
+use Rattle.textarea_pieces.proofs.places.line_of.Goals as goal
 
 pub returns-clause-fits : goal.returns-clause-fits
 returns-clause-fits c =

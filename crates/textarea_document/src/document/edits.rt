@@ -1,0 +1,46 @@
+//! Edits of what the calls hand in and cut out.
+ghost use Rattle.std.specs.Prelude.{◌≡◌, ◌<◌, ◌≤◌, ◌∷◌, [], false, vec_len, IfSome, None};
+ghost use Rattle.textarea_text.specs.Text.{symbol_in, text_of};
+ghost use Rattle.textarea_edit.specs.Edit.{inserts_of, pieces_of, symbols_of};
+
+use textarea_edit::edit::{Edit, EditKind};
+
+// The edit that inserts the pieces between two places of the cursor, or removes what they hold from between them.
+pub(super) fn edit_of(
+    mut pieces: Vec<String>,
+    inserts: bool,
+    start: (usize, usize),
+    end: (usize, usize),
+) -> Edit
+    requires { 0 < vec_len pieces }
+    ensures splice { result.splice
+        ≡ record { place = start; symbols = text_of pieces.items; inserts = inserts } }
+    ensures end { result.end ≡ end }
+    ensures pieces { IfSome result.pieces (λ n. 2 ≤ n) }
+{
+    if 1 < pieces.len() {
+        return if inserts {
+            Edit::between(EditKind::InsertChunk(pieces), start, end)
+        } else {
+            Edit::between(EditKind::DeleteChunk(pieces), end, start)
+        };
+    }
+    let text = pieces.pop().unwrap();
+    if inserts {
+        Edit::between(EditKind::InsertStr(text), start, end)
+    } else {
+        Edit::between(EditKind::DeleteStr(text), end, start)
+    }
+}
+
+// The removal of a character, or of a break where there is none.
+pub(super) fn deletion_of(character: Option<char>) -> EditKind
+    ensures symbols { symbols_of result ≡ symbol_in character ∷ [] }
+    ensures inserts { inserts_of result ≡ false }
+    ensures pieces { pieces_of result ≡ None }
+{
+    match character {
+        Some(c) => EditKind::DeleteChar(c),
+        None => EditKind::DeleteNewline,
+    }
+}
