@@ -179,6 +179,7 @@ fn draw_border(
     ensures err { OnErr result (KeepsOutside (contains area) buffer.old buffer.new) }
 {
     if is_drawn {
+        let area = area.intersection(buffer.area());
         for y in area.y..area.y + area.height {
             draw_border_row(buffer, area, y, text, style)?;
         }

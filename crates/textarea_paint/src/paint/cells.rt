@@ -58,7 +58,7 @@ pub(crate) fn draw_cluster(
     })
 }
 
-/// Draws a cluster into the cells from column `x` up to column `end`.
+/// Draws a cluster into the cells from column `x` up to column `end`, those of the buffer alone.
 fn draw_columns(
     buffer: &mut Buffer,
     y: u16,
@@ -76,7 +76,8 @@ fn draw_columns(
     ensures inline { length cluster.entry.text.now ≤ INLINE_BYTES → IsOk result }
     ensures err { OnErr result (KeepsOutside (is_between y x end) buffer.old buffer.new) }
 {
-    for column in x..end {
+    let area = buffer.area();
+    for column in x.max(area.x)..end.min(area.x + area.width) {
         let symbol = symbol_of(is_whole, column == x, cluster.text);
         buffer.put(column, y, symbol, cluster.style)?;
     }
