@@ -1,5 +1,5 @@
 //! Where highlights start and end on a row.
-ghost use Rattle.std.specs.Prelude.{◌≡◌, ◌++◌, ℕ, List, All, IfOk, OnOk, OnErr, IsCharBoundary, IsPermutation};
+ghost use Rattle.std.specs.Prelude.{◌≡◌, [], ◌++◌, ℕ, List, All, IfOk, IsOk, OnOk, OnErr, IsCharBoundary, IsPermutation};
 ghost use Rattle.std.specs.Iterator.{IsFinite, Drains};
 ghost use Rattle.std.specs.List.Sorted.{IsSortedByKey, IsStableByKey};
 ghost use Rattle.textarea_highlight.specs.Borders.{rounded_down, highlight_borders, match_borders, place_of, place_cmp};
@@ -97,6 +97,7 @@ pub fn sort(borders: &mut Vec<Border>) -> Result<(), AllocError>
     ensures permutation { IsPermutation borders.old.items borders.new.items }
     ensures sorted { OnOk result (IsSortedByKey place_of place_cmp borders.new.items) }
     ensures stable { IsStableByKey place_of place_cmp borders.old.items borders.new.items }
+    ensures nothing { borders.old.items ≡ [] → IsOk result }
     ensures err { OnErr result (borders.new.items ≡ borders.old.items) }
 {
     borders.sort_by_key(|border| (border.offset, border.rank))?;

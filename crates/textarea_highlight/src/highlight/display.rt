@@ -6,9 +6,9 @@ ghost use Rattle.textarea_highlight.specs.Texts.{bytes_of, IsLent};
 ghost use Rattle.textarea_wrap.specs.Columns.{column_after, end_column};
 ghost use Rattle.textarea_highlight.specs.Display.{is_tab, shown_char, with_spaces, without_tabs, shown};
 
-use super::numbers::spaces;
 use std::alloc::{AllocError, Global};
 use textarea_screen::screen::SpanText;
+use textarea_text::util::spaces;
 use textarea_wrap::wrap::columns::{column_behind, column_behind_text};
 
 /// What is shown for the pieces of one row, which come from left to right.
@@ -127,7 +127,7 @@ fn push_shown(
         ≡ string_bytes text.old ++ encode_utf8_all (shown_char tab_len column c)) }
 {
     if c == '\t' {
-        text.push_str(spaces(next - column))?;
+        text.push_str(spaces((next - column) as u8))?;
     } else {
         text.push(c)?;
     }

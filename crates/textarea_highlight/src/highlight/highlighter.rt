@@ -1,10 +1,10 @@
 //! What is highlighted in a row, and the spans that it gives.
-ghost use Rattle.std.specs.Prelude.{◌≡◌, ◌+◌, ◌^◌, ◌<◌, ◌≤◌, ℕ, List, length, chars, IfOk, IfNone, IfSome, OnOk, OnErr, IsErr};
+ghost use Rattle.std.specs.Prelude.{◌≡◌, ◌+◌, ◌^◌, ◌<◌, ◌≤◌, ℕ, List, length, chars, IfOk, IfNone, IfSome, OnOk, OnErr, IsErr, IsOk};
 ghost use Rattle.std.specs.Fmt.{decimal};
 ghost use Rattle.std.specs.Iterator.{IsFinite, Drains};
 ghost use Rattle.textarea_screen.specs.Text.{shown_line};
 ghost use Rattle.textarea_highlight.specs.Highlights.{byte_of, plain_row, with_number, with_placeholder, with_base, with_cursor_line, with_matches, with_range, with_selection, with_segment, end_style};
-ghost use Rattle.textarea_highlight.specs.Row.{ShowsRow};
+ghost use Rattle.textarea_highlight.specs.Row.{ShowsNothing, ShowsRow};
 
 use super::borders::{Border, borders_of_matches, push_highlight, sort};
 use super::cut::{RowStyle, cut, push_end_cell};
@@ -12,6 +12,7 @@ use super::numbers::{push_number, push_placeholder};
 use std::alloc::{AllocError, Global};
 use std::marker::Model;
 use textarea_screen::screen::{Line, Span, Style};
+use textarea_wrap::wrap::is_short;
 
 /// How the cell at the cursor is drawn.
 #[derive(Clone, Copy, Debug, PartialEq, Eq)]
@@ -36,9 +37,6 @@ impl From<Style> for CursorCellRender {
 const CURSOR_RANK: u8 = 30;
 
 const SELECTION_RANK: u8 = 10;
-
-/// The length in bytes up to which rows are drawn.
-const MAX_ROW_LENGTH: usize = 1 << 48;
 
 /// A row of text with its highlights, which `into_spans` cuts into styled spans.
 ///
@@ -270,13 +268,14 @@ impl<'a> LineHighlighter<'a> {
     }
 
     /// The spans of the row: what stands in front of it, its pieces, and a blank for the cell behind it
-    /// where that is drawn. A piece borrows from the row where it is shown as it is. A row of more than
-    /// 2^48 bytes is answered as want of memory.
+    /// where that is drawn. A piece borrows from the row where it is shown as it is. A row of 2^48
+    /// bytes or more is answered as out of memory, as `line_ranges` answers a line.
     pub fn into_spans(self) -> Result<Line<'a>, AllocError>
         ensures shown { IfOk result (λ line. ShowsRow self.entry (shown_line line)) }
-        ensures too_long { 2 ^ 48 < length self.entry.row → IsErr result }
+        ensures too_long { 2 ^ 48 ≤ length self.entry.row → IsErr result }
+        ensures nothing { ShowsNothing self.entry → IsOk result }
     {
-        if self.row.len() > MAX_ROW_LENGTH {
+        if !is_short(self.row) {
             return Err(AllocError);
         }
         let end_style = self.end_style();
