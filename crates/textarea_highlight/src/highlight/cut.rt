@@ -1,7 +1,8 @@
 //! A row cut into spans at its borders.
-ghost use Rattle.std.specs.Prelude.{◌≡◌, ◌+◌, ◌-◌, ◌*◌, ◌^◌, ◌<◌, ◌≤◌, [], ◌++◌, map, length, None, All, IsOk, OnOk, IsCharBoundary};
+ghost use Rattle.std.specs.Prelude.{◌≡◌, ◌+◌, ◌-◌, ◌*◌, ◌^◌, ◌<◌, ◌≤◌, [], ◌++◌, map, length, None, IsOk, OnOk, IsCharBoundary};
 ghost use Rattle.textarea_screen.specs.Text.{shown_span};
 ghost use Rattle.textarea_wrap.specs.Columns.{end_column};
+ghost use Rattle.textarea_highlight.specs.Borders.{ArePlaced};
 ghost use Rattle.textarea_highlight.specs.Highlights.{end_cell};
 ghost use Rattle.textarea_highlight.specs.Cut.{IsAscending, AddsPieces, AddsPiece, piece_of};
 
@@ -29,9 +30,10 @@ pub fn cut<'a>(
     row_style: RowStyle,
 ) -> Result<(), AllocError>
     requires room { 255 * length row.now < 2 ^ 63 }
-    requires placed { All (λ border. IsCharBoundary row.now border.offset) borders.now }
+    requires placed { ArePlaced row.now borders.now }
     requires ordered { IsAscending borders.now }
-    ensures added { OnOk result (AddsPieces row.now borders.now row_style.base row_style.tab_len row_style.mask
+    ensures added { OnOk result (AddsPieces row.now borders.now
+        row_style.base row_style.tab_len row_style.mask
         (map shown_span spans.old.items) (map shown_span spans.new.items)) }
     ensures nothing { row.now ≡ [] → borders.now ≡ [] → IsOk result }
 {

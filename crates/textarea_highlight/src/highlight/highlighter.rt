@@ -59,7 +59,8 @@ pub struct LineHighlighter<'a> {
 }
 
 impl<'a> Model for LineHighlighter<'a> {
-    ghost use Rattle.std.specs.Prelude.{map, All, IsCharBoundary};
+    ghost use Rattle.std.specs.Prelude.{map};
+    ghost use Rattle.textarea_highlight.specs.Borders.{ArePlaced};
     ghost use Rattle.textarea_screen.specs.Text.{shown_span};
     ghost use Rattle.textarea_highlight.specs.Highlights.{Highlights};
 
@@ -78,7 +79,7 @@ impl<'a> Model for LineHighlighter<'a> {
       select_style = h.select_style;
     } };
 
-    ghost invariant = { λ h. All (λ border. IsCharBoundary h.row.now border.offset) h.borders.items };
+    ghost invariant = { λ h. ArePlaced h.row.now h.borders.items };
 }
 
 impl<'a> LineHighlighter<'a> {
@@ -188,7 +189,8 @@ impl<'a> LineHighlighter<'a> {
         end_row: usize,
         end_offset: usize,
     ) -> Result<(), AllocError>
-        ensures ok { OnOk result (self.new ≡ with_selection self.old current_row ((start_row, start_offset), (end_row, end_offset))) }
+        ensures ok { OnOk result (self.new ≡ with_selection self.old current_row
+            ((start_row, start_offset), (end_row, end_offset))) }
         ensures unchanged { OnErr result (self.new ≡ self.old) }
     {
         let range = ((start_row, start_offset), (end_row, end_offset));
@@ -203,7 +205,8 @@ impl<'a> LineHighlighter<'a> {
         end_offset: usize,
         select_at_end: bool,
     ) -> Result<(), AllocError>
-        ensures ok { OnOk result (self.new ≡ with_segment self.old start_offset end_offset select_at_end) }
+        ensures ok { OnOk result
+            (self.new ≡ with_segment self.old start_offset end_offset select_at_end) }
         ensures unchanged { OnErr result (self.new ≡ self.old) }
     {
         push_highlight(
@@ -315,7 +318,8 @@ impl<'a> LineHighlighter<'a> {
 
 /// The bytes at which the character of this column begins and ends, if the row has it.
 fn bytes_of_character(row: &str, column: usize) -> Option<(usize, usize)>
-    ensures found { IfSome result (λ bytes. bytes ≡ (byte_of row.now column, byte_of row.now (column + 1))) }
+    ensures found { IfSome result (λ bytes. bytes
+        ≡ (byte_of row.now column, byte_of row.now (column + 1))) }
     ensures within { IfSome result (λ _. column < length (chars row.now)) }
     ensures none { IfNone result (length (chars row.now) ≤ column) }
 {

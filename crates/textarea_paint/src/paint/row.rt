@@ -26,8 +26,8 @@ pub struct RowArea {
 
 /// Draws a line in row `y` of an area, or nothing where the area has no such row.
 ///
-/// A cell on which no cluster stands is left as it is. Only a cluster of more than `INLINE_BYTES`
-/// bytes takes memory. Where there is none, cells of the row may be drawn already.
+/// A cell on which no cluster stands is left as it is. A row that the buffer doesn't have costs
+/// nothing. Out of memory, cells of the row may be drawn already.
 pub fn draw_row(buffer: &mut Buffer, rows: RowArea, y: u16, line: &Line) -> Result<(), AllocError>
     ensures ok { OnOk result
         (Changes buffer.old buffer.new (row_cell rows y (shown_line line.now))) }
@@ -148,10 +148,11 @@ fn draw_fitting(
     Ok(())
 }
 
-/// The column behind the last of the cells that the buffer may have: nothing is drawn from there on.
+/// The column behind the last of the cells that the buffer may have: nothing is drawn from there.
 fn seen_end(buffer: &Buffer, cells: RowCells) -> u16
     requires edge { cells.x + cells.width ≤ 65535 }
-    ensures { result ≡ min (cells.x + cells.width) ((area_of buffer.now).x + (area_of buffer.now).width) }
+    ensures { result ≡ min (cells.x + cells.width)
+        ((area_of buffer.now).x + (area_of buffer.now).width) }
 {
     let area = buffer.area();
     (cells.x + cells.width).min(area.x + area.width)
