@@ -1,7 +1,7 @@
 #!/bin/sh
 # Times the drawing of frames of 24 rows of 80 columns into one buffer (PROGRAM is what `rt run paint_bench` builds), and counts
-# what drawing asks for: the number of allocations of a run of one frame and of a run of a hundred, which valgrind counts where
-# it is there. A frame of ASCII should take at most 80 microseconds, and the two numbers be the same.
+# what drawing asks for: the number of allocations of a run of ten frames and of a run of ninety, which valgrind counts where
+# it is there. A frame of ASCII should take at most 80 microseconds, and the two numbers be the same. The rows are full of the text.
 # usage: bench/paint.sh PROGRAM
 set -e
 program=$1
@@ -28,7 +28,7 @@ row() {
     done
     printf '%-22s %8d.%d microseconds a frame' "$1" $((best / 1000)) $((best % 1000 / 100))
     if command -v valgrind > /dev/null; then
-        printf ', allocations in a run of 1 and of 100 frames: %s, %s' "$(allocations 1 80 24 "$2")" "$(allocations 100 80 24 "$2")"
+        printf ', allocations in a run of 10 and of 90 frames: %s, %s' "$(allocations 10 80 24 "$2")" "$(allocations 90 80 24 "$2")"
     fi
     printf '\n'
 }

@@ -44,13 +44,10 @@ impl<'a> Job<'a> {
     }
 }
 
-// The text, again and again, until there are so many bytes.
-fn repeated(alloc: Global, text: &str, len: usize) -> Result<String, AllocError> {
+// The text, so many times.
+fn repeated(alloc: Global, text: &str, times: usize) -> Result<String, AllocError> {
     let mut line = String::new(alloc);
-    if text.is_empty() {
-        return Ok(line);
-    }
-    for _ in 0..len.div_ceil(text.len()) {
+    for _ in 0..times {
         line.push_str(text)?;
     }
     Ok(line)

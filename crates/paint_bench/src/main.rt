@@ -1,7 +1,7 @@
 //! Draws frames, and prints the first row of the last one.
 //!
 //! Each line of standard input is a job of four parts with one space between them: how many frames, a width, a height, and a
-//! text, which is repeated until a row has as many bytes as columns, or more. Each frame draws one line into each row.
+//! text, which a line has once for each column. Each frame draws that line into each row.
 #![tactic(auto)]
 
 mod job;

@@ -3,4 +3,5 @@
 
 pub mod cursor;
 pub mod input;
+pub mod laws;
 pub mod scroll;

@@ -1,5 +1,5 @@
 -- Where the highlights of a row start and end, and the order of these borders.
-use Rattle.std.specs.Prelude.{ℕ, List, [], ◌∷◌, ◌++◌, length, min, nat_lt, IsPermutation, if◌then◌else◌}
+use Rattle.std.specs.Prelude.{ℕ, List, [], ◌∷◌, ◌++◌, length, min, nat_lt, All, IsCharBoundary, IsPermutation, if◌then◌else◌}
 use Rattle.std.specs.Fmt.Cut.{floor_char_boundary}
 use Rattle.std.specs.declared.cmp.Ordering.{Ordering}
 use Rattle.std.specs.Ordering.{nat_cmp, ordering_then}
@@ -35,6 +35,10 @@ match_borders row (found ∷ others) style =
 -- where a border stands, and its rank there
 abbrev pub place_of : Border → ℕ × ℕ
 place_of border = (border.offset, border.rank)
+
+-- each border stands where a character of the row starts, or where the row ends
+abbrev pub ArePlaced : List ℕ → List Border → Type 0
+ArePlaced row borders = All (λ border. IsCharBoundary row border.offset) borders
 
 -- by offset, then by rank
 abbrev pub place_cmp : ℕ × ℕ → ℕ × ℕ → Ordering

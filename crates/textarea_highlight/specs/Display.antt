@@ -1,5 +1,5 @@
 -- What stands on the screen for a piece of a row.
-use Rattle.std.specs.Prelude.{ℕ, ◌-◌, Bool, not, ◌==◌, if◌then◌else◌, List, [], ◌∷◌, ◌++◌, map, take, drop, replicate, filter, Option, None, Some}
+use Rattle.std.specs.Prelude.{◌≡◌, ℕ, ◌-◌, Bool, not, ◌==◌, if◌then◌else◌, List, [], ◌∷◌, ◌++◌, map, take, drop, replicate, filter, Option, None, Some, chars, encode_utf8_all}
 use Rattle.textarea_wrap.specs.Columns.{next_stop, column_after}
 
 abbrev pub is_tab : ℕ → Bool
@@ -23,3 +23,11 @@ without_tabs cs = take 1 cs ++ filter (λ c. not (is_tab c)) (drop 1 cs)
 abbrev pub shown : Option ℕ → ℕ → ℕ → List ℕ → List ℕ
 shown (Some mask) tab_len column cs = map (λ _. mask) cs
 shown None tab_len column cs = if tab_len == 0 then without_tabs cs else with_spaces tab_len column cs
+
+-- the bytes that are shown for the bytes of a piece, and whether these are the piece's own
+abbrev pub shown_bytes : Option ℕ → ℕ → ℕ → List ℕ → List ℕ
+shown_bytes mask tab_len column piece = encode_utf8_all (shown mask tab_len column (chars piece))
+
+abbrev pub IsShownAsItIs : Option ℕ → ℕ → ℕ → List ℕ → Type 0
+IsShownAsItIs mask tab_len column piece =
+    (mask ≡ None) × (shown mask tab_len column (chars piece) ≡ chars piece)

@@ -1,5 +1,5 @@
 -- The spans of a whole row.
-use Rattle.std.specs.Prelude.{◌≡◌, ◌<◌, List, ◌++◌, length, encode_utf8_all}
+use Rattle.std.specs.Prelude.{◌≡◌, ◌<◌, List, [], ◌++◌, None, length, encode_utf8_all}
 use Rattle.std.specs.Str.{chars}
 use Rattle.textarea_screen.specs.Style.{empty_style}
 use Rattle.textarea_screen.specs.Text.{ShownSpan, ShownLine}
@@ -19,3 +19,10 @@ pub record ShowsRow (h : Highlights) (line : ShownLine) : Type 0 where
   pub style : line.style ≡ empty_style
   -- where tabs have stops, the pieces together show the same text whatever is highlighted and wherever the cursor stands
   pub whole : 0 < h.tab_len → text_of_spans pieces ≡ encode_utf8_all (shown h.mask h.tab_len 0 (chars h.row))
+
+-- a row without a byte, with nothing in front of it or behind it, and without a highlight
+pub record ShowsNothing (h : Highlights) : Type 0 where
+  pub row : h.row ≡ []
+  pub numbers : h.numbers ≡ []
+  pub borders : h.borders ≡ []
+  pub behind : end_style h ≡ None

@@ -34,6 +34,11 @@ pub Changes-in_area : {a b c : Buffer} (area : Rect) (f g h : Change) → Change
 Changes-in_area area f g h first second same =
     Changes-then (in_area area h) first second (λ x y cell. in_area-then (contains area x y) (f x y) (g x y) (h x y) cell (same x y cell))
 
+-- a part is drawn, and it is one of the cells of the buffer
+pub drawn_there : (here drawn inside : Bool) → drawn ≡ true → inside ≡ true → (here && inside) ≡ (drawn && here)
+drawn_there true drawn inside is_drawn is_inside = rw (is_drawn, is_inside) refl
+drawn_there false drawn inside is_drawn is_inside = rw is_drawn refl
+
 -- ---- the cells of a rectangle inside of the area
 
 record IsIn (area : Rect) (x y : ℕ) : Type 0 where

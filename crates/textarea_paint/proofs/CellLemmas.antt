@@ -1,9 +1,11 @@
 -- The cells of a row, cluster by cluster.
-use Rattle.std.proofs.Common.{◌≡◌, ℕ, ◌+◌, ◌-◌, ◌<◌, ◌≤◌, min, Bool, true, false, cond, eqb, ◌&&◌, List, [], ◌∷◌, Option, None, Some, refl, sym, ap, ◌∙◌, ⊎_elim, arith}
+use Rattle.std.proofs.Common.{◌≡◌, ℕ, ◌+◌, ◌-◌, ◌<◌, ◌≤◌, min, max, Bool, true, false, cond, eqb, ◌&&◌, List, [], ◌∷◌, Option, None, Some, refl, sym, ap, ◌∙◌, ⊎_elim, arith}
 use Rattle.std.specs.List.{find}
 use Rattle.std.proofs.lemmas.Bool.Decides.{nat_tests}
 use Rattle.std.proofs.lemmas.Bool.{ltb-true, leb-true, eqb-true, eq-eqb, and_parts, and_from, and_left, cases_Bool, cond-true, cond-false, false≢true, le-leb, lt-ltb, lt-leb}
 use Rattle.textarea_screen.specs.Cell.{ShownCell, with_symbol}
+use Rattle.textarea_screen.specs.Rect.{contains}
+use Rattle.textarea_screen.specs.declared.screen.rect.Rect.{Rect}
 use Rattle.textarea_screen.specs.declared.screen.style.Style.{Style}
 use Rattle.textarea_paint.specs.Cells.{Placed, placed_at, place_from, covers, is_between, is_in_cells, is_whole, symbol_of, symbol_in, covered, row_change, IsPenAt}
 use Rattle.textarea_paint.specs.Clusters.{Cluster}
@@ -31,6 +33,10 @@ between row from to x y h =
 
 between_test : (row from to x y : ℕ) → y ≡ row → from ≤ x → x < to → is_between row from to x y ≡ true
 between_test row from to x y at left right = and_from _ _ (eq-eqb y row at) (and_from _ _ (le-leb from x left) (lt-ltb x to right))
+
+-- a cell of an area stands left of its right edge
+pub contains_right : (area : Rect) (x y : ℕ) → contains area x y ≡ true → x < area.x + area.width
+contains_right area x y inside = grind (arith, nat_tests)
 
 covers_parts : (column : ℕ) (placed : Placed) → covers column placed ≡ true → (placed.start ≤ column) × (column < placed.start + columns_of placed.text)
 covers_parts column placed h =
@@ -81,15 +87,16 @@ cond-none : (cells : RowCells) (left column : ℕ) (inside : Bool) (found : Opti
 cond-none cells left column true found cell none = rw (none refl) refl
 cond-none cells left column false found cell none = refl
 
--- and so do clusters that stand behind them
-pub row_change-past : (cells : RowCells) (left start : ℕ) (clusters : List Cluster) (x y : ℕ) (cell : ShownCell) → cells.width ≤ start - left →
+-- and so do clusters that stand behind the column which the cell shows
+pub row_change-past : (cells : RowCells) (left start : ℕ) (clusters : List Cluster) (x y : ℕ) (cell : ShownCell) →
+    (cells.x ≤ x → x < cells.x + cells.width → left + (x - cells.x) < start) →
     row_change cells left (place_from start clusters) x y cell ≡ cell
 unfolding row_change
 row_change-past cells left start clusters x y cell past =
     cond-none cells left (left + (x - cells.x)) (is_in_cells cells x y) (find (covers (left + (x - cells.x))) (place_from start clusters)) cell
     (λ inside.
     let b = between cells.y cells.x (cells.x + cells.width) x y inside in
-    find-before (left + (x - cells.x)) start clusters (omega (arith, b.behind, b.before)))
+    find-before (left + (x - cells.x)) start clusters (past b.behind b.before))
 
 -- cells that are not of the row stay
 pub row_change-outside : (cells : RowCells) (left : ℕ) (row : List Placed) (x y : ℕ) (cell : ShownCell) → is_in_cells cells x y ≡ false → row_change cells left row x y cell ≡ cell
@@ -199,18 +206,27 @@ cond-more true before after f g cell now later = let h = now refl in rw (h.0, h.
 cond-more false before after f g cell now later = ap (λ b. cond b (g cell) cell) (sym (later refl))
 
 -- the cells up to a column, and then that of the column
-pub between_more : (row from at : ℕ) (whole : Bool) (text symbol : List ℕ) (style : Style) (x y : ℕ) (cell : ShownCell) → from ≤ at → symbol ≡ symbol_of whole (eqb at from) text →
-    cond (eqb x at && eqb y row) (with_symbol symbol style (cond (is_between row from at x y) (with_symbol (symbol_of whole (eqb x from) text) style cell) cell))
-    (cond (is_between row from at x y) (with_symbol (symbol_of whole (eqb x from) text) style cell) cell)
-    ≡ cond (is_between row from (at + 1) x y) (with_symbol (symbol_of whole (eqb x from) text) style cell) cell
-between_more row from at whole text symbol style x y cell begun is =
-    cond-more (eqb x at && eqb y row) (is_between row from at x y) (is_between row from (at + 1) x y) (with_symbol symbol style) (with_symbol (symbol_of whole (eqb x from) text) style) cell
+pub between_more : (row first from at : ℕ) (whole : Bool) (text symbol : List ℕ) (style : Style) (x y : ℕ) (cell : ShownCell) → from ≤ at → symbol ≡ symbol_of whole (eqb at first) text →
+    cond (eqb x at && eqb y row) (with_symbol symbol style (cond (is_between row from at x y) (with_symbol (symbol_of whole (eqb x first) text) style cell) cell))
+    (cond (is_between row from at x y) (with_symbol (symbol_of whole (eqb x first) text) style cell) cell)
+    ≡ cond (is_between row from (at + 1) x y) (with_symbol (symbol_of whole (eqb x first) text) style cell) cell
+between_more row first from at whole text symbol style x y cell begun is =
+    cond-more (eqb x at && eqb y row) (is_between row from at x y) (is_between row from (at + 1) x y) (with_symbol symbol style) (with_symbol (symbol_of whole (eqb x first) text) style) cell
     (λ here.
     let p = and_parts _ _ here in
     let at_x : x ≡ at = eqb-true x at p.0 in
     let at_y : y ≡ row = eqb-true y row p.1 in (
       grind (arith, nat_tests),
       between_test row from (at + 1) x y at_y (omega arith) (omega arith),
-      ap (λ s. with_symbol s style cell) (is ∙ ap (λ k. symbol_of whole (eqb k from) text) (sym at_x)),
+      ap (λ s. with_symbol s style cell) (is ∙ ap (λ k. symbol_of whole (eqb k first) text) (sym at_x)),
     ))
     (λ elsewhere. grind (arith, nat_tests))
+
+-- of the cells between two columns those that an area has
+pub between_clipped : (area : Rect) (row from to first last at x y : ℕ) → first ≡ max from area.x → last ≡ min to (area.x + area.width) → first ≤ at → last ≤ at → at ≤ max first last →
+    contains area x y ≡ true → is_between row first at x y ≡ is_between row from to x y
+between_clipped area row from to first last at x y is_first is_last begun ended exact inside = grind (arith, nat_tests)
+
+-- cells before a column that stands between two others are between these
+pub between_narrower : (row from to first at x y : ℕ) → from ≤ first → at ≤ to → is_between row from to x y ≡ false → is_between row first at x y ≡ false
+between_narrower row from to first at x y left right outside = grind (arith, nat_tests)

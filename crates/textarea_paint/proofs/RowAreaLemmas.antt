@@ -1,9 +1,9 @@
 -- What a row of cells makes of the cells of an area.
-use Rattle.std.proofs.Common.{◌≡◌, ℕ, ◌+◌, ◌<◌, ◌≤◌, Bool, true, false, cond, List, refl, sym, ap₂, ◌∙◌, arith}
-use Rattle.std.proofs.lemmas.Bool.{cond-false}
+use Rattle.std.proofs.Common.{◌≡◌, ℕ, ◌+◌, ◌<◌, ◌≤◌, Bool, true, false, cond, ◌&&◌, List, refl, sym, ap₂, ◌∙◌, ⊎_elim, arith}
+use Rattle.std.proofs.lemmas.Bool.{and_from, and_parts, cases_Bool, cond-false, eqb-true, false≢true}
 use Rattle.std.proofs.lemmas.Bool.Decides.{nat_tests}
 use Rattle.textarea_screen.specs.Cell.{ShownCell}
-use Rattle.textarea_screen.specs.Rect.{is_in_row}
+use Rattle.textarea_screen.specs.Rect.{contains, is_in_row}
 use Rattle.textarea_screen.specs.Text.{ShownLine}
 use Rattle.textarea_screen.specs.declared.screen.rect.Rect.{Rect}
 use Rattle.textarea_paint.specs.Cells.{Placed, is_in_cells, row_change}
@@ -16,12 +16,26 @@ use Rattle.textarea_paint.proofs.CellLemmas.{row_change-outside}
 pub in_cells_of_row : (area : Rect) (row x y : ℕ) → area.y ≤ row → row < area.y + area.height → is_in_cells (cells_of_row area row) x y ≡ is_in_row area row x y
 in_cells_of_row area row x y top bottom = grind (arith, nat_tests)
 
--- the area has no cell in another row
-pub not_in_row : (area : Rect) (row x y : ℕ) → (row < area.y) → is_in_row area row x y ≡ false
-not_in_row area row x y above = grind (arith, nat_tests)
+-- a row of which an area and another have cells together, of which `seen` is the first, and one of which they have none
+abbrev pub Meets : Rect → Rect → Rect → Type 0
+Meets area other seen = (x y : ℕ) → contains seen x y ≡ (contains area x y && contains other x y)
 
-pub not_in_row_below : (area : Rect) (row x y : ℕ) → (area.y + area.height ≤ row) → is_in_row area row x y ≡ false
-not_in_row_below area row x y below = grind (arith, nat_tests)
+pub seen_rows : (area other seen : Rect) (row : ℕ) → Meets area other seen → contains seen seen.x row ≡ true → (area.y ≤ row) × (row < area.y + area.height)
+seen_rows area other seen row meets here =
+    let in_area = (and_parts (contains area seen.x row) (contains other seen.x row) (sym (meets seen.x row) ∙ here)).0 in
+    (grind (arith, nat_tests, in_area), grind (arith, nat_tests, in_area))
+
+first_of_row : (seen : Rect) (row x y : ℕ) → y ≡ row → contains seen x y ≡ true → contains seen seen.x row ≡ true
+first_of_row seen row x y at inside = grind (arith, nat_tests)
+
+pub unseen_row : (area other seen : Rect) (row : ℕ) → Meets area other seen → contains seen seen.x row ≡ false → (x y : ℕ) → contains other x y ≡ true → is_in_row area row x y ≡ false
+unseen_row area other seen row meets none x y inside =
+    ⊎_elim
+    (λ in_row.
+    let p = and_parts _ _ in_row in
+    absurd (false≢true (sym none ∙ first_of_row seen row x y (eqb-true y row p.0) (meets x y ∙ and_from _ _ p.1 inside))))
+    (λ h. h)
+    (cases_Bool (is_in_row area row x y))
 
 pub row_cell-outside : (rows : RowArea) (row : ℕ) (line : ShownLine) (x y : ℕ) (cell : ShownCell) → is_in_row rows.area row x y ≡ false → row_cell rows row line x y cell ≡ cell
 unfolding row_cell

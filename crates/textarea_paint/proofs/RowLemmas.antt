@@ -1,9 +1,9 @@
 -- A row that is drawn cluster by cluster, and the clusters that fit it.
-use Rattle.std.proofs.Common.{◌≡◌, ℕ, ◌+◌, ◌-◌, ◌<◌, ◌≤◌, nat_le, List, [], ◌∷◌, filter, refl, ap, ◌∙◌, arith}
+use Rattle.std.proofs.Common.{◌≡◌, ℕ, ◌+◌, ◌-◌, ◌<◌, ◌≤◌, min, nat_le, List, [], ◌∷◌, filter, refl, sym, ap, ◌∙◌, arith}
 use Rattle.std.proofs.lemmas.Bool.{cond-true, cond-false, le-leb, lt-leb}
 use Rattle.std.proofs.lemmas.List.Sums.{sum_by-cons}
-use Rattle.textarea_screen.specs.Buffer.{Changes, KeepsOutside}
-use Rattle.textarea_screen.proofs.ChangeLemmas.{Changes-none, Changes-then, KeepsOutside-from_changes, KeepsOutside-then, KeepsOutside-same}
+use Rattle.textarea_screen.specs.Buffer.{area_of, Changes, KeepsOutside}
+use Rattle.textarea_screen.proofs.ChangeLemmas.{Changes-inside, Changes-none, Changes-then, KeepsOutside-from_changes, KeepsOutside-then, KeepsOutside-same}
 use Rattle.textarea_screen.specs.declared.screen.buffer.Buffer.{Buffer}
 use Rattle.textarea_paint.specs.Cells.{Placed, placed_at, place_from, is_in_cells, row_change, IsPenAt}
 use Rattle.textarea_paint.specs.Clusters.{Cluster}
@@ -11,7 +11,7 @@ use Rattle.textarea_paint.specs.Columns.{columns_of}
 use Rattle.textarea_paint.specs.Row.{front_within, is_narrow, fitting, row_width}
 use Rattle.textarea_paint.specs.declared.paint.cells.Pen.{Pen}
 use Rattle.textarea_paint.specs.declared.paint.cells.RowCells.{RowCells}
-use Rattle.textarea_paint.proofs.CellLemmas.{row_change-cons, row_change-nil, row_change-past, row_change-outside}
+use Rattle.textarea_paint.proofs.CellLemmas.{contains_right, row_change-cons, row_change-nil, row_change-past, row_change-outside}
 
 -- ---- a row that is drawn so far
 
@@ -54,12 +54,15 @@ pub drawing_end : {cells : RowCells} {left : ℕ} {row : List Placed} {old now :
 drawing_end {cells} {left} {row} {old} {now} {pen} {ahead} d none =
     d.rest now (rw none (Changes-none now (row_change cells left []) (λ x y cell. row_change-nil cells left x y cell)))
 
--- the pen stands at the end of the cells
+-- the pen stands at the end of the cells, or of those of the buffer
 pub drawing_past : {cells : RowCells} {left : ℕ} {row : List Placed} {old now : Buffer} {pen : Pen} {ahead : List Cluster} → IsDrawing cells left row old now pen ahead →
-    pen.x ≡ cells.x + cells.width → Changes old now (row_change cells left row)
-drawing_past {cells} {left} {row} {old} {now} {pen} {ahead} d end =
-    d.rest now (Changes-none now (row_change cells left (place_from d.column ahead))
-    (λ x y cell. row_change-past cells left d.column ahead x y cell (omega (arith, d.at.x))))
+    min (cells.x + cells.width) ((area_of old).x + (area_of old).width) ≤ pen.x → Changes old now (row_change cells left row)
+drawing_past {cells} {left} {row} {old} {now} {pen} {ahead} d past =
+    d.rest now (Changes-inside (row_change cells left (place_from d.column ahead)) (Changes-none now (λ x y cell. cell) (λ x y cell. refl))
+    (λ x y cell inside.
+    let right : x < (area_of now).x + (area_of now).width = contains_right (area_of now) x y inside in
+    let same : (area_of now).x + (area_of now).width ≡ (area_of old).x + (area_of old).width = ap (λ area. area.x + area.width) d.kept.area in
+    sym (row_change-past cells left d.column ahead x y cell (λ behind before. omega (arith, behind, before, past, right, same, d.at.x)))))
 
 -- ---- the clusters that fit
 

@@ -1,5 +1,5 @@
 -- Clusters that stand in a row, and the cells that show the row from one of its columns on.
-use Rattle.std.specs.Prelude.{◌≡◌, ℕ, ◌+◌, ◌-◌, min, Bool, ◌&&◌, ◌==◌, nat_lt, nat_le, List, [], ◌∷◌, Option, None, Some, if◌then◌else◌}
+use Rattle.std.specs.Prelude.{◌≡◌, ℕ, ◌≤◌, ◌+◌, ◌-◌, min, Bool, ◌&&◌, ◌==◌, nat_lt, nat_le, List, [], ◌∷◌, Option, None, Some, if◌then◌else◌}
 use Rattle.std.specs.List.{find}
 use Rattle.textarea_screen.specs.Buffer.{Change}
 use Rattle.textarea_screen.specs.Cell.{ShownCell, with_symbol}
@@ -38,6 +38,10 @@ is_between row from to x y = (y == row) && (nat_le from x && nat_lt x to)
 -- it is one of these cells
 abbrev pub is_in_cells : RowCells → ℕ → ℕ → Bool
 is_in_cells cells = is_between cells.y cells.x (cells.x + cells.width)
+
+-- the column is one of the cells', or the one behind them
+abbrev pub IsWithin : RowCells → ℕ → Type 0
+IsWithin cells x = (cells.x ≤ x) × (x ≤ cells.x + cells.width)
 
 -- no edge of the cells cuts the cluster, where they show the row from the column `left` on
 abbrev pub is_whole : RowCells → ℕ → Placed → Bool

@@ -98,6 +98,32 @@ fn centers(rt: HostRuntime) -> Result<(), Fail> {
     Ok(())
 }
 
+// A buffer of three cells in row 1, from column 2 on, under an area of nine columns and three rows.
+#[test]
+fn rows_beyond_the_buffer(rt: HostRuntime) -> Result<(), Fail> {
+    let alloc = rt.alloc();
+    for (text, y, wanted) in [
+        ("ab犬c", 1, "犬||c|\n"),
+        ("a犬犬", 1, "|犬||\n"),
+        ("abcd犬", 1, "c|d|犬|\n"),
+        ("ab", 1, " | | |\n"),
+        ("abcd", 0, " | | |\n"),
+        ("abcd", 2, " | | |\n"),
+    ] {
+        let mut buffer = Buffer::empty(alloc, Rect::new(2, 1, 3, 1))?;
+        let rows = RowArea {
+            area: Rect::new(0, 0, 9, 3),
+            alignment: Alignment::Left,
+            left: 0,
+            style: Style::new(),
+        };
+        draw_row(&mut buffer, rows, y, &line(alloc, text, "")?)?;
+        let drawn = symbols(alloc, &buffer)?;
+        assert_eq!(rt; drawn.as_str(), wanted, "{text} in {y}");
+    }
+    Ok(())
+}
+
 // A block with all sides over an area, drawn into a buffer of 4 by 3 cells.
 fn block(alloc: Global, title: &str, area: Rect) -> Result<String, AllocError> {
     let mut buffer = Buffer::empty(alloc, Rect::new(0, 0, 4, 3))?;

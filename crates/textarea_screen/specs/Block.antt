@@ -1,5 +1,5 @@
 -- What a block takes of an area, and what clauses see of a block.
-use Rattle.std.specs.Prelude.{ℕ, Bool, ◌||◌, ◌==◌, Option, None, is_some}
+use Rattle.std.specs.Prelude.{ℕ, ◌-◌, Bool, ◌||◌, ◌==◌, Option, None, is_some}
 use Rattle.std.specs.Int.RustNames.{bit_and}
 use Rattle.std.specs.Option.{option_map}
 use Rattle.textarea_screen.specs.Inset.{inset_of}
@@ -37,24 +37,6 @@ left_side = 8
 abbrev pub has_border : Borders → ℕ → Bool
 has_border borders side = bit_and borders.0 side == side
 
--- whether the side of this bit is drawn
-abbrev pub has_side : Block → ℕ → Bool
-has_side block side = has_border block.borders side
-
--- the columns at the left and the right, and the rows at the top and the bottom, that a block takes; a title stands in the
--- top row, with a top side or without
-abbrev pub left_inset : Block → ℕ
-left_inset block = inset_of (has_side block left_side) block.padding.left
-
-abbrev pub right_inset : Block → ℕ
-right_inset block = inset_of (has_side block right_side) block.padding.right
-
-abbrev pub top_inset : Block → ℕ
-top_inset block = inset_of (has_side block top_side || is_some block.title) block.padding.top
-
-abbrev pub bottom_inset : Block → ℕ
-bottom_inset block = inset_of (has_side block bottom_side) block.padding.bottom
-
 -- a block, its title as it is shown
 pub record ShownBlock : Type 0 where
   pub borders : Borders
@@ -71,3 +53,24 @@ shown_block block = record {
   style = block.style;
   border_style = block.border_style;
 }
+
+-- the columns at the left and the right, and the rows at the top and the bottom, that a block takes; a title stands in the
+-- top row, with a top side or without
+abbrev pub left_inset : ShownBlock → ℕ
+left_inset block = inset_of (has_border block.borders left_side) block.padding.left
+
+abbrev pub right_inset : ShownBlock → ℕ
+right_inset block = inset_of (has_border block.borders right_side) block.padding.right
+
+abbrev pub top_inset : ShownBlock → ℕ
+top_inset block = inset_of (has_border block.borders top_side || is_some block.title) block.padding.top
+
+abbrev pub bottom_inset : ShownBlock → ℕ
+bottom_inset block = inset_of (has_border block.borders bottom_side) block.padding.bottom
+
+-- the columns that are left inside of a block of this width, and the rows inside of one of this height; not below 0
+abbrev pub inner_width : ShownBlock → ℕ → ℕ
+inner_width block width = width - left_inset block - right_inset block
+
+abbrev pub inner_height : ShownBlock → ℕ → ℕ
+inner_height block height = height - top_inset block - bottom_inset block

@@ -1,6 +1,6 @@
 -- What clauses see of a buffer: its area, and the cell at each place. What changes it is said by two facts: each cell after as a
 -- function of its place and of the cell before, and cells that stay.
-use Rattle.std.specs.Prelude.{◌≡◌, ℕ, ◌+◌, ◌-◌, ◌*◌, Bool, false, slice_get, Option, None, if◌then◌else◌}
+use Rattle.std.specs.Prelude.{◌≡◌, ℕ, ◌+◌, ◌-◌, ◌*◌, Bool, true, false, slice_get, Option, None, if◌then◌else◌}
 use Rattle.std.specs.Option.{option_map}
 use Rattle.textarea_screen.specs.Cell.{ShownCell, shown_cell}
 use Rattle.textarea_screen.specs.Rect.{contains}
@@ -33,3 +33,7 @@ pub record Changes (old new : Buffer) (change : Change) : Type 0 where
 pub record KeepsOutside (test : ℕ → ℕ → Bool) (old new : Buffer) : Type 0 where
   pub area : area_of new ≡ area_of old
   pub cells : (x y : ℕ) → test x y ≡ false → cell_at new x y ≡ cell_at old x y
+
+-- the buffer has none of the cells that pass the test
+abbrev pub HasNone : (ℕ → ℕ → Bool) → Buffer → Type 0
+HasNone test buffer = (x y : ℕ) → test x y ≡ true → contains (area_of buffer) x y ≡ false

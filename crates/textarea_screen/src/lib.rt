@@ -2,4 +2,5 @@
 //! borders, and the cells on which text is drawn.
 #![tactic(auto)]
 
+pub mod laws;
 pub mod screen;

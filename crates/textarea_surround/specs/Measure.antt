@@ -1,40 +1,19 @@
 -- What a surround takes of an area, and the height that is measured for a text.
-use Rattle.std.specs.Prelude.{ℕ, ◌+◌, ◌-◌, Bool, ◌||◌, ◌==◌, if◌then◌else◌, min, max, is_some, List, [], ◌∷◌, length, Option, None, Some}
-use Rattle.std.specs.Int.RustNames.{bit_and}
-use Rattle.textarea_screen.specs.Block.{ShownBlock, bottom_side, left_side, right_side, top_side}
-use Rattle.textarea_screen.specs.Inset.{inset_of}
+use Rattle.std.specs.Prelude.{ℕ, ◌+◌, ◌-◌, Bool, if◌then◌else◌, min, max, List, [], ◌∷◌, length, Option, None, Some}
+use Rattle.textarea_screen.specs.Block.{ShownBlock, inner_height, inner_width}
 use Rattle.textarea_screen.specs.Text.{ShownLine}
 use Rattle.textarea_surround.specs.State.{SurroundState}
 use Rattle.textarea_surround.specs.declared.surround.measure.TextAreaMeasure.{TextAreaMeasure}
 
--- whether a block as it is shown has the side of this bit
-abbrev pub shows_side : ShownBlock → ℕ → Bool
-shows_side block side = bit_and block.borders.0 side == side
-
--- the columns that a block takes at the left and at the right: one for a side, and the padding
-abbrev pub left_columns : ShownBlock → ℕ
-left_columns block = inset_of (shows_side block left_side) block.padding.left
-
-abbrev pub right_columns : ShownBlock → ℕ
-right_columns block = inset_of (shows_side block right_side) block.padding.right
-
--- the rows that a block takes at the top and at the bottom: one for a side, at the top for a title too (one for both), and
--- the padding
-abbrev pub top_rows : ShownBlock → ℕ
-top_rows block = inset_of (shows_side block top_side || is_some block.title) block.padding.top
-
-abbrev pub bottom_rows : ShownBlock → ℕ
-bottom_rows block = inset_of (shows_side block bottom_side) block.padding.bottom
-
 -- the width that is left inside a block, if there is one, of an area of this width; not below 0
 abbrev pub width_inside : Option ShownBlock → ℕ → ℕ
 width_inside None width = width
-width_inside (Some block) width = width - left_columns block - right_columns block
+width_inside (Some block) width = inner_width block width
 
 -- the height that is left inside a block, if there is one, of an area of this height; not below 0
 abbrev pub height_inside : Option ShownBlock → ℕ → ℕ
 height_inside None height = height
-height_inside (Some block) height = height - top_rows block - bottom_rows block
+height_inside (Some block) height = inner_height block height
 
 -- the rows of the highest area that the block takes
 abbrev pub chrome_of : Option ShownBlock → ℕ

@@ -45,7 +45,6 @@ impl<'a> Model for Surround<'a> {
 
 impl<'a> Surround<'a> {
     /// A surround without a block and without a line of a placeholder, whose style is dark gray; heights from 1 to 65535 rows.
-    /// It takes no memory.
     pub fn new(alloc: Global) -> Surround<'a>
         ensures { result ≡ new_surround }
     {

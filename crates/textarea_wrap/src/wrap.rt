@@ -1,5 +1,5 @@
 //! The rows of one line.
-ghost use Rattle.std.specs.Prelude.{◌≡◌, ◌+◌, ◌^◌, ◌<◌, ◌≤◌, max, length, IsOk, IfOk, OnOk};
+ghost use Rattle.std.specs.Prelude.{◌≡◌, ◌+◌, ◌^◌, ◌<◌, ◌≤◌, ◌↔◌, max, length, IsTrue, IsOk, IfOk, OnOk};
 ghost use Rattle.textarea_wrap.specs.Wrapped.{HasFewestRows, IsWrapped, TakesOneRow};
 
 use self::columns::fits_width;
@@ -77,6 +77,13 @@ impl Clone for Rows {
 /// The most bytes that a line may have: the bytes of a text and its lines together are at most 2^48.
 const MAX_LINE_BYTES: usize = 0xFFFF_FFFF_FFFF;
 
+/// Whether a line is short enough to be cut into rows and to be drawn.
+pub fn is_short(line: &str) -> bool
+    ensures { IsTrue result ↔ (length line.now < 2 ^ 48) }
+{
+    line.len() <= MAX_LINE_BYTES
+}
+
 /// Cuts a line into the rows that it takes at a width in columns, where a width of 0 counts as 1. A tab reaches to the next
 /// multiple of `tab_len`, and takes no column where that is 0. Each call adds one to `count`, also one that is refused.
 ///
@@ -117,7 +124,7 @@ fn cut_line(
     ensures short { OnOk result (length line.now < 2 ^ 48) }
     ensures one_row { length line.now < 2 ^ 48 → TakesOneRow mode tab_len width line.now → IsOk result }
 {
-    if MAX_LINE_BYTES < line.len() {
+    if !is_short(line) {
         return Err(AllocError);
     }
     let mut ranges = Ranges::new(alloc);

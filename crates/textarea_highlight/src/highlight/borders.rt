@@ -1,8 +1,8 @@
 //! Where highlights start and end on a row.
-ghost use Rattle.std.specs.Prelude.{◌≡◌, ◌++◌, ℕ, List, All, IfOk, OnOk, OnErr, IsCharBoundary, IsPermutation};
+ghost use Rattle.std.specs.Prelude.{◌≡◌, [], ◌++◌, ℕ, List, IfOk, IsOk, OnOk, OnErr, IsCharBoundary, IsPermutation};
 ghost use Rattle.std.specs.Iterator.{IsFinite, Drains};
 ghost use Rattle.std.specs.List.Sorted.{IsSortedByKey, IsStableByKey};
-ghost use Rattle.textarea_highlight.specs.Borders.{rounded_down, highlight_borders, match_borders, place_of, place_cmp};
+ghost use Rattle.textarea_highlight.specs.Borders.{ArePlaced, rounded_down, highlight_borders, match_borders, place_of, place_cmp};
 
 use std::alloc::{AllocError, Global};
 use textarea_screen::screen::Style;
@@ -41,8 +41,7 @@ pub fn push_highlight(
 ) -> Result<(), AllocError>
     ensures added { OnOk result (borders.new.items
         ≡ borders.old.items ++ highlight_borders row.now from to style rank) }
-    ensures placed { All (λ border. IsCharBoundary row.now border.offset) borders.old.items
-        → All (λ border. IsCharBoundary row.now border.offset) borders.new.items }
+    ensures placed { ArePlaced row.now borders.old.items → ArePlaced row.now borders.new.items }
     ensures err { OnErr result (borders.new.items ≡ borders.old.items) }
 {
     let start = rounded_down(row, from);
@@ -73,9 +72,10 @@ pub fn borders_of_matches<I: Iterator<Item = (usize, usize)> + Drop>(
 ) -> Result<Vec<Border>, AllocError>
     requires can { I.can_next matches }
     requires ends { IsFinite (I.remaining matches) }
-    ensures borders { IfOk result (λ borders. (pairs : List (ℕ × ℕ)) × Drains I.next_gives matches pairs
+    ensures borders { IfOk result (λ borders. (pairs : List (ℕ × ℕ))
+        × Drains I.next_gives matches pairs
         × (borders.items ≡ match_borders row.now pairs style)) }
-    ensures placed { IfOk result (λ borders. All (λ border. IsCharBoundary row.now border.offset) borders.items) }
+    ensures placed { IfOk result (λ borders. ArePlaced row.now borders.items) }
 {
     let mut borders = Vec::new(alloc);
     for found in matches {
@@ -97,6 +97,7 @@ pub fn sort(borders: &mut Vec<Border>) -> Result<(), AllocError>
     ensures permutation { IsPermutation borders.old.items borders.new.items }
     ensures sorted { OnOk result (IsSortedByKey place_of place_cmp borders.new.items) }
     ensures stable { IsStableByKey place_of place_cmp borders.old.items borders.new.items }
+    ensures nothing { borders.old.items ≡ [] → IsOk result }
     ensures err { OnErr result (borders.new.items ≡ borders.old.items) }
 {
     borders.sort_by_key(|border| (border.offset, border.rank))?;

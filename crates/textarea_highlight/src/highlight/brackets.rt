@@ -44,7 +44,8 @@ impl OpenStyles {
 
     /// The style behind the marks that were passed.
     pub fn style(&self) -> Style
-        ensures { (marks : _) → IsBehind self.now marks → IsStyleBehind marks (base_of self.now) result }
+        ensures { (marks : _) → IsBehind self.now marks
+            → IsStyleBehind marks (base_of self.now) result }
     {
         match self.started.last() {
             Some(style) => *style,

@@ -1,7 +1,8 @@
 //! A row cut into spans at its borders.
-ghost use Rattle.std.specs.Prelude.{◌≡◌, ◌+◌, ◌-◌, ◌*◌, ◌^◌, ◌<◌, ◌≤◌, ◌++◌, map, length, All, OnOk, IsCharBoundary};
+ghost use Rattle.std.specs.Prelude.{◌≡◌, ◌+◌, ◌-◌, ◌*◌, ◌^◌, ◌<◌, ◌≤◌, [], ◌++◌, map, length, None, IsOk, OnOk, IsCharBoundary};
 ghost use Rattle.textarea_screen.specs.Text.{shown_span};
 ghost use Rattle.textarea_wrap.specs.Columns.{end_column};
+ghost use Rattle.textarea_highlight.specs.Borders.{ArePlaced};
 ghost use Rattle.textarea_highlight.specs.Highlights.{end_cell};
 ghost use Rattle.textarea_highlight.specs.Cut.{IsAscending, AddsPieces, AddsPiece, piece_of};
 
@@ -29,10 +30,12 @@ pub fn cut<'a>(
     row_style: RowStyle,
 ) -> Result<(), AllocError>
     requires room { 255 * length row.now < 2 ^ 63 }
-    requires placed { All (λ border. IsCharBoundary row.now border.offset) borders.now }
+    requires placed { ArePlaced row.now borders.now }
     requires ordered { IsAscending borders.now }
-    ensures { OnOk result (AddsPieces row.now borders.now row_style.base row_style.tab_len row_style.mask
+    ensures added { OnOk result (AddsPieces row.now borders.now
+        row_style.base row_style.tab_len row_style.mask
         (map shown_span spans.old.items) (map shown_span spans.new.items)) }
+    ensures nothing { row.now ≡ [] → borders.now ≡ [] → IsOk result }
 {
     let mut display = Display {
         alloc,
@@ -70,6 +73,7 @@ fn cut_to<'a>(
       column = end_column display.old.tab_len display.old.column (piece_of row.now from to);
     }) }
     ensures bound { OnOk result (display.new.column ≤ display.old.column + 255 * (to - from)) }
+    ensures nothing { from ≡ to → IsOk result }
 {
     if from < to {
         let content = display.show(&row[from..to])?;
@@ -81,7 +85,9 @@ fn cut_to<'a>(
 
 /// Adds a blank in this style for the cell behind the row, or nothing.
 pub fn push_end_cell(spans: &mut Vec<Span<'_>>, style: Option<Style>) -> Result<(), AllocError>
-    ensures { OnOk result (map shown_span spans.new.items ≡ map shown_span spans.old.items ++ end_cell style) }
+    ensures added { OnOk result (map shown_span spans.new.items
+        ≡ map shown_span spans.old.items ++ end_cell style) }
+    ensures nothing { style ≡ None → IsOk result }
 {
     if let Some(style) = style {
         let content = SpanText::Borrowed(" ");

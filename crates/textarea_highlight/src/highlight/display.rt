@@ -4,11 +4,11 @@ ghost use Rattle.std.specs.List.{list_any};
 ghost use Rattle.textarea_screen.specs.Text.{shown_content};
 ghost use Rattle.textarea_highlight.specs.Texts.{bytes_of, IsLent};
 ghost use Rattle.textarea_wrap.specs.Columns.{column_after, end_column};
-ghost use Rattle.textarea_highlight.specs.Display.{is_tab, shown_char, with_spaces, without_tabs, shown};
+ghost use Rattle.textarea_highlight.specs.Display.{is_tab, shown_char, with_spaces, without_tabs, shown, shown_bytes, IsShownAsItIs};
 
-use super::numbers::spaces;
 use std::alloc::{AllocError, Global};
 use textarea_screen::screen::SpanText;
+use textarea_text::util::spaces;
 use textarea_wrap::wrap::columns::{column_behind, column_behind_text};
 
 /// What is shown for the pieces of one row, which come from left to right.
@@ -27,9 +27,9 @@ impl Display {
     pub fn show<'a>(&mut self, piece: &'a str) -> Result<SpanText<'a>, AllocError>
         requires { self.old.column + 255 * length piece.now < 2 ^ 63 }
         ensures text { IfOk result (λ content. bytes_of (shown_content content)
-            ≡ encode_utf8_all (shown self.old.mask self.old.tab_len self.old.column (chars piece.now))) }
-        ensures borrowed { IfOk result (λ content. IsLent (shown_content content) ↔ ((self.old.mask ≡ None)
-            × (shown self.old.mask self.old.tab_len self.old.column (chars piece.now) ≡ chars piece.now))) }
+            ≡ shown_bytes self.old.mask self.old.tab_len self.old.column piece.now) }
+        ensures borrowed { IfOk result (λ content. IsLent (shown_content content)
+            ↔ IsShownAsItIs self.old.mask self.old.tab_len self.old.column piece.now) }
         ensures column { OnOk result (self.new ≡ record self.old {
           column = end_column self.old.tab_len self.old.column (chars piece.now);
         }) }
@@ -52,7 +52,7 @@ fn unmasked<'a>(
 ) -> Result<SpanText<'a>, AllocError>
     requires { column + 255 * length piece.now < 2 ^ 63 }
     ensures text { IfOk result (λ content. bytes_of (shown_content content)
-        ≡ encode_utf8_all (shown None tab_len column (chars piece.now))) }
+        ≡ shown_bytes None tab_len column piece.now) }
     ensures borrowed { IfOk result (λ content. IsLent (shown_content content)
         ↔ (shown None tab_len column (chars piece.now) ≡ chars piece.now)) }
 {
@@ -83,7 +83,8 @@ fn has_tab_behind_start(piece: &str) -> bool
 
 /// The mask character for each character.
 fn masked(alloc: Global, piece: &str, mask: char) -> Result<String, AllocError>
-    ensures { IfOk result (λ s. string_bytes s ≡ encode_utf8_all (map (λ _. mask) (chars piece.now))) }
+    ensures { IfOk result (λ s. string_bytes s
+        ≡ encode_utf8_all (map (λ _. mask) (chars piece.now))) }
 {
     piece.chars().map(|_| mask).collect(alloc)
 }
@@ -100,7 +101,8 @@ fn drop_tabs(alloc: Global, piece: &str) -> Result<String, AllocError>
 /// The text with spaces in the place of each tab, up to the next tab stop.
 fn expand_tabs(alloc: Global, piece: &str, tab_len: u8, column: usize) -> Result<String, AllocError>
     requires { column + 255 * length piece.now < 2 ^ 63 }
-    ensures { IfOk result (λ s. string_bytes s ≡ encode_utf8_all (with_spaces tab_len column (chars piece.now))) }
+    ensures { IfOk result (λ s. string_bytes s
+        ≡ encode_utf8_all (with_spaces tab_len column (chars piece.now))) }
 {
     let mut expanded = String::new(alloc);
     let mut at = column;
@@ -127,7 +129,7 @@ fn push_shown(
         ≡ string_bytes text.old ++ encode_utf8_all (shown_char tab_len column c)) }
 {
     if c == '\t' {
-        text.push_str(spaces(next - column))?;
+        text.push_str(spaces((next - column) as u8))?;
     } else {
         text.push(c)?;
     }

@@ -1,10 +1,10 @@
 //! What is highlighted in a row, and the spans that it gives.
-ghost use Rattle.std.specs.Prelude.{◌≡◌, ◌+◌, ◌^◌, ◌<◌, ◌≤◌, ℕ, List, length, chars, IfOk, IfNone, IfSome, OnOk, OnErr, IsErr};
+ghost use Rattle.std.specs.Prelude.{◌≡◌, ◌+◌, ◌^◌, ◌<◌, ◌≤◌, ℕ, List, length, chars, IfOk, IfNone, IfSome, OnOk, OnErr, IsErr, IsOk};
 ghost use Rattle.std.specs.Fmt.{decimal};
 ghost use Rattle.std.specs.Iterator.{IsFinite, Drains};
 ghost use Rattle.textarea_screen.specs.Text.{shown_line};
 ghost use Rattle.textarea_highlight.specs.Highlights.{byte_of, plain_row, with_number, with_placeholder, with_base, with_cursor_line, with_matches, with_range, with_selection, with_segment, end_style};
-ghost use Rattle.textarea_highlight.specs.Row.{ShowsRow};
+ghost use Rattle.textarea_highlight.specs.Row.{ShowsNothing, ShowsRow};
 
 use super::borders::{Border, borders_of_matches, push_highlight, sort};
 use super::cut::{RowStyle, cut, push_end_cell};
@@ -12,6 +12,7 @@ use super::numbers::{push_number, push_placeholder};
 use std::alloc::{AllocError, Global};
 use std::marker::Model;
 use textarea_screen::screen::{Line, Span, Style};
+use textarea_wrap::wrap::is_short;
 
 /// How the cell at the cursor is drawn.
 #[derive(Clone, Copy, Debug, PartialEq, Eq)]
@@ -37,9 +38,6 @@ const CURSOR_RANK: u8 = 30;
 
 const SELECTION_RANK: u8 = 10;
 
-/// The length in bytes up to which rows are drawn.
-const MAX_ROW_LENGTH: usize = 1 << 48;
-
 /// A row of text with its highlights, which `into_spans` cuts into styled spans.
 ///
 /// Offsets are in bytes of the row. Each is clipped to the row and, inside a character, rounded down
@@ -61,7 +59,8 @@ pub struct LineHighlighter<'a> {
 }
 
 impl<'a> Model for LineHighlighter<'a> {
-    ghost use Rattle.std.specs.Prelude.{map, All, IsCharBoundary};
+    ghost use Rattle.std.specs.Prelude.{map};
+    ghost use Rattle.textarea_highlight.specs.Borders.{ArePlaced};
     ghost use Rattle.textarea_screen.specs.Text.{shown_span};
     ghost use Rattle.textarea_highlight.specs.Highlights.{Highlights};
 
@@ -80,7 +79,7 @@ impl<'a> Model for LineHighlighter<'a> {
       select_style = h.select_style;
     } };
 
-    ghost invariant = { λ h. All (λ border. IsCharBoundary h.row.now border.offset) h.borders.items };
+    ghost invariant = { λ h. ArePlaced h.row.now h.borders.items };
 }
 
 impl<'a> LineHighlighter<'a> {
@@ -190,7 +189,8 @@ impl<'a> LineHighlighter<'a> {
         end_row: usize,
         end_offset: usize,
     ) -> Result<(), AllocError>
-        ensures ok { OnOk result (self.new ≡ with_selection self.old current_row ((start_row, start_offset), (end_row, end_offset))) }
+        ensures ok { OnOk result (self.new ≡ with_selection self.old current_row
+            ((start_row, start_offset), (end_row, end_offset))) }
         ensures unchanged { OnErr result (self.new ≡ self.old) }
     {
         let range = ((start_row, start_offset), (end_row, end_offset));
@@ -205,7 +205,8 @@ impl<'a> LineHighlighter<'a> {
         end_offset: usize,
         select_at_end: bool,
     ) -> Result<(), AllocError>
-        ensures ok { OnOk result (self.new ≡ with_segment self.old start_offset end_offset select_at_end) }
+        ensures ok { OnOk result
+            (self.new ≡ with_segment self.old start_offset end_offset select_at_end) }
         ensures unchanged { OnErr result (self.new ≡ self.old) }
     {
         push_highlight(
@@ -270,13 +271,14 @@ impl<'a> LineHighlighter<'a> {
     }
 
     /// The spans of the row: what stands in front of it, its pieces, and a blank for the cell behind it
-    /// where that is drawn. A piece borrows from the row where it is shown as it is. A row of more than
-    /// 2^48 bytes is answered as want of memory.
+    /// where that is drawn. A piece borrows from the row where it is shown as it is. A row of 2^48
+    /// bytes or more is answered as out of memory, as `line_ranges` answers a line.
     pub fn into_spans(self) -> Result<Line<'a>, AllocError>
         ensures shown { IfOk result (λ line. ShowsRow self.entry (shown_line line)) }
-        ensures too_long { 2 ^ 48 < length self.entry.row → IsErr result }
+        ensures too_long { 2 ^ 48 ≤ length self.entry.row → IsErr result }
+        ensures nothing { ShowsNothing self.entry → IsOk result }
     {
-        if self.row.len() > MAX_ROW_LENGTH {
+        if !is_short(self.row) {
             return Err(AllocError);
         }
         let end_style = self.end_style();
@@ -316,7 +318,8 @@ impl<'a> LineHighlighter<'a> {
 
 /// The bytes at which the character of this column begins and ends, if the row has it.
 fn bytes_of_character(row: &str, column: usize) -> Option<(usize, usize)>
-    ensures found { IfSome result (λ bytes. bytes ≡ (byte_of row.now column, byte_of row.now (column + 1))) }
+    ensures found { IfSome result (λ bytes. bytes
+        ≡ (byte_of row.now column, byte_of row.now (column + 1))) }
     ensures within { IfSome result (λ _. column < length (chars row.now)) }
     ensures none { IfNone result (length (chars row.now) ≤ column) }
 {

@@ -2,22 +2,11 @@
 ghost use Rattle.std.specs.Prelude.{◌≡◌, ◌+◌, ◌^◌, ◌<◌, ◌≤◌, ◌++◌, [], ◌∷◌, length, map, string_bytes, IfOk, OnOk, OnErr};
 ghost use Rattle.std.specs.Fmt.{decimal};
 ghost use Rattle.textarea_screen.specs.Text.{shown_span};
-ghost use Rattle.textarea_highlight.specs.Numbers.{spaces, number_text, number_span, placeholder_span};
+ghost use Rattle.textarea_highlight.specs.Numbers.{number_text, number_span, placeholder_span};
 
 use std::alloc::{AllocError, Global};
 use textarea_screen::screen::{Span, SpanText, Style};
-
-/// 255 spaces.
-const SPACES: &str =
-    "                                                                                                                                                                                                                                                               ";
-
-/// This many spaces, at most 255.
-pub fn spaces(count: usize) -> &'static str
-    requires { count ≤ 255 }
-    ensures { result.now ≡ spaces count }
-{
-    &SPACES[..count]
-}
+use textarea_text::util::spaces;
 
 /// Adds the number of the line with the index `row`, at the right of `width` columns.
 pub fn push_number(
@@ -50,7 +39,7 @@ pub fn push_placeholder(
         ≡ map shown_span spans.old.items ++ placeholder_span width style ∷ []) }
     ensures unchanged { OnErr result (spans.new.items ≡ spans.old.items) }
 {
-    let content = SpanText::Borrowed(spaces(usize::from(width) + 2));
+    let content = SpanText::Borrowed(spaces(width + 2));
     spans.push(Span { content, style })?;
     Ok(())
 }
@@ -62,7 +51,7 @@ fn number_text(alloc: Global, number: usize, width: u8) -> Result<String, AllocE
     ensures { IfOk result (λ text. string_bytes text ≡ number_text number width) }
 {
     let digits = format!(in alloc; "{number}")?;
-    let before = spaces(usize::from(width) + 1 - digits.len());
+    let before = spaces(width + 1 - digits.len() as u8);
     let mut text = String::from_str(alloc, before)?;
     text.push_str(digits.as_str())?;
     text.push(' ')?;

@@ -16,10 +16,8 @@ use std::alloc::AllocError;
 use textarea_screen::screen::{Block, Borders, Buffer, Rect, Style};
 
 /// Draws a block over an area, or nothing where the area has no cell: its style, its sides, its
-/// corners, and its title, each over what came before.
-///
-/// Only a cluster of the title of more than `INLINE_BYTES` bytes takes memory. Where there is none,
-/// cells of the area may be drawn already.
+/// corners, and its title, each over what came before. Out of memory, cells of the area may be drawn
+/// already.
 pub fn draw_block(buffer: &mut Buffer, area: Rect, block: &Block) -> Result<(), AllocError>
     ensures ok { OnOk result
         (Changes buffer.old buffer.new (block_cell (shown_block block.now) area)) }
@@ -45,7 +43,8 @@ fn draw_sides(
     requires columns { 0 < area.width }
     requires rows { 0 < area.height }
     ensures ok { OnOk result
-        (Changes buffer.old buffer.new (in_area area (in_turn (side_changes borders style area)))) }
+        (Changes buffer.old buffer.new
+        (in_area area (in_turn (side_changes borders style area)))) }
     ensures inline { IsOk result }
     ensures err { OnErr result (KeepsOutside (contains area) buffer.old buffer.new) }
 {
@@ -94,7 +93,8 @@ fn draw_corners(
     requires columns { 0 < area.width }
     requires rows { 0 < area.height }
     ensures ok { OnOk result
-        (Changes buffer.old buffer.new (in_area area (in_turn (corner_changes borders style area)))) }
+        (Changes buffer.old buffer.new
+        (in_area area (in_turn (corner_changes borders style area)))) }
     ensures inline { IsOk result }
     ensures err { OnErr result (KeepsOutside (contains area) buffer.old buffer.new) }
 {
@@ -179,6 +179,7 @@ fn draw_border(
     ensures err { OnErr result (KeepsOutside (contains area) buffer.old buffer.new) }
 {
     if is_drawn {
+        let area = area.intersection(buffer.area());
         for y in area.y..area.y + area.height {
             draw_border_row(buffer, area, y, text, style)?;
         }

@@ -3,7 +3,7 @@ ghost use Rattle.std.specs.Prelude.{◌≡◌, ◌+◌, ◌≤◌, ◌==◌, ℕ
 ghost use Rattle.textarea_screen.specs.Buffer.{Changes, KeepsOutside};
 ghost use Rattle.textarea_screen.specs.Cell.{with_symbol};
 ghost use Rattle.textarea_screen.specs.declared.screen.cell.TheConstants.{INLINE_BYTES};
-ghost use Rattle.textarea_paint.specs.Cells.{IsPenAt, row_change, is_in_cells, is_between, placed_at, symbol_of};
+ghost use Rattle.textarea_paint.specs.Cells.{IsPenAt, IsWithin, row_change, is_in_cells, is_between, placed_at, symbol_of};
 ghost use Rattle.textarea_paint.specs.Columns.{columns_of};
 ghost use Rattle.textarea_paint.specs.LineClusters.{styled_cluster};
 
@@ -28,7 +28,8 @@ pub(crate) struct Pen {
     pub(crate) x: u16,
 }
 
-/// Draws a cluster where the pen stands, and moves the pen behind it, at most to the end of the cells.
+/// Draws a cluster where the pen stands, and moves the pen behind it, at most to the end of the
+/// cells.
 pub(crate) fn draw_cluster(
     buffer: &mut Buffer,
     cells: RowCells,
@@ -36,13 +37,13 @@ pub(crate) fn draw_cluster(
     cluster: StyledCluster,
 ) -> Result<Pen, AllocError>
     requires edge { cells.x + cells.width ≤ 65535 }
-    requires within { (cells.x ≤ pen.x) × (pen.x ≤ cells.x + cells.width) }
+    requires within { IsWithin cells pen.x }
     ensures moved { (left column : ℕ) → IsPenAt cells left column pen
         → IfOk result (IsPenAt cells left (column + columns_of cluster.entry.text.now)) }
     ensures drawn { (left column : ℕ) → IsPenAt cells left column pen
         → OnOk result (Changes buffer.old buffer.new
         (row_change cells left (placed_at column (styled_cluster cluster.entry) ∷ []))) }
-    ensures within { IfOk result (λ moved. (cells.x ≤ moved.x) × (moved.x ≤ cells.x + cells.width)) }
+    ensures within { IfOk result (λ moved. IsWithin cells moved.x) }
     ensures inline { length cluster.entry.text.now ≤ INLINE_BYTES → IsOk result }
     ensures err { OnErr result (KeepsOutside (is_in_cells cells) buffer.old buffer.new) }
 {
@@ -58,7 +59,7 @@ pub(crate) fn draw_cluster(
     })
 }
 
-/// Draws a cluster into the cells from column `x` up to column `end`.
+/// Draws a cluster into the cells from column `x` up to column `end`, those of the buffer alone.
 fn draw_columns(
     buffer: &mut Buffer,
     y: u16,
@@ -76,15 +77,16 @@ fn draw_columns(
     ensures inline { length cluster.entry.text.now ≤ INLINE_BYTES → IsOk result }
     ensures err { OnErr result (KeepsOutside (is_between y x end) buffer.old buffer.new) }
 {
-    for column in x..end {
+    let area = buffer.area();
+    for column in x.max(area.x)..end.min(area.x + area.width) {
         let symbol = symbol_of(is_whole, column == x, cluster.text);
         buffer.put(column, y, symbol, cluster.style)?;
     }
     Ok(())
 }
 
-/// What a cluster leaves in a cell: its text in its first one and the empty text in the others, or a
-/// blank in each where an edge cuts it.
+/// What a cluster leaves in a cell: its text in its first one and the empty text in the others, or
+/// a blank in each where an edge cuts it.
 fn symbol_of<'a>(is_whole: bool, is_first: bool, text: &'a str) -> &'a str
     ensures value { result.now ≡ symbol_of is_whole is_first text.now }
     ensures len { length result.now ≤ max (length text.now) 1 }

@@ -1,6 +1,6 @@
 //! A line drawn in a row of cells.
-ghost use Rattle.std.specs.Prelude.{◌≡◌, ◌+◌, ◌≤◌, ℕ, IsOk, OnOk, OnErr};
-ghost use Rattle.textarea_screen.specs.Buffer.{Changes, KeepsOutside};
+ghost use Rattle.std.specs.Prelude.{◌≡◌, ◌+◌, ◌≤◌, ℕ, min, IsOk, OnOk, OnErr};
+ghost use Rattle.textarea_screen.specs.Buffer.{area_of, Changes, HasNone, KeepsOutside};
 ghost use Rattle.textarea_screen.specs.Rect.{is_in_row};
 ghost use Rattle.textarea_screen.specs.Text.{shown_line};
 ghost use Rattle.textarea_paint.specs.Cells.{is_in_cells, place_from, row_change};
@@ -11,7 +11,7 @@ use super::cells::{Pen, RowCells, draw_cluster};
 use super::clusters::LineClusters;
 use super::columns::cluster_columns;
 use std::alloc::AllocError;
-use textarea_screen::screen::{Alignment, Buffer, Line, Rect, Style};
+use textarea_screen::screen::{Alignment, Buffer, Line, Position, Rect, Style};
 
 /// Where lines are drawn, one in each row of an area, and how.
 #[derive(Clone, Copy, Debug, PartialEq, Eq)]
@@ -26,16 +26,18 @@ pub struct RowArea {
 
 /// Draws a line in row `y` of an area, or nothing where the area has no such row.
 ///
-/// A cell on which no cluster stands is left as it is. Only a cluster of more than `INLINE_BYTES`
-/// bytes takes memory. Where there is none, cells of the row may be drawn already.
+/// A cell on which no cluster stands is left as it is. A row that the buffer doesn't have costs
+/// nothing. Out of memory, cells of the row may be drawn already.
 pub fn draw_row(buffer: &mut Buffer, rows: RowArea, y: u16, line: &Line) -> Result<(), AllocError>
     ensures ok { OnOk result
         (Changes buffer.old buffer.new (row_cell rows y (shown_line line.now))) }
     ensures inline { AreInline (row_clusters rows.style (shown_line line.now)) → IsOk result }
+    ensures unseen { HasNone (is_in_row rows.area y) buffer.old → IsOk result }
     ensures err { OnErr result (KeepsOutside (is_in_row rows.area y) buffer.old buffer.new) }
 {
     let area = rows.area;
-    if y < area.y || area.y + area.height <= y {
+    let seen = area.intersection(buffer.area());
+    if !seen.contains(Position { x: seen.x, y }) {
         return Ok(());
     }
     let cells = RowCells {
@@ -76,13 +78,13 @@ pub(super) fn draw_left(
     ensures inline { AreInline (row_clusters style (shown_line line.now)) → IsOk result }
     ensures err { OnErr result (KeepsOutside (is_in_cells cells) buffer.old buffer.new) }
 {
-    let end = cells.x + cells.width;
+    let end = seen_end(buffer, cells);
     let mut pen = Pen {
         hidden: left,
         x: cells.x,
     };
     for cluster in LineClusters::new(line, style) {
-        if pen.x == end {
+        if end <= pen.x {
             break;
         }
         pen = draw_cluster(buffer, cells, pen, cluster)?;
@@ -124,12 +126,16 @@ fn draw_fitting(
     ensures inline { AreInline (row_clusters style (shown_line line.now)) → IsOk result }
     ensures err { OnErr result (KeepsOutside (is_in_cells cells) buffer.old buffer.new) }
 {
+    let end = seen_end(buffer, cells);
     let mut room = cells.width;
     let mut pen = Pen {
         hidden: 0,
         x: cells.x + start,
     };
     for cluster in LineClusters::new(line, style) {
+        if end <= pen.x {
+            break;
+        }
         let columns = cluster_columns(cluster.text);
         if columns <= usize::from(cells.width) {
             if columns > usize::from(room) {
@@ -140,4 +146,14 @@ fn draw_fitting(
         }
     }
     Ok(())
+}
+
+/// The column behind the last of the cells that the buffer may have: nothing is drawn from there.
+fn seen_end(buffer: &Buffer, cells: RowCells) -> u16
+    requires edge { cells.x + cells.width ≤ 65535 }
+    ensures { result ≡ min (cells.x + cells.width)
+        ((area_of buffer.now).x + (area_of buffer.now).width) }
+{
+    let area = buffer.area();
+    (cells.x + cells.width).min(area.x + area.width)
 }

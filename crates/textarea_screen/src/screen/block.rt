@@ -81,9 +81,9 @@ impl<'a> Block<'a> {
       plain_block,
       shown_block,
       left_inset,
-      right_inset,
       top_inset,
-      bottom_inset,
+      inner_width,
+      inner_height,
     };
     ghost use Rattle.textarea_screen.specs.Rect.{contains};
 
@@ -145,12 +145,10 @@ impl<'a> Block<'a> {
     /// title the top row, where there is no top side; the padding comes off beyond that. What is
     /// left is never below 0 columns and rows.
     pub fn inner(&self, area: Rect) -> Rect
-        ensures x { result.x ≡ area.x + min (left_inset self.now) area.width }
-        ensures y { result.y ≡ area.y + min (top_inset self.now) area.height }
-        ensures width { result.width
-            ≡ area.width - left_inset self.now - right_inset self.now }
-        ensures height { result.height
-            ≡ area.height - top_inset self.now - bottom_inset self.now }
+        ensures x { result.x ≡ area.x + min (left_inset (shown_block self.now)) area.width }
+        ensures y { result.y ≡ area.y + min (top_inset (shown_block self.now)) area.height }
+        ensures width { result.width ≡ inner_width (shown_block self.now) area.width }
+        ensures height { result.height ≡ inner_height (shown_block self.now) area.height }
         ensures within { (x y : ℕ) → IsTrue (contains result x y) → IsTrue (contains area x y) }
     {
         let has_top = self.borders.contains(Borders::TOP) || self.title.is_some();

@@ -54,7 +54,7 @@ impl Buffer {
     }
 
     /// Puts a text into the cell at column `x` and row `y`, and applies a style to it. Outside of
-    /// the buffer's area nothing happens. Only a text of more than `INLINE_BYTES` bytes takes memory.
+    /// the buffer's area nothing happens.
     pub fn put(&mut self, x: u16, y: u16, text: &str, style: Style) -> Result<(), AllocError>
         ensures ok { OnOk result (Changes self.old self.new (λ column row cell.
             if (column == x) && (row == y) then with_symbol text.now style cell else cell)) }

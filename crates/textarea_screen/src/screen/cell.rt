@@ -70,7 +70,7 @@ pub struct Cell {
 impl Cell {
     ghost use Rattle.textarea_screen.specs.Cell.{shown_cell, styled, style_of, fresh_cell};
 
-    /// A fresh cell: one blank, in the terminal's colours, with no modifier. It takes no memory.
+    /// A fresh cell: one blank, in the terminal's colours, with no modifier.
     pub fn fresh() -> Cell
         ensures { shown_cell result ≡ fresh_cell }
     {
@@ -91,8 +91,7 @@ impl Cell {
         self.text.as_str()
     }
 
-    /// Replaces the text, and leaves colours and modifiers. A text of up to `INLINE_BYTES` bytes
-    /// takes no memory.
+    /// Replaces the text, and leaves colours and modifiers.
     pub fn set_symbol(&mut self, alloc: Global, text: &str) -> Result<(), AllocError>
         ensures ok { OnOk result
             (shown_cell self.new ≡ record (shown_cell self.old) { symbol = text.now }) }

@@ -45,7 +45,8 @@ impl<'a> Surround<'a> {
     pub fn measured(&self, width: u16, rows: usize, is_empty: bool) -> TextAreaMeasure
         ensures value { result ≡ measure_of self.now rows is_empty }
         ensures bounds { AreBounds result.min_rows result.max_rows }
-        ensures within { (result.min_rows ≤ result.preferred_rows) × (result.preferred_rows ≤ result.max_rows) }
+        ensures within { (result.min_rows ≤ result.preferred_rows)
+            × (result.preferred_rows ≤ result.max_rows) }
     {
         let chrome = self.chrome(width);
         let content_rows = saturated(self.shown_rows(rows, is_empty));

@@ -10,7 +10,7 @@ use textarea_screen::screen::{Line, Style, Text};
 
 impl<'a> Surround<'a> {
     /// Sets the placeholder to one line of this text, a line feed in it included; with the empty text it has no line, so that
-    /// none is shown, and no memory is taken. The placeholder's style stays.
+    /// none is shown. The placeholder's style stays.
     pub fn set_placeholder_text(&mut self, text: &str) -> Result<(), AllocError>
         ensures ok { OnOk result (self.new ≡ with_placeholder_text self.old text.now) }
         ensures err { OnErr result (self.new ≡ self.old) }

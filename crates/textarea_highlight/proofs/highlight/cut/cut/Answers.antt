@@ -48,8 +48,8 @@ pub cut_to-requires-2-clause-room : goal.cut_to-requires-2-clause-room
 cut_to-requires-2-clause-room c =
     omega (arith, c.loop-border.invariant.room, c.loop-border.invariant.boundary.0, c.requires.room)
 
-pub returns : goal.returns
-returns c =
+pub returns-clause-added : goal.returns-clause-added
+returns-clause-added c =
     let end = cut_more _ _ _ _ _ _ _ _ _ _ _ _ _ _ c.utf8.row c.loop-border.invariant c.loop-border.invariant.boundary.0 (IsCharBoundary-end c.args.row.now) (inl refl)
     (λ k d le lt. absurd (omega arith)) c.in_ok-cut_to-2.ensures.added c.in_ok-cut_to-2.ensures.shown c.in_ok-cut_to-2.ensures.bound in
     let cut = end.cut in record {

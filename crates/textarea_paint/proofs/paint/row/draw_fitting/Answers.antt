@@ -4,7 +4,7 @@ use Rattle.textarea_paint.specs.Clusters.{row_clusters}
 use Rattle.textarea_paint.specs.LineClusters.{clusters_left, styled_cluster}
 use Rattle.textarea_paint.specs.Row.{fitting}
 use Rattle.textarea_paint.proofs.ClusterLemmas.{AreInline-tail}
-use Rattle.textarea_paint.proofs.RowLemmas.{drawing_start, drawing_next, drawing_same, drawing_end, fitting_ahead, fitting_ahead-wide, fitting_ahead-full, fitting_ahead-fits}
+use Rattle.textarea_paint.proofs.RowLemmas.{drawing_start, drawing_next, drawing_same, drawing_end, drawing_past, fitting_ahead, fitting_ahead-wide, fitting_ahead-full, fitting_ahead-fits}
 use Rattle.textarea_paint.proofs.paint.row.draw_fitting.Goals as goal
 
 pub loop-cluster-init : goal.loop-cluster-init
@@ -52,3 +52,6 @@ returns-then-columns-from-2-clause-ok c =
     (ap (fitting_ahead c.args.cells.width c.loop-cluster.room) c.in-Some.ensures.steps
     ∙ fitting_ahead-full c.args.cells.width c.loop-cluster.room (styled_cluster c.in-Some.cluster) (clusters_left c.next.new.self) (omega (arith, c.cluster_columns-columns.ensures))
     (omega (arith, c.cluster_columns-columns.ensures)))
+
+pub returns-then-end-pen-clause-ok : goal.returns-then-end-pen-clause-ok
+returns-then-end-pen-clause-ok c = drawing_past c.loop-cluster.invariant.drawing (omega arith)

@@ -27,5 +27,5 @@ loop-cluster-preserved c =
 pub returns-in-None-clause-ok : goal.returns-in-None-clause-ok
 returns-in-None-clause-ok c = drawing_end c.loop-cluster.invariant.drawing c.in-None.ensures.steps.0
 
-pub returns-then-pen-end-clause-ok : goal.returns-then-pen-end-clause-ok
-returns-then-pen-end-clause-ok c = drawing_past c.loop-cluster.invariant.drawing (omega arith)
+pub returns-then-end-pen-clause-ok : goal.returns-then-end-pen-clause-ok
+returns-then-end-pen-clause-ok c = drawing_past c.loop-cluster.invariant.drawing (omega arith)

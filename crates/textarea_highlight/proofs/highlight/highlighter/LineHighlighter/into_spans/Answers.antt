@@ -1,5 +1,7 @@
-use Rattle.std.proofs.Common.{IsCharBoundary}
-use Rattle.std.proofs.lemmas.List.Sorted.{All-permutation}
+use Rattle.std.proofs.Common.{IsCharBoundary, length, ap, ◌∙◌, arith}
+use Rattle.std.proofs.lemmas.List.Sorted.{All-permutation, length_permutation}
+use Rattle.std.proofs.lemmas.Bool.{false≢true}
+use Rattle.std.proofs.lemmas.List.{nil_from_length}
 use Rattle.textarea_highlight.specs.declared.highlight.borders.Border.{Border}
 use Rattle.textarea_highlight.proofs.BorderLemmas.{ascending}
 use Rattle.textarea_highlight.proofs.RowLemmas.{row_shown}
@@ -18,4 +20,11 @@ returns-clause-shown c =
     let sorted = c.in_ok-sort.ensures in
     row_shown _ c.args.self c.self.view_is c.sort.new.borders.items _ _ _ _ c.end_style-end_style.result
     (record { same = sorted.permutation; in_order = sorted.sorted; stable = sorted.stable })
-    c.as_slice.ensures.value c.in_ok-cut.ensures c.end_style-end_style.ensures c.in_ok-push_end_cell.ensures c.new.ensures
+    c.as_slice.ensures.value c.in_ok-cut.ensures.added c.end_style-end_style.ensures c.in_ok-push_end_cell.ensures.added c.new.ensures
+
+pub returns-in_err-cut-clause-nothing : goal.returns-in_err-cut-clause-nothing
+returns-in_err-cut-clause-nothing c = λ none.
+    let row = ap (λ h. h.row) c.self.view_is ∙ none.row in
+    let unsorted = ap (λ h. h.borders) c.self.view_is ∙ none.borders in
+    let same = length_permutation _ _ c.in_ok-sort.ensures.permutation ∙ ap length unsorted in
+    absurd (false≢true (c.in_err-cut.ensures.nothing row (c.as_slice.ensures.value ∙ nil_from_length c.sort.new.borders.items (omega (arith, same)))))
