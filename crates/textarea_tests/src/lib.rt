@@ -1,12 +1,8 @@
-//! Worked cases of a text area: transcripts of scripts, and calls that no script makes.
+//! Worked cases of a text area: transcripts of scripts, and streams that fail.
 #![tactic(auto)]
 
 #[cfg(test)]
-mod calls;
-#[cfg(test)]
 mod edits;
-#[cfg(test)]
-mod given;
 #[cfg(test)]
 mod heights;
 #[cfg(test)]
@@ -23,5 +19,3 @@ mod selection;
 mod streams;
 #[cfg(test)]
 mod transcript;
-#[cfg(test)]
-mod unprinted;

@@ -1,5 +1,4 @@
 // Transcripts of scripts: their commands, what these answer, and the text area on the way.
-use crate::unprinted::check_flags;
 use std::alloc::AllocError;
 use std::process::Abort;
 use std::str::from_utf8;
@@ -7,8 +6,6 @@ use std::test::Fail;
 use textarea_script::serve::{DONE, serve};
 
 const EMPTY: &str = "lines 1\n|\n";
-
-const NOTHING_SELECTED: &str = "selection none";
 
 pub fn check(rt: &(impl Abort + AllocGlobal), transcripts: &[&str]) -> Result<(), Fail> {
     for transcript in transcripts {
@@ -28,7 +25,7 @@ pub fn check_transcript(rt: &(impl Abort + AllocGlobal), transcript: &str) -> Re
         answers: String::new(rt.alloc()),
         lines: String::from_str(rt.alloc(), EMPTY)?,
         cursor: "cursor 0 0",
-        selection: NOTHING_SELECTED,
+        selection: "selection none",
     };
     let mut shown = false;
     for line in transcript.lines() {
@@ -91,10 +88,7 @@ fn compare(rt: &(impl Abort + AllocGlobal), so_far: &SoFar<'_>) -> Result<(), Fa
         selection,
     } = so_far;
     let printed = format!(in rt.alloc(); "{answers}{lines}{cursor}\n{selection}\n")?;
-    check_script(rt, script.as_str(), printed.as_str())?;
-    let is_empty = lines.as_str() == EMPTY;
-    let is_selecting = *selection != NOTHING_SELECTED;
-    check_flags(rt, script.as_str(), is_empty, is_selecting)
+    check_script(rt, script.as_str(), printed.as_str())
 }
 
 /// Runs a script, which must print this text and nothing else.

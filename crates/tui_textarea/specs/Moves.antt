@@ -31,12 +31,14 @@ bias_of other = Forward
 abbrev pub pushed : List AtomicRange → CursorMove → Option Place → Option Place
 pushed ranges cursor_move found = option_map (λ place. moved_out ranges place (bias_of cursor_move)) found
 
--- Where the move leads to, if anywhere: for Up and Down one visual row up or down from the cursor, in the rows of the
--- text as it stands; for any other move its target in the text.
-abbrev pub IsTarget : State → CursorMove → Option Place → Type 0
-IsTarget state move.Up found = IsAboveCursor state.document found
-IsTarget state move.Down found = IsBelowCursor state.document found
-IsTarget state other found = found ≡ target state.document.text state.document.cursor other
+-- Where the move leads to, if anywhere. Up goes to the place one visual row above the cursor, Down to the one below it, in the
+-- rows of the text as it stands; any other move's target is told from the text alone, whatever those two places are.
+pub record IsTarget (state : State) (cursor_move : CursorMove) (found : Option Place) : Type 0 where
+  pub above : Option Place
+  pub below : Option Place
+  pub above_is : cursor_move ≡ move.Up → IsAboveCursor state.document above
+  pub below_is : cursor_move ≡ move.Down → IsBelowCursor state.document below
+  pub found_is : found ≡ target above below state.document.text state.document.cursor cursor_move
 
 -- the state after the move: the cursor has gone to the target, if there is one
 pub record IsMoved (old : State) (cursor_move : CursorMove) (new : State) : Type 0 where

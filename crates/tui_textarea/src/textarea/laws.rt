@@ -1,7 +1,11 @@
 //! Laws of text areas, each the contract of a method that does nothing.
-ghost use Rattle.std.specs.Prelude.{ℕ, ◌≡◌, ◌≤◌, length, true, IfSome};
+ghost use Rattle.std.specs.Prelude.{ℕ, ◌≡◌, ◌<◌, ◌≤◌, Bool, length, true, IfSome};
 ghost use Rattle.textarea_text.specs.Place.{IsPlace};
-ghost use Rattle.textarea_document.specs.Law.{GivesBack};
+ghost use Rattle.textarea_text.specs.Splice.{Fits, Splice};
+ghost use Rattle.textarea_document.specs.Edits.{IsMade, Step, splice_of};
+ghost use Rattle.textarea_document.specs.Law.{GivesAllBack, GivesBack, ListsFit};
+ghost use Rattle.textarea_document.specs.Outcomes.{edited};
+ghost use Rattle.textarea_document.specs.Ranges.{CutsNone};
 ghost use Rattle.textarea_document.specs.Selection.{is_selected};
 ghost use Rattle.tui_textarea.specs.Law.{PastesCopy};
 
@@ -9,12 +13,43 @@ use crate::textarea::TextArea;
 
 impl TextArea<'_> {
     /// The law of undo, for every text area: that many undos, at most as many as there are done edits, give the text
-    /// before the last that many of them, and as many redos give back the text and both lists of edits.
+    /// before the last that many of them, and as many redos give back the text and both lists of edits, and leave the
+    /// cursor where the newest edit leaves it.
     pub fn undos_give_back(&self)
         ensures { (count : ℕ) → count ≤ length self.now.document.log.done
             → GivesBack self.now.document count }
     {
         self.document.undos_give_back();
+    }
+
+    /// The law of one edit, for every text area that remembers edits: behind each edit that fits the text, an undo and a
+    /// redo give back the text, both lists of edits, and the cursor where the edit had left it.
+    pub fn redo_gives_all_back(&self)
+        ensures { (splice : Splice) (typed : Bool) (now : ℕ) →
+            Fits self.now.document.text splice → 0 < self.now.document.log.maximum
+            → GivesAllBack (edited self.now.document splice typed now) }
+    {
+        self.document.redo_gives_all_back();
+    }
+
+    /// The law of both history lists, for every text area: the done edits can be taken back one after another, the newest
+    /// first, and the undone ones made again, the next one first; each has a symbol at least, and fits the text that is
+    /// there then.
+    pub fn edits_fit(&self)
+        ensures { ListsFit self.now.document }
+    {
+        self.document.edits_fit();
+    }
+
+    /// The law of atomic ranges, for every text area: whatever a call that inserts or removes does to the text, it fits the
+    /// text, takes each range whole or not at all, and inserts nothing strictly inside one.
+    pub fn steps_cut_none(&self)
+        ensures fits { (step : Step) → IsMade self.now.document step
+            → Fits self.now.document.text (splice_of self.now.document step) }
+        ensures cuts_none { (step : Step) → IsMade self.now.document step
+            → CutsNone self.now.document.ranges (splice_of self.now.document step) }
+    {
+        self.document.steps_cut_none();
     }
 
     /// The law of copying, for every text area in which a symbol is selected: a `paste` behind a `copy` inserts exactly the

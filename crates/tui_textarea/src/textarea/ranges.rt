@@ -2,6 +2,7 @@
 ghost use Rattle.std.specs.Prelude.{◌≡◌, IfOk, IsOk, MatchResult, None, OnErr, OnOk, is_some};
 ghost use Rattle.textarea_text.specs.Text.{lines};
 ghost use Rattle.textarea_ranges.specs.Held.{inside};
+ghost use Rattle.textarea_ranges.specs.Order.{AreInOrder};
 ghost use Rattle.textarea_ranges.specs.Rejected.{AreRefused};
 ghost use Rattle.textarea_ranges.specs.Valid.{AreValid};
 ghost use Rattle.textarea_document.specs.Edits.{hit_at_cursor};
@@ -55,9 +56,11 @@ impl TextArea<'_> {
         self.document.clear_ranges();
     }
 
-    /// The ranges, in order of row and start.
+    /// The ranges, in order of row and start. A copy of them can be set again.
     pub fn atomic_ranges(&self) -> &[AtomicRange]
-        ensures { result.now ≡ self.now.document.ranges }
+        ensures value { result.now ≡ self.now.document.ranges }
+        ensures valid { AreValid (lines self.now.document.text) result.now }
+        ensures in_order { AreInOrder result.now }
     {
         self.document.ranges()
     }

@@ -143,14 +143,11 @@ impl TextArea<'_> {
         if self.document.remove_selection(self.moment)? {
             return Ok(true);
         }
-        let Some(range) = self
-            .document
-            .range_at_cursor(AtomicDeleteDirection::Backward)
-        else {
-            return self.remove_to_word_start();
-        };
-        self.document.remove_range(range, self.moment)?;
-        Ok(true)
+        let hit = AtomicDeleteDirection::Backward;
+        if self.document.remove_hit(hit, self.moment)?.is_some() {
+            return Ok(true);
+        }
+        self.remove_to_word_start()
     }
 
     /// Removes the atomic range that starts at the cursor or strictly holds it; else removes and yanks what stands from
@@ -167,14 +164,11 @@ impl TextArea<'_> {
         if self.document.remove_selection(self.moment)? {
             return Ok(true);
         }
-        let Some(range) = self
-            .document
-            .range_at_cursor(AtomicDeleteDirection::Forward)
-        else {
-            return self.remove_to_word_end();
-        };
-        self.document.remove_range(range, self.moment)?;
-        Ok(true)
+        let hit = AtomicDeleteDirection::Forward;
+        if self.document.remove_hit(hit, self.moment)?.is_some() {
+            return Ok(true);
+        }
+        self.remove_to_word_end()
     }
 
     /// Removes and yanks the whole text, as one removal from its start, and says whether there was any. Of an empty text

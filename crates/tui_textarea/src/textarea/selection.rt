@@ -72,11 +72,11 @@ impl TextArea<'_> {
         ensures err { OnErr result (self.new ≡ self.old) }
         ensures nothing { is_selected self.old.document ≡ false → IsOk result }
     {
-        let Some((start, end)) = self.document.selected() else {
+        let Some(pieces) = self.document.take_selection(self.moment)? else {
             self.document.set_anchor(None);
             return Ok(false);
         };
-        self.yank = self.document.take(start, end, self.moment)?;
+        self.yank = pieces;
         Ok(true)
     }
 

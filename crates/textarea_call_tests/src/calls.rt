@@ -1,5 +1,5 @@
 // Calls that no script makes.
-use crate::unprinted::{AT_FIRST, Unprinted, make, read_off};
+use crate::unprinted::{AT_FIRST, FILLED, Unprinted, make, read_off};
 use std::alloc::{AllocError, Global};
 use std::process::Abort;
 use std::string::ToString;
@@ -56,7 +56,7 @@ fn an_undone_removal(rt: HostRuntime) -> Result<(), Fail> {
         "",
         &[Call::InsertChar('a'), Call::DeleteChar, Call::Undo],
         "1 ok\n2 true\n3 true\nlines 1\n|a\ncursor 0 1\nselection none\n",
-        &AT_FIRST,
+        &FILLED,
     )
 }
 
@@ -73,7 +73,10 @@ fn a_range_at_the_cursor(rt: HostRuntime) -> Result<(), Fail> {
             Call::DeleteAtomicRangeAtCursor(AtomicDeleteDirection::Backward),
         ],
         "1 none\n2 none\n3 0:5..10\n4 0:5..10\nlines 1\n|Send \ncursor 0 5\nselection 0 5 0 5\n",
-        &AT_FIRST,
+        &Unprinted {
+            is_selecting: true,
+            ..FILLED
+        },
     )
 }
 
@@ -83,7 +86,7 @@ fn a_cursor_inside_a_range(rt: HostRuntime) -> Result<(), Fail> {
     let script = "insert_str abcd\nranges 0 0 4\nset_search_pattern c\nsearch_forward true";
     let wanted = Unprinted {
         search_pattern: Some("c"),
-        ..AT_FIRST
+        ..FILLED
     };
     for (bias, column) in [
         (AtomicCursorBias::Backward, 0),
@@ -105,7 +108,7 @@ fn a_block_around_the_rows(rt: HostRuntime) -> Result<(), Fail> {
     let script = "insert_str abcdef\nset_wrap_mode WordOrGlyph";
     let wrapped = Unprinted {
         wrap_mode: WrapMode::WordOrGlyph,
-        ..AT_FIRST
+        ..FILLED
     };
     check(
         &rt,

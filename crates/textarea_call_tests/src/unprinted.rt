@@ -7,6 +7,8 @@ use tui_textarea::{AtomicRange, Modifier, Style, TextArea, WrapMode};
 
 #[derive(Clone, Copy, Debug, PartialEq, Eq)]
 pub struct Unprinted<'a> {
+    pub is_empty: bool,
+    pub is_selecting: bool,
     pub tab_length: u8,
     pub indent: &'a str,
     pub hard_tab_indent: bool,
@@ -26,6 +28,8 @@ pub struct Unprinted<'a> {
 
 /// What is read of a new text area.
 pub const AT_FIRST: Unprinted<'static> = Unprinted {
+    is_empty: true,
+    is_selecting: false,
     tab_length: 4,
     indent: "    ",
     hard_tab_indent: false,
@@ -43,8 +47,16 @@ pub const AT_FIRST: Unprinted<'static> = Unprinted {
     placeholder_style: None,
 };
 
+/// What is read where there is a text, and all else as at first.
+pub const FILLED: Unprinted<'static> = Unprinted {
+    is_empty: false,
+    ..AT_FIRST
+};
+
 pub fn read_off<'a>(area: &'a TextArea<'_>) -> Unprinted<'a> {
     Unprinted {
+        is_empty: area.is_empty(),
+        is_selecting: area.is_selecting(),
         tab_length: area.tab_length(),
         indent: area.indent(),
         hard_tab_indent: area.hard_tab_indent(),
@@ -84,7 +96,7 @@ const PLAIN: Style = Style {
 };
 
 // Scripts, and what is read behind them.
-static READ: [(&str, Unprinted<'static>); 20] = [
+static READ: [(&str, Unprinted<'static>); 24] = [
     ("", AT_FIRST),
     (
         "set_tab_length 2",
@@ -139,7 +151,7 @@ static READ: [(&str, Unprinted<'static>); 20] = [
         "set_search_pattern fo+\nset_lines 0 0 foo",
         Unprinted {
             search_pattern: Some("fo+"),
-            ..AT_FIRST
+            ..FILLED
         },
     ),
     ("set_search_pattern fo+\nset_search_pattern", AT_FIRST),
@@ -159,7 +171,7 @@ static READ: [(&str, Unprinted<'static>); 20] = [
                     end_col: 3,
                 },
             ],
-            ..AT_FIRST
+            ..FILLED
         },
     ),
     (
@@ -170,10 +182,10 @@ static READ: [(&str, Unprinted<'static>); 20] = [
                 start_col: 2,
                 end_col: 3,
             }],
-            ..AT_FIRST
+            ..FILLED
         },
     ),
-    ("insert_str abc\nranges 0 2 3 0 0 1\nranges", AT_FIRST),
+    ("insert_str abc\nranges 0 2 3 0 0 1\nranges", FILLED),
     (
         "insert_str abcdef\\nabcdef\\nabcdef\nranges 1 1 5",
         Unprinted {
@@ -182,7 +194,7 @@ static READ: [(&str, Unprinted<'static>); 20] = [
                 start_col: 1,
                 end_col: 5,
             }],
-            ..AT_FIRST
+            ..FILLED
         },
     ),
     // An insertion of nothing leaves them, and goes to the end of the range that the cursor is in.
@@ -195,25 +207,39 @@ static READ: [(&str, Unprinted<'static>); 20] = [
                 start_col: 1,
                 end_col: 4,
             }],
-            ..AT_FIRST
+            ..FILLED
         },
     ),
     // Each edit, undo, redo and `set_lines` forgets them.
-    ("insert_str a[b]c\nranges 0 1 4\ninsert_char x", AT_FIRST),
-    (
-        "set_lines 0 0 x[[a]]y\nranges 0 1 6\ndelete_str 2",
-        AT_FIRST,
-    ),
+    ("insert_str a[b]c\nranges 0 1 4\ninsert_char x", FILLED),
+    ("set_lines 0 0 x[[a]]y\nranges 0 1 6\ndelete_str 2", FILLED),
     (
         "set_lines 0 0 x[[a]]y\nranges 0 1 6\nmove Forward\ndelete_next_word",
-        AT_FIRST,
+        FILLED,
     ),
-    ("insert_str ab\ninsert_char c\nranges 0 0 2\nundo", AT_FIRST),
+    ("insert_str ab\ninsert_char c\nranges 0 0 2\nundo", FILLED),
     (
         "insert_str ab\ninsert_char c\nundo\nranges 0 0 2\nredo",
-        AT_FIRST,
+        FILLED,
     ),
-    ("insert_str ab\nranges 0 0 2\nset_lines 0 0 ab", AT_FIRST),
+    ("insert_str ab\nranges 0 0 2\nset_lines 0 0 ab", FILLED),
+    // A selection may be empty, and so may the text under it.
+    (
+        "start_selection",
+        Unprinted {
+            is_selecting: true,
+            ..AT_FIRST
+        },
+    ),
+    (
+        "insert_str ab\\nc\nselect_all",
+        Unprinted {
+            is_selecting: true,
+            ..FILLED
+        },
+    ),
+    ("insert_char a\nselect_all\ncancel_selection", FILLED),
+    ("insert_newline", FILLED),
 ];
 
 #[test]
@@ -233,19 +259,5 @@ fn check_read(
     make(rt, &mut area, script)?;
     let found = read_off(&area);
     assert!(rt; found == *wanted, "{script}\n{found:?}");
-    Ok(())
-}
-
-// Whether the text is empty, and whether a selection is open.
-pub fn check_flags(
-    rt: &(impl Abort + AllocGlobal),
-    script: &str,
-    is_empty: bool,
-    is_selecting: bool,
-) -> Result<(), Fail> {
-    let mut area = TextArea::try_default(rt.alloc())?;
-    make(rt, &mut area, script)?;
-    assert!(rt; area.is_empty() == is_empty, "{script}");
-    assert!(rt; area.is_selecting() == is_selecting, "{script}");
     Ok(())
 }
