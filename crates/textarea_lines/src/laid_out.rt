@@ -195,8 +195,8 @@ impl LaidOutLines {
     /// The visual row in which a place of the text is seen, and its display column there.
     pub fn visual_position(&self, place: (usize, usize)) -> (usize, usize)
         requires { IsPlace self.now.text place }
-        ensures { OfRows self.now (λ rows.
-            IsVisualPosition self.now.layout.settings.tab_len (lines self.now.text) rows place result) }
+        ensures { OfRows self.now (λ rows. IsVisualPosition
+            self.now.layout.settings.tab_len (lines self.now.text) rows place result) }
     {
         self.map.visual_position(self.lines.as_slice(), place)
     }

@@ -272,7 +272,10 @@ fn set_tab_len(laid: &mut LaidOutLines, tab_len: u8) -> Result<(), AllocError>
     ensures { OnOk result (laid.new.layout.count ≡ laid.old.layout.count) }
 {
     let settings = laid.layout_settings();
-    laid.set_layout_settings(LayoutSettings { tab_len, ..settings })
+    laid.set_layout_settings(LayoutSettings {
+        tab_len,
+        ..settings
+    })
 }
 
 #[test]

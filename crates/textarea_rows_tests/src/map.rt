@@ -52,11 +52,11 @@ fn expect_moves(
     for case in cases {
         let map = ScreenMap::new(rt.alloc(), lines.as_slice(), case.wrapping, &mut counter)?;
         assert!(rt; is_place(lines.as_slice(), case.place));
-        let seen = map.visual_position(lines.as_slice(), case.wrapping, case.place);
+        let seen = map.visual_position(lines.as_slice(), case.place);
         assert_eq!(rt; seen, case.seen);
-        let above = map.above(lines.as_slice(), case.wrapping, case.place);
+        let above = map.above(lines.as_slice(), case.place);
         assert_eq!(rt; above, case.above);
-        let below = map.below(lines.as_slice(), case.wrapping, case.place);
+        let below = map.below(lines.as_slice(), case.place);
         assert_eq!(rt; below, case.below);
     }
     Ok(())
@@ -154,8 +154,8 @@ fn expect_columns(
     assert_eq!(rt; map.row_count(), expected.len());
     for (row, columns) in expected.iter().enumerate() {
         assert!(rt; row < map.row_count());
-        let width = map.row_width(lines.as_slice(), wrapping, row);
-        let greatest = map.greatest_column(lines.as_slice(), wrapping, row);
+        let width = map.row_width(lines.as_slice(), row);
+        let greatest = map.greatest_column(lines.as_slice(), row);
         assert_eq!(rt; (width, greatest), *columns);
     }
     Ok(())
@@ -191,7 +191,7 @@ fn expect_places(
     let map = ScreenMap::new(rt.alloc(), lines.as_slice(), wrapping, &mut counter)?;
     for (seen, place) in expected {
         assert!(rt; seen.0 < map.row_count());
-        let found = map.place_at(lines.as_slice(), wrapping, *seen);
+        let found = map.place_at(lines.as_slice(), *seen);
         assert_eq!(rt; found, *place);
     }
     Ok(())

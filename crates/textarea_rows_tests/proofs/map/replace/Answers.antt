@@ -12,4 +12,4 @@ returns c =
     let coming = one_list_a_line c.args.wrapping c.as_slice.result.now prepared.rows.items made.rows in
     let rows = length-replaced c.prepare.new.self.rows prepared.row prepared.count prepared.rows.items (omega (arith, ap length made.same)) in
     let lines = length-replaced c.args.lines.now.items change.row change.count change.lines.items (omega arith) in
-    omega (arith, ap length made.same, ap length c.in_ok-apply.ensures.ok, ap length c.replace.ensures)
+    omega (arith, ap length made.same, ap length c.in_ok-apply.ensures.ok, ap length c.replace.ensures.rows)
