@@ -18,7 +18,7 @@ use Rattle.textarea_document.proofs.Ranges.{valid_none}
 use Rattle.textarea_lines.specs.declared.settings.LayoutSettings.{LayoutSettings}
 use Rattle.textarea_lines.specs.Layout.{LaidOut, Layout, all_cut, laid_out_anew, laid_out_with, wrapping_of}
 use Rattle.textarea_lines.specs.Wrappings.{is_same, wrapping_for}
-use Rattle.textarea_document.specs.State.{DocumentState, fresh_document}
+use Rattle.textarea_document.specs.State.{DocumentState, document_of, fresh_document}
 use Rattle.textarea_document.specs.Outcomes.{edited, redone_by, layout_after, undone, undone_by}
 use Rattle.textarea_document.specs.Sound.{IsSound}
 
@@ -191,9 +191,6 @@ pub start_is_place : (text : List Symbol) → IsPlace text (0, 0)
 start_is_place text = IsPlace-end [] text
 
 -- a document of equal parts
-abbrev pub document_of : LaidOut → Place → Option Place → List AtomicRange → Log → DocumentState
-document_of laid cursor anchor ranges log = record { text = laid.text; layout = laid.layout; cursor = cursor; anchor = anchor; ranges = ranges; log = log }
-
 pub same_document : (laid other : LaidOut) (cursor : Place) (anchor : Option Place) (ranges copies : List AtomicRange) (log copy : Log) → other ≡ laid → copies ≡ ranges → copy ≡ log → document_of other cursor anchor copies copy ≡ document_of laid cursor anchor ranges log
 same_document laid other cursor anchor ranges copies log copy laid_is ranges_are log_is =
     ap (λ (l : LaidOut). document_of l cursor anchor copies copy) laid_is

@@ -57,11 +57,13 @@ widened_removal document from to =
 
 -- the one symbol of this index, removed at its place
 abbrev pub symbol_removal : List Symbol → ℕ → Splice
-symbol_removal text index = record { place = place_of text index; symbols = take 1 (drop index text); inserts = false }
+symbol_removal text index =
+    record { place = place_of text index; symbols = take 1 (drop index text); inserts = false }
 
 -- the break at the end of the row's line, removed
 abbrev pub break_removal : List Symbol → ℕ → Splice
-break_removal text row = record { place = line_end (lines text) row; symbols = Break ∷ []; inserts = false }
+break_removal text row =
+    record { place = line_end (lines text) row; symbols = Break ∷ []; inserts = false }
 
 -- What a call that inserts or removes does to the text, each in one of these five ways: it inserts symbols where an insertion
 -- goes; it removes what stands between two places, with the ranges that this overlaps; or it removes the symbol before the
@@ -86,9 +88,11 @@ splice_of document RemoveBreak = break_removal document.text (document.cursor.0 
 abbrev pub IsMade : DocumentState → Step → Type 0
 IsMade document (Insert symbols) = 0 < length symbols
 IsMade document (Remove from to) =
-    IsPlace document.text from × IsPlace document.text to × (index_of document.text from < index_of document.text to)
+    IsPlace document.text from × IsPlace document.text to
+    × (index_of document.text from < index_of document.text to)
 IsMade document RemoveBefore = (hit_before document ≡ None) × (cursor_index document ≢ 0)
-IsMade document RemoveBehind = (hit_behind document ≡ None) × (cursor_index document ≢ length document.text)
+IsMade document RemoveBehind =
+    (hit_behind document ≡ None) × (cursor_index document ≢ length document.text)
 IsMade document RemoveBreak = document.cursor.0 ≢ 0
 
 -- the step is made and recorded, as a typed one or not, at the moment. Each outcome below is this, or leaves the text as it was
@@ -117,7 +121,8 @@ nothing_inserted document = unanchored (record document { cursor = insertion_pla
 -- the symbols are inserted, and not as typed ones; where there are none, nothing is
 abbrev pub symbols_inserted : DocumentState → List Symbol → ℕ → DocumentState
 symbols_inserted document [] now = nothing_inserted document
-symbols_inserted document (symbol ∷ symbols) now = stepped document (Insert (symbol ∷ symbols)) false now
+symbols_inserted document (symbol ∷ symbols) now =
+    stepped document (Insert (symbol ∷ symbols)) false now
 
 -- ---- removals
 
@@ -132,11 +137,13 @@ taken_symbols document from to = (widened_removal document from to).symbols
 -- the range is removed, where one was hit; else it is the other document
 abbrev pub range_removed_or : Option AtomicRange → DocumentState → ℕ → DocumentState → DocumentState
 range_removed_or None document now other = other
-range_removed_or (Some range) document now other = part_removed document (range_start range) (range_end range) now
+range_removed_or (Some range) document now other =
+    part_removed document (range_start range) (range_end range) now
 
 -- the range that is hit from the cursor in this direction is removed, if there is one
 abbrev pub hit_removed : DocumentState → AtomicDeleteDirection → ℕ → DocumentState
-hit_removed document direction now = range_removed_or (hit_at_cursor document direction) document now document
+hit_removed document direction now =
+    range_removed_or (hit_at_cursor document direction) document now document
 
 -- the symbol before the cursor is removed, if there is one, as a typed edit or not
 abbrev pub symbol_removed_before : DocumentState → Bool → ℕ → DocumentState

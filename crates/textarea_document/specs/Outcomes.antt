@@ -31,13 +31,15 @@ after_change document splice log = record {
 
 -- an edit is made and recorded, as a typed one or not, at the moment
 abbrev pub edited : DocumentState → Splice → Bool → ℕ → DocumentState
-edited document splice typed now = after_change document splice (recorded document.log splice typed now)
+edited document splice typed now =
+    after_change document splice (recorded document.log splice typed now)
 
 -- the newest edit is taken back, if there is one: the cursor stands behind the text that came back, or where the text that went
 -- began
 abbrev pub undone_by : Option Splice → DocumentState → DocumentState
 undone_by None document = document
-undone_by (Some splice) document = after_change document (inverse splice) (taken_back document.log splice)
+undone_by (Some splice) document =
+    after_change document (inverse splice) (taken_back document.log splice)
 
 abbrev pub undone : DocumentState → DocumentState
 undone document = undone_by (newest document.log) document
@@ -56,7 +58,8 @@ run_ended log = record log { run_open = false }
 
 -- the cursor goes to the place, and the selection begins where the anchor says; a run of typing ends
 abbrev pub moved : DocumentState → Place → Option Place → DocumentState
-moved document cursor anchor = record document { cursor = cursor; anchor = anchor; log = run_ended document.log }
+moved document cursor anchor =
+    record document { cursor = cursor; anchor = anchor; log = run_ended document.log }
 
 -- nothing is selected any more, not even an empty selection
 abbrev pub unanchored : DocumentState → DocumentState

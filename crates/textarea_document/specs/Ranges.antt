@@ -18,7 +18,8 @@ CutsNoneBy true ranges place to = All (λ range. ¬ IsInside place range) ranges
 CutsNoneBy false ranges place to = TakesWhole ranges place to
 
 abbrev pub CutsNone : List AtomicRange → Splice → Type 0
-CutsNone ranges splice = CutsNoneBy splice.inserts ranges splice.place (end splice.place splice.symbols)
+CutsNone ranges splice =
+    CutsNoneBy splice.inserts ranges splice.place (end splice.place splice.symbols)
 
 -- a selection that began at the cursor is dropped
 abbrev pub unless_empty : Option Place → Place → Option Place
@@ -32,11 +33,13 @@ anchor_out ranges anchor = option_map (λ place. moved_out ranges place Backward
 -- the ranges are held: the cursor goes out of the range that strictly holds it, to its end, the anchor to its start,
 -- and a selection that is empty then is dropped
 abbrev pub holding : DocumentState → List AtomicRange → DocumentState
-holding document ranges = record document {
-  ranges = ranges;
-  cursor = moved_out ranges document.cursor Forward;
-  anchor = unless_empty (anchor_out ranges document.anchor) (moved_out ranges document.cursor Forward);
-}
+holding document ranges =
+    let cursor = moved_out ranges document.cursor Forward in
+    record document {
+      ranges = ranges;
+      cursor = cursor;
+      anchor = unless_empty (anchor_out ranges document.anchor) cursor;
+    }
 
 -- the ranges are accepted: by row and start, those that start at one place as they stood
 abbrev pub accepted : DocumentState → List AtomicRange → DocumentState
@@ -48,11 +51,13 @@ ranges_forgotten document = record document { ranges = [] }
 
 -- the cursor goes out of the range that strictly holds it, and all else stays
 abbrev pub normalized : DocumentState → AtomicCursorBias → DocumentState
-normalized document bias = record document { cursor = moved_out document.ranges document.cursor bias }
+normalized document bias =
+    record document { cursor = moved_out document.ranges document.cursor bias }
 
 -- the document has this anchor, in its row or at that row's end where the row is shorter
 abbrev pub anchored : DocumentState → Option Place → DocumentState
-anchored document anchor = record document { anchor = option_map (clip (lines document.text)) anchor }
+anchored document anchor =
+    record document { anchor = option_map (clip (lines document.text)) anchor }
 
 -- the range is removed, where one was hit, and the selection kept
 abbrev pub range_removed : Option AtomicRange → DocumentState → ℕ → DocumentState

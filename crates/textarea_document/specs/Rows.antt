@@ -24,4 +24,5 @@ HasRowsAt document inner_width count = IsRowCountAt (laid_out_of document) inner
 
 -- the text is seen in another way: its lines are cut anew, each once, where they are cut in another way; all else stays
 abbrev pub with_layout_settings : DocumentState → LayoutSettings → DocumentState
-with_layout_settings document settings = record document { layout = (laid_out_with (laid_out_of document) settings).layout }
+with_layout_settings document settings =
+    record document { layout = (laid_out_with (laid_out_of document) settings).layout }

@@ -12,10 +12,12 @@ origin document = unwrap_or document.anchor document.cursor
 
 -- the two ends of the selection, the first one first
 abbrev pub selection_start : DocumentState → Place
-selection_start document = if is_before document.cursor (origin document) then document.cursor else origin document
+selection_start document =
+    if is_before document.cursor (origin document) then document.cursor else origin document
 
 abbrev pub selection_end : DocumentState → Place
-selection_end document = if is_before document.cursor (origin document) then origin document else document.cursor
+selection_end document =
+    if is_before document.cursor (origin document) then origin document else document.cursor
 
 -- the ends of a selection, an empty one too
 abbrev pub selection_by : Option Place → DocumentState → Option (Place × Place)
@@ -36,7 +38,8 @@ selected document = part document.text (selection_start document) (selection_end
 -- what is selected is removed, if a symbol is
 abbrev pub selected_removed : DocumentState → ℕ → DocumentState
 selected_removed document now =
-    if is_selected document then part_removed document (selection_start document) (selection_end document) now else document
+    if is_selected document
+    then part_removed document (selection_start document) (selection_end document) now else document
 
 -- the symbols that go then: those selected, and those of the ranges that they overlap
 abbrev pub selected_taken : DocumentState → List Symbol

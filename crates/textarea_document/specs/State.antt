@@ -4,7 +4,7 @@ use Rattle.textarea_text.specs.Text.{Symbol, lines}
 use Rattle.textarea_text.specs.Place.{Place}
 use Rattle.textarea_history.specs.Log.{Log, empty_log}
 use Rattle.textarea_lines.specs.declared.settings.LayoutSettings.{LayoutSettings}
-use Rattle.textarea_lines.specs.Layout.{Layout, all_cut}
+use Rattle.textarea_lines.specs.Layout.{LaidOut, Layout, all_cut}
 use Rattle.textarea_ranges.specs.declared.atomic.AtomicRange.{AtomicRange}
 
 -- the text as one flat list of symbols; its layout, with the ticks of its lines' rows; where the cursor stands; where
@@ -16,6 +16,17 @@ pub record DocumentState : Type 0 where
   pub anchor : Option Place
   pub ranges : List AtomicRange
   pub log : Log
+
+-- a document of these parts: a text with what is seen of it, and the others as above
+abbrev pub document_of : LaidOut → Place → Option Place → List AtomicRange → Log → DocumentState
+document_of laid cursor anchor ranges log = record {
+  text = laid.text;
+  layout = laid.layout;
+  cursor = cursor;
+  anchor = anchor;
+  ranges = ranges;
+  log = log;
+}
 
 -- a document without a past and without ranges, the cursor at this place; all lines are cut, where the count stood at this one
 abbrev pub fresh_document : List Symbol → LayoutSettings → ℕ → Place → ℕ → DocumentState

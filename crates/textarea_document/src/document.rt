@@ -44,15 +44,17 @@ pub struct Document {
 }
 
 impl Model for Document {
-    ghost use Rattle.textarea_document.specs.State.{DocumentState};
+    ghost use Rattle.textarea_document.specs.State.{DocumentState, document_of};
 
     ghost Value = { DocumentState };
 
     ghost use Rattle.textarea_document.specs.Sound.{IsSound};
 
-    ghost view = { λ document. record { text = document.laid.text; layout = document.laid.layout; cursor = document.cursor; anchor = document.anchor; ranges = document.ranges.items; log = document.history.log } };
+    ghost view = { λ document.
+        document_of document.laid document.cursor document.anchor document.ranges.items document.history.log };
 
-    ghost invariant = { λ document. IsSound (record { text = document.laid.text; layout = document.laid.layout; cursor = document.cursor; anchor = document.anchor; ranges = document.ranges.items; log = document.history.log }) };
+    ghost invariant = { λ document. IsSound
+        (document_of document.laid document.cursor document.anchor document.ranges.items document.history.log) };
 }
 
 impl Clone for Document {
@@ -79,7 +81,8 @@ impl Document {
         settings: LayoutSettings,
         max_histories: usize,
     ) -> Result<Self, AllocError>
-        ensures { IfOk result (λ document. document ≡ new_document (text_of lines.items) settings max_histories) }
+        ensures { IfOk result (λ document.
+            document ≡ new_document (text_of lines.items) settings max_histories) }
     {
         Ok(Document {
             laid: LaidOutLines::new(alloc, lines, settings)?,
@@ -235,7 +238,9 @@ impl Document {
         cursor: (usize, usize),
     ) -> Result<(), AllocError>
         requires some { 0 < vec_len lines }
-        ensures ok { OnOk result (self.new ≡ fresh_document (text_of lines.items) self.old.layout.settings self.old.layout.count (clip (lines_of lines.items) cursor) self.old.log.maximum) }
+        ensures ok { OnOk result (self.new
+            ≡ fresh_document (text_of lines.items) self.old.layout.settings self.old.layout.count
+            (clip (lines_of lines.items) cursor) self.old.log.maximum) }
         ensures err { OnErr result (self.new ≡ self.old) }
     {
         let place = clipped(lines.as_slice(), cursor);

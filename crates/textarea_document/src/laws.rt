@@ -17,7 +17,8 @@ pub fn one_place_up_and_down()
 /// A document has one number of visual rows where it is laid out in an inner area of a width, in columns.
 pub fn one_row_count()
     ensures { (document : DocumentState) (inner_width count other : ℕ) →
-        HasRowsAt document inner_width count → HasRowsAt document inner_width other → count ≡ other }
+        HasRowsAt document inner_width count → HasRowsAt document inner_width other →
+        count ≡ other }
 {
     textarea_map::laws::one_row_count();
 }

@@ -11,7 +11,8 @@ begins_with_line_feed (c ∷ cs) = c == 10
 -- directly before a line feed for nothing, and every other character for itself
 abbrev pub symbols_for : ℕ → List ℕ → List Symbol
 symbols_for c behind =
-    if c == 10 then Break ∷ [] else (if c == 13 && begins_with_line_feed behind then [] else Character c ∷ [])
+    if c == 10 then Break ∷ []
+    else (if c == 13 && begins_with_line_feed behind then [] else Character c ∷ [])
 
 -- the symbols of a given text: each line feed is a break, a carriage return directly before a line feed goes with it, and
 -- every other character stays

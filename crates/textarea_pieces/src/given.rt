@@ -25,8 +25,10 @@ pub fn pieces_of(alloc: Global, text: &str) -> Result<Vec<String>, AllocError>
 // The text's first line, where a line feed ends it, and what stands behind that line feed.
 fn first_line(text: &str) -> Option<(&str, &str)>
     ensures lines { MatchOption result (given (chars text.now) ≡ characters (chars text.now))
-        (λ x. given (chars text.now) ≡ characters (chars x.0.now) ++ (Break ∷ given (chars x.1.now))) }
-    ensures shorter { MatchOption result (length text.now ≡ length text.now) (λ x. length x.1.now < length text.now) }
+        (λ x. given (chars text.now)
+        ≡ characters (chars x.0.now) ++ (Break ∷ given (chars x.1.now))) }
+    ensures shorter { MatchOption result (length text.now ≡ length text.now)
+        (λ x. length x.1.now < length text.now) }
 {
     let (line, behind) = text.split_once('\n')?;
     Some((line.strip_suffix('\r').unwrap_or(line), behind))

@@ -19,11 +19,13 @@ range_end range = (range.row, range.end_col)
 
 -- the place lies in the range's row, behind its start and before its end
 abbrev pub IsInside : Place → AtomicRange → Type 0
-IsInside place range = (range.row ≡ place.0) × (range.start_col < place.1) × (place.1 < range.end_col)
+IsInside place range =
+    (range.row ≡ place.0) × (range.start_col < place.1) × (place.1 < range.end_col)
 
 -- the same as a test
 abbrev pub is_inside : Place → AtomicRange → Bool
-is_inside place range = range.row == place.0 && nat_lt range.start_col place.1 && nat_lt place.1 range.end_col
+is_inside place range =
+    range.row == place.0 && nat_lt range.start_col place.1 && nat_lt place.1 range.end_col
 
 -- the first range of the list that strictly holds the place; a valid list has no other
 abbrev pub inside : List AtomicRange → Place → Option AtomicRange
@@ -48,13 +50,17 @@ moved_out ranges place bias = border_or (inside ranges place) place bias
 -- in the place's row, Backward hits a range that starts before the place and ends at or behind it, Forward one that
 -- starts at or before the place and ends behind it
 abbrev pub IsHit : Place → AtomicDeleteDirection → AtomicRange → Type 0
-IsHit place DeleteBackward range = (range.row ≡ place.0) × (range.start_col < place.1) × (place.1 ≤ range.end_col)
-IsHit place DeleteForward range = (range.row ≡ place.0) × (range.start_col ≤ place.1) × (place.1 < range.end_col)
+IsHit place DeleteBackward range =
+    (range.row ≡ place.0) × (range.start_col < place.1) × (place.1 ≤ range.end_col)
+IsHit place DeleteForward range =
+    (range.row ≡ place.0) × (range.start_col ≤ place.1) × (place.1 < range.end_col)
 
 -- the same as a test
 abbrev pub is_hit : Place → AtomicDeleteDirection → AtomicRange → Bool
-is_hit place DeleteBackward range = range.row == place.0 && nat_lt range.start_col place.1 && nat_le place.1 range.end_col
-is_hit place DeleteForward range = range.row == place.0 && nat_le range.start_col place.1 && nat_lt place.1 range.end_col
+is_hit place DeleteBackward range =
+    range.row == place.0 && nat_lt range.start_col place.1 && nat_le place.1 range.end_col
+is_hit place DeleteForward range =
+    range.row == place.0 && nat_le range.start_col place.1 && nat_lt place.1 range.end_col
 
 -- the first range of the list that is hit; a valid list has no other
 abbrev pub hit : List AtomicRange → Place → AtomicDeleteDirection → Option AtomicRange
@@ -89,5 +95,5 @@ pub record IsWidened (ranges : List AtomicRange) (from to : Place) (wide : Place
   pub ends : IsUpTo to wide.1
   pub overlapping : All (λ range. Overlaps from to range → IsWithin wide.0 wide.1 range) ranges
   pub whole : TakesWhole ranges wide.0 wide.1
-  pub least : (first last : Place) → IsUpTo first from → IsUpTo to last → TakesWhole ranges first last
-      → IsUpTo first wide.0 × IsUpTo wide.1 last
+  pub least : (first last : Place) → IsUpTo first from → IsUpTo to last
+      → TakesWhole ranges first last → IsUpTo first wide.0 × IsUpTo wide.1 last

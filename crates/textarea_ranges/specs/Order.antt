@@ -6,12 +6,14 @@ use Rattle.textarea_ranges.specs.declared.atomic.AtomicRange.{AtomicRange}
 
 -- the one range has the smaller row, or, in one row, the smaller start
 abbrev pub is_before : AtomicRange → AtomicRange → Bool
-is_before one other = is_lt (ordering_then (nat_cmp one.row other.row) (nat_cmp one.start_col other.start_col))
+is_before one other =
+    is_lt (ordering_then (nat_cmp one.row other.row) (nat_cmp one.start_col other.start_col))
 
 -- the range, put into ranges that are in order: behind those that come before it, and in front of those that tie with it
 abbrev pub insert_among : AtomicRange → List AtomicRange → List AtomicRange
 insert_among range [] = range ∷ []
-insert_among range (first ∷ rest) = if is_before first range then first ∷ insert_among range rest else range ∷ first ∷ rest
+insert_among range (first ∷ rest) =
+    if is_before first range then first ∷ insert_among range rest else range ∷ first ∷ rest
 
 -- the ranges in order; those that start at one place keep their order
 abbrev pub in_order : List AtomicRange → List AtomicRange

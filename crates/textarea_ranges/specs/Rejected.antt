@@ -19,7 +19,8 @@ abbrev pub reason : List (List ℕ) → Option AtomicRange → AtomicRange → O
 reason rows last range =
     if range.start_col == range.end_col then Some Empty
     else (if nat_le (length rows) range.row then Some RowOutOfBounds
-    else (if nat_lt range.end_col range.start_col || nat_lt (length (line_of rows range.row)) range.end_col then Some ColumnOutOfBounds
+    else (if nat_lt range.end_col range.start_col || nat_lt (length (line_of rows range.row)) range.end_col
+    then Some ColumnOutOfBounds
     else (if nat_lt range.start_col (free_from last range.row) then Some OverlapsPrevious
     else None)))
 
@@ -37,7 +38,8 @@ last_valid last range (Some reason) = last
 abbrev pub rejected_behind : List (List ℕ) → Option AtomicRange → List AtomicRange → List RejectedAtomicRange
 rejected_behind rows last [] = []
 rejected_behind rows last (range ∷ rest) =
-    with_reason range (reason rows last range) ++ rejected_behind rows (last_valid last range (reason rows last range)) rest
+    let why = reason rows last range in
+    with_reason range why ++ rejected_behind rows (last_valid last range why) rest
 
 -- the rejected ranges of a list that is in order, in that order, each with its reason
 abbrev pub rejected_of : List (List ℕ) → List AtomicRange → List RejectedAtomicRange

@@ -7,11 +7,13 @@ use Rattle.textarea_ranges.specs.declared.atomic.AtomicRange.{AtomicRange}
 -- its line
 abbrev pub IsPart : List (List ℕ) → AtomicRange → Type 0
 IsPart rows range =
-    (range.row < length rows) × (range.start_col < range.end_col) × (range.end_col ≤ length (line_of rows range.row))
+    (range.row < length rows) × (range.start_col < range.end_col)
+    × (range.end_col ≤ length (line_of rows range.row))
 
 -- no character is in both: of two ranges of one row, one ends before the other starts, or where it does
 abbrev pub AreDisjoint : AtomicRange → AtomicRange → Type 0
-AreDisjoint one other = one.row ≡ other.row → (one.end_col ≤ other.start_col) ⊎ (other.end_col ≤ one.start_col)
+AreDisjoint one other =
+    one.row ≡ other.row → (one.end_col ≤ other.start_col) ⊎ (other.end_col ≤ one.start_col)
 
 -- each range of the list is a part of a line, and no two of them share a character
 pub record AreValid (rows : List (List ℕ)) (ranges : List AtomicRange) : Type 0 where

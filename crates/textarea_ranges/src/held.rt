@@ -33,8 +33,10 @@ pub fn moved_out(
     bias: AtomicCursorBias,
 ) -> (usize, usize)
     ensures value { result ≡ moved_out ranges.now place bias }
-    ensures outside { (rows : List (List ℕ)) → AreValid rows ranges.now → All (λ range. ¬ IsInside result range) ranges.now }
-    ensures place { (rows : List (List ℕ)) → AreValid rows ranges.now → IsPlaceOf rows place → IsPlaceOf rows result }
+    ensures outside { (rows : List (List ℕ)) → AreValid rows ranges.now →
+        All (λ range. ¬ IsInside result range) ranges.now }
+    ensures place { (rows : List (List ℕ)) → AreValid rows ranges.now →
+        IsPlaceOf rows place → IsPlaceOf rows result }
 {
     match inside(ranges, place) {
         Some(range) => border(range, bias),
@@ -88,9 +90,10 @@ pub fn widened(
     to: (usize, usize),
 ) -> ((usize, usize), (usize, usize))
     ensures value { result ≡ widened ranges.now from to }
-    ensures whole { (rows : List (List ℕ)) → AreValid rows ranges.now → IsUpTo from to → IsWidened ranges.now from to result }
-    ensures places { (rows : List (List ℕ)) → AreValid rows ranges.now → IsPlaceOf rows from → IsPlaceOf rows to →
-        IsPlaceOf rows result.0 × IsPlaceOf rows result.1 }
+    ensures whole { (rows : List (List ℕ)) → AreValid rows ranges.now →
+        IsUpTo from to → IsWidened ranges.now from to result }
+    ensures places { (rows : List (List ℕ)) → AreValid rows ranges.now →
+        IsPlaceOf rows from → IsPlaceOf rows to → IsPlaceOf rows result.0 × IsPlaceOf rows result.1 }
 {
     (
         moved_out(ranges, from, AtomicCursorBias::Backward),

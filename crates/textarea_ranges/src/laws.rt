@@ -12,7 +12,8 @@ ghost use Rattle.textarea_ranges.specs.Valid.{AreValid};
 /// that; and ranges that were put in order stay as they are when they are put in order again.
 pub fn one_order()
     ensures in_order { (ranges : List AtomicRange) → IsInOrder ranges (in_order ranges) }
-    ensures only { (ranges ordered : List AtomicRange) → IsInOrder ranges ordered → ordered ≡ in_order ranges }
+    ensures only { (ranges ordered : List AtomicRange) →
+        IsInOrder ranges ordered → ordered ≡ in_order ranges }
     ensures again { (ranges : List AtomicRange) → AreInOrder (in_order ranges) }
 {}
 
@@ -25,10 +26,13 @@ pub fn accepted_exactly_if_valid()
 /// Of valid ranges at most one strictly holds a place, and at most one is hit in a direction: that one is found, wherever
 /// it stands in the list.
 pub fn only_one_is_found()
-    ensures inside { (rows : List (List ℕ)) (ranges : List AtomicRange) (place : Place) (range : AtomicRange) →
-        AreValid rows ranges → Contains ranges range → IsInside place range → inside ranges place ≡ Some range }
-    ensures hit { (rows : List (List ℕ)) (ranges : List AtomicRange) (place : Place) (direction : AtomicDeleteDirection) (range : AtomicRange) →
-        AreValid rows ranges → Contains ranges range → IsHit place direction range → hit ranges place direction ≡ Some range }
+    ensures inside { (rows : List (List ℕ)) (ranges : List AtomicRange) (place : Place) (range : AtomicRange)
+        → AreValid rows ranges → Contains ranges range
+        → IsInside place range → inside ranges place ≡ Some range }
+    ensures hit { (rows : List (List ℕ)) (ranges : List AtomicRange) (place : Place)
+        (direction : AtomicDeleteDirection) (range : AtomicRange)
+        → AreValid rows ranges → Contains ranges range
+        → IsHit place direction range → hit ranges place direction ≡ Some range }
 {}
 
 /// A range that is found stands in the list, and strictly holds the place or is hit; where none is found, none of the list
@@ -37,7 +41,8 @@ pub fn found_where_there_is_one()
     ensures inside { (ranges : List AtomicRange) (place : Place) → MatchOption (inside ranges place)
         (All (λ range. ¬ IsInside place range) ranges)
         (λ range. Contains ranges range × IsInside place range) }
-    ensures hit { (ranges : List AtomicRange) (place : Place) (direction : AtomicDeleteDirection) → MatchOption (hit ranges place direction)
+    ensures hit { (ranges : List AtomicRange) (place : Place) (direction : AtomicDeleteDirection)
+        → MatchOption (hit ranges place direction)
         (All (λ range. ¬ IsHit place direction range) ranges)
         (λ range. Contains ranges range × IsHit place direction range) }
 {}

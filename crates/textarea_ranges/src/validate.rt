@@ -35,7 +35,8 @@ fn rejected_of(
     ranges: &[AtomicRange],
     lines: &[String],
 ) -> Result<Vec<RejectedAtomicRange>, AllocError>
-    ensures { IfOk result (λ rejected. rejected.items ≡ rejected_of (lines_of lines.now) ranges.now) }
+    ensures { IfOk result (λ rejected.
+        rejected.items ≡ rejected_of (lines_of lines.now) ranges.now) }
 {
     let mut rejected = Vec::new(alloc);
     let mut last = None;
@@ -52,8 +53,10 @@ fn judge(
     range: AtomicRange,
     lines: &[String],
 ) -> Result<Option<AtomicRange>, AllocError>
-    ensures last { IfOk result (λ after. after ≡ last_valid last range (reason (lines_of lines.now) last range)) }
-    ensures listed { OnOk result (rejected.new.items ≡ rejected.old.items ++ with_reason range (reason (lines_of lines.now) last range)) }
+    ensures last { IfOk result (λ after.
+        after ≡ last_valid last range (reason (lines_of lines.now) last range)) }
+    ensures listed { OnOk result (rejected.new.items
+        ≡ rejected.old.items ++ with_reason range (reason (lines_of lines.now) last range)) }
 {
     match reason(lines, last, range) {
         Some(reason) => {

@@ -14,7 +14,8 @@ use Rattle.textarea_data.specs.declared.cursor.CursorMove.TheVariants.{Forward, 
 -- the place one symbol on: none at the text's end
 abbrev pub next_place : List Symbol → Place → Option Place
 next_place text place =
-    if nat_lt (index_of text place) (length text) then Some (place_of text (index_of text place + 1)) else None
+    if nat_lt (index_of text place) (length text)
+    then Some (place_of text (index_of text place + 1)) else None
 
 -- the place one symbol back: none at the text's start
 abbrev pub previous_place : List Symbol → Place → Option Place
@@ -47,31 +48,37 @@ next_word_row rows start = least_below (is_later_word_row rows start) (length ro
 -- the last character of the first word of the row that was found, or the text's end where none was
 abbrev pub first_word_end : List (List ℕ) → Option ℕ → Place
 first_word_end rows None = line_end rows (last_row rows)
-first_word_end rows (Some row) = found_or (next_word_last (line_of rows row) 0) row (line_end rows (last_row rows))
+first_word_end rows (Some row) =
+    found_or (next_word_last (line_of rows row) 0) row (line_end rows (last_row rows))
 
 -- the start of the next word of the row, else the next row's start, else the row's end
 abbrev pub word_forward : List (List ℕ) → Place → Place
-word_forward rows place = found_or (next_word_start (line_of rows place.0) place.1) place.0 (next_head rows place.0)
+word_forward rows place =
+    found_or (next_word_start (line_of rows place.0) place.1) place.0 (next_head rows place.0)
 
 -- the first column behind the place that holds a word's last character, in its row or in later ones, else the text's end
 abbrev pub word_end : List (List ℕ) → Place → Place
 word_end rows place =
-    found_or (next_word_last (line_of rows place.0) (place.1 + 1)) place.0 (first_word_end rows (next_word_row rows place.0))
+    let later = first_word_end rows (next_word_row rows place.0) in
+    found_or (next_word_last (line_of rows place.0) (place.1 + 1)) place.0 later
 
 -- the start of the word before the place in its row, else the previous row's end, else the text's start
 abbrev pub word_back : List (List ℕ) → Place → Place
-word_back rows place = found_or (previous_word_start (line_of rows place.0) place.1) place.0 (previous_end rows place.0)
+word_back rows place =
+    found_or (previous_word_start (line_of rows place.0) place.1) place.0 (previous_end rows place.0)
 
 -- ---- paragraphs
 
 -- the column in the row at which the next paragraph begins, or in the last row
 abbrev pub paragraph_forward : List (List ℕ) → Place → Place
-paragraph_forward rows place = clip rows (unwrap_or (next_paragraph_start rows place.0) (last_row rows), place.1)
+paragraph_forward rows place =
+    clip rows (unwrap_or (next_paragraph_start rows place.0) (last_row rows), place.1)
 
 -- the column in the nearest row above at which a paragraph begins, or in the first row: none from the first row
 abbrev pub paragraph_back : List (List ℕ) → Place → Option Place
 paragraph_back rows place =
-    if place.0 == 0 then None else Some (clip rows (unwrap_or (previous_paragraph_start rows place.0) 0, place.1))
+    if place.0 == 0 then None
+    else Some (clip rows (unwrap_or (previous_paragraph_start rows place.0) 0, place.1))
 
 -- ---- all moves
 

@@ -14,7 +14,8 @@ pub fn next_place(lines: &[String], place: (usize, usize)) -> Option<(usize, usi
     requires { IsPlaceOf (lines_of lines.now) place }
     ensures value { result ≡ next_place (text_of lines.now) place }
     ensures place { IfSome result (λ next. IsPlaceOf (lines_of lines.now) next) }
-    ensures index { MatchOption result (index_of (text_of lines.now) place ≡ length (text_of lines.now))
+    ensures index { MatchOption result
+        (index_of (text_of lines.now) place ≡ length (text_of lines.now))
         (λ next. index_of (text_of lines.now) next ≡ index_of (text_of lines.now) place + 1) }
 {
     let (row, column) = place;
@@ -33,7 +34,8 @@ pub fn previous_place(lines: &[String], place: (usize, usize)) -> Option<(usize,
     ensures value { result ≡ previous_place (text_of lines.now) place }
     ensures place { IfSome result (λ previous. IsPlaceOf (lines_of lines.now) previous) }
     ensures index { MatchOption result (index_of (text_of lines.now) place ≡ 0)
-        (λ previous. index_of (text_of lines.now) previous + 1 ≡ index_of (text_of lines.now) place) }
+        (λ previous.
+        index_of (text_of lines.now) previous + 1 ≡ index_of (text_of lines.now) place) }
 {
     let (row, column) = place;
     if 0 < column {

@@ -77,7 +77,8 @@ fn previous_end(lines: &[String], row: usize) -> (usize, usize)
 // The last character of the first word of the rows below, or the text's end where they hold none.
 fn later_word_end(lines: &[String], start: usize) -> (usize, usize)
     requires { start < length lines.now }
-    ensures value { result ≡ first_word_end (lines_of lines.now) (next_word_row (lines_of lines.now) start) }
+    ensures value { result
+        ≡ first_word_end (lines_of lines.now) (next_word_row (lines_of lines.now) start) }
     ensures place { IsPlaceOf (lines_of lines.now) result }
 {
     for row in start + 1..lines.len() {

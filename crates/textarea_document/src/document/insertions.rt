@@ -79,7 +79,8 @@ impl Document {
     /// for any text are answered as out of memory.
     pub fn insert(&mut self, pieces: Vec<String>, now: Duration) -> Result<bool, AllocError>
         ensures inserted { IfOk result (λ inserted. inserted ≡ is_filled (text_of pieces.items)) }
-        ensures ok { OnOk result (self.new ≡ symbols_inserted self.old (text_of pieces.items) (as_nanos now)) }
+        ensures ok { OnOk result
+            (self.new ≡ symbols_inserted self.old (text_of pieces.items) (as_nanos now)) }
         ensures err { OnErr result (self.new ≡ self.old) }
         ensures nothing { text_of pieces.items ≡ [] → IsOk result }
         ensures limit { IfOk result (λ inserted. inserted ≡ true → size_of pieces.items ≤ 2 ^ 48) }

@@ -22,7 +22,8 @@ impl Document {
     /// give back the text, both lists of edits, and the cursor where the edit had left it.
     pub fn redo_gives_all_back(&self)
         ensures { (splice : Splice) (typed : Bool) (now : ℕ) →
-            Fits self.now.text splice → 0 < self.now.log.maximum → GivesAllBack (edited self.now splice typed now) }
+            Fits self.now.text splice → 0 < self.now.log.maximum →
+            GivesAllBack (edited self.now splice typed now) }
     {
         let _ = &self.history; // of which the invariant says that each edit can be taken back
     }
@@ -38,7 +39,8 @@ impl Document {
     /// The law of atomic ranges, for every document: whatever a call that inserts or removes does to the text, it fits the
     /// text, takes each range whole or not at all, and inserts nothing strictly inside one.
     pub fn steps_cut_none(&self)
-        ensures fits { (step : Step) → IsMade self.now step → Fits self.now.text (splice_of self.now step) }
+        ensures fits { (step : Step) → IsMade self.now step →
+            Fits self.now.text (splice_of self.now step) }
         ensures cuts_none { (step : Step) → IsMade self.now step →
             CutsNone self.now.ranges (splice_of self.now step) }
     {

@@ -41,7 +41,8 @@ impl Document {
         ensures judged { IfOk result (λ outcome. MatchResult outcome
             (λ _. AreValid (lines self.old.text) ranges.items)
             (λ error. AreRefused (lines self.old.text) ranges.items error.rejected.items)) }
-        ensures set { IfOk result (λ outcome. OnOk outcome (self.new ≡ accepted self.old ranges.items)) }
+        ensures set { IfOk result (λ outcome.
+            OnOk outcome (self.new ≡ accepted self.old ranges.items)) }
         ensures refused { IfOk result (λ outcome. OnErr outcome (self.new ≡ self.old)) }
         ensures err { OnErr result (self.new ≡ self.old) }
     {
@@ -91,7 +92,8 @@ impl Document {
         ensures value { result ≡ hit_at_cursor self.now direction }
         ensures start { IfSome result (λ range. IsPlace self.now.text (range_start range)) }
         ensures end { IfSome result (λ range. IsPlace self.now.text (range_end range)) }
-        ensures ordered { IfSome result (λ range. index_of self.now.text (range_start range) < index_of self.now.text (range_end range)) }
+        ensures ordered { IfSome result (λ range.
+            index_of self.now.text (range_start range) < index_of self.now.text (range_end range)) }
         ensures before { direction ≡ Backward → IfSome result (λ _. is_at_start self.now ≡ false) }
         ensures behind { direction ≡ Forward → IfSome result (λ _. is_at_end self.now ≡ false) }
     {
@@ -107,7 +109,8 @@ impl Document {
         now: Duration,
     ) -> Result<Option<AtomicRange>, AllocError>
         ensures removed { IfOk result (λ range. range ≡ hit_at_cursor self.old direction) }
-        ensures ok { OnOk result (self.new ≡ range_removed (hit_at_cursor self.old direction) self.old (as_nanos now)) }
+        ensures ok { OnOk result (self.new
+            ≡ range_removed (hit_at_cursor self.old direction) self.old (as_nanos now)) }
         ensures err { OnErr result (self.new ≡ self.old) }
         ensures nothing { hit_at_cursor self.old direction ≡ None → IsOk result }
     {

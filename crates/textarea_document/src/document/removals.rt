@@ -54,7 +54,8 @@ impl Document {
         requires from { IsPlace self.old.text from }
         requires to { IsPlace self.old.text to }
         requires ordered { index_of self.old.text from < index_of self.old.text to }
-        ensures taken_symbols { IfOk result (λ pieces. text_of pieces.items ≡ taken_symbols self.old from to) }
+        ensures taken_symbols { IfOk result (λ pieces.
+            text_of pieces.items ≡ taken_symbols self.old from to) }
         ensures ok { OnOk result (self.new ≡ part_removed self.old from to (as_nanos now)) }
         ensures err { OnErr result (self.new ≡ self.old) }
     {
@@ -78,7 +79,8 @@ impl Document {
         requires ordered { index_of self.old.text from < index_of self.old.text to }
         requires pieces { text_of pieces.items ≡ part self.old.text from to }
         requires whole { TakesWhole self.old.ranges from to }
-        ensures ok { OnOk result (self.new ≡ edited self.old (removal self.old.text from to) false (as_nanos now)) }
+        ensures ok { OnOk result (self.new
+            ≡ edited self.old (removal self.old.text from to) false (as_nanos now)) }
         ensures err { OnErr result (self.new ≡ self.old) }
     {
         self.edit(edit_of(pieces, false, from, to), false, now)
@@ -102,8 +104,10 @@ impl Document {
     pub fn remove_range(&mut self, range: AtomicRange, now: Duration) -> Result<(), AllocError>
         requires start { IsPlace self.old.text (range_start range) }
         requires end { IsPlace self.old.text (range_end range) }
-        requires ordered { index_of self.old.text (range_start range) < index_of self.old.text (range_end range) }
-        ensures ok { OnOk result (self.new ≡ part_removed self.old (range_start range) (range_end range) (as_nanos now)) }
+        requires ordered { index_of self.old.text (range_start range)
+            < index_of self.old.text (range_end range) }
+        ensures ok { OnOk result (self.new
+            ≡ part_removed self.old (range_start range) (range_end range) (as_nanos now)) }
         ensures err { OnErr result (self.new ≡ self.old) }
     {
         let start = (range.row, range.start_col);
@@ -237,7 +241,8 @@ struct SymbolBehind {
 fn symbol_behind(lines: &[String], place: (usize, usize)) -> Option<SymbolBehind>
     requires { IsPlaceOf (lines_of lines.now) place }
     ensures { MatchOption result (index_of (text_of lines.now) place ≡ length (text_of lines.now))
-        (λ behind. IsSymbolBehind (text_of lines.now) place behind.end (symbol_in behind.character)) }
+        (λ behind.
+        IsSymbolBehind (text_of lines.now) place behind.end (symbol_in behind.character)) }
 {
     let (row, column) = place;
     if let Some(c) = character_behind(lines[row].as_str(), column) {
@@ -258,7 +263,8 @@ fn symbol_behind(lines: &[String], place: (usize, usize)) -> Option<SymbolBehind
 // The character behind the column of a line; none at the line's end.
 fn character_behind(line: &str, column: usize) -> Option<char>
     requires { column ≤ length (chars line.now) }
-    ensures { MatchOption result (column ≡ length (chars line.now)) (λ c. drop column (chars line.now) ≡ c ∷ drop (column + 1) (chars line.now)) }
+    ensures { MatchOption result (column ≡ length (chars line.now))
+        (λ c. drop column (chars line.now) ≡ c ∷ drop (column + 1) (chars line.now)) }
 {
     line[rows::byte_offset(line, column)..].chars().next()
 }

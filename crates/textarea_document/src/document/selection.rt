@@ -13,7 +13,8 @@ impl Document {
     /// The two ends of the selection, the first one first; of an empty selection too.
     pub fn selection(&self) -> Option<((usize, usize), (usize, usize))>
         ensures value { result ≡ selection self.now }
-        ensures places { IfSome result (λ ends. IsPlace self.now.text ends.0 × IsPlace self.now.text ends.1) }
+        ensures places { IfSome result (λ ends.
+            IsPlace self.now.text ends.0 × IsPlace self.now.text ends.1) }
         ensures ordered { IfSome result (λ ends. IsUpTo ends.0 ends.1) }
     {
         let cursor = self.cursor();
@@ -27,10 +28,14 @@ impl Document {
 
     /// The two ends of what is selected, the first one first; none where no symbol is selected.
     pub fn selected(&self) -> Option<((usize, usize), (usize, usize))>
-        ensures found { MatchOption result (is_selected self.now ≡ false) (λ ends. is_selected self.now ≡ true) }
-        ensures ends { IfSome result (λ ends. ends ≡ (selection_start self.now, selection_end self.now)) }
-        ensures places { IfSome result (λ ends. IsPlace self.now.text ends.0 × IsPlace self.now.text ends.1) }
-        ensures ordered { IfSome result (λ ends. index_of self.now.text ends.0 < index_of self.now.text ends.1) }
+        ensures found { MatchOption result (is_selected self.now ≡ false)
+            (λ ends. is_selected self.now ≡ true) }
+        ensures ends { IfSome result (λ ends.
+            ends ≡ (selection_start self.now, selection_end self.now)) }
+        ensures places { IfSome result (λ ends.
+            IsPlace self.now.text ends.0 × IsPlace self.now.text ends.1) }
+        ensures ordered { IfSome result (λ ends.
+            index_of self.now.text ends.0 < index_of self.now.text ends.1) }
     {
         let (start, end) = self.selection()?;
         if comes_before(start, end) {

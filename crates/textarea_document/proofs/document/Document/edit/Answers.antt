@@ -3,9 +3,9 @@ use Rattle.std.specs.Duration.{as_nanos}
 use Rattle.textarea_text.specs.Splice.{Fits, applied, place_after}
 use Rattle.textarea_history.specs.Log.{recorded}
 use Rattle.textarea_lines.specs.Layout.{LaidOut}
-use Rattle.textarea_document.specs.State.{DocumentState}
+use Rattle.textarea_document.specs.State.{DocumentState, document_of}
 use Rattle.textarea_document.specs.Outcomes.{edited}
-use Rattle.textarea_document.proofs.Sounds.{document_of, sound_edited, sound_left}
+use Rattle.textarea_document.proofs.Sounds.{sound_edited, sound_left}
 use Rattle.textarea_document.proofs.document.Document.edit.Goals as goal
 
 pub invariant_of-self-2 : goal.invariant_of-self-2

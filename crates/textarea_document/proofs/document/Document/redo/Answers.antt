@@ -1,8 +1,9 @@
 use Rattle.std.proofs.Common.{◌∙◌, Some, ap, sym, subst}
 use Rattle.textarea_text.specs.Splice.{Fits, applied, place_after}
 use Rattle.textarea_lines.specs.Layout.{LaidOut}
+use Rattle.textarea_document.specs.State.{document_of}
 use Rattle.textarea_document.specs.Outcomes.{redone_by}
-use Rattle.textarea_document.proofs.Sounds.{document_of, next_fits, sound_left, sound_redone}
+use Rattle.textarea_document.proofs.Sounds.{next_fits, sound_left, sound_redone}
 use Rattle.textarea_document.proofs.document.Document.redo.Goals as goal
 
 pub apply-requires : goal.apply-requires

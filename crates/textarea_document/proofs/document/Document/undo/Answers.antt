@@ -1,8 +1,9 @@
 use Rattle.std.proofs.Common.{◌∙◌, Some, ap, sym, subst}
 use Rattle.textarea_text.specs.Splice.{Fits, applied, place_after}
 use Rattle.textarea_lines.specs.Layout.{LaidOut}
+use Rattle.textarea_document.specs.State.{document_of}
 use Rattle.textarea_document.specs.Outcomes.{undone_by}
-use Rattle.textarea_document.proofs.Sounds.{document_of, newest_fits, sound_left, sound_undone}
+use Rattle.textarea_document.proofs.Sounds.{newest_fits, sound_left, sound_undone}
 use Rattle.textarea_document.proofs.document.Document.undo.Goals as goal
 
 pub apply-requires : goal.apply-requires
