@@ -65,7 +65,7 @@ pub struct AtomicRangeError {
 }
 
 impl AtomicRangeError {
-    /// An error with the same ranges in the same order. It fails only for want of memory, and it leaves
+    /// An error with the same ranges in the same order. Only out of memory does it fail, and that leaves
     /// `self` as it is.
     pub fn clone(&self) -> Result<AtomicRangeError, AllocError>
         ensures { IfOk result (λ copy. copy.rejected.items ≡ self.now.rejected.items) }

@@ -5,7 +5,7 @@ ghost use Rattle.textarea_ranges.specs.Order.{in_order};
 use crate::atomic::AtomicRange;
 use std::alloc::AllocError;
 
-/// The ranges by row and start. Those that start at one place keep their order. It fails only for want of memory.
+/// The ranges by row and start. Those that start at one place keep their order. Only out of memory does it fail.
 pub fn in_order(mut ranges: Vec<AtomicRange>) -> Result<Vec<AtomicRange>, AllocError>
     ensures { IfOk result (λ ordered. ordered.items ≡ in_order ranges.items) }
 {

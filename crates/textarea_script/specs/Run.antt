@@ -1,4 +1,4 @@
--- A run of calls: the outcomes one after another, up to the first call that is refused memory.
+-- A run of calls: the outcomes one after another, up to the first call that runs out of memory.
 use Rattle.std.specs.Prelude.{◌≡◌, ◌<◌, ◌⊎◌, ℕ, List, [], ◌∷◌, length, map, take, slice_get, Option, Some, None}
 use Rattle.tui_textarea.specs.State.{State}
 use Rattle.textarea_script.specs.declared.call.Call.{Call}

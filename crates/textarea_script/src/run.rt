@@ -12,11 +12,11 @@ use tui_textarea::TextArea;
 pub struct RunEnd {
     /// The answers of the calls that were made, in their order.
     pub answers: Vec<Answer>,
-    /// The index of the call that was refused memory and ended the run, if there is one.
+    /// The index of the call that ran out of memory and ended the run, if there is one.
     pub refused: Option<usize>,
 }
 
-/// Makes the calls one after another, up to the first that is refused memory. The calls and their
+/// Makes the calls one after another, up to the first that runs out of memory. The calls and their
 /// answers settle the state that they lead to (`laws::one_end`).
 ///
 /// After any list of calls and inputs, the text, cursor, selection, yank, ranges and both history

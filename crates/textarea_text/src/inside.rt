@@ -15,7 +15,9 @@ pub fn insert_inside(
     text: &str,
 ) -> Result<(), AllocError>
     requires { IsPlaceOf (lines_of lines.old.items) place }
-    ensures ok { OnOk result (text_of lines.new.items ≡ inserted (text_of lines.old.items) place (characters (chars text.now))) }
+    ensures ok { OnOk result
+        (text_of lines.new.items
+        ≡ inserted (text_of lines.old.items) place (characters (chars text.now))) }
     ensures err { OnErr result (lines.new.items ≡ lines.old.items) }
     ensures len { vec_len lines.new ≡ vec_len lines.old }
 {
@@ -50,7 +52,8 @@ pub fn remove_inside(lines: &mut Vec<String>, start: (usize, usize), end_column:
     requires start { IsPlaceOf (lines_of lines.old.items) start }
     requires end { IsPlaceOf (lines_of lines.old.items) (start.0, end_column) }
     requires ordered { start.1 ≤ end_column }
-    ensures text { text_of lines.new.items ≡ changed (text_of lines.old.items) start (start.0, end_column) [] }
+    ensures text { text_of lines.new.items
+        ≡ changed (text_of lines.old.items) start (start.0, end_column) [] }
     ensures len { vec_len lines.new ≡ vec_len lines.old }
 {
     let line = &mut lines[start.0];

@@ -26,7 +26,8 @@ pub fn replace_items<T: Drop>(items: &mut Vec<T>, start: usize, count: usize, mu
 fn swap_parts<T>(items: &mut Vec<T>, start: usize, new: &mut Vec<T>, count: usize)
     requires within { start + count ≤ vec_len items.old }
     requires there { count ≤ vec_len new.old }
-    ensures items { items.new.items ≡ replaced items.old.items start count (take count new.old.items) }
+    ensures items { items.new.items
+        ≡ replaced items.old.items start count (take count new.old.items) }
     ensures rest { drop count new.new.items ≡ drop count new.old.items }
     ensures len { vec_len items.new ≡ vec_len items.old }
     ensures new_len { vec_len new.new ≡ vec_len new.old }

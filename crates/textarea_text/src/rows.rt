@@ -55,7 +55,8 @@ pub struct SymbolBefore {
 pub fn symbol_before(lines: &[String], place: (usize, usize)) -> Option<SymbolBefore>
     requires { IsPlaceOf (lines_of lines.now) place }
     ensures { MatchOption result (index_of (text_of lines.now) place ≡ 0)
-        (λ before. IsSymbolBefore (text_of lines.now) place before.start (symbol_in before.character)) }
+        (λ before. IsSymbolBefore (text_of lines.now) place before.start
+        (symbol_in before.character)) }
 {
     let (row, column) = place;
     if 0 < column {
@@ -85,7 +86,8 @@ impl Replacement {
     /// Inserts the new lines, or leaves the lines as they were where there is no memory for more of them.
     pub fn apply(self, lines: &mut Vec<String>) -> Result<(), AllocError>
         requires { self.row + self.count ≤ vec_len lines.old }
-        ensures ok { OnOk result (lines.new.items ≡ replaced lines.old.items self.row self.count self.lines.items) }
+        ensures ok { OnOk result
+            (lines.new.items ≡ replaced lines.old.items self.row self.count self.lines.items) }
         ensures err { OnErr result (lines.new.items ≡ lines.old.items) }
     {
         lines.reserve(self.lines.len())?;
@@ -96,7 +98,8 @@ impl Replacement {
     /// Inserts the new lines, for which there is room.
     pub fn replace_in(self, lines: &mut Vec<String>)
         requires within { self.row + self.count ≤ vec_len lines.old }
-        requires room { vec_len lines.old + vec_len self.lines ≤ vec_capacity lines.old + self.count }
+        requires room { vec_len lines.old + vec_len self.lines
+            ≤ vec_capacity lines.old + self.count }
         ensures { lines.new.items ≡ replaced lines.old.items self.row self.count self.lines.items }
     {
         let Replacement {
@@ -121,7 +124,9 @@ pub fn prepare_replacement(
     requires from { IsPlaceOf (lines_of lines.now) from }
     requires to { IsPlaceOf (lines_of lines.now) to }
     requires ordered { from.0 ≤ to.0 }
-    ensures { IfOk result (ReplacesPart lines.now from to (characters (chars first.now) ++ following (lines_of rest.now))) }
+    ensures { IfOk result
+        (ReplacesPart lines.now from to
+        (characters (chars first.now) ++ following (lines_of rest.now))) }
 {
     let new = new_rows(alloc, lines, from, to, first, rest)?;
     Ok(Replacement {
@@ -142,7 +147,9 @@ fn new_rows(
 ) -> Result<Vec<String>, AllocError>
     requires start { IsPlaceOf (lines_of lines.now) start }
     requires end { IsPlaceOf (lines_of lines.now) end }
-    ensures rows { IfOk result (λ rows. ReplacesRows (lines_of lines.now) start end (characters (chars first.now) ++ following (lines_of rest.now)) (lines_of rows.items)) }
+    ensures rows { IfOk result
+        (λ rows. ReplacesRows (lines_of lines.now) start end
+        (characters (chars first.now) ++ following (lines_of rest.now)) (lines_of rows.items)) }
     ensures len { IfOk result (λ rows. vec_len rows ≡ length rest.now + 1) }
 {
     let before = lines[start.0].as_str();
@@ -166,7 +173,8 @@ fn new_rows(
 // The byte at which the end's column begins in its line, of the byte at which the start's does in its own.
 fn end_offset(line: &str, end: (usize, usize), start: (usize, usize), offset: usize) -> usize
     requires column { end.1 ≤ length (chars line.now) }
-    requires offset { start.0 ≡ end.0 → offset ≡ length (encode_utf8_all (take start.1 (chars line.now))) }
+    requires offset { start.0 ≡ end.0 → offset
+        ≡ length (encode_utf8_all (take start.1 (chars line.now))) }
     ensures { result ≡ length (encode_utf8_all (take end.1 (chars line.now))) }
 {
     if start.0 == end.0 && start.1 == end.1 {

@@ -35,7 +35,8 @@ impl LayoutMetrics {
         mode: WrapMode,
     ) -> LayoutMetrics
         ensures numbers { result.line_number_width ≡ line_number_columns line_numbers line_count }
-        ensures rows { result.wrap_width ≡ columns_for_rows mode inner_width (line_number_columns line_numbers line_count) }
+        ensures rows { result.wrap_width
+            ≡ columns_for_rows mode inner_width (line_number_columns line_numbers line_count) }
     {
         let line_number_width = if line_numbers {
             digit_count(line_count) + 2

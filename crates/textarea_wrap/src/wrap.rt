@@ -101,9 +101,11 @@ pub fn line_ranges(
     ensures tick { IfOk result (λ rows. rows.tick ≡ count.new) }
     ensures rows { IfOk result (λ rows. IsWrapped mode tab_len (max width 1) line.now rows.ranges) }
     ensures fewest { 0 < length line.now
-        → IfOk result (λ rows. HasFewestRows mode tab_len (max width 1) line.now (length rows.ranges)) }
+        → IfOk result
+        (λ rows. HasFewestRows mode tab_len (max width 1) line.now (length rows.ranges)) }
     ensures short { OnOk result (length line.now < 2 ^ 48) }
-    ensures one_row { length line.now < 2 ^ 48 → TakesOneRow mode tab_len (max width 1) line.now → IsOk result }
+    ensures one_row { length line.now < 2 ^ 48 → TakesOneRow mode tab_len (max width 1) line.now
+        → IsOk result }
 {
     count.tick();
     let ranges = cut_line(alloc, line, mode, width.max(1), tab_len)?;
@@ -122,7 +124,8 @@ fn cut_line(
 ) -> Result<Ranges, AllocError>
     ensures rows { IfOk result (λ ranges. IsWrapped mode tab_len width line.now ranges.items) }
     ensures short { OnOk result (length line.now < 2 ^ 48) }
-    ensures one_row { length line.now < 2 ^ 48 → TakesOneRow mode tab_len width line.now → IsOk result }
+    ensures one_row { length line.now < 2 ^ 48 → TakesOneRow mode tab_len width line.now
+        → IsOk result }
 {
     if !is_short(line) {
         return Err(AllocError);

@@ -93,4 +93,5 @@ pub ends_known : (document : DocumentState) (found : Option (Place × Place)) �
 ends_known document None e none is places ordered = absurd (let no : false ≡ true = sym none ∙ e in cc)
 ends_known document (Some ends) e some is places ordered = (
   subst (λ (p : Place × Place). IsPlace document.text p.1) is places.1,
-  subst (λ (p : Place × Place). index_of document.text p.0 < index_of document.text p.1) is ordered)
+  subst (λ (p : Place × Place). index_of document.text p.0 < index_of document.text p.1) is ordered,
+)

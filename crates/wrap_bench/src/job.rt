@@ -75,7 +75,9 @@ pub fn count_rows(
     mode: WrapMode,
     width: usize,
 ) -> Result<usize, AllocError>
-    ensures { IfOk result (λ rows. (ranges : List (ℕ × ℕ)) × IsWrapped mode 4 (max width 1) line.now ranges × (rows ≡ length ranges)) }
+    ensures { IfOk result
+        (λ rows. (ranges : List (ℕ × ℕ)) × IsWrapped mode 4 (max width 1) line.now ranges
+        × (rows ≡ length ranges)) }
 {
     let mut count = WrapCount::new();
     let rows = line_ranges(alloc, line, mode, width, TAB_LEN, &mut count)?;

@@ -74,9 +74,9 @@ impl Document {
         )
     }
 
-    /// Inserts the pieces, with a line break between each two, where an insertion goes, and says whether there was a symbol
-    /// to insert. Without one the cursor goes there and the selection is dropped, and no memory is taken. Pieces too large
-    /// for any text are answered as out of memory.
+    /// Inserts the pieces, with a line break between each two, where an insertion goes, and says whether there was a
+    /// symbol to insert. Without one the cursor goes there and the selection is dropped. Pieces too large for any
+    /// text are answered as out of memory.
     pub fn insert(&mut self, pieces: Vec<String>, now: Duration) -> Result<bool, AllocError>
         ensures inserted { IfOk result (λ inserted. inserted ≡ is_filled (text_of pieces.items)) }
         ensures ok { OnOk result

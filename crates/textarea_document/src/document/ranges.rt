@@ -100,9 +100,9 @@ impl Document {
         held::hit(self.ranges.as_slice(), self.cursor, direction)
     }
 
-    /// Removes the range that the direction hits from the cursor, and hands it out; the selection stays open, and where it
-    /// began behind the end of its shorter line, it begins at that end. None where no range is hit, and then nothing changes
-    /// and no memory is taken.
+    /// Removes the range that the direction hits from the cursor, and hands it out; the selection stays open, and
+    /// where it began behind the end of its shorter line, it begins at that end. None where no range is hit, and then
+    /// nothing changes.
     pub fn remove_range_at_cursor(
         &mut self,
         direction: AtomicDeleteDirection,

@@ -114,8 +114,8 @@ impl Document {
         self.remove(start, (range.row, range.end_col), now)
     }
 
-    /// Removes the range that the direction hits from the cursor, and hands it out; nothing is selected then. None where no
-    /// range is hit, and then nothing changes and no memory is taken.
+    /// Removes the range that the direction hits from the cursor, and hands it out; nothing is selected then. None
+    /// where no range is hit, and then nothing changes.
     pub fn remove_hit(
         &mut self,
         direction: AtomicDeleteDirection,
@@ -139,8 +139,8 @@ impl Document {
         Ok(Some(range))
     }
 
-    /// Removes the range before the cursor that is hit, or else the character there, or at column 0 the line break, as a
-    /// typed edit or not, and says whether there was one. At the start of the text it takes no memory.
+    /// Removes the range before the cursor that is hit, or else the character there, or at column 0 the line break,
+    /// as a typed edit or not, and says whether there was one.
     #[tactic(auto, unfolding(crate::specs::Edits::removed_before))]
     pub fn remove_before(&mut self, typed: bool, now: Duration) -> Result<bool, AllocError>
         ensures removed { IfOk result (λ removed. removed ≡ not (is_at_start self.old)) }
@@ -154,8 +154,8 @@ impl Document {
         }
     }
 
-    /// Removes the range behind the cursor that is hit, or else the character there, or at a line's end the line break,
-    /// as a typed edit or not, and says whether there was one. At the end of the text it takes no memory.
+    /// Removes the range behind the cursor that is hit, or else the character there, or at a line's end the line
+    /// break, as a typed edit or not, and says whether there was one.
     #[tactic(auto, unfolding(crate::specs::Edits::removed_behind))]
     pub fn remove_behind(&mut self, typed: bool, now: Duration) -> Result<bool, AllocError>
         ensures removed { IfOk result (λ removed. removed ≡ not (is_at_end self.old)) }
@@ -170,7 +170,7 @@ impl Document {
     }
 
     // Removes the character before the cursor, or at column 0 the line break there, as a typed edit or not, and says
-    // whether there was one. At the start of the text it takes no memory.
+    // whether there was one.
     fn remove_symbol_before(&mut self, typed: bool, now: Duration) -> Result<bool, AllocError>
         requires none_hit { hit_before self.old ≡ None }
         ensures removed { IfOk result (λ removed. removed ≡ not (is_at_start self.old)) }
@@ -189,7 +189,7 @@ impl Document {
     }
 
     // Removes the character behind the cursor, or at a line's end the line break there, as a typed edit or not, and
-    // says whether there was one. At the end of the text it takes no memory.
+    // says whether there was one.
     fn remove_symbol_behind(&mut self, typed: bool, now: Duration) -> Result<bool, AllocError>
         requires none_hit { hit_behind self.old ≡ None }
         ensures removed { IfOk result (λ removed. removed ≡ not (is_at_end self.old)) }
@@ -207,8 +207,7 @@ impl Document {
         Ok(true)
     }
 
-    /// Removes the line break before the cursor's line, and says whether there was one. In the first line it takes no
-    /// memory.
+    /// Removes the line break before the cursor's line, and says whether there was one.
     pub fn remove_break(&mut self, now: Duration) -> Result<bool, AllocError>
         ensures removed { IfOk result (λ removed. removed ≡ not (self.old.cursor.0 == 0)) }
         ensures ok { OnOk result (self.new ≡ break_removed self.old (as_nanos now)) }

@@ -59,8 +59,8 @@ impl Document {
         Ok(true)
     }
 
-    /// Removes what is selected, and hands out what went as pieces, with a line break between each two. None where no symbol
-    /// is selected: an empty selection stays, and no memory is taken.
+    /// Removes what is selected, and hands out what went as pieces, with a line break between each two. None where no
+    /// symbol is selected: an empty selection stays.
     pub fn take_selection(&mut self, now: Duration) -> Result<Option<Vec<String>>, AllocError>
         ensures found { IfOk result (λ taken. is_some taken ≡ is_selected self.old) }
         ensures taken { IfOk result (λ taken.

@@ -18,7 +18,8 @@ pub fn push_glyph_rows(
 ) -> Result<(), AllocError>
     requires { start + 255 * length text.now < 2 ^ 63 }
     ensures { OnOk result ((texts : List (List ℕ)) × IsGlyphCutting tab_len width text.now texts
-        × (concat texts ≡ text.now) × (rows.new.items ≡ rows.old.items ++ ranges_from start texts)) }
+        × (concat texts ≡ text.now)
+        × (rows.new.items ≡ rows.old.items ++ ranges_from start texts)) }
 {
     let mut row_start = start;
     let mut row_end = start;

@@ -48,8 +48,10 @@ fn place_unit(
     requires short { row.end + 255 * length unit.now < 2 ^ 63 }
     requires narrow { row.column + 255 * length unit.now < 2 ^ 63 }
     ensures placed { IfOk result (λ placed. (units : Stretch) → (before : List (ℕ × ℕ))
-        → IsWordWalk tab_len width units before rows.old.items (unit.now ∷ map (λ unit. unit.now) later.now) row.start row.end row.column
-        → IsWordWalk tab_len width units before rows.new.items (map (λ unit. unit.now) later.now) placed.start placed.end placed.column) }
+        → IsWordWalk tab_len width units before rows.old.items
+        (unit.now ∷ map (λ unit. unit.now) later.now) row.start row.end row.column
+        → IsWordWalk tab_len width units before rows.new.items
+        (map (λ unit. unit.now) later.now) placed.start placed.end placed.column) }
     ensures end { IfOk result (λ placed. placed.end ≡ row.end + length unit.now) }
     ensures near { IfOk result (λ placed. placed.column ≤ row.column + 255 * length unit.now) }
 {
@@ -89,10 +91,13 @@ pub fn push_word_rows(
     width: usize,
     tab_len: u8,
 ) -> Result<(), AllocError>
-    requires nonempty { AllByRecursion (λ unit. 0 < length unit) (map (λ unit. unit.now) units.now) }
+    requires nonempty { AllByRecursion (λ unit. 0 < length unit)
+        (map (λ unit. unit.now) units.now) }
     requires short { 255 * length (concat (map (λ unit. unit.now) units.now)) < 2 ^ 62 }
-    ensures { OnOk result ((blocks : List Block) × (flat_map units_of blocks ≡ map (λ unit. unit.now) units.now)
-        × AreBlocks tab_len width blocks [] × (rows.new.items ≡ rows.old.items ++ ranges_from 0 (flat_map rows_of blocks))) }
+    ensures { OnOk result
+        ((blocks : List Block) × (flat_map units_of blocks ≡ map (λ unit. unit.now) units.now)
+        × AreBlocks tab_len width blocks []
+        × (rows.new.items ≡ rows.old.items ++ ranges_from 0 (flat_map rows_of blocks))) }
 {
     let mut row = OpenRow {
         start: 0,

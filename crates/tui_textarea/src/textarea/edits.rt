@@ -40,9 +40,9 @@ impl TextArea<'_> {
         self.document.insert_break(self.moment)
     }
 
-    /// Inserts the text at the cursor, or at the end of the atomic range that strictly holds it, and says whether there
-    /// was any or a selection went. The text is cut at each line feed; a carriage return directly before a line feed
-    /// goes with it. Where there is nothing to do, it takes no memory.
+    /// Inserts the text at the cursor, or at the end of the atomic range that strictly holds it, and says whether
+    /// there was any or a selection went. The text is cut at each line feed; a carriage return directly before a line
+    /// feed goes with it.
     pub fn insert_str(&mut self, text: &str) -> Result<bool, AllocError>
         ensures inserted { IfOk result
             (λ inserted. inserted ≡ inserts_text self.old (given (chars text.now))) }
@@ -59,8 +59,7 @@ impl TextArea<'_> {
         Ok(true)
     }
 
-    /// Inserts what was yanked last, where `insert_str` does, and says whether there was any. Where there is nothing to
-    /// do, it takes no memory.
+    /// Inserts what was yanked last, where `insert_str` does, and says whether there was any.
     pub fn paste(&mut self) -> Result<bool, AllocError>
         ensures inserted { IfOk result (λ inserted. inserted ≡ is_filled self.old.yank) }
         ensures ok { OnOk result (self.new ≡ str_inserted self.old self.old.yank) }
@@ -78,7 +77,7 @@ impl TextArea<'_> {
 
     /// Inserts a tab at the cursor, or at the end of the atomic range that strictly holds it, and says whether it did
     /// or a selection went: a tab character where hard tabs are on, as typed, and else as many spaces as reach to the
-    /// next tab stop. At tab length 0 it inserts nothing. Where there is nothing to do, it takes no memory.
+    /// next tab stop. At tab length 0 it inserts nothing.
     pub fn insert_tab(&mut self) -> Result<bool, AllocError>
         ensures inserted { IfOk result (λ inserted. inserted ≡ inserts_tab self.old) }
         ensures ok { OnOk result (self.new ≡ tab_inserted self.old) }

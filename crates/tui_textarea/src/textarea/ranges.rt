@@ -83,9 +83,9 @@ impl TextArea<'_> {
         self.document.range_at_cursor(direction)
     }
 
-    /// Removes the range that is hit from the cursor, yanks nothing, and hands the range out. The selection stays open,
-    /// and where it began behind its line's end then, it begins at that end. Where no range is hit nothing changes, and
-    /// it takes no memory.
+    /// Removes the range that is hit from the cursor, yanks nothing, and hands the range out. The selection stays
+    /// open, and where it began behind its line's end then, it begins at that end. Where no range is hit nothing
+    /// changes.
     pub fn delete_atomic_range_at_cursor(
         &mut self,
         direction: AtomicDeleteDirection,

@@ -12,9 +12,8 @@ use textarea_ranges::atomic::AtomicDeleteDirection;
 use textarea_target::ends::{word_end_after, word_start_before};
 
 impl TextArea<'_> {
-    /// Removes the atomic range that ends at the cursor or strictly holds it, or else the character before the cursor,
-    /// or at column 0 the line break there, and says whether something was removed. Where nothing is, it takes no
-    /// memory.
+    /// Removes the atomic range that ends at the cursor or strictly holds it, or else the character before the
+    /// cursor, or at column 0 the line break there, and says whether something was removed.
     pub fn delete_char(&mut self) -> Result<bool, AllocError>
         ensures removed { IfOk result
             (λ removed. removed ≡ removes_or self.old (has_before self.old)) }
@@ -31,8 +30,7 @@ impl TextArea<'_> {
     }
 
     /// Removes the atomic range that starts at the cursor or strictly holds it, or else the character behind the
-    /// cursor, or at a line's end the line break there, and says whether something was removed. Where nothing is, it
-    /// takes no memory.
+    /// cursor, or at a line's end the line break there, and says whether something was removed.
     pub fn delete_next_char(&mut self) -> Result<bool, AllocError>
         ensures removed { IfOk result
             (λ removed. removed ≡ removes_or self.old (has_behind self.old)) }
@@ -48,8 +46,7 @@ impl TextArea<'_> {
             .remove_behind(self.settings.undo_coalescing, self.moment)
     }
 
-    /// Removes the line break before the cursor's line, and says whether something was removed. Where nothing is, it
-    /// takes no memory.
+    /// Removes the line break before the cursor's line, and says whether something was removed.
     pub fn delete_newline(&mut self) -> Result<bool, AllocError>
         ensures removed { IfOk result
             (λ removed. removed ≡ removes_or self.old (has_break_before self.old)) }
@@ -64,8 +61,8 @@ impl TextArea<'_> {
         self.document.remove_break(self.moment)
     }
 
-    /// Removes that many characters behind the cursor, each line break counting one, or all that there are, yanks them,
-    /// and says whether something was removed. Where nothing is, it takes no memory.
+    /// Removes that many characters behind the cursor, each line break counting one, or all that there are, yanks
+    /// them, and says whether something was removed.
     pub fn delete_str(&mut self, count: usize) -> Result<bool, AllocError>
         ensures removed { IfOk result
             (λ removed. removed ≡ removes_or self.old (has_ahead self.old count)) }
@@ -87,7 +84,7 @@ impl TextArea<'_> {
     }
 
     /// Removes and yanks what stands from the cursor to its line's end; there it does as `delete_next_char`. It says
-    /// whether something was removed. Where nothing is, it takes no memory.
+    /// whether something was removed.
     pub fn delete_line_by_end(&mut self) -> Result<bool, AllocError>
         ensures removed { IfOk result
             (λ removed. removed ≡ removes_or self.old (has_line_behind self.old)) }
@@ -110,7 +107,7 @@ impl TextArea<'_> {
     }
 
     /// Removes and yanks what stands from the line's start to the cursor; there it does as `delete_newline`. It says
-    /// whether something was removed. Where nothing is, it takes no memory.
+    /// whether something was removed.
     pub fn delete_line_by_head(&mut self) -> Result<bool, AllocError>
         ensures removed { IfOk result
             (λ removed. removed ≡ removes_or self.old (has_line_before self.old)) }
@@ -131,7 +128,7 @@ impl TextArea<'_> {
 
     /// Removes the atomic range that ends at the cursor or strictly holds it; else removes and yanks what stands from
     /// the start of the word before the cursor, or from the line's start, to the cursor; at column 0 it does as
-    /// `delete_newline`. It says whether something was removed. Where nothing is, it takes no memory.
+    /// `delete_newline`. It says whether something was removed.
     pub fn delete_word(&mut self) -> Result<bool, AllocError>
         ensures removed { IfOk result
             (λ removed. removed ≡ removes_or self.old (has_word_before self.old)) }
@@ -150,9 +147,9 @@ impl TextArea<'_> {
         self.remove_to_word_start()
     }
 
-    /// Removes the atomic range that starts at the cursor or strictly holds it; else removes and yanks what stands from
-    /// the cursor to behind the word there, or to the line's end; at the line's end it does as `delete_next_char`. It
-    /// says whether something was removed. Where nothing is, it takes no memory.
+    /// Removes the atomic range that starts at the cursor or strictly holds it; else removes and yanks what stands
+    /// from the cursor to behind the word there, or to the line's end; at the line's end it does as
+    /// `delete_next_char`. It says whether something was removed.
     pub fn delete_next_word(&mut self) -> Result<bool, AllocError>
         ensures removed { IfOk result
             (λ removed. removed ≡ removes_or self.old (has_word_behind self.old)) }
@@ -171,8 +168,8 @@ impl TextArea<'_> {
         self.remove_to_word_end()
     }
 
-    /// Removes and yanks the whole text, as one removal from its start, and says whether there was any. Of an empty text
-    /// nothing changes, and it takes no memory.
+    /// Removes and yanks the whole text, as one removal from its start, and says whether there was any. Of an empty
+    /// text nothing changes.
     pub fn clear(&mut self) -> Result<bool, AllocError>
         ensures removed { IfOk result (λ removed. removed ≡ is_filled self.old.document.text) }
         ensures ok { OnOk result (self.new ≡ text_cleared self.old) }

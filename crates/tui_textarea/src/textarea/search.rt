@@ -33,7 +33,7 @@ impl TextArea<'_> {
 
     /// Moves the cursor to the next start of a match, and says whether there was one: the first behind the cursor or,
     /// with `match_cursor`, at it, and past the end of the text the first of all. An open selection stays open, and a
-    /// run of typing ends. Where there is none, nothing changes; without a pattern it takes no memory.
+    /// run of typing ends. Where there is none, nothing changes.
     pub fn search_forward(&mut self, match_cursor: bool) -> Result<bool, AllocError>
         ensures found { IfOk result (λ found. found ≡ is_some (next_match self.old match_cursor)) }
         ensures ok { OnOk result (self.new ≡ searched self.old (next_match self.old match_cursor)) }
@@ -48,7 +48,7 @@ impl TextArea<'_> {
 
     /// Moves the cursor to the last start of a match before it or, with `match_cursor`, at it, and past the beginning
     /// of the text to the last of all; says whether there was one. An open selection stays open, and a run of typing
-    /// ends. Where there is none, nothing changes; without a pattern it takes no memory.
+    /// ends. Where there is none, nothing changes.
     pub fn search_back(&mut self, match_cursor: bool) -> Result<bool, AllocError>
         ensures found { IfOk result
             (λ found. found ≡ is_some (previous_match self.old match_cursor)) }

@@ -35,8 +35,8 @@ impl<'b> TextArea<'b> {
         self.surround.block()
     }
 
-    /// Sets what is shown where the text is empty: one line of this text, a line feed in it included; with the empty text
-    /// nothing is, and no memory is taken. The placeholder's style stays.
+    /// Sets what is shown where the text is empty: one line of this text, a line feed in it included; with the empty
+    /// text nothing is. The placeholder's style stays.
     pub fn set_placeholder_text(&mut self, text: &str) -> Result<(), AllocError>
         ensures ok { OnOk result
             (self.new ≡ with_surround self.old (with_placeholder_text self.old.surround text.now)) }
