@@ -1,5 +1,6 @@
 -- The keys of a text area, in two tables. A row has its inputs, what they ask for, and what they answer: that the text was
 -- changed, that it was not, or what the call answers. An input that is in no row asks for nothing.
+-- What is held: `plain` neither Ctrl nor Alt, `ctrl` Ctrl and not Alt, `alt` Alt and not Ctrl, `both`, or `any` whatever is.
 use Rattle.std.specs.Prelude.{pos, negsuc, List, [], ◌∷◌, codes}
 use Rattle.textarea_data.specs.declared.input.Key.TheVariants as key
 use Rattle.textarea_data.specs.declared.cursor.CursorMove.TheVariants as move
@@ -7,7 +8,7 @@ use Rattle.textarea_data.specs.declared.scroll.Scrolling.{Scrolling}
 use Rattle.textarea_data.specs.declared.scroll.Scrolling.TheVariants as scrolling
 use Rattle.textarea_keys.specs.declared.action.Action.TheVariants as action
 use Rattle.textarea_keys.specs.Answer.{changed, unchanged, as_called}
-use Rattle.textarea_keys.specs.Table.{Row, plain, ctrl, alt, both, any, chars, chars_but, one, row, always, insert_it, move_by, scroll_by}
+use Rattle.textarea_keys.specs.Table.{Row, plain, ctrl, alt, both, any, chars, chars_but, one, row, always, insert_its_char, move_by, scroll_by}
 
 -- one row down, and one up
 abbrev pub one_down : Scrolling
@@ -20,7 +21,7 @@ one_up = scrolling.Delta (negsuc 0) (pos 0)
 unfoldable pub keys : List Row
 keys =
     row (chars ctrl (codes "m") ∷ chars plain (codes "\n\r") ∷ one any key.Enter ∷ []) (always action.InsertNewline) changed
-    ∷ row (chars_but plain (codes "\n\r") ∷ []) insert_it changed
+    ∷ row (chars_but plain (codes "\n\r") ∷ []) insert_its_char changed
     ∷ row (one plain key.Tab ∷ []) (always action.InsertTab) as_called
     ∷ row (chars ctrl (codes "h") ∷ one plain key.Backspace ∷ []) (always action.DeleteChar) as_called
     ∷ row (chars ctrl (codes "d") ∷ one plain key.Delete ∷ []) (always action.DeleteNextChar) as_called
@@ -54,7 +55,7 @@ keys =
 -- the keys without shortcuts
 unfoldable pub keys_without_shortcuts : List Row
 keys_without_shortcuts =
-    row (chars_but plain [] ∷ []) insert_it changed
+    row (chars_but plain [] ∷ []) insert_its_char changed
     ∷ row (one plain key.Tab ∷ []) (always action.InsertTab) as_called
     ∷ row (one any key.Backspace ∷ []) (always action.DeleteChar) as_called
     ∷ row (one any key.Delete ∷ []) (always action.DeleteNextChar) as_called

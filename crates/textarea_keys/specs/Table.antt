@@ -136,8 +136,8 @@ abbrev pub inserted : Key → Action
 inserted (key.Char c) = action.InsertChar c
 inserted other = action.Nothing
 
-abbrev pub insert_it : Input → Action
-insert_it input = inserted input.key
+abbrev pub insert_its_char : Input → Action
+insert_its_char input = inserted input.key
 
 -- a move or a scroll, with the input's Shift
 abbrev pub move_by : CursorMove → Input → Action

@@ -328,3 +328,11 @@ fn shortcuts_of_ones_own(rt: HostRuntime) -> Result<(), Fail> {
     }
     Ok(())
 }
+
+#[test]
+fn shown_by_debug(rt: HostRuntime) -> Result<(), Fail> {
+    let action = MoveWithShift(Down, true);
+    let shown = format!(in rt.alloc(); "{action:?}")?;
+    assert_eq!(rt; shown.as_str(), "MoveWithShift(Down, true)");
+    Ok(())
+}
