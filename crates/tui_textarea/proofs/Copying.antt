@@ -1,16 +1,16 @@
 -- A copy and a paste behind it.
-use Rattle.std.proofs.Common.{◌≡◌, ℕ, ◌-◌, ◌<◌, ◌==◌, ◌&&◌, ◌||◌, nat_lt, cond, Bool, true, false, List, [], ◌∷◌, length, take, drop, Option, None, Some, ap, sym, refl, subst, ◌∙◌, arith}
+use Rattle.std.proofs.Common.{◌≡◌, ℕ, ◌-◌, ◌<◌, ◌==◌, ◌&&◌, ◌||◌, nat_lt, cond, Bool, true, false, List, [], ◌∷◌, length, drop, Option, None, Some, ap, sym, refl, subst, ◌∙◌, arith}
 use Rattle.std.specs.Option.{IfSome, MatchOption}
 use Rattle.std.proofs.lemmas.List.{length-drop, length-take-le}
 use Rattle.std.proofs.lemmas.Bool.Decides.{nat_tests}
 use Rattle.textarea_text.specs.Text.{Symbol}
-use Rattle.textarea_text.specs.Place.{Place, IsPlace, end, index_of, inserted}
+use Rattle.textarea_text.specs.Place.{Place, IsPlace, end, index_of, inserted, is_before}
 use Rattle.textarea_text.proofs.Places.{index_within}
 use Rattle.textarea_pieces.specs.Part.{part}
 use Rattle.textarea_document.specs.State.{DocumentState}
 use Rattle.textarea_document.specs.Outcomes.{unanchored}
 use Rattle.textarea_document.specs.Edits.{insertion_place, is_filled, part_removed}
-use Rattle.textarea_document.specs.Selection.{is_before, is_selected, selected, selection_end, selection_start}
+use Rattle.textarea_document.specs.Selection.{is_selected, selected, selection_end, selection_start}
 use Rattle.tui_textarea.specs.State.{State, with_document}
 use Rattle.tui_textarea.specs.Edits.{symbols_or_none_inserted, str_inserted}
 use Rattle.tui_textarea.specs.Law.{PastesCopy, copied_and_pasted}

@@ -1,10 +1,12 @@
--- A move leads to one place, or nowhere, where up and down do.
-use Rattle.std.proofs.Common.{◌≡◌, Option, refl, sym, ◌∙◌}
+-- Where a move leads, and that it leads to one place, or nowhere, where up and down do.
+use Rattle.std.proofs.Common.{◌≡◌, false, List, Option, None, ap, refl, sym, ◌∙◌}
+use Rattle.textarea_text.specs.Text.{Symbol}
 use Rattle.textarea_text.specs.Place.{Place}
 use Rattle.textarea_data.specs.declared.cursor.CursorMove.{CursorMove}
 use Rattle.textarea_data.specs.declared.cursor.CursorMove.TheVariants as move
 use Rattle.textarea_document.specs.Rows.{IsAboveCursor, IsBelowCursor}
 use Rattle.textarea_document.specs.State.{DocumentState}
+use Rattle.textarea_target.specs.Target.{is_vertical, target}
 use Rattle.tui_textarea.specs.Moves.{IsTarget}
 use Rattle.tui_textarea.specs.State.{State}
 
@@ -28,3 +30,24 @@ one_target state move.ParagraphForward found other above below h k = h.found_is 
 one_target state move.ParagraphBack found other above below h k = h.found_is ∙ sym k.found_is
 one_target state (move.Jump row column) found other above below h k = h.found_is ∙ sym k.found_is
 one_target state move.InViewport found other above below h k = h.found_is ∙ sym k.found_is
+
+not_vertical : (cursor_move : CursorMove) → (cursor_move ≡ move.Up → ⊥) → (cursor_move ≡ move.Down → ⊥) → is_vertical cursor_move ≡ false
+not_vertical move.Up not_up not_down = absurd (not_up refl)
+not_vertical move.Down not_up not_down = absurd (not_down refl)
+not_vertical other not_up not_down = refl
+
+-- a move that doesn't go over visual rows leads where the text says
+pub level_target : (state : State) (cursor_move : CursorMove) (found : Option Place) (text : List Symbol) (cursor : Place)
+    → (cursor_move ≡ move.Up → ⊥) → (cursor_move ≡ move.Down → ⊥)
+    → ((above below : Option Place) → is_vertical cursor_move ≡ false → found ≡ target above below text cursor cursor_move)
+    → text ≡ state.document.text → cursor ≡ state.document.cursor → IsTarget state cursor_move found
+level_target state cursor_move found text cursor not_up not_down value text_is cursor_is = record {
+  above = None;
+  below = None;
+  above_is = λ up. absurd (not_up up);
+  below_is = λ down. absurd (not_down down);
+  found_is =
+      value None None (not_vertical cursor_move not_up not_down)
+      ∙ ap (λ t. target None None t cursor cursor_move) text_is
+      ∙ ap (λ p. target None None state.document.text p cursor_move) cursor_is;
+}
