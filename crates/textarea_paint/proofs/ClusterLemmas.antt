@@ -1,5 +1,6 @@
 -- The clusters that are left as texts and spans are taken.
 use Rattle.std.proofs.Common.{◌≡◌, ℕ, true, List, [], ◌∷◌, ◌≤◌, length, map, refl, ap}
+use Rattle.std.proofs.lemmas.List.{append-nil}
 use Rattle.std.proofs.lemmas.List.Elements.{All-tail}
 use Rattle.std.specs.Slice.Iter.{iter_rest}
 use Rattle.unicode_segmentation.specs.Grapheme.{graphemes}
@@ -14,6 +15,7 @@ use Rattle.textarea_screen.specs.declared.screen.text.SpanText.{SpanText}
 use Rattle.textarea_screen.specs.declared.screen.text.SpanText.TheVariants.{Borrowed, Owned}
 use Rattle.textarea_paint.specs.Clusters.{AreInline, Cluster, content_bytes, in_style, span_clusters, row_clusters}
 use Rattle.textarea_paint.specs.LineClusters.{clusters_left}
+use Rattle.textarea_paint.proofs.PlainLemmas.{graphemes-nil}
 use Rattle.textarea_paint.specs.declared.paint.clusters.LineClusters.{LineClusters}
 
 content_bytes-shown : (content : SpanText) → content_bytes (shown_content content) ≡ text_bytes content
@@ -23,28 +25,44 @@ content_bytes-shown (Owned text) = refl
 span_clusters-shown : (base : Style) (span : Span) → span_clusters base (shown_span span) ≡ map (in_style (patched base span.style)) (graphemes true (text_bytes span.content))
 span_clusters-shown base span = ap (λ bytes. map (in_style (patched base span.style)) (graphemes true bytes)) (content_bytes-shown span.content)
 
--- a text was taken, and the spans stay
+-- a cluster was taken, and what stands behind it stays
 pub clusters_left-text : (old new : LineClusters) (text : List ℕ) → graphemes_left old.texts ≡ text ∷ graphemes_left new.texts → new.style ≡ old.style → new.base ≡ old.base →
-    iter_rest new.spans ≡ iter_rest old.spans → clusters_left old ≡ in_style old.style text ∷ clusters_left new
+    new.behind.now ≡ old.behind.now → iter_rest new.spans ≡ iter_rest old.spans → clusters_left old ≡ in_style old.style text ∷ clusters_left new
 unfolding clusters_left
-clusters_left-text old new text taken style base spans = rw (taken, style, base, spans) refl
+clusters_left-text old new text taken style base behind spans = rw (taken, style, base, behind, spans) refl
+
+-- the first cluster of what stands behind those that are cut was taken
+pub clusters_left-plain : (old new : LineClusters) (text : List ℕ) → graphemes_left old.texts ≡ [] → graphemes_left new.texts ≡ [] →
+    graphemes true old.behind.now ≡ text ∷ graphemes true new.behind.now → new.style ≡ old.style → new.base ≡ old.base → iter_rest new.spans ≡ iter_rest old.spans →
+    clusters_left old ≡ in_style old.style text ∷ clusters_left new
+unfolding clusters_left
+clusters_left-plain old new text none none' taken style base spans = rw (none, none', taken, style, base, spans) refl
+
+-- what stands behind those that are cut is cut too
+pub clusters_left-cut : (old new : LineClusters) → graphemes_left old.texts ≡ [] → graphemes_left new.texts ≡ graphemes true old.behind.now → new.behind.now ≡ [] →
+    new.style ≡ old.style → new.base ≡ old.base → iter_rest new.spans ≡ iter_rest old.spans → clusters_left old ≡ clusters_left new
+unfolding clusters_left
+clusters_left-cut old new none texts behind style base spans =
+    rw (none, texts, behind, graphemes-nil, style, base, spans, append-nil (graphemes true old.behind.now)) refl
 
 -- the texts of a span are all taken, and the next span begins
-pub clusters_left-span : (old new : LineClusters) (span : Span) → graphemes_left old.texts ≡ [] → iter_rest old.spans ≡ span ∷ iter_rest new.spans → new.base ≡ old.base →
-    new.style ≡ patched old.base span.style → graphemes_left new.texts ≡ graphemes true (text_bytes span.content) → clusters_left old ≡ clusters_left new
+pub clusters_left-span : (old new : LineClusters) (span : Span) → graphemes_left old.texts ≡ [] → old.behind.now ≡ [] → graphemes_left new.texts ≡ [] →
+    iter_rest old.spans ≡ span ∷ iter_rest new.spans → new.base ≡ old.base → new.style ≡ patched old.base span.style → new.behind.now ≡ text_bytes span.content →
+    clusters_left old ≡ clusters_left new
 unfolding clusters_left
-clusters_left-span old new span none taken base style texts = rw (none, taken, base, style, texts, span_clusters-shown old.base span) refl
+clusters_left-span old new span none behind none' taken base style text =
+    rw (none, behind, graphemes-nil, none', taken, base, style, text, span_clusters-shown old.base span) refl
 
 -- the texts of a span are all taken, and there is no other
-pub clusters_left-none : (s : LineClusters) → graphemes_left s.texts ≡ [] → iter_rest s.spans ≡ [] → clusters_left s ≡ []
+pub clusters_left-none : (s : LineClusters) → graphemes_left s.texts ≡ [] → s.behind.now ≡ [] → iter_rest s.spans ≡ [] → clusters_left s ≡ []
 unfolding clusters_left
-clusters_left-none s none spans = rw (none, spans) refl
+clusters_left-none s none behind spans = rw (none, behind, graphemes-nil, spans) refl
 
 -- no span is begun
-pub clusters_left-new : (s : LineClusters) (style : Style) (line : Line) → graphemes_left s.texts ≡ [] → iter_rest s.spans ≡ line.spans.items → s.base ≡ patched style line.style →
-    clusters_left s ≡ row_clusters style (shown_line line)
+pub clusters_left-new : (s : LineClusters) (style : Style) (line : Line) → graphemes_left s.texts ≡ [] → s.behind.now ≡ [] → iter_rest s.spans ≡ line.spans.items →
+    s.base ≡ patched style line.style → clusters_left s ≡ row_clusters style (shown_line line)
 unfolding clusters_left
-clusters_left-new s style line none spans base = rw (none, spans, base) refl
+clusters_left-new s style line none behind spans base = rw (none, behind, graphemes-nil, spans, base) refl
 
 -- ---- short clusters
 

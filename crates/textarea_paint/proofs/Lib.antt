@@ -3,4 +3,5 @@ mod CellLemmas
 mod ClusterLemmas
 mod ColumnLemmas
 mod RowAreaLemmas
+mod PlainLemmas
 mod RowLemmas

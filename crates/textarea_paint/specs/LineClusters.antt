@@ -1,7 +1,8 @@
 -- What the iterator over the clusters of a line has left.
-use Rattle.std.specs.Prelude.{List, ◌++◌, map}
+use Rattle.std.specs.Prelude.{true, List, ◌++◌, map}
 use Rattle.std.specs.List.{flat_map}
 use Rattle.std.specs.Slice.Iter.{iter_rest}
+use Rattle.unicode_segmentation.specs.Grapheme.{graphemes}
 use Rattle.unicode_segmentation.specs.Iter.{graphemes_left}
 use Rattle.textarea_screen.specs.Text.{shown_span}
 use Rattle.textarea_paint.specs.Clusters.{Cluster, in_style, span_clusters}
@@ -11,6 +12,7 @@ use Rattle.textarea_paint.specs.declared.paint.clusters.StyledCluster.{StyledClu
 abbrev pub styled_cluster : StyledCluster → Cluster
 styled_cluster cluster = record { text = cluster.text.now; style = cluster.style }
 
--- the clusters of the span that is begun, and then those of the spans behind it
+-- the clusters of the span that is begun, first those that are cut already, and then those of the spans behind it
 unfoldable pub clusters_left : LineClusters → List Cluster
-clusters_left s = map (in_style s.style) (graphemes_left s.texts) ++ flat_map (span_clusters s.base) (map shown_span (iter_rest s.spans))
+clusters_left s =
+    map (in_style s.style) (graphemes_left s.texts ++ graphemes true s.behind.now) ++ flat_map (span_clusters s.base) (map shown_span (iter_rest s.spans))

@@ -1,5 +1,6 @@
 //! The clusters of a line.
-ghost use Rattle.std.specs.Prelude.{◌≡◌};
+ghost use Rattle.std.specs.Prelude.{◌≡◌, ◌<◌, ◌≤◌, ◌↔◌, true, length, ◌∷◌, IsTrue, IfSome};
+ghost use Rattle.unicode_segmentation.specs.Grapheme.{graphemes};
 ghost use Rattle.std.specs.Iterator.{YieldsFirstBy, item_count};
 ghost use Rattle.textarea_screen.specs.Text.{shown_line};
 ghost use Rattle.textarea_paint.specs.Clusters.{row_clusters};
@@ -21,6 +22,8 @@ pub(crate) struct LineClusters<'a, 'b> {
     base: Style,
     style: Style,
     texts: Graphemes<'a>,
+    /// What of the span's text stands behind `texts`.
+    behind: &'a str,
     spans: slice::Iter<'a, Span<'b>>,
 }
 
@@ -36,6 +39,7 @@ impl<'a, 'b> LineClusters<'a, 'b> {
             base,
             style: base,
             texts: "".graphemes(true),
+            behind: "",
             spans: line.spans.iter(),
         }
     }
@@ -58,9 +62,42 @@ impl<'a, 'b> Iterator for LineClusters<'a, 'b> {
                     style: self.style,
                 });
             }
-            let span = self.spans.next()?;
-            self.style = self.base.patch(span.style);
-            self.texts = span.content.as_str().graphemes(true);
+            if let Some((text, behind)) = split_plain(self.behind) {
+                self.behind = behind;
+                return Some(StyledCluster {
+                    text,
+                    style: self.style,
+                });
+            }
+            if self.behind.is_empty() {
+                let span = self.spans.next()?;
+                self.style = self.base.patch(span.style);
+                self.behind = span.content.as_str();
+            } else {
+                self.texts = self.behind.graphemes(true);
+                self.behind = "";
+            }
         }
     }
+}
+
+/// The first character of a text, and the text behind it, where the two that the text begins with are
+/// printable ASCII: the first is a cluster by itself, and is found without a table.
+fn split_plain<'a>(text: &'a str) -> Option<(&'a str, &'a str)>
+    ensures first { IfSome result (λ parts.
+        graphemes true text.now ≡ parts.0.now ∷ graphemes true parts.1.now) }
+    ensures shorter { IfSome result (λ parts. length parts.1.now < length text.now) }
+{
+    let bytes = text.as_bytes();
+    if bytes.len() > 1 && is_printable(bytes[0]) && is_printable(bytes[1]) {
+        text.split_at_checked(1)
+    } else {
+        None
+    }
+}
+
+fn is_printable(byte: u8) -> bool
+    ensures { IsTrue result ↔ ((32 ≤ byte) × (byte < 127)) }
+{
+    32 <= byte && byte < 127
 }

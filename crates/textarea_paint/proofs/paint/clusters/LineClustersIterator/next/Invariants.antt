@@ -1,4 +1,4 @@
-use Rattle.std.proofs.Common.{◌≡◌, length}
+use Rattle.std.proofs.Common.{◌≡◌, ◌+◌, ◌*◌, min, length}
 use Rattle.std.specs.Slice.Iter.{iter_rest}
 use Rattle.textarea_paint.specs.LineClusters.{clusters_left}
 use Rattle.textarea_paint.proofs.paint.clusters.LineClustersIterator.next.Given as goal
@@ -7,4 +7,4 @@ abbrev pub invariant-loop-text : goal.invariant-loop-text
 invariant-loop-text l = clusters_left l.self ≡ clusters_left l.initial.self
 
 abbrev pub decreases-loop-text : goal.decreases-loop-text
-decreases-loop-text l = length (iter_rest l.self.spans)
+decreases-loop-text l = 2 * length (iter_rest l.self.spans) + min (length l.self.behind.now) 1

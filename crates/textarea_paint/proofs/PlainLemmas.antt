@@ -1,0 +1,139 @@
+-- Printable ASCII: before another such character each one is a cluster by itself, and what stands behind it is cut as if it began
+-- the text.
+use Rattle.std.proofs.Common.{◌≡◌, ℕ, ◌<◌, ◌≤◌, Bool, true, false, cond, not, ◌&&◌, ◌||◌, ◌==◌, leb, ltb, unwrap_or, List, [], ◌∷◌, ◌++◌, map, length, take, drop, slice_index_or, Option, None, Some, IsSome, IfSome, IsCharBoundary, refl, sym, ap, ap₂, ◌∙◌, arith}
+use Rattle.std.proofs.lemmas.Bool.{and_from, and_parts, cond-true, eqb-true, le-leb, lt-ltb}
+use Rattle.std.proofs.lemmas.Str.{IsUtf8-drop, chars_past_char, encode_ascii}
+use Rattle.std.specs.Prelude.{encode_utf8_all}
+use Rattle.std.specs.Str.{chars, IsUtf8}
+use Rattle.ucd_breaks.specs.declared.GraphemeClusterBreak.TheVariants.{Other}
+use Rattle.ucd_breaks.proofs.GraphemeClusterBreakLemmas.{grapheme_cluster_break_number_injective}
+use Rattle.ucd_derived.specs.declared.IndicConjunctBreak.TheVariants as conjunct
+use Rattle.ucd_derived.proofs.IndicConjunctBreakLemmas.{indic_conjunct_break_number_injective}
+use Rattle.ucd_table.proofs.TrieCheck.{all_below, all_below-at}
+use Rattle.unicode_segmentation.specs.Emoji.{is_extended_pictographic}
+use Rattle.unicode_segmentation.specs.GraphemeClusterBreak.{grapheme_cluster_break, grapheme_cluster_break_number}
+use Rattle.unicode_segmentation.specs.IndicConjunctBreak.{indic_conjunct_break, indic_conjunct_break_number}
+use Rattle.unicode_segmentation.specs.Grapheme.{graphemes, is_grapheme_break, break_by_pair, ends_in_linker, ends_in_pictograph, ends_in_half_flag, is_consonant, is_extend, is_regional, is_zwj}
+use Rattle.unicode_segmentation.specs.Segments.{prepend, cut, segments}
+use Rattle.unicode_segmentation.proofs.Computing.{unicode_segmentation}
+use Rattle.unicode_segmentation.proofs.GraphemeLemmas.{is_grapheme_break-others}
+
+-- ---- what the tables give
+
+pub record IsPrintable (c : ℕ) : Type 0 where
+  pub low : 32 ≤ c
+  pub high : c < 127
+
+abbrev has_no_part : ℕ → Bool
+has_no_part c = (grapheme_cluster_break_number (grapheme_cluster_break c) == 12) && (indic_conjunct_break_number (indic_conjunct_break c) == 3) && not (is_extended_pictographic c)
+
+abbrev passes : ℕ → Bool
+passes c = cond (leb 32 c && ltb c 127) (has_no_part c) true
+
+all_pass : all_below passes 127 ≡ true
+unfolding unicode_segmentation
+all_pass = refl
+
+-- the character takes part in none of the rules that join
+record IsPlain (c : ℕ) : Type 0 where
+  other : grapheme_cluster_break c ≡ Other
+  no_conjunct : indic_conjunct_break c ≡ conjunct.None
+  no_picture : is_extended_pictographic c ≡ false
+
+not_false : (b : Bool) → not b ≡ true → b ≡ false
+not_false true h = sym h
+not_false false h = refl
+
+plain : (c : ℕ) → IsPrintable c → IsPlain c
+plain c printable =
+    let tested = sym (cond-true (leb 32 c && ltb c 127) (has_no_part c) true (and_from _ _ (le-leb 32 c printable.low) (lt-ltb c 127 printable.high))) ∙ all_below-at passes 127 c all_pass printable.high in
+    let p = and_parts ((grapheme_cluster_break_number (grapheme_cluster_break c) == 12) && (indic_conjunct_break_number (indic_conjunct_break c) == 3)) (not (is_extended_pictographic c)) tested in
+    let q = and_parts (grapheme_cluster_break_number (grapheme_cluster_break c) == 12) (indic_conjunct_break_number (indic_conjunct_break c) == 3) p.0 in
+    record {
+      other = grapheme_cluster_break_number_injective _ _ (eqb-true _ _ q.0);
+      no_conjunct = indic_conjunct_break_number_injective _ _ (eqb-true _ _ q.1);
+      no_picture = not_false _ p.1;
+    }
+
+-- ---- what stands behind such a character is cut without a look at it
+
+module _ (c : ℕ) (is_plain : IsPlain c) where
+  linker-first : (xs : List ℕ) → ends_in_linker (map indic_conjunct_break (xs ++ c ∷ [])) ≡ ends_in_linker (map indic_conjunct_break xs)
+  unfolding ends_in_linker
+  linker-first [] = rw is_plain.no_conjunct refl
+  linker-first (x ∷ xs) =
+      elim (indic_conjunct_break x) as (λ v. ends_in_linker (v ∷ map indic_conjunct_break (xs ++ c ∷ [])) ≡ ends_in_linker (v ∷ map indic_conjunct_break xs)) [
+        | conjunct.Consonant ↦ refl
+        | conjunct.Extend ↦ linker-first xs
+        | conjunct.Linker ↦ refl
+        | conjunct.None ↦ refl
+      ]
+
+  pictograph-first : (xs : List ℕ) → ends_in_pictograph (xs ++ c ∷ []) ≡ ends_in_pictograph xs
+  unfolding ends_in_pictograph
+  pictograph-first [] = rw (is_plain.no_picture, is_plain.other) refl
+  pictograph-first (x ∷ xs) = ap (λ e. is_extended_pictographic x || (is_extend (grapheme_cluster_break x) && e)) (pictograph-first xs)
+
+  flag-first : (xs : List ℕ) → ends_in_half_flag (xs ++ c ∷ []) ≡ ends_in_half_flag xs
+  unfolding ends_in_half_flag
+  flag-first [] = rw is_plain.other refl
+  flag-first (x ∷ xs) = ap (λ e. is_regional (grapheme_cluster_break x) && not e) (flag-first xs)
+
+  abbrev rule_of : ℕ → ℕ → Bool → Bool → Bool → Bool
+  rule_of x next linker pictograph flag =
+      unwrap_or (break_by_pair true (grapheme_cluster_break x) (grapheme_cluster_break next))
+      (not ((true && (linker && is_consonant (indic_conjunct_break next)))
+      || (is_zwj (grapheme_cluster_break x) && pictograph && is_extended_pictographic next)
+      || (flag && is_regional (grapheme_cluster_break next))))
+
+  break-first : (x : ℕ) (xs after : List ℕ) → is_grapheme_break true (x ∷ (xs ++ c ∷ [])) after ≡ is_grapheme_break true (x ∷ xs) after
+  unfolding is_grapheme_break
+  break-first x xs [] = refl
+  break-first x xs (next ∷ after) =
+      ap (λ e. rule_of x next e (ends_in_pictograph (xs ++ c ∷ [])) (ends_in_half_flag (x ∷ (xs ++ c ∷ [])))) (linker-first (x ∷ xs))
+      ∙ ap (λ e. rule_of x next (ends_in_linker (map indic_conjunct_break (x ∷ xs))) e (ends_in_half_flag (x ∷ (xs ++ c ∷ [])))) (pictograph-first xs)
+      ∙ ap (λ e. rule_of x next (ends_in_linker (map indic_conjunct_break (x ∷ xs))) (ends_in_pictograph xs) e) (flag-first (x ∷ xs))
+
+  cut-first : (xs cs : List ℕ) → cut (is_grapheme_break true) (xs ++ c ∷ []) cs [] ≡ cut (is_grapheme_break true) xs cs []
+  unfolding cut
+  cut-first xs [] = refl
+  cut-first xs (d ∷ cs) =
+      ap₂ (λ (b : Bool) (rest : List (List ℕ)). cond b ((d ∷ []) ∷ rest) (prepend (d ∷ []) rest)) (break-first d xs (cs ++ [])) (cut-first (d ∷ xs) cs)
+
+-- ---- the first cluster of a text
+
+pub graphemes-nil : graphemes true [] ≡ []
+unfolding unicode_segmentation
+graphemes-nil = refl
+
+cut-two : (c d : ℕ) (cs : List ℕ) → IsPlain c → IsPlain d → d < 0x900 →
+    cut (is_grapheme_break true) [] (c ∷ d ∷ cs) [] ≡ (c ∷ []) ∷ cut (is_grapheme_break true) [] (d ∷ cs) []
+unfolding cut
+cut-two c d cs first second early =
+    let breaks = is_grapheme_break-others true (c ∷ []) d (cs ++ []) (omega arith) early (sym first.other) (sym second.other) in
+    cond-true (is_grapheme_break true (c ∷ []) (d ∷ (cs ++ []))) _ _ (sym breaks)
+    ∙ ap (λ rest. (c ∷ []) ∷ rest) (cut-first c first [] (d ∷ cs))
+
+pub graphemes-plain : (c d : ℕ) (text rest behind : List ℕ) → IsUtf8 text → IsUtf8 rest → text ≡ c ∷ rest → rest ≡ d ∷ behind → IsPrintable c → IsPrintable d →
+    graphemes true text ≡ (c ∷ []) ∷ graphemes true rest
+unfolding segments
+graphemes-plain c d text rest behind text_utf8 rest_utf8 text_is rest_is first second =
+    let encoded = encode_ascii c (omega (arith, first.high)) in
+    let all = chars_past_char text rest c text_utf8 (text_is ∙ ap (λ front. front ++ rest) (sym encoded)) in
+    let others = chars_past_char rest behind d rest_utf8 (rest_is ∙ ap (λ front. front ++ behind) (sym (encode_ascii d (omega (arith, second.high))))) in
+    ap (λ cs. map encode_utf8_all (cut (is_grapheme_break true) [] cs [])) (all ∙ ap (λ cs. c ∷ cs) others)
+    ∙ ap (map encode_utf8_all) (cut-two c d (chars behind) (plain c first) (plain d second) (omega (arith, second.high)))
+    ∙ ap₂ (λ (bytes : List ℕ) (cs : List ℕ). bytes ∷ map encode_utf8_all (cut (is_grapheme_break true) [] cs [])) (ap (λ front. front ++ []) encoded) (sym others)
+
+-- the text is split behind its first character
+pub split-plain : {X : Type 0} (r : Option X) (front back : X → List ℕ) (text : List ℕ) (d e : ℕ) → IsUtf8 text → 1 < length text →
+    (32 ≤ slice_index_or text 0 d) × (slice_index_or text 0 d < 127) → (32 ≤ slice_index_or text 1 e) × (slice_index_or text 1 e < 127) →
+    (IsSome r → IsCharBoundary text 1) → IfSome r (λ x. front x ≡ take 1 text) → IfSome r (λ x. back x ≡ drop 1 text) →
+    IfSome r (λ x. graphemes true text ≡ front x ∷ graphemes true (back x))
+split-plain None front back text d e utf8 long first second boundary is_front is_back = tt
+split-plain (Some x) front back [] d e utf8 long first second boundary is_front is_back = absurd (omega (arith, long))
+split-plain (Some x) front back (a ∷ []) d e utf8 long first second boundary is_front is_back = absurd (omega (arith, long))
+split-plain (Some x) front back (a ∷ b ∷ bytes) d e utf8 long first second boundary is_front is_back =
+    graphemes-plain a b (a ∷ b ∷ bytes) (b ∷ bytes) bytes utf8 (IsUtf8-drop (a ∷ b ∷ bytes) 1 utf8 (boundary refl)) refl refl
+    (record { low = first.0; high = first.1 }) (record { low = second.0; high = second.1 })
+    ∙ ap₂ (λ (f : List ℕ) (t : List ℕ). f ∷ graphemes true t) (sym is_front) (sym is_back)
