@@ -26,7 +26,8 @@ pub fn accepted_exactly_if_valid()
 /// Of valid ranges at most one strictly holds a place, and at most one is hit in a direction: that one is found, wherever
 /// it stands in the list.
 pub fn only_one_is_found()
-    ensures inside { (rows : List (List ℕ)) (ranges : List AtomicRange) (place : Place) (range : AtomicRange)
+    ensures inside { (rows : List (List ℕ)) (ranges : List AtomicRange) (place : Place)
+        (range : AtomicRange)
         → AreValid rows ranges → Contains ranges range
         → IsInside place range → inside ranges place ≡ Some range }
     ensures hit { (rows : List (List ℕ)) (ranges : List AtomicRange) (place : Place)
