@@ -7,7 +7,7 @@ use Rattle.std.proofs.lemmas.Str.{length-le-encodes}
 use Rattle.textarea_text.proofs.Columns.{IsCharBoundary-column, offset_in}
 use Rattle.textarea_text.proofs.Befores.{next_is}
 use Rattle.textarea_document.proofs.Area.{column_bound}
-use Rattle.textarea_text.specs.Text.{Symbol, Character, Break, joined, lines, lines_of}
+use Rattle.textarea_text.specs.Text.{Symbol, Character, Break, joined, lines, lines_of, text_of}
 use Rattle.textarea_text.specs.Place.{Place, IsPlace, IsPlaceOf, StandsAt, index_of, line_end}
 use Rattle.textarea_text.proofs.Befores.{break_stands, character_stands}
 use Rattle.textarea_text.specs.Splice.{Fits}
@@ -77,3 +77,14 @@ pub removal_of_kind : (kind : EditKind) (before after : Place) (symbols : List S
 removal_of_kind kind before after symbols removes e =
     ap (λ (b : Bool). record { place = cond b before after; symbols = symbols_of kind; inserts = b }) removes
     ∙ ap (λ (s : List Symbol). record { place = after; symbols = s; inserts = false }) e
+
+-- ---- behind the cursor, from what is found behind a place that is the cursor
+
+pub behind_cursor : {Z : Type 0} (items : List (String Z)) (text : List Symbol) (at cursor to : Place) (symbol : Symbol) → text_of items ≡ text → at ≡ cursor → IsSymbolBehind (text_of items) at to symbol → IsSymbolBehind text cursor to symbol
+behind_cursor items text at cursor to symbol text_is is h =
+    subst (λ t. IsSymbolBehind t cursor to symbol) text_is (subst (λ (p : Place). IsSymbolBehind (text_of items) p to symbol) is h)
+
+-- the change of an edit that removes there
+pub removal_at_cursor : (kind : EditKind) (before at cursor : Place) (symbols : List Symbol) → inserts_of kind ≡ false → symbols_of kind ≡ symbols → at ≡ cursor → splice_of kind before at ≡ record { place = cursor; symbols = symbols; inserts = false }
+removal_at_cursor kind before at cursor symbols removes e is =
+    removal_of_kind kind before at symbols removes e ∙ ap (λ (p : Place). record { place = p; symbols = symbols; inserts = false }) is

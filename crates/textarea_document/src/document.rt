@@ -51,10 +51,12 @@ impl Model for Document {
     ghost use Rattle.textarea_document.specs.Sound.{IsSound};
 
     ghost view = { λ document.
-        document_of document.laid document.cursor document.anchor document.ranges.items document.history.log };
+        document_of document.laid document.cursor document.anchor document.ranges.items
+        document.history.log };
 
     ghost invariant = { λ document. IsSound
-        (document_of document.laid document.cursor document.anchor document.ranges.items document.history.log) };
+        (document_of document.laid document.cursor document.anchor document.ranges.items
+        document.history.log) };
 }
 
 impl Clone for Document {

@@ -19,7 +19,8 @@ abbrev pub reason : List (List ℕ) → Option AtomicRange → AtomicRange → O
 reason rows last range =
     if range.start_col == range.end_col then Some Empty
     else (if nat_le (length rows) range.row then Some RowOutOfBounds
-    else (if nat_lt range.end_col range.start_col || nat_lt (length (line_of rows range.row)) range.end_col
+    else (if nat_lt range.end_col range.start_col
+    || nat_lt (length (line_of rows range.row)) range.end_col
     then Some ColumnOutOfBounds
     else (if nat_lt range.start_col (free_from last range.row) then Some OverlapsPrevious
     else None)))

@@ -93,8 +93,8 @@ pub fn widened(
     ensures whole { (rows : List (List ℕ)) → AreValid rows ranges.now →
         IsUpTo from to → IsWidened ranges.now from to result }
     ensures places { (rows : List (List ℕ)) → AreValid rows ranges.now →
-        IsPlaceOf rows from → IsPlaceOf rows to → IsPlaceOf rows result.0
-        × IsPlaceOf rows result.1 }
+        IsPlaceOf rows from → IsPlaceOf rows to →
+        IsPlaceOf rows result.0 × IsPlaceOf rows result.1 }
 {
     (
         moved_out(ranges, from, AtomicCursorBias::Backward),

@@ -1,13 +1,12 @@
-use Rattle.std.proofs.Common.{◌∙◌, ◌∷◌, [], false, ap, sym, subst}
+use Rattle.std.proofs.Common.{◌∙◌, ◌∷◌, [], ap, sym, subst}
 use Rattle.std.specs.Duration.{as_nanos}
-use Rattle.textarea_text.specs.Text.{symbol_in, text_of}
-use Rattle.textarea_text.specs.Place.{Place, IsPlace}
+use Rattle.textarea_text.specs.Text.{symbol_in}
+use Rattle.textarea_text.specs.Place.{IsPlace}
 use Rattle.textarea_text.specs.Splice.{Splice}
-use Rattle.textarea_document.specs.Edits.{IsSymbolBehind}
-use Rattle.textarea_document.specs.Outcomes.{edited}
-use Rattle.textarea_document.proofs.Behinds.{removal_of_kind, symbol_removed_behind_is}
-use Rattle.textarea_document.specs.Ranges.{CutsNone}
 use Rattle.textarea_ranges.specs.Held.{TakesWhole}
+use Rattle.textarea_document.specs.Outcomes.{edited}
+use Rattle.textarea_document.specs.Ranges.{CutsNone}
+use Rattle.textarea_document.proofs.Behinds.{behind_cursor, removal_at_cursor, symbol_removed_behind_is}
 use Rattle.textarea_document.proofs.Ranges.{whole_behind}
 use Rattle.textarea_document.proofs.document.Document.remove_symbol_behind.Goals as goal
 
@@ -17,14 +16,11 @@ returns-clause-ok c =
     let found = c.in-Some.behind in
     let symbol = symbol_in found.character in
     let at = c.cursor-cursor.ensures.value in
-    let behind : IsSymbolBehind document.text document.cursor found.end symbol =
-    subst (λ t. IsSymbolBehind t document.cursor found.end symbol) c.lines.ensures.value
-    (subst (λ (p : Place). IsSymbolBehind (text_of c.lines.result.now) p found.end symbol) at c.in-Some.ensures) in
     c.in_ok-edit.ensures.ok
     ∙ ap (λ (s : Splice). edited document s c.args.typed (as_nanos c.args.now))
-    (c.between.ensures.splice ∙ removal_of_kind c.deletion_of-kind.result found.end c.cursor-cursor.result (symbol ∷ []) c.deletion_of-kind.ensures.inserts c.deletion_of-kind.ensures.symbols
-    ∙ ap (λ (p : Place). record { place = p; symbols = symbol ∷ []; inserts = false }) at)
-    ∙ symbol_removed_behind_is document found.end symbol c.args.typed (as_nanos c.args.now) (subst (IsPlace document.text) at c.cursor-cursor.ensures.place) behind
+    (c.between.ensures.splice ∙ removal_at_cursor c.deletion_of-kind.result found.end c.cursor-cursor.result document.cursor (symbol ∷ []) c.deletion_of-kind.ensures.inserts c.deletion_of-kind.ensures.symbols at)
+    ∙ symbol_removed_behind_is document found.end symbol c.args.typed (as_nanos c.args.now) (subst (IsPlace document.text) at c.cursor-cursor.ensures.place)
+    (behind_cursor c.lines.result.now document.text c.cursor-cursor.result document.cursor found.end symbol c.lines.ensures.value at c.in-Some.ensures)
 
 pub edit-requires-clause-cuts_none : goal.edit-requires-clause-cuts_none
 edit-requires-clause-cuts_none c =
@@ -32,10 +28,7 @@ edit-requires-clause-cuts_none c =
     let found = c.in-Some.behind in
     let symbol = symbol_in found.character in
     let at = c.cursor-cursor.ensures.value in
-    let behind : IsSymbolBehind document.text document.cursor found.end symbol =
-    subst (λ t. IsSymbolBehind t document.cursor found.end symbol) c.lines.ensures.value
-    (subst (λ (p : Place). IsSymbolBehind (text_of c.lines.result.now) p found.end symbol) at c.in-Some.ensures) in
-    let is = c.between.ensures.splice ∙ removal_of_kind c.deletion_of-kind.result found.end c.cursor-cursor.result (symbol ∷ []) c.deletion_of-kind.ensures.inserts c.deletion_of-kind.ensures.symbols
-    ∙ ap (λ (p : Place). record { place = p; symbols = symbol ∷ []; inserts = false }) at in
+    let behind = behind_cursor c.lines.result.now document.text c.cursor-cursor.result document.cursor found.end symbol c.lines.ensures.value at c.in-Some.ensures in
+    let is = c.between.ensures.splice ∙ removal_at_cursor c.deletion_of-kind.result found.end c.cursor-cursor.result document.cursor (symbol ∷ []) c.deletion_of-kind.ensures.inserts c.deletion_of-kind.ensures.symbols at in
     subst (CutsNone document.ranges) (sym is)
     (subst (TakesWhole document.ranges document.cursor) behind.ends (whole_behind document.ranges document.cursor found.end symbol c.requires.none_hit behind.ends))
