@@ -7,7 +7,8 @@ ghost use Rattle.textarea_lines.specs.Layout.{LaidOut};
 
 use textarea_map::laws::{one_map, seen_once};
 
-/// A text as it is laid out has one list of right rows: what is seen of it decides all of them.
+/// A text as it is laid out has one list of right rows: what is seen of it decides all of them. So a contract
+/// that speaks of right rows, as that of `row_count`, speaks of one list.
 pub fn one_list_of_rows()
     ensures { (laid : LaidOut) (rows others : List RowsView) →
         IsLaidOutAs laid rows → IsLaidOutAs laid others → rows ≡ others }
@@ -15,8 +16,8 @@ pub fn one_list_of_rows()
     one_map();
 }
 
-/// From a place of a text as it is laid out one place, or none, is found one visual row up, and one place, or none, one visual
-/// row down.
+/// What `above` and `below` find from a place of a text as it is laid out, a place or none, is settled by the text, its layout
+/// and the place.
 pub fn one_place_up_and_down()
     ensures above { (laid : LaidOut) (place : Place) (found other : Option Place) →
         IsFoundAbove laid place found → IsFoundAbove laid place other → found ≡ other }
