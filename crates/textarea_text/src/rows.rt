@@ -183,8 +183,8 @@ fn end_offset(line: &str, end: (usize, usize), start: (usize, usize), offset: us
     byte_offset(line, end.1)
 }
 
-/// The most bytes and lines together that a text may have: what would be more is answered as out of memory.
-pub const MAX_SIZE: usize = 0x1_0000_0000_0000;
+// The most bytes and lines together that a text may have: what would be more is answered as out of memory.
+const MAX_SIZE: usize = 0x1_0000_0000_0000;
 
 /// The bytes of the lines and their number, summed, or the greatest `usize` where that is less.
 pub fn size_of(lines: &[String]) -> usize

@@ -1,5 +1,5 @@
 //! Insertions at the cursor of a document, or at the end of the atomic range that strictly holds it.
-ghost use Rattle.std.specs.Prelude.{◌≡◌, ◌↔◌, ◌<◌, ◌≤◌, ◌^◌, true, IsTrue, OnOk, OnErr, IsOk, IfOk, All, []};
+ghost use Rattle.std.specs.Prelude.{◌≡◌, ◌<◌, ◌≤◌, ◌^◌, true, OnOk, OnErr, IsOk, IfOk, All, []};
 ghost use Rattle.std.specs.Duration.{as_nanos};
 ghost use Rattle.textarea_text.specs.Text.{text_of};
 ghost use Rattle.textarea_text.specs.Place.{IsPlace};
@@ -89,9 +89,7 @@ impl Document {
             self.insert_nothing();
             return Ok(false);
         }
-        if is_too_large(pieces.as_slice()) {
-            return Err(AllocError);
-        }
+        rows::size_within_limit(pieces.as_slice())?;
         let start = self.insertion_place();
         let end = end_of(start, pieces.as_slice());
         self.edit(edit_of(pieces, true, start, end), false, now)?;
@@ -107,11 +105,4 @@ pub fn has_symbol(pieces: &[String]) -> bool
         return false;
     }
     1 < pieces.len() || !pieces[0].is_empty()
-}
-
-// Whether the pieces are too large for any text: their bytes and their number together are more than 2^48.
-fn is_too_large(pieces: &[String]) -> bool
-    ensures { IsTrue result ↔ (2 ^ 48 < size_of pieces.now) }
-{
-    rows::MAX_SIZE < rows::size_of(pieces)
 }
