@@ -9,8 +9,8 @@ use textarea_surround::surround::measure::TextAreaMeasure;
 
 impl TextArea<'_> {
     /// The height that an area of this width, in columns, needs for the block and all rows of the text, or of the
-    /// placeholder where that is shown. Where the rows are those of the text as it is cut now, or of the width that was
-    /// measured last, no line is cut; else each is cut once. Nothing that is seen of the text area changes.
+    /// placeholder where that is shown. Where the rows are those of the text as it is cut now, no line is cut. Nothing that is
+    /// seen of the text area changes.
     pub fn measure(&mut self, width: u16) -> Result<TextAreaMeasure, AllocError>
         ensures same { self.new ≡ self.old }
         ensures measured { IfOk result (IsMeasured self.old width) }
