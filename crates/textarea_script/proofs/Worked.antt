@@ -1,6 +1,7 @@
 -- Worked runs on an empty text, computed.
-use Rattle.std.proofs.Common.{◌≡◌, List, [], ◌∷◌, true, false, refl}
+use Rattle.std.proofs.Common.{◌≡◌, List, [], ◌∷◌, Option, None, true, false, refl, subst}
 use Rattle.textarea_text.specs.Text.{Character, Break}
+use Rattle.textarea_text.specs.Place.{Place}
 use Rattle.textarea_document.specs.Edits.{removed_before, removed_behind, part_removed}
 use Rattle.tui_textarea.specs.Removals.{yanked}
 use Rattle.textarea_target.specs.Target.{target}
@@ -35,9 +36,13 @@ abbrev AreSettled : List Call → Type 0
 AreSettled [] = Unit {0}
 AreSettled (call ∷ calls) = IsSettled call × AreSettled calls
 
+-- where such a move leads
+abbrev plain_target : State → CursorMove → Option Place
+plain_target state cursor_move = target None None state.document.text state.document.cursor cursor_move
+
 -- the state behind a move that goes over no visual rows
 abbrev after_move : State → CursorMove → State
-after_move state cursor_move = moved_by state (pushed state.document.ranges cursor_move (target state.document.text state.document.cursor cursor_move))
+after_move state cursor_move = moved_by state (pushed state.document.ranges cursor_move (plain_target state cursor_move))
 
 -- the state behind a settled call
 abbrev behind : State → Call → State
@@ -58,14 +63,18 @@ settled-answer state (SetSearchPattern text) settled = absurd settled
 settled-answer state (Measure width) settled = absurd settled
 settled-answer state call settled = refl
 
-plain-target : (state : State) (cursor_move : CursorMove) → IsPlain cursor_move → IsTarget state cursor_move (target state.document.text state.document.cursor cursor_move)
-plain-target state Up plain = absurd plain
-plain-target state Down plain = absurd plain
-plain-target state cursor_move plain = refl
+plain-target : (state : State) (cursor_move : CursorMove) → IsPlain cursor_move → IsTarget state cursor_move (plain_target state cursor_move)
+plain-target state cursor_move plain = record {
+  above = None;
+  below = None;
+  above_is = λ up. absurd (subst IsPlain up plain);
+  below_is = λ down. absurd (subst IsPlain down plain);
+  found_is = refl;
+}
 
 plain-moved : (state : State) (cursor_move : CursorMove) → IsPlain cursor_move → IsMoved state cursor_move (after_move state cursor_move)
 plain-moved state cursor_move plain = record {
-  found = target state.document.text state.document.cursor cursor_move;
+  found = plain_target state cursor_move;
   target_is = plain-target state cursor_move plain;
   new_is = refl;
 }
