@@ -3,5 +3,4 @@ pub mod Place
 pub mod Splice
 pub mod Replaced
 pub mod Size
-pub mod Digits
 pub mod Touched

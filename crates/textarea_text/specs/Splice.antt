@@ -44,14 +44,10 @@ abbrev pub CanTakeBack : List Symbol → List Splice → Type 0
 CanTakeBack text [] = Unit {0}
 CanTakeBack text (splice ∷ rest) = Fits text (inverse splice) × CanTakeBack (applied text (inverse splice)) rest
 
--- the text after all the changes, and after all were taken back, the first one first
+-- the text after all the changes, the first one first
 abbrev pub applied_all : List Symbol → List Splice → List Symbol
 applied_all text [] = text
 applied_all text (splice ∷ rest) = applied_all (applied text splice) rest
-
-abbrev pub taken_back_all : List Symbol → List Splice → List Symbol
-taken_back_all text [] = text
-taken_back_all text (splice ∷ rest) = taken_back_all (applied text (inverse splice)) rest
 
 -- the text stood before these changes: they can be made on it, one after another, and lead to the present one
 pub record StoodBefore (before text : List Symbol) (changes : List Splice) : Type 0 where

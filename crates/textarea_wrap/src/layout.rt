@@ -1,4 +1,4 @@
-//! The columns of line numbers, and the width that is left for rows.
+//! The digits of a number, the columns of line numbers, and the width that is left for rows.
 ghost use Rattle.std.specs.Prelude.{◌≡◌, ◌+◌, ◌≤◌, length};
 ghost use Rattle.std.specs.Fmt.{decimal};
 ghost use Rattle.textarea_wrap.specs.Layout.{line_number_columns, columns_for_rows};
@@ -39,7 +39,7 @@ impl LayoutMetrics {
             ≡ columns_for_rows mode inner_width (line_number_columns line_numbers line_count) }
     {
         let line_number_width = if line_numbers {
-            digit_count(line_count) + 2
+            num_digits(line_count) as usize + 2
         } else {
             0
         };
@@ -71,13 +71,13 @@ impl LayoutMetrics {
     }
 }
 
-// How many digits the number is written with, 1 for 0.
-fn digit_count(n: usize) -> usize
-    ensures value { result ≡ length (decimal n) }
+/// How many decimal digits the number is written with; 0 has one.
+pub fn num_digits(number: usize) -> u8
+    ensures value { result ≡ length (decimal number) }
     ensures few { result ≤ 20 }
 {
-    match n.checked_ilog10() {
+    match number.checked_ilog10() {
         None => 1,
-        Some(exponent) => exponent as usize + 1,
+        Some(exponent) => exponent as u8 + 1,
     }
 }

@@ -4,6 +4,7 @@
 
 pub mod laws;
 pub mod textarea;
+pub mod util;
 
 pub use textarea::TextArea;
 pub use textarea_data::cursor::{CursorMove, DataCursor};
@@ -22,7 +23,6 @@ pub use textarea_screen::screen::{
 };
 pub use textarea_search::search;
 pub use textarea_surround::surround::measure::TextAreaMeasure;
-pub use textarea_text::util;
 pub use textarea_word::word;
 pub use textarea_wrap::wrap::WrapMode;
 pub use textarea_wrap::{layout, wrap};
