@@ -1,121 +1,68 @@
 -- The law of undo.
-use Rattle.std.proofs.Common.{◌≡◌, Bool, true, false, ◌==◌, ℕ, zero, suc, ◌-◌, ◌≤◌, ◌<◌, List, [], ◌∷◌, ◌++◌, length, take, drop, Option, Some, None, slice_get, get_or, sym, ap, refl, ◌∙◌, subst, arith}
+use Rattle.std.proofs.Common.{◌≡◌, Bool, true, false, ◌==◌, ℕ, zero, suc, ◌-◌, ◌≤◌, ◌<◌, List, [], ◌∷◌, ◌++◌, length, take, drop, Option, Some, None, slice_get, sym, ap, refl, ◌∙◌, subst, arith}
 use Rattle.std.specs.Option.{IfSome}
 use Rattle.std.proofs.lemmas.Bool.{cond-false}
 use Rattle.std.proofs.lemmas.Bool.Decides.{nat_tests}
-use Rattle.std.proofs.lemmas.List.{drop_all, drop-append-le, length-append, length-take-le}
-use Rattle.std.proofs.lemmas.Option.{slice_get-get_or, slice_get_within}
+use Rattle.std.proofs.lemmas.List.{length-append}
+use Rattle.std.proofs.lemmas.Option.{slice_get_within}
 use Rattle.textarea_text.specs.Text.{Symbol}
-use Rattle.textarea_text.specs.Splice.{Splice, Fits, applied, inverse, place_after, place_before, StoodBefore}
+use Rattle.textarea_text.specs.Splice.{Splice, Fits, place_after, place_before, StoodBefore}
 use Rattle.textarea_text.specs.Place.{Place, end}
 use Rattle.textarea_text.proofs.Splices.{end-append}
-use Rattle.textarea_text.proofs.Places.{takes_back}
 use Rattle.textarea_edit.specs.Run.{merged}
-use Rattle.textarea_history.specs.Log.{Log, done_after, grown, is_typed, joins, kept, newest, next, with_done}
+use Rattle.textarea_history.specs.Log.{Log, Logged, done_after, grown, is_typed, joins, kept, newest, next, with_done}
+use Rattle.textarea_history.specs.Log.{redone as text_redone, redone_by as text_redone_by, undone as text_undone, undone_by as text_undone_by}
+use Rattle.textarea_history.specs.Law.{IsSame, times}
 use Rattle.textarea_history.proofs.Joins.{joins_newest}
-use Rattle.textarea_history.proofs.UndoLaws.{CanApply-last, applied_all-last, inverse-inverse}
-use Rattle.textarea_document.specs.State.{DocumentState}
+use Rattle.textarea_history.proofs.LogLaws.{next_again, gives_back as text_gives_back}
+use Rattle.textarea_document.specs.State.{DocumentState, logged}
 use Rattle.textarea_document.specs.Outcomes.{edited, redone, redone_by, undone, undone_by}
-use Rattle.textarea_document.specs.Law.{GivesAllBack, GivesBack, IsSame, times}
+use Rattle.textarea_document.specs.Law.{GivesAllBack, GivesBack}
 use Rattle.textarea_document.specs.Sound.{IsSound}
-use Rattle.textarea_document.proofs.Sounds.{last_split, newest_fits, sound_edited, sound_undone}
+use Rattle.textarea_document.proofs.Sounds.{logged_sound, sound_edited}
 
-same_all : (document : DocumentState) → IsSame document document
-same_all document = record { text = refl; done = refl; undone = refl }
-
-same_then : (first second third : DocumentState) → IsSame first second → IsSame second third → IsSame first third
-same_then first second third h h' = record { text = h.text ∙ h'.text; done = h.done ∙ h'.done; undone = h.undone ∙ h'.undone }
-
--- a redo of what is the same comes to the same
-redone_same : (first second : DocumentState) → IsSame first second → IsSame (redone first) (redone second)
-redone_same first second h = by (next second.log) (next first.log) (ap (λ (u : List Splice). slice_get u 0) h.undone)
+-- an undo and a redo of a document do to its text and log what they do to a text with its log
+undone_logged : (document : DocumentState) → logged (undone document) ≡ text_undone (logged document)
+undone_logged document = by (newest document.log)
   where
-    by : (found other : Option Splice) → other ≡ found → IsSame (redone_by other first) (redone_by found second)
-    by None None e = h
-    by (Some splice) (Some other) e =
-        let same : other ≡ splice = cc in
-        record {
-          text = ap (λ (s : Splice). applied first.text s) same ∙ ap (λ t. applied t splice) h.text;
-          done = ap (λ (s : Splice). first.log.done ++ s ∷ []) same ∙ ap (λ (d : List Splice). d ++ splice ∷ []) h.done;
-          undone = ap (drop 1) h.undone;
-        }
-    by None (Some other) e = cc
-    by (Some splice) None e = cc
+    by : (found : Option Splice) → logged (undone_by found document) ≡ text_undone_by found (logged document)
+    by None = refl
+    by (Some splice) = refl
 
--- and leaves the cursor where the change does that is made again
-cursor_redone : (first second : DocumentState) (splice : Splice) → IsSame first second → next second.log ≡ Some splice → (redone first).cursor ≡ place_after splice
-cursor_redone first second splice h e =
-    ap (λ (o : Option Splice). (redone_by o first).cursor) (ap (λ (u : List Splice). slice_get u 0) h.undone ∙ e)
+redone_logged : (document : DocumentState) → logged (redone document) ≡ text_redone (logged document)
+redone_logged document = by (next document.log)
+  where
+    by : (found : Option Splice) → logged (redone_by found document) ≡ text_redone_by found (logged document)
+    by None = refl
+    by (Some splice) = refl
 
--- one step more in front is one step more behind
-times-front : (count : ℕ) (step : DocumentState → DocumentState) (document : DocumentState) → times (suc count) step document ≡ times count step (step document)
-times-front zero step document = refl
-times-front (suc count) step document = ap step (times-front count step document)
+undone_times : (count : ℕ) (document : DocumentState) → logged (times count undone document) ≡ times count text_undone (logged document)
+undone_times zero document = refl
+undone_times (suc count) document = undone_logged (times count undone document) ∙ ap text_undone (undone_times count document)
 
--- ---- one undo
+redone_times : (count : ℕ) (document : DocumentState) → logged (times count redone document) ≡ times count text_redone (logged document)
+redone_times zero document = refl
+redone_times (suc count) document = redone_logged (times count redone document) ∙ ap text_redone (redone_times count document)
 
-newest_some : (done : List Splice) → 0 < length done → (splice : Splice) × (slice_get done (length done - 1) ≡ Some splice)
-newest_some [] some = absurd (omega arith)
-newest_some (first ∷ rest) some =
-    let done = first ∷ rest in
-    (get_or done (length done - 1) first, slice_get-get_or done (length done - 1) first (omega arith))
-
--- a redo behind it gives back the text and the lists
-redone_undone : (document : DocumentState) (splice : Splice) → IsSound document → newest document.log ≡ Some splice → IsSame (redone (undone_by (Some splice) document)) document
-redone_undone document splice h e =
-    let fits = newest_fits document splice h e in
-    let taken = takes_back document.text (inverse splice) fits in
-    record {
-      text = ap (λ (s : Splice). applied (applied document.text (inverse splice)) s) (sym (inverse-inverse splice)) ∙ taken.back;
-      done = sym (last_split document.log.done splice e);
-      undone = refl;
-    }
-
--- and the change led from the text before it
-stood_last : (base : List Symbol) (document : DocumentState) (splice : Splice) (changes : List Splice) → IsSound document → newest document.log ≡ Some splice → StoodBefore base (applied document.text (inverse splice)) changes → StoodBefore base document.text (changes ++ splice ∷ [])
-stood_last base document splice changes h e stood =
-    let taken = takes_back document.text (inverse splice) (newest_fits document splice h e) in
-    let same = inverse-inverse splice in
-    let one = applied document.text (inverse splice) in
-    let fits : Fits one splice = subst (Fits one) same taken.fits in
-    let back : applied one splice ≡ document.text = ap (λ (s : Splice). applied one s) (sym same) ∙ taken.back in
-    record {
-      can = CanApply-last base changes splice stood.can (subst (λ t. Fits t splice) (sym stood.leads) fits);
-      leads = applied_all-last base changes splice ∙ ap (λ t. applied t splice) stood.leads ∙ back;
-    }
-
--- the last of some are those before the newest one, and the newest
-last_changes : (done : List Splice) (splice : Splice) (count : ℕ) → slice_get done (length done - 1) ≡ Some splice → suc count ≤ length done → drop (length (take (length done - 1) done) - count) (take (length done - 1) done) ++ splice ∷ [] ≡ drop (length done - suc count) done
-last_changes done splice count e within =
-    let front = take (length done - 1) done in
-    let size : length front ≡ length done - 1 = length-take-le (length done - 1) done (omega arith) in
-    let at : length front - count ≡ length done - suc count = omega arith in
-    sym (drop-append-le (length front - count) front (splice ∷ []) (omega arith))
-    ∙ ap (λ n. drop n (front ++ splice ∷ [])) at
-    ∙ ap (drop (length done - suc count)) (sym (last_split done splice e))
+-- the last of as many redos leaves the cursor where the newest edit does
+cursor_again : (count : ℕ) (document : DocumentState) (found : Option Splice) → newest document.log ≡ found → IsSound document → count ≤ length document.log.done → 0 < count → IfSome found (λ splice. (times count redone (times count undone document)).cursor ≡ place_after splice)
+cursor_again zero document found e h within some = absurd (omega arith)
+cursor_again (suc count) document None e h within some = tt
+cursor_again (suc count) document (Some splice) e h within some =
+    let left = times (suc count) undone document in
+    let is = redone_times count left ∙ ap (times count text_redone) (undone_times (suc count) document) in
+    let ahead : next (times count redone left).log ≡ Some splice = ap (λ (l : Logged). next l.log) is ∙ next_again count (logged document) splice (logged_sound document h) e within in
+    ap (λ (o : Option Splice). (redone_by o (times count redone left)).cursor) ahead
 
 pub gives_back : (count : ℕ) (document : DocumentState) → IsSound document → count ≤ length document.log.done → GivesBack document count
-gives_back zero document h within = record {
-  before = subst (StoodBefore document.text document.text) (sym (drop_all (length document.log.done - 0) document.log.done (omega arith))) (record { can = tt; leads = refl });
-  again = same_all document;
-  cursor = λ some. absurd (omega arith);
-}
-gives_back (suc count) document h within =
-    let found = newest_some document.log.done (omega arith) in
-    let splice = found.0 in
-    let first = undone_by (Some splice) document in
-    let is_first : undone document ≡ first = ap (λ (o : Option Splice). undone_by o document) found.1 in
-    let rest = gives_back count first (sound_undone document splice h found.1) (omega (arith, within, length-take-le (length document.log.done - 1) document.log.done (omega arith))) in
-    let whole : times (suc count) undone document ≡ times count undone first = times-front count undone document ∙ ap (times count undone) is_first in
+gives_back count document h within =
+    let given = text_gives_back count (logged document) (logged_sound document h) within in
+    let back = undone_times count document in
+    let again = redone_times count (times count undone document) ∙ ap (times count text_redone) back in
     record {
-      before = subst (λ (d : DocumentState). StoodBefore d.text document.text (drop (length document.log.done - suc count) document.log.done)) (sym whole)
-          (subst (StoodBefore (times count undone first).text document.text) (last_changes document.log.done splice count found.1 within)
-          (stood_last (times count undone first).text document splice (drop (length first.log.done - count) first.log.done) h found.1 rest.before));
-      again = subst (λ (d : DocumentState). IsSame (times (suc count) redone d) document) (sym whole)
-          (same_then (redone (times count redone (times count undone first))) (redone first) document (redone_same (times count redone (times count undone first)) first rest.again) (redone_undone document splice h found.1));
-      cursor = λ _. subst (λ (o : Option Splice). IfSome o (λ s. (times (suc count) redone (times (suc count) undone document)).cursor ≡ place_after s)) (sym found.1)
-          (subst (λ (d : DocumentState). (times (suc count) redone d).cursor ≡ place_after splice) (sym whole)
-          (cursor_redone (times count redone (times count undone first)) first splice rest.again refl));
+      before = subst (λ (l : Logged). StoodBefore l.text document.text (drop (length document.log.done - count) document.log.done)) (sym back) given.before;
+      again = subst (λ (l : Logged). IsSame l (logged document)) (sym again) given.again;
+      cursor = cursor_again count document (newest document.log) refl h within;
     }
 
 -- ---- behind an edit

@@ -2,7 +2,7 @@
 use Rattle.std.specs.Prelude.{ℕ, List, [], length, Option, None}
 use Rattle.textarea_text.specs.Text.{Symbol, lines}
 use Rattle.textarea_text.specs.Place.{Place}
-use Rattle.textarea_history.specs.Log.{Log, empty_log}
+use Rattle.textarea_history.specs.Log.{Log, Logged, empty_log}
 use Rattle.textarea_lines.specs.declared.settings.LayoutSettings.{LayoutSettings}
 use Rattle.textarea_lines.specs.Layout.{LaidOut, Layout, all_cut}
 use Rattle.textarea_ranges.specs.declared.atomic.AtomicRange.{AtomicRange}
@@ -27,6 +27,10 @@ document_of laid cursor anchor ranges log = record {
   ranges = ranges;
   log = log;
 }
+
+-- the text of a document with the log of its edits
+abbrev pub logged : DocumentState → Logged
+logged document = record { text = document.text; log = document.log }
 
 -- a document without a past and without ranges, the cursor at this place; all lines are cut, where the count stood at this one
 abbrev pub fresh_document : List Symbol → LayoutSettings → ℕ → Place → ℕ → DocumentState

@@ -128,10 +128,11 @@ before_newest text splice fits =
     let same = inverse-inverse splice in
     record { fits = subst (Fits before) same taken.fits; leads = ap (applied before) (sym same) ∙ taken.back }
 
-newest_back : (logged : Logged) (splice : Splice) → IsSound logged → newest logged.log ≡ Some splice → CanTakeBack logged.text (splice ∷ reverse (take (length logged.log.done - 1) logged.log.done))
+-- the newest edit can be taken back, and those before it behind it
+pub newest_back : (logged : Logged) (splice : Splice) → IsSound logged → newest logged.log ≡ Some splice → CanTakeBack logged.text (splice ∷ reverse (take (length logged.log.done - 1) logged.log.done))
 newest_back logged splice h e = subst (CanTakeBack logged.text) (reverse_last logged.log.done splice e) h.undo
 
-sound_undone_by : (logged : Logged) (splice : Splice) → IsSound logged → newest logged.log ≡ Some splice → IsSound (undone_by (Some splice) logged)
+pub sound_undone_by : (logged : Logged) (splice : Splice) → IsSound logged → newest logged.log ≡ Some splice → IsSound (undone_by (Some splice) logged)
 sound_undone_by logged splice h e =
     let back = newest_back logged splice h e in
     let before = before_newest logged.text splice back.0 in
@@ -149,7 +150,7 @@ sound_undone logged h = by (newest logged.log) refl
     by None e = h
     by (Some splice) e = sound_undone_by logged splice h e
 
-sound_redone_by : (logged : Logged) (splice : Splice) → IsSound logged → next logged.log ≡ Some splice → IsSound (redone_by (Some splice) logged)
+pub sound_redone_by : (logged : Logged) (splice : Splice) → IsSound logged → next logged.log ≡ Some splice → IsSound (redone_by (Some splice) logged)
 sound_redone_by logged splice h e =
     let split = first_split logged.log.undone splice e in
     let ahead : CanApply logged.text (splice ∷ drop 1 logged.log.undone) = subst (CanApply logged.text) split h.redo in
@@ -280,3 +281,9 @@ gives_back (suc count) logged h within =
       again = subst (λ (d : Logged). IsSame (times (suc count) redone d) logged) (sym whole)
           (same_then (redone (times count redone (times count undone first))) (redone first) logged (redone_same (times count redone (times count undone first)) first rest.again) (redone_undone logged splice h found.1));
     }
+
+-- behind one undo more than redos, the next to be made again is the newest edit
+pub next_again : (count : ℕ) (logged : Logged) (splice : Splice) → IsSound logged → newest logged.log ≡ Some splice → suc count ≤ length logged.log.done → next (times count redone (times (suc count) undone logged)).log ≡ Some splice
+next_again count logged splice h e within =
+    let rest = gives_back count (undone_by (Some splice) logged) (sound_undone_by logged splice h e) (omega (arith, within, length-take-le (length logged.log.done - 1) logged.log.done (omega arith))) in
+    ap (λ (l : Logged). next (times count redone l).log) (undone_times count logged splice e) ∙ ap (λ (u : List Splice). slice_get u 0) rest.again.undone

@@ -82,24 +82,27 @@ pub fn truth(text: &str) -> Option<bool> {
     }
 }
 
-// The move that the text names. `Jump` has a command of its own, and `InViewport` has none yet.
+// The moves by their names. `Jump` has a command of its own, and `InViewport` has none yet.
+const MOVES: [(&str, CursorMove); 13] = [
+    ("Forward", CursorMove::Forward),
+    ("Back", CursorMove::Back),
+    ("Up", CursorMove::Up),
+    ("Down", CursorMove::Down),
+    ("Head", CursorMove::Head),
+    ("End", CursorMove::End),
+    ("Top", CursorMove::Top),
+    ("Bottom", CursorMove::Bottom),
+    ("WordForward", CursorMove::WordForward),
+    ("WordEnd", CursorMove::WordEnd),
+    ("WordBack", CursorMove::WordBack),
+    ("ParagraphForward", CursorMove::ParagraphForward),
+    ("ParagraphBack", CursorMove::ParagraphBack),
+];
+
+// The move that the text names.
 pub fn move_named(name: &str) -> Option<CursorMove> {
-    Some(match name {
-        "Forward" => CursorMove::Forward,
-        "Back" => CursorMove::Back,
-        "Up" => CursorMove::Up,
-        "Down" => CursorMove::Down,
-        "Head" => CursorMove::Head,
-        "End" => CursorMove::End,
-        "Top" => CursorMove::Top,
-        "Bottom" => CursorMove::Bottom,
-        "WordForward" => CursorMove::WordForward,
-        "WordEnd" => CursorMove::WordEnd,
-        "WordBack" => CursorMove::WordBack,
-        "ParagraphForward" => CursorMove::ParagraphForward,
-        "ParagraphBack" => CursorMove::ParagraphBack,
-        _ => return None,
-    })
+    let (_, named) = MOVES.iter().find(|(known, _)| *known == name)?;
+    Some(*named)
 }
 
 // The wrap mode that the text names.
