@@ -21,9 +21,6 @@ module _ (tab_len at : ℕ) (cs : List ℕ) (n c : ℕ) (turn : (n < length cs) 
   rest : drop n cs ≡ c ∷ drop (n + 1) cs
   rest = drop_more cs n c turn.0 ∙ ap (λ d. d ∷ drop (n + 1) cs) (sym turn.1)
 
-  pub column_more : end_column tab_len (column_after tab_len at c) (drop (n + 1) cs) ≡ end_column tab_len at (drop n cs)
-  column_more = sym (ap (end_column tab_len at) rest)
-
   pub expanded_more : (done more : List ℕ) → more ≡ done ++ encode_utf8_all (shown_char tab_len at c) →
       more ++ encode_utf8_all (with_spaces tab_len (column_after tab_len at c) (drop (n + 1) cs))
       ≡ done ++ encode_utf8_all (with_spaces tab_len at (drop n cs))

@@ -14,28 +14,15 @@ use Rattle.textarea_screen.specs.declared.screen.style.Style.{Style}
 use Rattle.textarea_paint.specs.Block.{in_area, drawn_where, title_cells}
 use Rattle.textarea_paint.specs.Cells.{Placed, is_in_cells, row_change}
 use Rattle.textarea_paint.specs.declared.paint.cells.RowCells.{RowCells}
-use Rattle.textarea_paint.proofs.CellLemmas.{row_change-outside}
-
--- the rows of an area before this one
-abbrev pub is_before_row : Rect → ℕ → ℕ → ℕ → Bool
-is_before_row area row x y = leb area.x x && ltb x (area.x + area.width) && leb area.y y && ltb y row
+use Rattle.textarea_paint.proofs.CellLemmas.{cond-then, row_change-outside}
 
 -- ---- one change of an area after another
-
-in_area-then : (inside : Bool) (f g h : ShownCell → ShownCell) (cell : ShownCell) → g (f cell) ≡ h cell →
-    cond inside (g (cond inside (f cell) cell)) (cond inside (f cell) cell) ≡ cond inside (h cell) cell
-in_area-then true f g h cell same = same
-in_area-then false f g h cell same = refl
 
 pub Changes-in_area : {a b c : Buffer} (area : Rect) (f g h : Change) → Changes a b (in_area area f) → Changes b c (in_area area g) →
     ((x y : ℕ) (cell : ShownCell) → g x y (f x y cell) ≡ h x y cell) → Changes a c (in_area area h)
 Changes-in_area area f g h first second same =
-    Changes-then (in_area area h) first second (λ x y cell. in_area-then (contains area x y) (f x y) (g x y) (h x y) cell (same x y cell))
-
--- a part is drawn, and it is one of the cells of the buffer
-pub drawn_there : (here drawn inside : Bool) → drawn ≡ true → inside ≡ true → (here && inside) ≡ (drawn && here)
-drawn_there true drawn inside is_drawn is_inside = rw (is_drawn, is_inside) refl
-drawn_there false drawn inside is_drawn is_inside = rw is_drawn refl
+    Changes-then (in_area area h) first second
+    (λ x y cell. cond-then (contains area x y) (f x y) (g x y) (h x y) cell (same x y cell))
 
 -- ---- the cells of a rectangle inside of the area
 

@@ -15,11 +15,6 @@ use Rattle.textarea_paint.specs.declared.paint.cells.RowCells.{RowCells}
 
 -- ---- tests
 
-pub bool_ext : (a b : Bool) → (a ≡ true → b ≡ true) → (b ≡ true → a ≡ true) → a ≡ b
-bool_ext true b to from = sym (to refl)
-bool_ext false true to from = from refl
-bool_ext false false to from = refl
-
 pub record IsBetween (row from to x y : ℕ) : Type 0 where
   pub at : y ≡ row
   pub behind : from ≤ x
@@ -27,9 +22,6 @@ pub record IsBetween (row from to x y : ℕ) : Type 0 where
 
 pub between : (row from to x y : ℕ) → is_between row from to x y ≡ true → IsBetween row from to x y
 between row from to x y h = record { at = grind (arith, nat_tests); behind = grind (arith, nat_tests); before = grind (arith, nat_tests) }
-
-between_test : (row from to x y : ℕ) → y ≡ row → from ≤ x → x < to → is_between row from to x y ≡ true
-between_test row from to x y at left right = grind (arith, nat_tests)
 
 -- a cell of an area stands left of its right edge
 pub contains_right : (area : Rect) (x y : ℕ) → contains area x y ≡ true → x < area.x + area.width
@@ -50,9 +42,10 @@ covered-then : (cells : RowCells) (left column : ℕ) (here : Bool) (placed : Pl
 covered-then cells left column true placed behind cell none = rw (none refl) refl
 covered-then cells left column false placed behind cell none = refl
 
-cond-then : (inside : Bool) (f g both : ShownCell → ShownCell) (cell : ShownCell) → ((c : ShownCell) → g (f c) ≡ both c) →
+-- a change of these cells alone, after another
+pub cond-then : (inside : Bool) (f g both : ShownCell → ShownCell) (cell : ShownCell) → g (f cell) ≡ both cell →
     cond inside (g (cond inside (f cell) cell)) (cond inside (f cell) cell) ≡ cond inside (both cell) cell
-cond-then true f g both cell same = same cell
+cond-then true f g both cell same = same
 cond-then false f g both cell same = refl
 
 -- a cluster, and then those behind it, are the row of all
@@ -67,8 +60,7 @@ row_change-cons cells left start cluster clusters x y cell =
     (λ c. covered cells left column (cond (covers column (placed_at start cluster)) (Some (placed_at start cluster)) None) c)
     (λ c. covered cells left column behind c)
     (λ c. covered cells left column (cond (covers column (placed_at start cluster)) (Some (placed_at start cluster)) behind) c) cell
-    (λ c.
-    covered-then cells left column (covers column (placed_at start cluster)) (placed_at start cluster) behind c
+    (covered-then cells left column (covers column (placed_at start cluster)) (placed_at start cluster) behind cell
     (λ here. find-before column (start + columns_of cluster.text) clusters (covers_parts column (placed_at start cluster) here).1))
 
 -- no cluster leaves the cells as they are

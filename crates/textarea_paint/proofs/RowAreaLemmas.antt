@@ -19,9 +19,6 @@ use Rattle.textarea_paint.proofs.CellLemmas.{row_change-outside}
 abbrev pub Meets : Rect → Rect → Rect → Type 0
 Meets area other seen = (x y : ℕ) → contains seen x y ≡ (contains area x y && contains other x y)
 
-first_of_row : (seen : Rect) (row x y : ℕ) → y ≡ row → contains seen x y ≡ true → contains seen seen.x row ≡ true
-first_of_row seen row x y at inside = grind (arith, nat_tests)
-
 pub unseen_row : (area other seen : Rect) (row : ℕ) → Meets area other seen → contains seen seen.x row ≡ false → (x y : ℕ) → contains other x y ≡ true → is_in_row area row x y ≡ false
 unseen_row area other seen row meets none x y inside = let h = meets x y in grind (arith, nat_tests)
 

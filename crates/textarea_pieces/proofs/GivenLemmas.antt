@@ -25,10 +25,6 @@ StandApart line rest = (front : List ℕ) → line ≡ front ++ 13 ∷ [] → be
 symbols_for-kept : (c : ℕ) (behind : List ℕ) → nat_eq c 10 ≡ false → (c ≡ 13 → begins_with_line_feed behind ≡ false) → symbols_for c behind ≡ Character c ∷ []
 symbols_for-kept c behind other apart = grind (arith, nat_tests)
 
-begins-append : (cs rest : List ℕ) → HasNoLineFeed cs → begins_with_line_feed rest ≡ false → begins_with_line_feed (cs ++ rest) ≡ false
-begins-append [] rest none e = e
-begins-append (c ∷ cs) rest none e = none.0
-
 apart-next : (c : ℕ) (cs rest : List ℕ) → HasNoLineFeed cs → StandApart (c ∷ cs) rest → c ≡ 13 → begins_with_line_feed (cs ++ rest) ≡ false
 apart-next c [] rest none apart e = apart [] (ap (λ d. d ∷ []) e)
 apart-next c (d ∷ cs) rest none apart e = none.0
