@@ -162,9 +162,6 @@ cut_more row borders base tab_len mask before n start to display display' styles
 pub room_left : (column start to len : ℕ) → column ≤ 255 * start → start ≤ to → to ≤ len → 255 * len < 2 ^ 63 → column + 255 * (to - start) < 2 ^ 63
 room_left column start to len h order within room = omega arith
 
-le_of_eq : {m n : ℕ} → m ≡ n → m ≤ n
-le_of_eq e = omega arith
-
 pub pass_more : (row : List ℕ) (borders : List Border) (base : Style) (tab_len : ℕ) (mask : Option ℕ) (before : List ShownSpan) (n : ℕ) (d : Border) (display : Display) (styles styles' : OpenStyles) (spans : List ShownSpan) →
     IsCutSoFar row borders base tab_len mask before n (get_or borders n d).offset display styles spans → n < length borders →
     base_of styles' ≡ base_of styles → ((marks : List Mark) → IsBehind styles marks → IsBehind styles' (marks ++ (get_or borders n d).mark ∷ [])) →

@@ -22,24 +22,10 @@ abbrev pub lines_from_column : ℕ → List (List ℕ) → List (List ℕ)
 lines_from_column column [] = []
 lines_from_column column (line ∷ rest) = drop column line ∷ rest
 
-pub lines_from_column-zero : (rows : List (List ℕ)) → lines_from_column 0 rows ≡ rows
-lines_from_column-zero [] = refl
-lines_from_column-zero (line ∷ rest) = refl
-
 length-lines_until : (rows : List (List ℕ)) (place : Place) → place.0 < length rows → length (lines_until rows place) ≡ place.0 + 1
 length-lines_until rows place within = grind (arith, common_steps, nat_tests)
 
-pub lines_until-before : (rows : List (List ℕ)) (place : Place) (row : ℕ) → place.0 < length rows → row < place.0 → get_or (lines_until rows place) row [] ≡ get_or rows row []
-lines_until-before rows place row within below = grind (arith, common_steps, nat_tests)
-
-pub lines_until-last : (rows : List (List ℕ)) (place : Place) → place.0 < length rows → get_or (lines_until rows place) place.0 [] ≡ take place.1 (get_or rows place.0 [])
-lines_until-last rows place within = grind (arith, common_steps, nat_tests)
-
 -- ---- a place up to another
-
--- it is in a row above, or in the same row and not behind the other
-cases_up_to : (from to : Place) → IsUpTo from to → (from.0 < to.0) ⊎ ((from.0 ≡ to.0) × (from.1 ≤ to.1))
-cases_up_to from to up = grind (arith, nat_tests)
 
 place_until : (rows : List (List ℕ)) (from to : Place) → IsPlaceOf rows from → IsPlaceOf rows to → IsUpTo from to → IsPlaceOf (lines_until rows to) from
 place_until rows from to h h' up = grind (arith, common_steps, nat_tests)
