@@ -35,9 +35,7 @@ is_empty_line-string line =
 -- ---- what the searches know of a row
 
 less_and : (m n : ℕ) (b : Bool) → m < n → (nat_lt m n && b) ≡ b
-less_and m n b h =
-    let first : nat_lt m n ≡ true = grind (arith, nat_tests) in
-    rw first refl
+less_and m n b h = grind (arith, nat_tests)
 
 pub is_later_word_row-at : (rows : List (List ℕ)) (start row : ℕ) (found : Option ℕ) → start < row → found ≡ next_word_last (line_of rows row) 0 → is_later_word_row rows start row ≡ is_some found
 is_later_word_row-at rows start row found later e = less_and start row (is_some (next_word_last (line_of rows row) 0)) later ∙ ap is_some (sym e)
