@@ -9,7 +9,7 @@ use Rattle.std.proofs.lemmas.Grind.{common_steps}
 use Rattle.std.proofs.lemmas.Bool.Decides.{nat_tests}
 use Rattle.std.proofs.lemmas.List.{length-map, append-nil, append_assoc, take-append-drop, map-append, take_more}
 use Rattle.std.proofs.lemmas.Str.{chars-append, encodes-append, encodes-chars, encodes_same, IsUtf8-take, IsUtf8-drop, IsCharBoundary-before_ascii, chars_past_char, encode_ascii}
-use Rattle.textarea_text.specs.Text.{Symbol, Character, Break, characters, characters_of, following, joined, leading, lines_of, text_of}
+use Rattle.textarea_text.specs.Text.{Symbol, Character, Break, characters, characters_of, following, leading, lines_of, text_of}
 use Rattle.textarea_text.proofs.Splices.{joined-append, following-append}
 use Rattle.textarea_pieces.specs.Given.{given, written, symbols_for, begins_with_line_feed}
 

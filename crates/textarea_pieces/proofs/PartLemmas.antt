@@ -1,14 +1,12 @@
 -- The part of a text between two places, and its lines.
-use Rattle.std.proofs.Common.{◌≡◌, ℕ, zero, suc, ◌+◌, ◌-◌, ◌<◌, ◌≤◌, ◌⊎◌, inl, inr, List, [], ◌∷◌, ◌++◌, length, take, drop, get_or, refl, sym, ap, ◌∙◌, arith, String}
+use Rattle.std.proofs.Common.{◌≡◌, ℕ, zero, suc, ◌+◌, ◌-◌, ◌<◌, ◌≤◌, List, [], ◌∷◌, ◌++◌, length, take, drop, get_or, refl, sym, ap, ◌∙◌, arith, String}
 use Rattle.std.proofs.lemmas.Grind.{common_steps}
-use Rattle.std.proofs.lemmas.Bool.{cases_order}
 use Rattle.std.proofs.Math.Nat.{add-zero}
 use Rattle.std.proofs.lemmas.Bool.Decides.{nat_tests}
-use Rattle.std.proofs.lemmas.List.{append-nil, append_assoc, drop_more, drop_at, take_at, get_or_at, get_or_append_left, get_or-drop, get_or-take, length-append, length-drop, length-take-le, map-append}
+use Rattle.std.proofs.lemmas.List.{append-nil, append_assoc, drop_more, length-append, length-drop}
 use Rattle.textarea_text.specs.Text.{Symbol, characters, characters_of, following, joined, leading, lines_of, text_of}
-use Rattle.textarea_text.specs.Place.{Place, IsPlaceOf, IsUpTo, index_of, row_start}
+use Rattle.textarea_text.specs.Place.{Place, IsPlaceOf, IsUpTo, index_of}
 use Rattle.textarea_text.proofs.Splices.{joined-append}
-use Rattle.textarea_text.proofs.StringRows.{line_at}
 use Rattle.textarea_text.proofs.Places.{part_rows, index_parted}
 use Rattle.textarea_pieces.specs.Part.{part}
 

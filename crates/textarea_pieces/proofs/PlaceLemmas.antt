@@ -71,8 +71,13 @@ end_of_one place line = ap (end place) (append-nil (characters line)) ∙ end-ch
 
 end_of_lines : (place : Place) (first : List ℕ) (above : List (List ℕ)) (last : List ℕ) → end place (leading (first ∷ above) ++ characters last) ≡ (place.0 + length (first ∷ above), length last)
 end_of_lines place first above last =
-    rw (end-append place (leading (first ∷ above)) (characters last), end-append place (characters first) (Break ∷ leading above), end-characters place.0 place.1 first,
-    end-leading (place.0 + 1) above, end-characters (place.0 + 1 + length above) 0 last)
+    rw (
+      end-append place (leading (first ∷ above)) (characters last),
+      end-append place (characters first) (Break ∷ leading above),
+      end-characters place.0 place.1 first,
+      end-leading (place.0 + 1) above,
+      end-characters (place.0 + 1 + length above) 0 last,
+    )
     (ap₂ (λ (m n : ℕ). (m, n)) (omega arith) (omega arith))
 
 end_of_parts : (place : Place) (above : List (List ℕ)) (last : List ℕ) → 0 < length above → end place (joined (above ++ last ∷ [])) ≡ (place.0 + length above, length last)

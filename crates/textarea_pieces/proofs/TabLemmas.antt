@@ -1,6 +1,6 @@
 -- Widths behind the last tab stop.
-use Rattle.std.proofs.Common.{◌≡◌, ◌<◌, ℕ, ◌+◌, ◌%◌, List, [], ◌∷◌, sym, ap, ◌∙◌, add_assoc, arith, false}
-use Rattle.std.proofs.Math.Nat.{mod-add-mod, mod-eq_of_lt}
+use Rattle.std.proofs.Common.{◌≡◌, ◌<◌, ℕ, ◌+◌, ◌%◌, List, [], ◌∷◌, add_assoc, arith, false}
+use Rattle.std.proofs.Math.Nat.{mod-add-mod}
 use Rattle.std.proofs.lemmas.Grind.{common_steps}
 use Rattle.std.specs.Option.{unwrap_or}
 use Rattle.unicode_width.specs.Width.{char_width}
