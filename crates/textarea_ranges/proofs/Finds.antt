@@ -1,7 +1,7 @@
 -- What `find` tells of a list: the element that it finds stands in it and passes, and where it finds none, none passes.
-use Rattle.std.proofs.Common.{◌≡◌, ℕ, zero, suc, ◌<◌, Bool, true, false, List, [], ◌∷◌, length, get_or, find, Some, None, sym, ◌∙◌, inl, inr, arith, suc-le-suc, le_of_suc-le-suc}
+use Rattle.std.proofs.Common.{◌≡◌, ℕ, zero, suc, ◌<◌, Bool, true, false, List, [], ◌∷◌, length, get_or, find, Some, None, inl, inr, arith, suc-le-suc, le_of_suc-le-suc}
 use Rattle.std.proofs.lemmas.Bool.Decides.{nat_tests}
-use Rattle.std.proofs.lemmas.Bool.{cases_Bool, cond-true, cond-false}
+use Rattle.std.proofs.lemmas.Bool.{cases_Bool}
 
 -- the element stands in the list and passes the test
 pub record Found {X : Type 0} (test : X → Bool) (xs : List X) (x : X) : Type 0 where

@@ -1,16 +1,13 @@
 -- A list is accepted exactly if it is valid; and the list of the rejected, range by range.
-use Rattle.std.proofs.Common.{◌≡◌, ◌≢◌, ◌↔◌, ℕ, ◌<◌, ◌≤◌, ◌==◌, nat_le, nat_lt, ◌||◌, Bool, true, false, List, [], ◌∷◌, ◌++◌, length, Option, Some, None, if◌then◌else◌, refl, sym, ap, ◌∙◌, inl, inr, arith, subst, zero-le, leb-false, ltb-false, eqb-true}
-use Rattle.std.proofs.lemmas.Bool.{cases_Bool, eqb-false}
+use Rattle.std.proofs.Common.{◌≡◌, ◌≢◌, ◌↔◌, ℕ, ◌≤◌, List, [], ◌∷◌, ◌++◌, Option, Some, None, refl, sym, ap, ◌∙◌, inl, inr, arith, subst, zero-le}
 use Rattle.std.proofs.lemmas.Bool.Decides.{nat_tests}
 use Rattle.std.proofs.lemmas.List.Elements.{All-from_recursion, recursion_from_All}
 use Rattle.std.specs.List.{AllByRecursion}
 use Rattle.textarea_ranges.specs.declared.atomic.AtomicRange.{AtomicRange}
 use Rattle.textarea_ranges.specs.declared.atomic.RejectedAtomicRange.{RejectedAtomicRange}
 use Rattle.textarea_ranges.specs.declared.atomic.AtomicRangeRejectReason.{AtomicRangeRejectReason}
-use Rattle.textarea_ranges.specs.declared.atomic.AtomicRangeRejectReason.TheVariants.{Empty, RowOutOfBounds, ColumnOutOfBounds, OverlapsPrevious}
 use Rattle.textarea_ranges.specs.Order.{AreInOrder, in_order, is_before}
 use Rattle.textarea_ranges.specs.Rejected.{free_from, last_valid, reason, rejected_behind, rejected_of, with_reason, AreAccepted, AreRefused}
-use Rattle.textarea_text.specs.Place.{line_of}
 use Rattle.textarea_ranges.specs.Valid.{AreDisjoint, AreValid, IsPart}
 use Rattle.textarea_ranges.proofs.Lists.{AllPairs-later, EachLater, each_both, each_weaker, later-AllPairs}
 use Rattle.textarea_ranges.proofs.Sorts.{NotBefore}

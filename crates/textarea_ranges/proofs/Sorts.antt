@@ -1,13 +1,13 @@
 -- Sorts that keep the order of elements that tie: there is one result, and an insertion one by one gives it.
-use Rattle.std.proofs.Common.{◌≡◌, ℕ, zero, suc, ◌+◌, Bool, true, false, not, ◌&&◌, cond, List, [], ◌∷◌, get_or, filter, refl, sym, ap, subst, ◌∙◌, inl, inr, arith, suc-le-suc, zero-le}
-use Rattle.std.proofs.lemmas.Bool.{cases_Bool, cond-true, cond-false}
+use Rattle.std.proofs.Common.{◌≡◌, ℕ, zero, suc, ◌+◌, Bool, true, false, cond, List, [], ◌∷◌, get_or, filter, refl, sym, subst, ◌∙◌, inl, inr, arith, suc-le-suc, zero-le}
+use Rattle.std.proofs.lemmas.Bool.{cases_Bool}
 use Rattle.std.proofs.lemmas.Bool.Decides.{nat_tests}
 use Rattle.std.proofs.lemmas.List.Elements.{All-from_recursion, recursion_from_All}
 use Rattle.std.proofs.lemmas.List.Sorted.{sorted_far}
 use Rattle.std.specs.List.{AllByRecursion}
 use Rattle.std.specs.Cmp.{IsStrictWeakOrder}
 use Rattle.std.specs.List.Sorted.{IsSortedBy, IsStableBy, ties}
-use Rattle.textarea_ranges.proofs.Lists.{EachLater, filter-kept, filter-dropped, first_kept}
+use Rattle.textarea_ranges.proofs.Lists.{EachLater, filter-kept, first_kept}
 
 -- no later element comes before an earlier one
 abbrev pub NotBefore : {X : Type 0} → (X → X → Bool) → X → X → Type 0

@@ -1,6 +1,6 @@
 -- From a pattern that was built to the text that it was built of.
 use Rattle.std.proofs.lemmas.Grind.{common_steps}
-use Rattle.std.proofs.Common.{◌≡◌, ℕ, zero, suc, ◌+◌, ◌<◌, ◌≤◌, ◌/◌, ◌%◌, Bool, true, false, cond, nat_lt, ◌∷◌, ◌++◌, List, [], map, length, get_or, Option, None, Some, IsSomeAnd, refl, ap, ◌∙◌, subst, arith, IsUtf8, string_bytes, Global}
+use Rattle.std.proofs.Common.{◌≡◌, ℕ, zero, suc, ◌+◌, ◌<◌, ◌≤◌, true, ◌∷◌, ◌++◌, List, [], map, length, get_or, Option, None, Some, IsSomeAnd, refl, ap, ◌∙◌, subst, arith, IsUtf8, string_bytes, Global}
 use Rattle.std.specs.Prelude.{All, String}
 use Rattle.std.specs.Coded.{coded_ℕ, coded_list, coded×, Coded-set}
 use Rattle.std.specs.Option.{option_map_or}
@@ -8,7 +8,7 @@ use Rattle.std.proofs.Math.Logic.{∥∥₁_elim}
 use Rattle.std.proofs.Math.Utf8.{encode, encodes, scalar, scalars}
 use Rattle.std.proofs.lemmas.Bool.{and_parts}
 use Rattle.std.proofs.lemmas.Bool.Decides.{nat_tests}
-use Rattle.std.proofs.lemmas.List.Elements.{All-nil, All-cons, All-append}
+use Rattle.std.proofs.lemmas.List.Elements.{All-nil, All-append}
 use Rattle.std.proofs.lemmas.Str.{IsUtf8-string_bytes}
 use Rattle.regex_hir.specs.Re.{Re}
 use Rattle.regex_syntax.specs.Brackets.{Nested}
