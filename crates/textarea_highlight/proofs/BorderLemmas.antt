@@ -5,7 +5,11 @@ use Rattle.std.specs.Fmt.Cut.{floor_char_boundary}
 use Rattle.std.specs.declared.cmp.Ordering.{Ordering}
 use Rattle.std.specs.declared.cmp.Ordering.TheVariants.{Less, Equal, Greater}
 use Rattle.std.specs.Ordering.{nat_cmp, ordering_then}
+use Rattle.std.specs.Cmp.{IsStrictWeakOrder, nat_cmp_total, on_total, then_total}
 use Rattle.std.specs.List.Sorted.{IsSortedByKey}
+use Rattle.std.proofs.lemmas.Bool.Decides.{nat_tests}
+use Rattle.std.proofs.lemmas.List.MinMax.{ranks_by}
+use Rattle.std.proofs.lemmas.List.Sorted.{sorted_far}
 use Rattle.std.proofs.lemmas.Bool.{cases_lt}
 use Rattle.std.proofs.lemmas.List.{get_or_default, get_or_past, append_assoc, append-nil}
 use Rattle.std.proofs.lemmas.Map.Keys.{ge_from_not_lt}
@@ -22,11 +26,10 @@ abbrev pub IsLastBoundary : List ℕ → ℕ → ℕ → Type 0
 IsLastBoundary row offset at = (at ≤ offset) × IsCharBoundary row at × ((k : ℕ) → at < k → k ≤ offset → ¬ (IsCharBoundary row k))
 
 starts : (b : ℕ) → (128 ≤ b → 192 ≤ b) → is_char_start b ≡ true
-starts b h = ⊎_elim (λ low. rw (lt-ltb b 128 low) refl) (λ high. rw (le-ltb b 128 high, le-leb 192 b (h high)) refl) (cases_lt b 128)
+starts b h = grind (arith, nat_tests)
 
 continues : (b : ℕ) → ¬ (128 ≤ b → 192 ≤ b) → is_char_start b ≡ false
-continues b h = ⊎_elim (λ low. absurd (h (λ high. omega arith)))
-    (λ high. ⊎_elim (λ mid. rw (le-ltb b 128 high, lt-leb 192 b mid) refl) (λ top. absurd (h (λ _. top))) (cases_lt b 192)) (cases_lt b 128)
+continues b h = grind (arith, nat_tests)
 
 -- the last boundary is the one at which the search downwards stops
 floor_char_boundary_is : (row : List ℕ) (n at : ℕ) → n < length row → IsLastBoundary row n at → floor_char_boundary row n ≡ at
@@ -61,30 +64,15 @@ rounded row offset at h = ⊎_elim
 
 -- ---- borders in order stand in ascending order
 
-first_not : (x y : Ordering) → is_lt (ordering_then x y) ≡ false → is_lt x ≡ false
-first_not Less y h = h
-first_not Equal y h = refl
-first_not Greater y h = refl
-
 not_before : (a b : Border) → is_lt (place_cmp (place_of b) (place_of a)) ≡ false → a.offset ≤ b.offset
-not_before a b h =
-    ge_from_not_lt b.offset a.offset (first_not (nat_cmp b.offset a.offset) (nat_cmp b.rank a.rank) h)
+not_before a b h = grind (arith, nat_tests)
 
-climb : (borders : List Border) (d : Border) → ((k : ℕ) → k + 1 < length borders → (get_or borders k d).offset ≤ (get_or borders (k + 1) d).offset) →
-    (i n : ℕ) → i + n < length borders → (get_or borders i d).offset ≤ (get_or borders (i + n) d).offset
-climb borders d h i zero lt = let e : i + 0 ≡ i = omega arith in rw e (omega arith)
-climb borders d h i (suc n) lt =
-    let e : i + suc n ≡ i + n + 1 = omega arith in
-    let before = climb borders d h i n (omega arith) in
-    let last = h (i + n) (omega arith) in
-    rw e (omega arith)
+order_of_borders : IsStrictWeakOrder (λ (a b : Border). is_lt (place_cmp (place_of a) (place_of b)))
+order_of_borders = ranks_by (then_total (on_total (λ (p : ℕ × ℕ). p.0) nat_cmp_total) (on_total (λ (p : ℕ × ℕ). p.1) nat_cmp_total)) place_of
 
 pub ascending : (borders : List Border) → IsSortedByKey place_of place_cmp borders → IsAscending borders
 ascending borders h i k d e le lt =
-    let same : i + (k - i) ≡ k = omega arith in
-    let up = climb borders d (λ j below. not_before (get_or borders j d) (get_or borders (j + 1) d) (h j d (omega arith) below)) i (k - i) (omega arith) in
-    let to : (get_or borders i d).offset ≤ (get_or borders k d).offset = rw same at up in
-    rw (get_or_default borders k e d lt) to
+    rw (get_or_default borders k e d lt) (not_before (get_or borders i d) (get_or borders k d) (sorted_far _ order_of_borders borders h i k d le lt))
 
 -- ---- one match more
 

@@ -2,6 +2,7 @@
 use Rattle.std.proofs.Common.{◌≡◌, ℕ, zero, suc, ◌+◌, ◌-◌, ◌<◌, ◌≤◌, Bool, true, false, ◌==◌, cond, List, [], ◌∷◌, ◌++◌, take, length, count_by, Option, None, Some, refl, sym, ap, ◌∙◌, subst, inl, inr, arith}
 use Rattle.std.specs.List.{slice_get}
 use Rattle.std.specs.Option.{option_or, MatchOption}
+use Rattle.std.proofs.lemmas.Bool.{false≢true}
 use Rattle.std.proofs.lemmas.Bool.Decides.{nat_tests}
 use Rattle.std.proofs.lemmas.List.{append_assoc, append-nil, length-append, length-take, take-take, take-append-le, take_all}
 use Rattle.std.proofs.lemmas.List.Sums.{sum_by-cons}
@@ -20,20 +21,10 @@ closed_by (End ∷ marks) = closed_by marks + 1
 StaysAbove : List Mark → ℕ → Type 0
 StaysAbove marks d = (n : ℕ) → count_by is_end (take n marks) ≤ count_by is_start (take n marks) + d
 
--- the marks behind the first
-module _ (style : Style) (marks : List Mark) (n : ℕ) where
-  starts_behind_start : count_by is_start (take (suc n) (Start style ∷ marks)) ≡ 1 + count_by is_start (take n marks)
-  starts_behind_start = sum_by-cons (λ mark. cond (is_start mark) 1 0) (Start style) (take n marks)
-
-  ends_behind_start : count_by is_end (take (suc n) (Start style ∷ marks)) ≡ count_by is_end (take n marks)
-  ends_behind_start = refl
-
-module _ (marks : List Mark) (n : ℕ) where
-  starts_behind_end : count_by is_start (take (suc n) (End ∷ marks)) ≡ count_by is_start (take n marks)
-  starts_behind_end = refl
-
-  ends_behind_end : count_by is_end (take (suc n) (End ∷ marks)) ≡ 1 + count_by is_end (take n marks)
-  ends_behind_end = sum_by-cons (λ mark. cond (is_end mark) 1 0) End (take n marks)
+-- those behind the first mark, and that one
+counted_behind : (test : Mark → Bool) (mark : Mark) (marks : List Mark) (n : ℕ) →
+    count_by test (take (suc n) (mark ∷ marks)) ≡ cond (test mark) 1 0 + count_by test (take n marks)
+counted_behind test mark marks n = sum_by-cons (λ m. cond (test m) 1 0) mark (take n marks)
 
 above_of_closed : (marks : List Mark) (d : ℕ) → closed_by marks ≤ d → StaysAbove marks d
 unfolding closed_by StaysAbove
@@ -41,19 +32,19 @@ above_of_closed [] d h zero = omega arith
 above_of_closed [] d h (suc n) = omega arith
 above_of_closed (Start style ∷ marks) d h zero = omega arith
 above_of_closed (Start style ∷ marks) d h (suc n) =
-    omega (arith, above_of_closed marks (d + 1) (omega arith) n, starts_behind_start style marks n, ends_behind_start style marks n)
+    omega (arith, above_of_closed marks (d + 1) (omega arith) n, counted_behind is_start (Start style) marks n, counted_behind is_end (Start style) marks n)
 above_of_closed (End ∷ marks) d h zero = omega arith
 above_of_closed (End ∷ marks) d h (suc n) =
-    omega (arith, above_of_closed marks (d - 1) (omega arith) n, starts_behind_end marks n, ends_behind_end marks n)
+    omega (arith, above_of_closed marks (d - 1) (omega arith) n, counted_behind is_start End marks n, counted_behind is_end End marks n)
 
 closed_of_above : (marks : List Mark) (d : ℕ) → StaysAbove marks d → closed_by marks ≤ d
 unfolding closed_by StaysAbove
 closed_of_above [] d h = omega arith
 closed_of_above (Start style ∷ marks) d h =
-    omega (arith, closed_of_above marks (d + 1) (λ n. omega (arith, h (suc n), starts_behind_start style marks n, ends_behind_start style marks n)))
+    omega (arith, closed_of_above marks (d + 1) (λ n. omega (arith, h (suc n), counted_behind is_start (Start style) marks n, counted_behind is_end (Start style) marks n)))
 closed_of_above (End ∷ marks) d h =
-    let first : 0 < d = omega (arith, h (suc zero), starts_behind_end marks zero, ends_behind_end marks zero) in
-    omega (arith, closed_of_above marks (d - 1) (λ n. omega (arith, h (suc n), starts_behind_end marks n, ends_behind_end marks n)))
+    let first : 0 < d = omega (arith, h (suc zero), counted_behind is_start End marks zero, counted_behind is_end End marks zero) in
+    omega (arith, closed_of_above marks (d - 1) (λ n. omega (arith, h (suc n), counted_behind is_start End marks n, counted_behind is_end End marks n)))
 
 stays_of_closed : (marks : List Mark) → (closed_by marks == 0) ≡ true → StaysOpen marks
 unfolding StaysAbove
@@ -105,9 +96,6 @@ later_none style marks (suc k) other above h = h k other
 none_yet : (style : Style) (marks : List Mark) (k : ℕ) (other : Style) → ¬ (StaysOpen marks) → OpensNone marks → ¬ (OpensAt (Start style ∷ marks) k other)
 none_yet style marks zero other closed h = λ opens. closed opens.1
 none_yet style marks (suc k) other closed h = h k other
-
-cc_absurd : false ≡ true → ⊥
-cc_absurd e = cc
 
 no_mark : (k : ℕ) (other : Style) → slice_get {X = Mark} [] k ≡ Some (Start other) → ⊥
 no_mark k other e = cc
@@ -190,7 +178,7 @@ unfolding last
 step style marks (Some t) stays same h =
     (suc h.0, h.1, λ k other above. later style marks k other h.0 above h.2)
 step style marks None true same h = (0, (refl, same.0 refl), λ k other above. later_none style marks k other above h)
-step style marks None false same h = λ k other. none_yet style marks k other (λ stays'. cc_absurd (same.1 stays')) h
+step style marks None false same h = λ k other. none_yet style marks k other (λ stays'. false≢true (same.1 stays')) h
 
 last_open : (marks : List Mark) → MatchOption (last (left_open marks)) (OpensNone marks) (OpensLast marks)
 unfolding last left_open

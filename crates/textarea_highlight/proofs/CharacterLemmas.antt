@@ -9,6 +9,7 @@ use Rattle.std.specs.Str.Iter.{char_indices_steps, char_indices_rest, char_indic
 use Rattle.std.specs.declared.str.CharIndices.{CharIndices}
 use Rattle.std.proofs.lemmas.List.{length-append}
 use Rattle.std.proofs.lemmas.Iterator.Consumers.{nth_from_yields_List}
+use Rattle.std.proofs.lemmas.Option.{same_Some}
 use Rattle.std.proofs.lemmas.Str.{encode_same, encodes-chars, length-encode, len_utf8_bounds}
 
 abbrev pub char_starts : ℕ → List ℕ → List (ℕ × ℕ)
@@ -46,9 +47,6 @@ later at c cs column p h = record {
   end = omega (arith, h.end, length-append (encode_utf8 c) (encode_utf8_all (take (suc column) cs)));
 }
 
-some_same : (x y : ℕ × ℕ) → Some x ≡ Some y → x ≡ y
-some_same x y e = cc
-
 one : (at c : ℕ) → at + length (encode_utf8 c) ≡ at + length (encode_utf8 c ++ [])
 one at c = omega (arith, length-append (encode_utf8 c) [])
 
@@ -61,7 +59,7 @@ first at c cs p e = record {
 
 pub character_at : (at : ℕ) (cs : List ℕ) (column : ℕ) (p : ℕ × ℕ) → slice_get (char_starts at cs) column ≡ Some p → IsCharacterAt at cs column p
 character_at at [] column p e = cc
-character_at at (c ∷ cs) zero p e = first at c cs p (some_same (at, c) p e)
+character_at at (c ∷ cs) zero p e = first at c cs p (same_Some (at, c) p e)
 character_at at (c ∷ cs) (suc column) p e = later at c cs column p (character_at (at + length (encode_utf8 c)) cs column p e)
 
 pub no_character_at : (at : ℕ) (cs : List ℕ) (column : ℕ) → slice_get (char_starts at cs) column ≡ None → length cs ≤ column

@@ -4,9 +4,10 @@ use Rattle.std.specs.List.{filter, All, Any}
 use Rattle.std.specs.Str.{chars}
 use Rattle.std.proofs.lemmas.Bool.{cases_lt}
 use Rattle.std.proofs.lemmas.Bool.Decides.{nat_tests}
+use Rattle.std.proofs.lemmas.Grind.{common_steps}
 use Rattle.std.proofs.lemmas.List.{append-nil, append_assoc, take-append-drop, map_more, length-take-le, get_or-take, get_or-drop, drop-drop, drop-take, take-take, length-drop, get_or_default}
 use Rattle.std.proofs.lemmas.List.Elements.{filter-append, All-head, All-tail}
-use Rattle.std.proofs.lemmas.Str.{chars_from_encodes, IsUtf8-take, IsUtf8-between, IsUtf8-append, encodes-append, chars-nil}
+use Rattle.std.proofs.lemmas.Str.{chars-append, IsUtf8-take, IsUtf8-between, IsUtf8-append, encodes-append, chars-nil}
 use Rattle.textarea_screen.specs.declared.screen.style.Style.{Style}
 use Rattle.textarea_screen.specs.Text.{ShownSpan}
 use Rattle.textarea_highlight.specs.declared.highlight.borders.Mark.{Mark}
@@ -19,12 +20,6 @@ use Rattle.textarea_highlight.specs.Display.{shown}
 use Rattle.textarea_highlight.specs.Cut.{marks_upto, piece_of, shown_piece, ShowsPiece, IsCut, ShowsNext, AddsPiece}
 
 -- ---- the column behind a piece
-
-pub chars-append : (xs ys : List ℕ) → IsUtf8 xs → IsUtf8 ys → chars (xs ++ ys) ≡ chars xs ++ chars ys
-chars-append xs ys u v =
-    let both : encode_utf8_all (u.0 ++ v.0) ≡ xs ++ ys = encodes-append u.0 v.0 ∙ ap (λ zs. zs ++ encode_utf8_all v.0) u.1.1 ∙ ap (λ zs. xs ++ zs) v.1.1 in
-    sym (chars_from_encodes (u.0 ++ v.0) (xs ++ ys) (IsUtf8-append xs ys u v) both)
-    ∙ ap (λ zs. zs ++ v.0) (chars_from_encodes u.0 xs u u.1.1) ∙ ap (λ zs. chars xs ++ zs) (chars_from_encodes v.0 ys v v.1.1)
 
 end_column-append : (tab_len column : ℕ) (xs ys : List ℕ) →
     end_column tab_len column (xs ++ ys) ≡ end_column tab_len (end_column tab_len column xs) ys
@@ -41,12 +36,6 @@ filter-none : {X : Type 0} (p : X → Bool) (xs : List X) → All (λ x. p x ≡
 filter-none p [] h = refl
 filter-none p (x ∷ xs) h = rw (All-head (λ y. p y ≡ false) x xs h) (filter-none p xs (All-tail (λ y. p y ≡ false) x xs h))
 
-le_true : (m n : ℕ) → m ≤ n → nat_le m n ≡ true
-le_true m n h = grind (arith, nat_tests)
-
-le_false : (m n : ℕ) → n < m → nat_le m n ≡ false
-le_false m n h = grind (arith, nat_tests)
-
 -- the first n borders stand up to an offset, and the others from another on
 pub record Splits (borders : List Border) (n from to : ℕ) : Type 0 where
   pub within : n ≤ length borders
@@ -59,16 +48,13 @@ marks_upto-is borders n from to h below =
     let test : Border → Bool = λ border. nat_le border.offset from in
     let front : filter test (take n borders) ≡ take n borders =
     filter-all test (take n borders) (λ k d lt.
-    let first : k < n = omega (arith, length-take-le n borders h.within) in
-    rw (get_or-take n borders k d first) (le_true (get_or borders k d).offset from (h.passed k d first))) in
-    let later : (k : ℕ) → k < length (drop n borders) → (d : Border) → from < (get_or borders (n + k) d).offset =
-    λ k lt d. omega (arith, h.ahead (n + k) d (omega arith) (omega (arith, length-drop n borders))) in
+    let passed = h.passed k d (omega (arith, length-take-le n borders h.within)) in
+    rw (get_or-take n borders k d (omega (arith, length-take-le n borders h.within))) (grind (arith, nat_tests))) in
     let back : filter test (drop n borders) ≡ [] =
     filter-none test (drop n borders) (λ k d lt.
-    rw (get_or-drop n borders k d) (le_false (get_or borders (n + k) d).offset from (later k lt d))) in
-    ap (map (λ (border : Border). border.mark))
-    (ap (filter test) (sym (take-append-drop n borders)) ∙ filter-append test (take n borders) (drop n borders)
-    ∙ ap (λ ys. ys ++ filter test (drop n borders)) front ∙ ap (λ ys. take n borders ++ ys) back ∙ append-nil (take n borders))
+    let ahead = h.ahead (n + k) d (omega arith) (omega (arith, length-drop n borders)) in
+    rw (get_or-drop n borders k d) (grind (arith, nat_tests))) in
+    ap (map (λ (border : Border). border.mark)) (rw (take-append-drop, front, back, append-nil) at (filter-append test (take n borders) (drop n borders)))
 
 uncut : (borders : List Border) (n from to : ℕ) → Splits borders n from to → All (λ border. (border.offset ≤ from) ⊎ (to ≤ border.offset)) borders
 uncut borders n from to h = λ k d lt. ⊎_elim (λ below. inl (h.passed k d below)) (λ above. inr (h.ahead k d above lt)) (cases_lt k n)
@@ -104,8 +90,7 @@ abbrev pub IsEdge : List ℕ → List Border → ℕ → Type 0
 IsEdge row borders to = (to ≡ length row) ⊎ Any (λ border. border.offset ≡ to) borders
 
 pub edge_at : (row : List ℕ) (borders : List Border) (n : ℕ) (d : Border) → n < length borders → IsEdge row borders (get_or borders n d).offset
-edge_at row borders n d within =
-    let same = get_or_default borders n (get_or borders n d) d within in inr (n, get_or borders n d, within, same, refl)
+edge_at row borders n d within = grind (arith, common_steps)
 
 pub piece_empty : (row : List ℕ) (from to : ℕ) → to ≤ from → piece_of row from to ≡ []
 piece_empty row from to h =
@@ -119,18 +104,10 @@ take_parts row start to h =
     ∙ ap (λ ys. ys ++ drop start (take to row)) (take-take start to row h)
     ∙ ap (λ ys. take start row ++ ys) (ap (λ k. drop start (take k row)) (sym whole) ∙ drop-take start (to - start) row)
 
-pub drop_parts : (row : List ℕ) (from to : ℕ) → from ≤ to → drop from row ≡ slice_range row from to ++ drop to row
-drop_parts row from to h =
-    let whole : from + (to - from) ≡ to = omega arith in
-    sym (take-append-drop (to - from) (drop from row))
-    ∙ ap (λ ys. slice_range row from to ++ ys) (drop-drop (to - from) from row ∙ ap (λ k. drop k row) whole)
-
 pub column_to : (tab_len : ℕ) (row : List ℕ) (start to : ℕ) → IsUtf8 row → start ≤ to → IsCharBoundary row start → IsCharBoundary row to →
     end_column tab_len (end_column tab_len 0 (chars (take start row))) (piece_of row start to) ≡ end_column tab_len 0 (chars (take to row))
 column_to tab_len row start to u h at at' =
-    sym (end_column-append tab_len 0 (chars (take start row)) (piece_of row start to))
-    ∙ ap (end_column tab_len 0) (sym (chars-append (take start row) (slice_range row start to) (IsUtf8-take row start u at) (IsUtf8-between row start to u h at at'))
-    ∙ ap chars (sym (take_parts row start to h)))
+    rw (take_parts row start to h, chars-append (take start row) (slice_range row start to) (IsUtf8-take row start u at), end_column-append) refl
 
 piece_shown : (row : List ℕ) (borders : List Border) (base : Style) (tab_len : ℕ) (mask : Option ℕ) (before : List ShownSpan) (n start to : ℕ) (display : Display) (styles : OpenStyles) (spans : List ShownSpan) (span : ShownSpan) →
     IsCutSoFar row borders base tab_len mask before n start display styles spans → Splits borders n start to → IsEdge row borders to → start < to →
@@ -185,31 +162,11 @@ cut_more row borders base tab_len mask before n start to display display' styles
 pub room_left : (column start to len : ℕ) → column ≤ 255 * start → start ≤ to → to ≤ len → 255 * len < 2 ^ 63 → column + 255 * (to - start) < 2 ^ 63
 room_left column start to len h order within room = omega arith
 
-le_of_eq : {m n : ℕ} → m ≡ n → m ≤ n
-le_of_eq e = omega arith
-
 pub pass_more : (row : List ℕ) (borders : List Border) (base : Style) (tab_len : ℕ) (mask : Option ℕ) (before : List ShownSpan) (n : ℕ) (d : Border) (display : Display) (styles styles' : OpenStyles) (spans : List ShownSpan) →
     IsCutSoFar row borders base tab_len mask before n (get_or borders n d).offset display styles spans → n < length borders →
     base_of styles' ≡ base_of styles → ((marks : List Mark) → IsBehind styles marks → IsBehind styles' (marks ++ (get_or borders n d).mark ∷ [])) →
     IsCutSoFar row borders base tab_len mask before (n + 1) (get_or borders n d).offset display styles' spans
-pass_more row borders base tab_len mask before n d display styles styles' spans h within based passed =
-    let here : (k : ℕ) (e : Border) → k ≡ n → (get_or borders k e).offset ≤ (get_or borders n d).offset =
-    λ k e same. rw same (le_of_eq (ap (λ (b : Border). b.offset) (get_or_default borders n e d within))) in
-    record {
-      splits = record {
-        within = omega arith;
-        passed = λ k e lt. ⊎_elim (λ below. h.splits.passed k e below) (λ above. here k e (omega arith)) (cases_lt k n);
-        ahead = λ k e le lt. h.splits.ahead k e (omega arith) lt;
-      };
-      boundary = h.boundary;
-      tab = h.tab;
-      masked = h.masked;
-      column = h.column;
-      room = h.room;
-      base_is = based ∙ h.base_is;
-      behind = rw (map_more (λ (b : Border). b.mark) borders n d within) (passed (map (λ b. b.mark) (take n borders)) h.behind);
-      cut = h.cut;
-    }
+pass_more row borders base tab_len mask before n d display styles styles' spans h within based passed = grind (arith, common_steps)
 
 pub cut_at_start : (row : List ℕ) (borders : List Border) (base : Style) (tab_len : ℕ) (mask : Option ℕ) (before : List ShownSpan) →
     HasPieces row borders base tab_len mask before 0 before

@@ -4,16 +4,15 @@ use Rattle.std.specs.List.{list_any, filter}
 use Rattle.std.specs.Str.{chars}
 use Rattle.std.proofs.lemmas.Bool.Decides.{nat_tests}
 use Rattle.std.proofs.lemmas.List.{append_assoc, drop_more, take-append-drop}
-use Rattle.std.proofs.lemmas.Str.{chars_from_encodes, length-le-encodes, encodes-append}
+use Rattle.std.proofs.lemmas.List.Folds.{list_any-append}
+use Rattle.std.proofs.lemmas.Str.{encodes-chars, length-le-encodes, encodes-append}
 use Rattle.std.proofs.lemmas.Bool.{false≢true}
 use Rattle.textarea_wrap.specs.Columns.{next_stop, column_after, end_column}
 use Rattle.textarea_highlight.specs.Display.{is_tab, shown_char, with_spaces, without_tabs, shown}
 use Rattle.textarea_highlight.proofs.SpaceLemmas.{spaces_encoded}
 
 pub length_chars : (bs : List ℕ) → IsUtf8 bs → length (chars bs) ≤ length bs
-length_chars bs u =
-    let same = chars_from_encodes u.0 bs u u.1.1 in
-    omega (arith, length-le-encodes u.0, ap length same, ap length u.1.1)
+length_chars bs u = omega (arith, length-le-encodes (chars bs), ap length (encodes-chars bs u))
 
 -- ---- one more character
 
@@ -21,82 +20,48 @@ module _ (tab_len at : ℕ) (cs : List ℕ) (n c : ℕ) (turn : (n < length cs) 
   rest : drop n cs ≡ c ∷ drop (n + 1) cs
   rest = drop_more cs n c turn.0 ∙ ap (λ d. d ∷ drop (n + 1) cs) (sym turn.1)
 
-  pub column_more : end_column tab_len (column_after tab_len at c) (drop (n + 1) cs) ≡ end_column tab_len at (drop n cs)
-  column_more = sym (ap (end_column tab_len at) rest)
-
   pub expanded_more : (done more : List ℕ) → more ≡ done ++ encode_utf8_all (shown_char tab_len at c) →
       more ++ encode_utf8_all (with_spaces tab_len (column_after tab_len at c) (drop (n + 1) cs))
       ≡ done ++ encode_utf8_all (with_spaces tab_len at (drop n cs))
-  expanded_more done more e =
-      let next = with_spaces tab_len (column_after tab_len at c) (drop (n + 1) cs) in
-      ap (λ ys. ys ++ encode_utf8_all next) e
-      ∙ append_assoc done (encode_utf8_all (shown_char tab_len at c)) (encode_utf8_all next)
-      ∙ ap (λ ys. done ++ ys) (sym (encodes-append (shown_char tab_len at c) next))
-      ∙ ap (λ ys. done ++ encode_utf8_all (with_spaces tab_len at ys)) (sym rest)
+  expanded_more done more e = rw (e, rest, encodes-append, append_assoc) refl
 
 -- ---- a tab
 
-tab_at : (tab_len column next : ℕ) → next ≡ next_stop tab_len column → replicate (next - column) 32 ≡ encode_utf8_all (shown_char tab_len column 9)
-tab_at tab_len column next h = ap (λ n. replicate (n - column) 32) h ∙ sym (spaces_encoded (next_stop tab_len column - column))
-
 pub tab_shown : (tab_len column next c : ℕ) → c ≡ 9 → next ≡ column_after tab_len column c →
     replicate (next - column) 32 ≡ encode_utf8_all (shown_char tab_len column c)
-tab_shown tab_len column next c tab h =
-    tab_at tab_len column next (h ∙ ap (column_after tab_len column) tab) ∙ ap (λ d. encode_utf8_all (shown_char tab_len column d)) (sym tab)
+tab_shown tab_len column next c tab h = rw (h, tab) (sym (spaces_encoded (next_stop tab_len column - column)))
 
 -- ---- where nothing is changed
-
-or_parts : (a b : Bool) → (a || b) ≡ false → (a ≡ false) × (b ≡ false)
-or_parts true b e = cc
-or_parts false b e = (refl, e)
-
-or_assoc : (a b c : Bool) → (a || (b || c)) ≡ ((a || b) || c)
-or_assoc true b c = refl
-or_assoc false b c = refl
 
 no_tab_in_spaces : (n : ℕ) → list_any is_tab (replicate n 32) ≡ false
 no_tab_in_spaces zero = refl
 no_tab_in_spaces (suc n) = no_tab_in_spaces n
 
-char_same : (b : Bool) (spaces c : ℕ) → b ≡ false → cond b (replicate spaces 32) (c ∷ []) ≡ c ∷ []
-char_same true spaces c e = cc
-char_same false spaces c e = refl
-
 char_none : (b : Bool) (spaces c : ℕ) → is_tab c ≡ b → list_any is_tab (cond b (replicate spaces 32) (c ∷ [])) ≡ false
 char_none true spaces c e = no_tab_in_spaces spaces
 char_none false spaces c e = rw e refl
 
-kept_none : (b : Bool) (c : ℕ) (cs : List ℕ) → is_tab c ≡ b → list_any is_tab cs ≡ false → list_any is_tab (cond (not b) (c ∷ cs) cs) ≡ false
-kept_none true c cs e none = none
-kept_none false c cs e none = rw e none
-
-any-append : (xs ys : List ℕ) → list_any is_tab (xs ++ ys) ≡ (list_any is_tab xs || list_any is_tab ys)
-any-append [] ys = refl
-any-append (x ∷ xs) ys = ap (λ b. is_tab x || b) (any-append xs ys) ∙ or_assoc (is_tab x) (list_any is_tab xs) (list_any is_tab ys)
-
 with_spaces-same : (tab_len column : ℕ) (cs : List ℕ) → list_any is_tab cs ≡ false → with_spaces tab_len column cs ≡ cs
 with_spaces-same tab_len column [] none = refl
 with_spaces-same tab_len column (c ∷ cs) none =
-    let p = or_parts (is_tab c) (list_any is_tab cs) none in
-    ap (λ ys. ys ++ with_spaces tab_len (column_after tab_len column c) cs) (char_same (is_tab c) (next_stop tab_len column - column) c p.0)
-    ∙ ap (λ ys. c ∷ ys) (with_spaces-same tab_len (column_after tab_len column c) cs p.1)
+    let here : is_tab c ≡ false = grind (arith, nat_tests) in
+    rw (with_spaces-same tab_len (column_after tab_len column c) cs (grind (arith, nat_tests)), here) refl
 
 no_tab_shown : (tab_len column : ℕ) (cs : List ℕ) → list_any is_tab (with_spaces tab_len column cs) ≡ false
 no_tab_shown tab_len column [] = refl
 no_tab_shown tab_len column (c ∷ cs) =
-    any-append (shown_char tab_len column c) (with_spaces tab_len (column_after tab_len column c) cs)
-    ∙ ap (λ b. b || list_any is_tab (with_spaces tab_len (column_after tab_len column c) cs)) (char_none (is_tab c) (next_stop tab_len column - column) c refl)
-    ∙ no_tab_shown tab_len (column_after tab_len column c) cs
+    rw (list_any-append is_tab (shown_char tab_len column c) (with_spaces tab_len (column_after tab_len column c) cs), char_none (is_tab c) (next_stop tab_len column - column) c refl)
+    (no_tab_shown tab_len (column_after tab_len column c) cs)
 
 filter-same : (cs : List ℕ) → list_any is_tab cs ≡ false → filter (λ c. not (is_tab c)) cs ≡ cs
 filter-same [] none = refl
 filter-same (c ∷ cs) none =
-    let p = or_parts (is_tab c) (list_any is_tab cs) none in
-    rw p.0 (ap (λ ys. c ∷ ys) (filter-same cs p.1))
+    let here : is_tab c ≡ false = grind (arith, nat_tests) in
+    rw here (ap (λ ys. c ∷ ys) (filter-same cs (grind (arith, nat_tests))))
 
 no_tab_kept : (cs : List ℕ) → list_any is_tab (filter (λ c. not (is_tab c)) cs) ≡ false
 no_tab_kept [] = refl
-no_tab_kept (c ∷ cs) = kept_none (is_tab c) c (filter (λ d. not (is_tab d)) cs) refl (no_tab_kept cs)
+no_tab_kept (c ∷ cs) = grind (arith, nat_tests, no_tab_kept cs)
 
 without_tabs-same : (cs : List ℕ) → list_any is_tab (drop 1 cs) ≡ false → without_tabs cs ≡ cs
 without_tabs-same cs none = ap (λ ys. take 1 cs ++ ys) (filter-same (drop 1 cs) none) ∙ take-append-drop 1 cs
@@ -105,9 +70,6 @@ without_tabs-changed : (cs : List ℕ) → list_any is_tab (drop 1 cs) ≡ true 
 without_tabs-changed [] some = λ e. false≢true some
 without_tabs-changed (c ∷ cs) some = λ e.
     false≢true (sym (no_tab_kept cs) ∙ ap (λ ys. list_any is_tab (drop 1 ys)) e ∙ some)
-
-encodes_chars : (bs : List ℕ) → IsUtf8 bs → bs ≡ encode_utf8_all (chars bs)
-encodes_chars bs u = sym u.1.1 ∙ ap encode_utf8_all (chars_from_encodes u.0 bs u u.1.1)
 
 -- ---- a piece that is shown without a mask, by its tab length and whether it has a tab that counts
 
@@ -132,4 +94,4 @@ module _ (tab_len column : ℕ) (bs : List ℕ) (u : IsUtf8 bs) where
       false≢true (sym (no_tab_shown tab_len column (chars bs)) ∙ ap (list_any is_tab) (sym (at_some h) ∙ same) ∙ some)
 
   pub text_of_kept : shown None tab_len column (chars bs) ≡ chars bs → bs ≡ encode_utf8_all (shown None tab_len column (chars bs))
-  text_of_kept e = encodes_chars bs u ∙ ap encode_utf8_all (sym e)
+  text_of_kept e = sym (encodes-chars bs u) ∙ ap encode_utf8_all (sym e)

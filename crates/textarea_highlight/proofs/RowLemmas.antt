@@ -1,5 +1,6 @@
 -- The spans of a row, put together from its parts.
-use Rattle.std.proofs.Common.{◌≡◌, List, ◌++◌, Option, sym, ap, subst, ◌∙◌}
+use Rattle.std.proofs.Common.{arith, ◌≡◌, List, ◌++◌, Option, sym, ap, subst, ◌∙◌}
+use Rattle.std.proofs.lemmas.Grind.{common_steps}
 use Rattle.std.proofs.lemmas.List.{append_assoc}
 use Rattle.textarea_screen.specs.declared.screen.style.Style.{Style}
 use Rattle.textarea_screen.specs.Style.{empty_style}
@@ -10,24 +11,8 @@ use Rattle.textarea_highlight.specs.Cut.{AddsPieces}
 use Rattle.textarea_highlight.specs.Highlights.{Highlights, end_style, end_cell}
 use Rattle.textarea_highlight.specs.Row.{ShowsRow}
 
-shown_parts : (h : Highlights) (sorted : List Border) (after all : List ShownSpan) (style : Style) →
-    IsBorderOrder h.borders sorted → AddsPieces h.row sorted h.base h.tab_len h.mask h.numbers after →
-    all ≡ after ++ end_cell (end_style h) → style ≡ empty_style → ShowsRow h (record { spans = all; style = style })
-shown_parts h sorted after all style order parts done plain = record {
-  sorted = sorted;
-  order = order;
-  pieces = parts.pieces;
-  cut = parts.cut;
-  spans = done ∙ ap (λ ss. ss ++ end_cell (end_style h)) parts.added ∙ append_assoc h.numbers parts.pieces (end_cell (end_style h));
-  style = plain;
-  whole = parts.whole;
-}
-
 -- v is the highlighter as its fields show it
 pub row_shown : (v h : Highlights) → v ≡ h → (sorted cut : List Border) (after all : List ShownSpan) (style : Style) (end : Option Style) →
     IsBorderOrder v.borders sorted → cut ≡ sorted → AddsPieces v.row cut v.base v.tab_len v.mask v.numbers after →
     end ≡ end_style h → all ≡ after ++ end_cell end → style ≡ empty_style → ShowsRow h (record { spans = all; style = style })
-row_shown v h same sorted cut after all style end order sliced parts ends done plain =
-    subst (λ w. ShowsRow w (record { spans = all; style = style })) same
-    (shown_parts v sorted after all style order (subst (λ bs. AddsPieces v.row bs v.base v.tab_len v.mask v.numbers after) sliced parts)
-    (done ∙ ap (λ e. after ++ end_cell e) (ends ∙ ap end_style (sym same))) plain)
+row_shown v h same sorted cut after all style end order sliced parts ends done plain = grind (arith, common_steps)

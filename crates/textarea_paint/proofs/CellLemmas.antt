@@ -1,8 +1,8 @@
 -- The cells of a row, cluster by cluster.
-use Rattle.std.proofs.Common.{◌≡◌, ℕ, ◌+◌, ◌-◌, ◌<◌, ◌≤◌, min, max, Bool, true, false, cond, eqb, ◌&&◌, List, [], ◌∷◌, Option, None, Some, refl, sym, ap, ◌∙◌, ⊎_elim, arith}
+use Rattle.std.proofs.Common.{◌≡◌, ℕ, ◌+◌, ◌-◌, ◌<◌, ◌≤◌, min, max, Bool, true, false, cond, eqb, ◌&&◌, List, [], ◌∷◌, Option, None, Some, refl, ap, ◌∙◌, arith}
 use Rattle.std.specs.List.{find}
 use Rattle.std.proofs.lemmas.Bool.Decides.{nat_tests}
-use Rattle.std.proofs.lemmas.Bool.{ltb-true, leb-true, eqb-true, eq-eqb, and_parts, and_from, and_left, cases_Bool, cond-true, cond-false, false≢true, le-leb, lt-ltb, lt-leb}
+use Rattle.std.proofs.lemmas.Bool.{cond-true, cond-false}
 use Rattle.textarea_screen.specs.Cell.{ShownCell, with_symbol}
 use Rattle.textarea_screen.specs.Rect.{contains}
 use Rattle.textarea_screen.specs.declared.screen.rect.Rect.{Rect}
@@ -15,50 +15,37 @@ use Rattle.textarea_paint.specs.declared.paint.cells.RowCells.{RowCells}
 
 -- ---- tests
 
-pub bool_ext : (a b : Bool) → (a ≡ true → b ≡ true) → (b ≡ true → a ≡ true) → a ≡ b
-bool_ext true b to from = sym (to refl)
-bool_ext false true to from = from refl
-bool_ext false false to from = refl
-
 pub record IsBetween (row from to x y : ℕ) : Type 0 where
   pub at : y ≡ row
   pub behind : from ≤ x
   pub before : x < to
 
 pub between : (row from to x y : ℕ) → is_between row from to x y ≡ true → IsBetween row from to x y
-between row from to x y h =
-    let p = and_parts _ _ h in
-    let q = and_parts _ _ p.1 in
-    record { at = eqb-true y row p.0; behind = leb-true from x q.0; before = ltb-true x to q.1 }
-
-between_test : (row from to x y : ℕ) → y ≡ row → from ≤ x → x < to → is_between row from to x y ≡ true
-between_test row from to x y at left right = and_from _ _ (eq-eqb y row at) (and_from _ _ (le-leb from x left) (lt-ltb x to right))
+between row from to x y h = record { at = grind (arith, nat_tests); behind = grind (arith, nat_tests); before = grind (arith, nat_tests) }
 
 -- a cell of an area stands left of its right edge
 pub contains_right : (area : Rect) (x y : ℕ) → contains area x y ≡ true → x < area.x + area.width
 contains_right area x y inside = grind (arith, nat_tests)
 
 covers_parts : (column : ℕ) (placed : Placed) → covers column placed ≡ true → (placed.start ≤ column) × (column < placed.start + columns_of placed.text)
-covers_parts column placed h =
-    let p = and_parts _ _ h in
-    (leb-true placed.start column p.0, ltb-true column (placed.start + columns_of placed.text) p.1)
+covers_parts column placed h = (grind (arith, nat_tests), grind (arith, nat_tests))
 
 -- ---- one cluster in front of others
 
 -- a column before the first cluster is taken by none
 find-before : (column start : ℕ) (clusters : List Cluster) → column < start → find (covers column) (place_from start clusters) ≡ None
 find-before column start [] before = refl
-find-before column start (cluster ∷ clusters) before =
-    cond-false _ _ _ (and_left _ _ (lt-leb start column before)) ∙ find-before column (start + columns_of cluster.text) clusters (omega arith)
+find-before column start (cluster ∷ clusters) before = grind (arith, nat_tests, find-before column (start + columns_of cluster.text) clusters (omega arith))
 
 covered-then : (cells : RowCells) (left column : ℕ) (here : Bool) (placed : Placed) (behind : Option Placed) (cell : ShownCell) → (here ≡ true → behind ≡ None) →
     covered cells left column behind (covered cells left column (cond here (Some placed) None) cell) ≡ covered cells left column (cond here (Some placed) behind) cell
 covered-then cells left column true placed behind cell none = rw (none refl) refl
 covered-then cells left column false placed behind cell none = refl
 
-cond-then : (inside : Bool) (f g both : ShownCell → ShownCell) (cell : ShownCell) → ((c : ShownCell) → g (f c) ≡ both c) →
+-- a change of these cells alone, after another
+pub cond-then : (inside : Bool) (f g both : ShownCell → ShownCell) (cell : ShownCell) → g (f cell) ≡ both cell →
     cond inside (g (cond inside (f cell) cell)) (cond inside (f cell) cell) ≡ cond inside (both cell) cell
-cond-then true f g both cell same = same cell
+cond-then true f g both cell same = same
 cond-then false f g both cell same = refl
 
 -- a cluster, and then those behind it, are the row of all
@@ -73,8 +60,7 @@ row_change-cons cells left start cluster clusters x y cell =
     (λ c. covered cells left column (cond (covers column (placed_at start cluster)) (Some (placed_at start cluster)) None) c)
     (λ c. covered cells left column behind c)
     (λ c. covered cells left column (cond (covers column (placed_at start cluster)) (Some (placed_at start cluster)) behind) c) cell
-    (λ c.
-    covered-then cells left column (covers column (placed_at start cluster)) (placed_at start cluster) behind c
+    (covered-then cells left column (covers column (placed_at start cluster)) (placed_at start cluster) behind cell
     (λ here. find-before column (start + columns_of cluster.text) clusters (covers_parts column (placed_at start cluster) here).1))
 
 -- no cluster leaves the cells as they are
@@ -94,9 +80,7 @@ pub row_change-past : (cells : RowCells) (left start : ℕ) (clusters : List Clu
 unfolding row_change
 row_change-past cells left start clusters x y cell past =
     cond-none cells left (left + (x - cells.x)) (is_in_cells cells x y) (find (covers (left + (x - cells.x))) (place_from start clusters)) cell
-    (λ inside.
-    let b = between cells.y cells.x (cells.x + cells.width) x y inside in
-    find-before (left + (x - cells.x)) start clusters (past b.behind b.before))
+    (λ inside. find-before (left + (x - cells.x)) start clusters (past (grind (arith, nat_tests)) (grind (arith, nat_tests))))
 
 -- cells that are not of the row stay
 pub row_change-outside : (cells : RowCells) (left : ℕ) (row : List Placed) (x y : ℕ) (cell : ShownCell) → is_in_cells cells x y ≡ false → row_change cells left row x y cell ≡ cell
@@ -111,61 +95,18 @@ pub record IsDrawnAt (cells : RowCells) (pen : Pen) (columns hidden shown : ℕ)
   pub inside : shown ≡ min (columns - hidden) ((cells.x + cells.width) - pen.x)
 
 module _ (cells : RowCells) (pen : Pen) (left column hidden shown : ℕ) (cluster : Cluster) (at : IsPenAt cells left column pen) (drawn : IsDrawnAt cells pen (columns_of cluster.text) hidden shown) where
-  pub pen_moved : IsPenAt cells left (column + columns_of cluster.text) (record { hidden = pen.hidden - hidden; x = pen.x + shown })
-  pen_moved = record {
-    hidden = omega (arith, at.hidden, drawn.left_of);
-    x = omega (arith, at.hidden, at.x, drawn.left_of, drawn.inside);
-  }
-
   -- the cells that are drawn are those whose columns the cluster takes
   drawn_test : (x y : ℕ) → is_between cells.y pen.x (pen.x + shown) x y ≡ (is_in_cells cells x y && covers (left + (x - cells.x)) (placed_at column cluster))
-  drawn_test x y = bool_ext _ _
-      (λ h.
-      let b = between cells.y pen.x (pen.x + shown) x y h in
-      and_from _ _
-      (between_test cells.y cells.x (cells.x + cells.width) x y b.at (omega (arith, b.behind, at.x)) (omega (arith, b.before, at.x, drawn.inside)))
-      (and_from _ _
-      (le-leb column (left + (x - cells.x)) (omega (arith, b.behind, b.before, at.hidden, at.x, drawn.left_of, drawn.inside)))
-      (lt-ltb (left + (x - cells.x)) (column + columns_of cluster.text) (omega (arith, b.behind, b.before, at.hidden, at.x, drawn.left_of, drawn.inside)))))
-      (λ h.
-      let p = and_parts _ _ h in
-      let b = between cells.y cells.x (cells.x + cells.width) x y p.0 in
-      let c = covers_parts (left + (x - cells.x)) (placed_at column cluster) p.1 in
-      between_test cells.y pen.x (pen.x + shown) x y b.at
-      (omega (arith, b.behind, b.before, c.0, c.1, at.x))
-      (omega (arith, b.behind, b.before, c.0, c.1, at.hidden, at.x, drawn.left_of, drawn.inside)))
+  drawn_test x y = grind (arith, nat_tests, at.hidden, at.x, drawn.left_of, drawn.inside)
 
   -- it is whole where all of its columns are drawn
   drawn_whole : (x y : ℕ) → is_between cells.y pen.x (pen.x + shown) x y ≡ true → eqb shown (columns_of cluster.text) ≡ is_whole cells left (placed_at column cluster)
-  drawn_whole x y h =
-      let b = between cells.y pen.x (pen.x + shown) x y h in
-      bool_ext _ _
-      (λ all.
-      let e : shown ≡ columns_of cluster.text = eqb-true shown (columns_of cluster.text) all in
-      and_from _ _
-      (le-leb left column (omega (arith, e, b.behind, b.before, at.hidden, drawn.left_of, drawn.inside)))
-      (le-leb (column + columns_of cluster.text) (left + cells.width) (omega (arith, e, b.behind, b.before, at.hidden, at.x, drawn.left_of, drawn.inside))))
-      (λ whole.
-      let p = and_parts _ _ whole in
-      let q : left ≤ column = leb-true left column p.0 in
-      let r : column + columns_of cluster.text ≤ left + cells.width = leb-true (column + columns_of cluster.text) (left + cells.width) p.1 in
-      eq-eqb shown (columns_of cluster.text) (omega (arith, at.hidden, at.x, drawn.left_of, drawn.inside)))
+  drawn_whole x y h = grind (arith, nat_tests, at.hidden, at.x, drawn.left_of, drawn.inside)
 
   -- its first cell shows its first column
   drawn_first : (x y : ℕ) → is_between cells.y pen.x (pen.x + shown) x y ≡ true → is_whole cells left (placed_at column cluster) ≡ true →
       eqb x pen.x ≡ eqb (left + (x - cells.x)) column
-  drawn_first x y h whole =
-      let b = between cells.y pen.x (pen.x + shown) x y h in
-      let p = and_parts _ _ whole in
-      let q : left ≤ column = leb-true left column p.0 in
-      let r : column + columns_of cluster.text ≤ left + cells.width = leb-true (column + columns_of cluster.text) (left + cells.width) p.1 in
-      bool_ext _ _
-      (λ first. let e : x ≡ pen.x = eqb-true x pen.x first in eq-eqb (left + (x - cells.x)) column (omega (arith, b.before, at.hidden, at.x, drawn.left_of, drawn.inside)))
-      (λ first. let e : left + (x - cells.x) ≡ column = eqb-true (left + (x - cells.x)) column first in eq-eqb x pen.x (omega (arith, b.behind, b.before, at.hidden, at.x, drawn.left_of, drawn.inside)))
-
-symbol_of-same : (whole whole' first first' : Bool) (text : List ℕ) → whole ≡ whole' → (whole' ≡ true → first ≡ first') → symbol_of whole first text ≡ symbol_of whole' first' text
-symbol_of-same whole true first first' text same at = ap (λ w. symbol_of w first text) same ∙ ap (λ f. cond f text []) (at refl)
-symbol_of-same whole false first first' text same at = ap (λ w. symbol_of w first text) same
+  drawn_first x y h whole = grind (arith, nat_tests, at.hidden, at.x, drawn.left_of, drawn.inside)
 
 cond-one : (cells : RowCells) (left column : ℕ) (placed : Placed) (test inside here : Bool) (symbol : List ℕ) (cell : ShownCell) → test ≡ (inside && here) →
     (test ≡ true → symbol ≡ symbol_in cells left placed column) →
@@ -185,42 +126,18 @@ row_change-one cells pen left column hidden shown cluster at drawn x y cell =
     (covers (left + (x - cells.x)) (placed_at column cluster)) (symbol_of (eqb shown (columns_of cluster.text)) (eqb x pen.x) cluster.text) cell
     (drawn_test cells pen left column hidden shown cluster at drawn x y)
     (λ h.
-    symbol_of-same (eqb shown (columns_of cluster.text)) (is_whole cells left (placed_at column cluster)) (eqb x pen.x) (eqb (left + (x - cells.x)) column) cluster.text
-    (drawn_whole cells pen left column hidden shown cluster at drawn x y h) (drawn_first cells pen left column hidden shown cluster at drawn x y h))
-
--- the cells that are drawn are of the row
-pub between_outside : (cells : RowCells) (from to x y : ℕ) → cells.x ≤ from → to ≤ cells.x + cells.width → is_in_cells cells x y ≡ false → is_between cells.y from to x y ≡ false
-between_outside cells from to x y left right outside =
-    ⊎_elim
-    (λ inside.
-    let b = between cells.y from to x y inside in
-    absurd (false≢true (sym outside ∙ between_test cells.y cells.x (cells.x + cells.width) x y b.at (omega (arith, b.behind)) (omega (arith, b.before)))))
-    (λ h. h)
-    (cases_Bool (is_between cells.y from to x y))
+    let whole = drawn_whole cells pen left column hidden shown cluster at drawn x y h in
+    let first = drawn_first cells pen left column hidden shown cluster at drawn x y h in
+    grind (arith, nat_tests))
 
 -- ---- one column after another
-
-cond-more : (here before after : Bool) (f g : ShownCell → ShownCell) (cell : ShownCell) → (here ≡ true → (before ≡ false) × (after ≡ true) × (f cell ≡ g cell)) →
-    (here ≡ false → after ≡ before) → cond here (f (cond before (g cell) cell)) (cond before (g cell) cell) ≡ cond after (g cell) cell
-cond-more true before after f g cell now later = let h = now refl in rw (h.0, h.1) h.2
-cond-more false before after f g cell now later = ap (λ b. cond b (g cell) cell) (sym (later refl))
 
 -- the cells up to a column, and then that of the column
 pub between_more : (row first from at : ℕ) (whole : Bool) (text symbol : List ℕ) (style : Style) (x y : ℕ) (cell : ShownCell) → from ≤ at → symbol ≡ symbol_of whole (eqb at first) text →
     cond (eqb x at && eqb y row) (with_symbol symbol style (cond (is_between row from at x y) (with_symbol (symbol_of whole (eqb x first) text) style cell) cell))
     (cond (is_between row from at x y) (with_symbol (symbol_of whole (eqb x first) text) style cell) cell)
     ≡ cond (is_between row from (at + 1) x y) (with_symbol (symbol_of whole (eqb x first) text) style cell) cell
-between_more row first from at whole text symbol style x y cell begun is =
-    cond-more (eqb x at && eqb y row) (is_between row from at x y) (is_between row from (at + 1) x y) (with_symbol symbol style) (with_symbol (symbol_of whole (eqb x first) text) style) cell
-    (λ here.
-    let p = and_parts _ _ here in
-    let at_x : x ≡ at = eqb-true x at p.0 in
-    let at_y : y ≡ row = eqb-true y row p.1 in (
-      grind (arith, nat_tests),
-      between_test row from (at + 1) x y at_y (omega arith) (omega arith),
-      ap (λ s. with_symbol s style cell) (is ∙ ap (λ k. symbol_of whole (eqb k first) text) (sym at_x)),
-    ))
-    (λ elsewhere. grind (arith, nat_tests))
+between_more row first from at whole text symbol style x y cell begun is = grind (arith, nat_tests)
 
 -- of the cells between two columns those that an area has
 pub between_clipped : (area : Rect) (row from to first last at x y : ℕ) → first ≡ max from area.x → last ≡ min to (area.x + area.width) → first ≤ at → last ≤ at → at ≤ max first last →

@@ -1,7 +1,8 @@
 -- Printable ASCII: before another such character each one is a cluster by itself, and what stands behind it is cut as if it began
 -- the text.
 use Rattle.std.proofs.Common.{◌≡◌, ℕ, ◌<◌, ◌≤◌, Bool, true, false, cond, not, ◌&&◌, ◌||◌, ◌==◌, leb, ltb, unwrap_or, List, [], ◌∷◌, ◌++◌, map, length, take, drop, slice_index_or, Option, None, Some, IsSome, IfSome, IsCharBoundary, refl, sym, ap, ap₂, ◌∙◌, arith}
-use Rattle.std.proofs.lemmas.Bool.{and_from, and_parts, cond-true, eqb-true, le-leb, lt-ltb}
+use Rattle.std.proofs.lemmas.Bool.{cond-true}
+use Rattle.std.proofs.lemmas.Bool.Decides.{nat_tests}
 use Rattle.std.proofs.lemmas.Str.{IsUtf8-drop, chars_past_char, encode_ascii}
 use Rattle.std.specs.Prelude.{encode_utf8_all}
 use Rattle.std.specs.Str.{chars, IsUtf8}
@@ -40,19 +41,14 @@ record IsPlain (c : ℕ) : Type 0 where
   no_conjunct : indic_conjunct_break c ≡ conjunct.None
   no_picture : is_extended_pictographic c ≡ false
 
-not_false : (b : Bool) → not b ≡ true → b ≡ false
-not_false true h = sym h
-not_false false h = refl
-
 plain : (c : ℕ) → IsPrintable c → IsPlain c
 plain c printable =
-    let tested = sym (cond-true (leb 32 c && ltb c 127) (has_no_part c) true (and_from _ _ (le-leb 32 c printable.low) (lt-ltb c 127 printable.high))) ∙ all_below-at passes 127 c all_pass printable.high in
-    let p = and_parts ((grapheme_cluster_break_number (grapheme_cluster_break c) == 12) && (indic_conjunct_break_number (indic_conjunct_break c) == 3)) (not (is_extended_pictographic c)) tested in
-    let q = and_parts (grapheme_cluster_break_number (grapheme_cluster_break c) == 12) (indic_conjunct_break_number (indic_conjunct_break c) == 3) p.0 in
+    let printable_test : (leb 32 c && ltb c 127) ≡ true = grind (arith, nat_tests, printable.low, printable.high) in
+    let tested = sym (cond-true (leb 32 c && ltb c 127) (has_no_part c) true printable_test) ∙ all_below-at passes 127 c all_pass printable.high in
     record {
-      other = grapheme_cluster_break_number_injective _ _ (eqb-true _ _ q.0);
-      no_conjunct = indic_conjunct_break_number_injective _ _ (eqb-true _ _ q.1);
-      no_picture = not_false _ p.1;
+      other = grapheme_cluster_break_number_injective _ _ (grind (arith, nat_tests));
+      no_conjunct = indic_conjunct_break_number_injective _ _ (grind (arith, nat_tests));
+      no_picture = grind (arith, nat_tests);
     }
 
 -- ---- what stands behind such a character is cut without a look at it

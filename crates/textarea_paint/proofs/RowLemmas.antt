@@ -1,7 +1,6 @@
 -- A row that is drawn cluster by cluster, and the clusters that fit it.
-use Rattle.std.proofs.Common.{◌≡◌, ℕ, ◌+◌, ◌-◌, ◌<◌, ◌≤◌, min, nat_le, List, [], ◌∷◌, filter, refl, sym, ap, ◌∙◌, arith}
-use Rattle.std.proofs.lemmas.Bool.{cond-true, cond-false, le-leb, lt-leb}
-use Rattle.std.proofs.lemmas.List.Sums.{sum_by-cons}
+use Rattle.std.proofs.Common.{◌≡◌, ℕ, ◌+◌, ◌-◌, ◌<◌, ◌≤◌, min, List, [], ◌∷◌, filter, refl, sym, ap, arith}
+use Rattle.std.proofs.lemmas.Bool.Decides.{nat_tests}
 use Rattle.textarea_screen.specs.Buffer.{area_of, Changes, KeepsOutside}
 use Rattle.textarea_screen.proofs.ChangeLemmas.{Changes-inside, Changes-none, Changes-then, KeepsOutside-from_changes, KeepsOutside-then, KeepsOutside-same}
 use Rattle.textarea_screen.specs.declared.screen.buffer.Buffer.{Buffer}
@@ -72,23 +71,15 @@ fitting_ahead width room clusters = front_within room (filter (is_narrow width) 
 
 pub fitting_ahead-wide : (width room : ℕ) (cluster : Cluster) (clusters : List Cluster) → width < columns_of cluster.text →
     fitting_ahead width room (cluster ∷ clusters) ≡ fitting_ahead width room clusters
-fitting_ahead-wide width room cluster clusters wide =
-    ap (front_within room) (cond-false (is_narrow width cluster) (cluster ∷ filter (is_narrow width) clusters) (filter (is_narrow width) clusters) (lt-leb (columns_of cluster.text) width wide))
-
-fitting_ahead-narrow : (width room : ℕ) (cluster : Cluster) (clusters : List Cluster) → columns_of cluster.text ≤ width →
-    fitting_ahead width room (cluster ∷ clusters) ≡ front_within room (cluster ∷ filter (is_narrow width) clusters)
-fitting_ahead-narrow width room cluster clusters narrow =
-    ap (front_within room) (cond-true (is_narrow width cluster) (cluster ∷ filter (is_narrow width) clusters) (filter (is_narrow width) clusters) (le-leb (columns_of cluster.text) width narrow))
+fitting_ahead-wide width room cluster clusters wide = grind (arith, nat_tests)
 
 pub fitting_ahead-full : (width room : ℕ) (cluster : Cluster) (clusters : List Cluster) → columns_of cluster.text ≤ width → room < columns_of cluster.text →
     fitting_ahead width room (cluster ∷ clusters) ≡ []
-fitting_ahead-full width room cluster clusters narrow full =
-    fitting_ahead-narrow width room cluster clusters narrow ∙ cond-false (nat_le (columns_of cluster.text) room) _ _ (lt-leb (columns_of cluster.text) room full)
+fitting_ahead-full width room cluster clusters narrow full = grind (arith, nat_tests)
 
 pub fitting_ahead-fits : (width room : ℕ) (cluster : Cluster) (clusters : List Cluster) → columns_of cluster.text ≤ width → columns_of cluster.text ≤ room →
     fitting_ahead width room (cluster ∷ clusters) ≡ cluster ∷ fitting_ahead width (room - columns_of cluster.text) clusters
-fitting_ahead-fits width room cluster clusters narrow fits =
-    fitting_ahead-narrow width room cluster clusters narrow ∙ cond-true (nat_le (columns_of cluster.text) room) _ _ (le-leb (columns_of cluster.text) room fits)
+fitting_ahead-fits width room cluster clusters narrow fits = grind (arith, nat_tests)
 
 -- ---- their columns
 
@@ -96,34 +87,3 @@ fitting_ahead-fits width room cluster clusters narrow fits =
 pub record IsMeasuring (width : ℕ) (row : List Cluster) (room : ℕ) (ahead : List Cluster) : Type 0 where
   pub bound : room ≤ width
   pub sum : (width - room) + row_width (fitting_ahead width room ahead) ≡ row_width (fitting width row)
-
-pub measuring_start : (width : ℕ) (row ahead : List Cluster) → ahead ≡ row → IsMeasuring width row width ahead
-measuring_start width row ahead all = record {
-  bound = omega arith;
-  sum = let same = ap (λ cs. row_width (fitting width cs)) all in omega (arith, same);
-}
-
-pub measuring_wide : {width room : ℕ} {row ahead behind : List Cluster} (cluster : Cluster) → IsMeasuring width row room ahead → ahead ≡ cluster ∷ behind →
-    width < columns_of cluster.text → IsMeasuring width row room behind
-measuring_wide {width} {room} {row} {ahead} {behind} cluster m taken wide = record {
-  bound = m.bound;
-  sum = let same = ap row_width (ap (fitting_ahead width room) taken ∙ fitting_ahead-wide width room cluster behind wide) in omega (arith, same, m.sum);
-}
-
-pub measuring_fits : {width room : ℕ} {row ahead behind : List Cluster} (cluster : Cluster) (left : ℕ) → IsMeasuring width row room ahead → ahead ≡ cluster ∷ behind →
-    columns_of cluster.text ≤ width → columns_of cluster.text ≤ room → left ≡ room - columns_of cluster.text → IsMeasuring width row left behind
-measuring_fits {width} {room} {row} {ahead} {behind} cluster left m taken narrow fits is =
-    let same = ap row_width (ap (fitting_ahead width room) taken ∙ fitting_ahead-fits width room cluster behind narrow fits) in
-    let sum = sum_by-cons (λ (c : Cluster). columns_of c.text) cluster (fitting_ahead width (room - columns_of cluster.text) behind) in
-    rw is (record { bound = omega (arith, m.bound); sum = omega (arith, same, sum, m.sum, m.bound) })
-
-pub measuring_full : {width room : ℕ} {row ahead behind : List Cluster} (cluster : Cluster) → IsMeasuring width row room ahead → ahead ≡ cluster ∷ behind →
-    columns_of cluster.text ≤ width → room < columns_of cluster.text → width - room ≡ row_width (fitting width row)
-measuring_full {width} {room} {row} {ahead} {behind} cluster m taken narrow full =
-    let none = ap row_width (ap (fitting_ahead width room) taken ∙ fitting_ahead-full width room cluster behind narrow full) in
-    omega (arith, none, m.sum)
-
-pub measuring_end : {width room : ℕ} {row ahead : List Cluster} → IsMeasuring width row room ahead → ahead ≡ [] → width - room ≡ row_width (fitting width row)
-measuring_end {width} {room} {row} {ahead} m none =
-    let same = ap (λ cs. row_width (fitting_ahead width room cs)) none in
-    omega (arith, same, m.sum)

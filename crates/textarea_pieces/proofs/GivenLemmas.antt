@@ -5,10 +5,11 @@ use Rattle.std.specs.Option.{unwrap_or}
 use Rattle.std.specs.Prelude.{encode_utf8}
 use Rattle.std.specs.Str.{chars, IsUtf8, NonePass, NoCharPasses}
 use Rattle.std.specs.Str.Pattern.{HasCharAt}
+use Rattle.std.proofs.lemmas.Grind.{common_steps}
 use Rattle.std.proofs.lemmas.Bool.Decides.{nat_tests}
 use Rattle.std.proofs.lemmas.List.{length-map, append-nil, append_assoc, take-append-drop, map-append, take_more}
 use Rattle.std.proofs.lemmas.Str.{chars-append, encodes-append, encodes-chars, encodes_same, IsUtf8-take, IsUtf8-drop, IsCharBoundary-before_ascii, chars_past_char, encode_ascii}
-use Rattle.textarea_text.specs.Text.{Symbol, Character, Break, characters, characters_of, following, joined, leading, lines_of, text_of}
+use Rattle.textarea_text.specs.Text.{Symbol, Character, Break, characters, characters_of, following, leading, lines_of, text_of}
 use Rattle.textarea_text.proofs.Splices.{joined-append, following-append}
 use Rattle.textarea_pieces.specs.Given.{given, written, symbols_for, begins_with_line_feed}
 
@@ -25,10 +26,6 @@ StandApart line rest = (front : List ℕ) → line ≡ front ++ 13 ∷ [] → be
 symbols_for-kept : (c : ℕ) (behind : List ℕ) → nat_eq c 10 ≡ false → (c ≡ 13 → begins_with_line_feed behind ≡ false) → symbols_for c behind ≡ Character c ∷ []
 symbols_for-kept c behind other apart = grind (arith, nat_tests)
 
-begins-append : (cs rest : List ℕ) → HasNoLineFeed cs → begins_with_line_feed rest ≡ false → begins_with_line_feed (cs ++ rest) ≡ false
-begins-append [] rest none e = e
-begins-append (c ∷ cs) rest none e = none.0
-
 apart-next : (c : ℕ) (cs rest : List ℕ) → HasNoLineFeed cs → StandApart (c ∷ cs) rest → c ≡ 13 → begins_with_line_feed (cs ++ rest) ≡ false
 apart-next c [] rest none apart e = apart [] (ap (λ d. d ∷ []) e)
 apart-next c (d ∷ cs) rest none apart e = none.0
@@ -36,13 +33,12 @@ apart-next c (d ∷ cs) rest none apart e = none.0
 pub given-append : (line rest : List ℕ) → HasNoLineFeed line → StandApart line rest → given (line ++ rest) ≡ characters line ++ given rest
 given-append [] rest none apart = refl
 given-append (c ∷ cs) rest none apart =
-    ap (λ t. t ++ given (cs ++ rest)) (symbols_for-kept c (cs ++ rest) none.0 (apart-next c cs rest none.1 apart))
-    ∙ ap (λ t. Character c ∷ t) (given-append cs rest none.1 (λ front e. apart (c ∷ front) (ap (λ t. c ∷ t) e)))
+    rw (symbols_for-kept c (cs ++ rest) none.0 (apart-next c cs rest none.1 apart))
+    (ap (λ t. Character c ∷ t) (given-append cs rest none.1 (λ front e. apart (c ∷ front) (ap (λ t. c ∷ t) e))))
 
 -- the last line
 pub given-last : (line : List ℕ) → HasNoLineFeed line → given line ≡ characters line
-given-last line none =
-    ap given (sym (append-nil line)) ∙ given-append line [] none (λ front e. refl) ∙ append-nil (characters line)
+given-last line none = simp append-nil at (given-append line [] none (λ front e. refl))
 
 -- a line that a line feed ends, and one that a carriage return and a line feed end
 given-line : (line behind : List ℕ) → HasNoLineFeed line → ((front : List ℕ) → line ≢ front ++ 13 ∷ []) → given (line ++ 10 ∷ behind) ≡ characters line ++ (Break ∷ given behind)
@@ -95,26 +91,15 @@ given-cut bs behind i j line stripped text text' none at front_is behind_is h =
 
 pub leading-append : (xs ys : List (List ℕ)) → leading (xs ++ ys) ≡ leading xs ++ leading ys
 leading-append [] ys = refl
-leading-append (x ∷ xs) ys =
-    ap (λ t. characters x ++ (Break ∷ t)) (leading-append xs ys) ∙ sym (append_assoc (characters x) (Break ∷ leading xs) (leading ys))
+leading-append (x ∷ xs) ys = rw (leading-append xs ys) (simp append_assoc)
 
 pub given_more : {Z : Type 0} (pieces more : List (String Z)) (piece : String Z) (rest line behind : List ℕ) (whole : List Symbol) → leading (lines_of pieces) ++ given rest ≡ whole → given rest ≡ characters line ++ (Break ∷ given behind) → characters_of piece ≡ line → more ≡ pieces ++ piece ∷ [] → leading (lines_of more) ++ given behind ≡ whole
 given_more pieces more piece rest line behind whole h cut e is =
-    ap (λ t. leading (lines_of t) ++ given behind) is
-    ∙ ap (λ t. leading t ++ given behind) (map-append characters_of pieces (piece ∷ []))
-    ∙ ap (λ t. t ++ given behind) (leading-append (lines_of pieces) (characters_of piece ∷ []))
-    ∙ append_assoc (leading (lines_of pieces)) (characters (characters_of piece) ++ Break ∷ []) (given behind)
-    ∙ ap (λ t. leading (lines_of pieces) ++ t) (append_assoc (characters (characters_of piece)) (Break ∷ []) (given behind)
-    ∙ ap (λ t. characters t ++ (Break ∷ given behind)) e ∙ sym cut)
-    ∙ h
+    rw (is, map-append, leading-append, append_assoc, append_assoc, e, ← cut) h
 
 pub given_done : {Z : Type 0} (pieces more : List (String Z)) (piece : String Z) (rest : List ℕ) (whole : List Symbol) → leading (lines_of pieces) ++ given rest ≡ whole → given rest ≡ characters rest → characters_of piece ≡ rest → more ≡ pieces ++ piece ∷ [] → text_of more ≡ whole
 given_done pieces more piece rest whole h last e is =
-    ap (λ t. joined (lines_of t)) is
-    ∙ ap joined (map-append characters_of pieces (piece ∷ []))
-    ∙ joined-append (lines_of pieces) (characters_of piece ∷ []) (omega arith)
-    ∙ ap (λ t. leading (lines_of pieces) ++ t) (append-nil (characters (characters_of piece)) ∙ ap characters e ∙ sym last)
-    ∙ h
+    rw (is, map-append, joined-append (lines_of pieces) (characters_of piece ∷ []) (omega arith), append-nil, e, ← last) h
 
 -- ---- pieces, joined by line feeds
 
@@ -134,26 +119,13 @@ chars_line_feed bs new text e = ap chars e ∙ ap (λ t. chars (bs ++ t)) (encod
 
 pub written_more : {Z : Type 0} (first text next_text piece : List ℕ) (rest : List (String Z)) (number : ℕ) → text ≡ first ++ written (following (take number (lines_of rest))) → number < length rest → next_text ≡ (text ++ 10 ∷ []) ++ piece → piece ≡ get_or (lines_of rest) number [] → next_text ≡ first ++ written (following (take (number + 1) (lines_of rest)))
 written_more first text next_text piece rest number h within now e =
-    let before = following (take number (lines_of rest)) in
-    now ∙ append_assoc text (10 ∷ []) piece ∙ ap (λ t. t ++ (10 ∷ piece)) h
-    ∙ append_assoc first (written before) (10 ∷ piece)
-    ∙ ap (λ t. first ++ (written before ++ (10 ∷ t))) (sym (written-characters piece) ∙ ap written (sym (append-nil (characters piece))))
-    ∙ ap (λ t. first ++ t) (sym (written-append before (following (piece ∷ []))))
-    ∙ ap (λ t. first ++ written t) (sym (following-append (take number (lines_of rest)) (piece ∷ [])))
-    ∙ ap (λ t. first ++ written (following (take number (lines_of rest) ++ t ∷ []))) e
-    ∙ ap (λ t. first ++ written (following t)) (sym (take_more (lines_of rest) number [] (omega (arith, length-map rest characters_of))))
+    rw (now, h, take_more (lines_of rest) number [] (omega (arith, length-map rest characters_of)), ← e)
+    (simp (following-append, written-append, written-characters, append-nil, append_assoc))
 
 pub written_done : {Z : Type 0} (first : String Z) (pieces rest : List (String Z)) (begins text : List ℕ) (number : ℕ) → text ≡ begins ++ written (following (take number (lines_of rest))) → take number (lines_of rest) ≡ lines_of rest → begins ≡ characters_of first → pieces ≡ first ∷ rest → text ≡ written (text_of pieces)
-written_done first pieces rest begins text number h all e is =
-    h ∙ ap (λ t. begins ++ written (following t)) all
-    ∙ ap (λ t. t ++ written (following (lines_of rest))) (e ∙ sym (written-characters (characters_of first)))
-    ∙ sym (written-append (characters (characters_of first)) (following (lines_of rest)))
-    ∙ ap (λ t. written (text_of t)) (sym is)
+written_done first pieces rest begins text number h all e is = rw (h, all, e, is, written-append, written-characters) refl
 
 -- ---- pieces that are copied
 
 pub copied_more : {Z : Type 0} (pieces copy more : List (String Z)) (piece : String Z) (number : ℕ) → lines_of copy ≡ take number (lines_of pieces) → more ≡ copy ++ piece ∷ [] → number < length pieces → characters_of piece ≡ get_or (lines_of pieces) number [] → lines_of more ≡ take (number + 1) (lines_of pieces)
-copied_more pieces copy more piece number h is within e =
-    ap lines_of is ∙ map-append characters_of copy (piece ∷ []) ∙ ap (λ t. t ++ characters_of piece ∷ []) h
-    ∙ ap (λ t. take number (lines_of pieces) ++ t ∷ []) e
-    ∙ sym (take_more (lines_of pieces) number [] (omega (arith, length-map pieces characters_of)))
+copied_more pieces copy more piece number h is within e = grind (arith, common_steps)

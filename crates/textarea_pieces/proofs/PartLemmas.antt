@@ -1,11 +1,12 @@
 -- The part of a text between two places, and its lines.
-use Rattle.std.proofs.Common.{◌≡◌, ℕ, zero, suc, ◌+◌, ◌-◌, ◌<◌, ◌≤◌, ◌⊎◌, inl, inr, List, [], ◌∷◌, ◌++◌, length, take, drop, get_or, refl, sym, ap, ◌∙◌, arith, String}
-use Rattle.std.proofs.lemmas.Bool.{cases_order}
-use Rattle.std.proofs.lemmas.List.{append-nil, append_assoc, drop_more, drop_at, take_at, get_or_at, get_or_append_left, get_or-drop, get_or-take, length-append, length-drop, length-take-le, map-append}
+use Rattle.std.proofs.Common.{◌≡◌, ℕ, zero, suc, ◌+◌, ◌-◌, ◌<◌, ◌≤◌, List, [], ◌∷◌, ◌++◌, length, take, drop, get_or, refl, sym, ap, ◌∙◌, arith, String}
+use Rattle.std.proofs.lemmas.Grind.{common_steps}
+use Rattle.std.proofs.Math.Nat.{add-zero}
+use Rattle.std.proofs.lemmas.Bool.Decides.{nat_tests}
+use Rattle.std.proofs.lemmas.List.{append-nil, append_assoc, drop_more, length-append, length-drop}
 use Rattle.textarea_text.specs.Text.{Symbol, characters, characters_of, following, joined, leading, lines_of, text_of}
-use Rattle.textarea_text.specs.Place.{Place, IsPlaceOf, IsUpTo, index_of, row_start}
+use Rattle.textarea_text.specs.Place.{Place, IsPlaceOf, IsUpTo, index_of}
 use Rattle.textarea_text.proofs.Splices.{joined-append}
-use Rattle.textarea_text.proofs.StringRows.{line_at}
 use Rattle.textarea_text.proofs.Places.{part_rows, index_parted}
 use Rattle.textarea_pieces.specs.Part.{part}
 
@@ -19,42 +20,13 @@ abbrev pub lines_from_column : ℕ → List (List ℕ) → List (List ℕ)
 lines_from_column column [] = []
 lines_from_column column (line ∷ rest) = drop column line ∷ rest
 
-pub lines_from_column-zero : (rows : List (List ℕ)) → lines_from_column 0 rows ≡ rows
-lines_from_column-zero [] = refl
-lines_from_column-zero (line ∷ rest) = refl
-
 length-lines_until : (rows : List (List ℕ)) (place : Place) → place.0 < length rows → length (lines_until rows place) ≡ place.0 + 1
-length-lines_until rows place within =
-    omega (arith, length-append (take place.0 rows) (take place.1 (get_or rows place.0 []) ∷ []), length-take-le place.0 rows (omega arith))
-
-pub lines_until-before : (rows : List (List ℕ)) (place : Place) (row : ℕ) → place.0 < length rows → row < place.0 → get_or (lines_until rows place) row [] ≡ get_or rows row []
-lines_until-before rows place row within below =
-    get_or_append_left (take place.0 rows) (take place.1 (get_or rows place.0 []) ∷ []) [] row (omega (arith, length-take-le place.0 rows (omega arith)))
-    ∙ get_or-take place.0 rows row [] below
-
-pub lines_until-last : (rows : List (List ℕ)) (place : Place) → place.0 < length rows → get_or (lines_until rows place) place.0 [] ≡ take place.1 (get_or rows place.0 [])
-lines_until-last rows place within =
-    get_or_at (take place.0 rows) (take place.1 (get_or rows place.0 [])) [] [] place.0 (length-take-le place.0 rows (omega arith))
+length-lines_until rows place within = grind (arith, common_steps, nat_tests)
 
 -- ---- a place up to another
 
--- it is in a row above, or in the same row and not behind the other
-cases_up_to : (from to : Place) → IsUpTo from to → (from.0 < to.0) ⊎ ((from.0 ≡ to.0) × (from.1 ≤ to.1))
-cases_up_to from to up =
-    elim (cases_order from.0 to.0) [
-      | inl same ↦ inr (same, up.1 same)
-      | inr apart ↦ elim apart [ inl above ↦ inl above | inr below ↦ absurd (omega (arith, up.0)) ]
-    ]
-
 place_until : (rows : List (List ℕ)) (from to : Place) → IsPlaceOf rows from → IsPlaceOf rows to → IsUpTo from to → IsPlaceOf (lines_until rows to) from
-place_until rows from to h h' up =
-    elim (cases_up_to from to up) [
-      | inl below ↦ (omega (arith, length-lines_until rows to h'.0), omega (arith, h.1, ap length (lines_until-before rows to from.0 h'.0 below)))
-      | inr same ↦ (
-        omega (arith, length-lines_until rows to h'.0, same.0),
-        omega (arith, same.1, ap length (ap (λ n. get_or (lines_until rows to) n []) same.0 ∙ lines_until-last rows to h'.0), length-take-le to.1 (get_or rows to.0 []) h'.1),
-      )
-    ]
+place_until rows from to h h' up = grind (arith, common_steps, nat_tests)
 
 -- the text, cut at two places
 record Between (rows : List (List ℕ)) (from to : Place) : Type 0 where
@@ -62,10 +34,7 @@ record Between (rows : List (List ℕ)) (from to : Place) : Type 0 where
   part_is : part (joined rows) from to ≡ joined (lines_from_column from.1 (drop from.0 (lines_until rows to)))
 
 part-append : (front middle back : List Symbol) (i j : ℕ) → i ≡ length front → j ≡ length (front ++ middle) → take (j - i) (drop i ((front ++ middle) ++ back)) ≡ middle
-part-append front middle back i j here there =
-    ap (λ t. take (j - i) (drop i t)) (append_assoc front middle back)
-    ∙ ap (take (j - i)) (drop_at front (middle ++ back) i (sym here))
-    ∙ take_at middle back (j - i) (omega (arith, length-append front middle))
+part-append front middle back i j here there = grind (arith, common_steps, nat_tests)
 
 until_is : (rows : List (List ℕ)) (to : Place) (h : IsPlaceOf rows to) → (part_rows rows to.0 to.1 h).front ≡ joined (lines_until rows to)
 unfolding part_rows
@@ -116,14 +85,7 @@ index-lower rows place lower h h' below =
     )
 
 pub up_to_from_index : (rows : List (List ℕ)) (from to : Place) → IsPlaceOf rows from → IsPlaceOf rows to → index_of (joined rows) from ≤ index_of (joined rows) to → IsUpTo from to
-up_to_from_index rows from to h h' ordered =
-    elim (cases_order from.0 to.0) [
-      | inl same ↦ (omega arith, λ _. omega (arith, ap (row_start (joined rows)) same))
-      | inr apart ↦ elim apart [
-        | inl above ↦ (omega arith, λ same. omega arith)
-        | inr below ↦ absurd (omega (arith, index-lower rows to from h' h below))
-      ]
-    ]
+up_to_from_index rows from to h h' ordered = grind (arith, index-lower rows to from h' h)
 
 -- ---- pieces, cut out line by line
 
@@ -137,42 +99,21 @@ PiecesSoFar pieces rows from to row column =
     lines_of pieces ++ lines_from_column column (drop row (lines_until rows to)) ≡ part_lines rows from to
 
 pub pieces_more : {Z : Type 0} (pieces more : List (String Z)) (piece : String Z) (rows : List (List ℕ)) (from to : Place) (row column next_row : ℕ) → to.0 < length rows → row < to.0 → PiecesSoFar pieces rows from to row column → more ≡ pieces ++ piece ∷ [] → characters_of piece ≡ drop column (get_or rows row []) → next_row ≡ row + 1 → PiecesSoFar more rows from to next_row 0
-pieces_more pieces more piece rows from to row column next_row within below h is cut next =
-    let until = lines_until rows to in
-    ap (λ t. lines_of t ++ lines_from_column 0 (drop next_row until)) is
-    ∙ ap (λ t. lines_of (pieces ++ piece ∷ []) ++ t) (lines_from_column-zero (drop next_row until) ∙ ap (λ n. drop n until) next)
-    ∙ ap (λ t. t ++ drop (row + 1) until) (map-append characters_of pieces (piece ∷ []))
-    ∙ append_assoc (lines_of pieces) (characters_of piece ∷ []) (drop (row + 1) until)
-    ∙ ap (λ t. lines_of pieces ++ (t ∷ drop (row + 1) until)) (cut ∙ ap (drop column) (sym (lines_until-before rows to row within below)))
-    ∙ ap (λ t. lines_of pieces ++ lines_from_column column t) (sym (drop_more until row [] (omega (arith, length-lines_until rows to within))))
-    ∙ h
+pieces_more pieces more piece rows from to row column next_row within below h is cut next = grind (arith, common_steps, nat_tests)
 
 pub pieces_done : {Z : Type 0} (pieces more : List (String Z)) (piece : String Z) (rows : List (List ℕ)) (from to : Place) (row column : ℕ) → to.0 < length rows → row ≡ to.0 → PiecesSoFar pieces rows from to row column → more ≡ pieces ++ piece ∷ [] → characters_of piece ≡ drop column (take to.1 (get_or rows to.0 [])) → lines_of more ≡ part_lines rows from to
-pieces_done pieces more piece rows from to row column within last h is cut =
-    let until = lines_until rows to in
-    ap lines_of is ∙ map-append characters_of pieces (piece ∷ [])
-    ∙ ap (λ t. lines_of pieces ++ t ∷ []) cut
-    ∙ ap (λ t. lines_of pieces ++ lines_from_column column t)
-    (sym (ap (λ n. drop n until) last ∙ drop_at (take to.0 rows) (take to.1 (get_or rows to.0 []) ∷ []) to.0 (length-take-le to.0 rows (omega arith))))
-    ∙ h
+pieces_done pieces more piece rows from to row column within last h is cut = grind (arith, common_steps, nat_tests)
 
 pub part_from_lines : {Z : Type 0} (lines pieces : List (String Z)) (from to : Place) → IsPlaceOf (lines_of lines) from → IsPlaceOf (lines_of lines) to → IsUpTo from to → lines_of pieces ≡ part_lines (lines_of lines) from to → text_of pieces ≡ part (text_of lines) from to
 part_from_lines lines pieces from to h h' before e = ap joined e ∙ sym (between (lines_of lines) from to h h' before).part_is
 
 -- ---- the rows from the start's to the end's, counted from the start's
 
-pub up_to_in_text : {Z : Type 0} (lines : List (String Z)) (from to : Place) → IsPlaceOf (lines_of lines) from → IsPlaceOf (lines_of lines) to → index_of (text_of lines) from ≤ index_of (text_of lines) to → IsUpTo from to
-up_to_in_text lines from to h h' ordered = up_to_from_index (lines_of lines) from to h h' ordered
-
 pub line_in_part : {Z : Type 0} (lines : List (String Z)) (start count i : ℕ) (line : String Z) → start + count ≤ length lines → i < count → line ≡ get_or (take count (drop start lines)) i line → get_or (lines_of lines) (start + i) [] ≡ characters_of line
-line_in_part lines start count i line within below is =
-    line_at lines (start + i) line (omega arith) (is ∙ get_or-take count (drop start lines) i line below ∙ get_or-drop start lines i line)
-
-plus-zero : (n : ℕ) → n + 0 ≡ n
-plus-zero n = omega arith
+line_in_part lines start count i line within below is = grind (arith, common_steps, nat_tests)
 
 pub column_within : (rows : List (List ℕ)) (from : Place) (i column : ℕ) → IsPlaceOf rows from → (i ≡ 0 → column ≡ from.1) → (0 < i → column ≡ 0) → column ≤ length (get_or rows (from.0 + i) [])
-column_within rows from zero column h first later = omega (arith, first refl, h.1, ap (λ n. length (get_or rows n [])) (plus-zero from.0))
+column_within rows from zero column h first later = omega (arith, first refl, h.1, ap (λ n. length (get_or rows n [])) (add-zero from.0))
 column_within rows from (suc i) column h first later = omega (arith, later (omega arith))
 
 pub column_within_last : (from to : Place) (i column : ℕ) → IsUpTo from to → from.0 + i ≡ to.0 → (i ≡ 0 → column ≡ from.1) → (0 < i → column ≡ 0) → column ≤ to.1

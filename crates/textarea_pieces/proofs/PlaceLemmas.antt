@@ -1,5 +1,5 @@
 -- Places as indices, rows one below another, and where pieces end.
-use Rattle.std.proofs.Common.{◌≡◌, ℕ, zero, suc, ◌+◌, ◌-◌, ◌<◌, ◌≤◌, List, [], ◌∷◌, ◌++◌, length, min, take, drop, get_or, refl, sym, ap, subst, ◌∙◌, arith, String, string_bytes}
+use Rattle.std.proofs.Common.{◌≡◌, ℕ, zero, suc, ◌+◌, ◌-◌, ◌<◌, ◌≤◌, List, [], ◌∷◌, ◌++◌, length, min, take, drop, get_or, refl, sym, ap, ap₂, subst, ◌∙◌, arith, String, string_bytes}
 use Rattle.std.proofs.lemmas.List.{append-nil, drop_all, length-append, length-take-le, take_all, take_more, take_at}
 use Rattle.std.proofs.lemmas.Str.{encodes-chars, IsUtf8-string_bytes, length-le-encodes}
 use Rattle.textarea_text.specs.Text.{Break, characters, characters_of, following, joined, leading, lines_of}
@@ -71,13 +71,14 @@ end_of_one place line = ap (end place) (append-nil (characters line)) ∙ end-ch
 
 end_of_lines : (place : Place) (first : List ℕ) (above : List (List ℕ)) (last : List ℕ) → end place (leading (first ∷ above) ++ characters last) ≡ (place.0 + length (first ∷ above), length last)
 end_of_lines place first above last =
-    end-append place (leading (first ∷ above)) (characters last)
-    ∙ ap (λ (p : Place). end p (characters last))
-    (end-append place (characters first) (Break ∷ leading above)
-    ∙ ap (λ (p : Place). end p (Break ∷ leading above)) (end-characters place.0 place.1 first)
-    ∙ end-leading (place.0 + 1) above)
-    ∙ end-characters (place.0 + 1 + length above) 0 last
-    ∙ ap (λ (n : ℕ). (n, 0 + length last)) (omega arith) ∙ ap (λ (n : ℕ). (place.0 + length (first ∷ above), n)) (omega arith)
+    rw (
+      end-append place (leading (first ∷ above)) (characters last),
+      end-append place (characters first) (Break ∷ leading above),
+      end-characters place.0 place.1 first,
+      end-leading (place.0 + 1) above,
+      end-characters (place.0 + 1 + length above) 0 last,
+    )
+    (ap₂ (λ (m n : ℕ). (m, n)) (omega arith) (omega arith))
 
 end_of_parts : (place : Place) (above : List (List ℕ)) (last : List ℕ) → 0 < length above → end place (joined (above ++ last ∷ [])) ≡ (place.0 + length above, length last)
 end_of_parts place [] last some = absurd (omega arith)

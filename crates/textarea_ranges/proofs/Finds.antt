@@ -1,6 +1,7 @@
 -- What `find` tells of a list: the element that it finds stands in it and passes, and where it finds none, none passes.
-use Rattle.std.proofs.Common.{◌≡◌, ℕ, zero, suc, ◌<◌, Bool, true, false, List, [], ◌∷◌, length, get_or, find, Some, None, sym, ◌∙◌, inl, inr, arith, suc-le-suc, le_of_suc-le-suc}
-use Rattle.std.proofs.lemmas.Bool.{cases_Bool, cond-true, cond-false}
+use Rattle.std.proofs.Common.{◌≡◌, ℕ, zero, suc, ◌<◌, Bool, true, false, List, [], ◌∷◌, length, get_or, find, Some, None, inl, inr, arith, suc-le-suc, le_of_suc-le-suc}
+use Rattle.std.proofs.lemmas.Bool.Decides.{nat_tests}
+use Rattle.std.proofs.lemmas.Bool.{cases_Bool}
 
 -- the element stands in the list and passes the test
 pub record Found {X : Type 0} (test : X → Bool) (xs : List X) (x : X) : Type 0 where
@@ -14,23 +15,14 @@ Found-find test [] x e = absurd cc
 Found-find {X} test (y ∷ ys) x e =
     elim (cases_Bool (test y)) [
       | inl here ↦
-          let same : Some y ≡ Some x = sym (cond-true _ _ _ here) ∙ e in
-          let is : y ≡ x = cc in
+          let is : y ≡ x = grind (arith, nat_tests) in
           record { index = 0; within = omega arith; at = λ d. is; passes = rw (← is) here }
       | inr not_here ↦
-          let rest = Found-find test ys x (sym (cond-false _ _ _ not_here) ∙ e) in
+          let rest = Found-find test ys x (grind (arith, nat_tests)) in
           record { index = suc rest.index; within = suc-le-suc rest.within; at = λ d. rest.at d; passes = rest.passes }
     ]
 
 pub fails-find : {X : Type 0} (test : X → Bool) (xs : List X) → find test xs ≡ None → (k : ℕ) (d : X) → k < length xs → test (get_or xs k d) ≡ false
 fails-find test [] e k d within = absurd (omega arith)
-fails-find test (y ∷ ys) e zero d within =
-    elim (cases_Bool (test y)) [
-      | inl here ↦ let no : Some y ≡ None = sym (cond-true _ _ _ here) ∙ e in cc
-      | inr not_here ↦ not_here
-    ]
-fails-find test (y ∷ ys) e (suc k) d within =
-    elim (cases_Bool (test y)) [
-      | inl here ↦ let no : Some y ≡ None = sym (cond-true _ _ _ here) ∙ e in cc
-      | inr not_here ↦ fails-find test ys (sym (cond-false _ _ _ not_here) ∙ e) k d (le_of_suc-le-suc within)
-    ]
+fails-find test (y ∷ ys) e zero d within = grind (arith, nat_tests)
+fails-find test (y ∷ ys) e (suc k) d within = fails-find test ys (grind (arith, nat_tests)) k d (le_of_suc-le-suc within)

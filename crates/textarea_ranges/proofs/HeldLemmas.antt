@@ -1,5 +1,5 @@
 -- A place that is moved out of ranges, and a removal that is widened over them.
-use Rattle.std.proofs.Common.{◌≡◌, ℕ, ◌<◌, ◌≤◌, ◌⊎◌, inl, inr, Bool, true, List, length, get_or, Option, Some, None, All, Contains, MatchOption, refl, sym, ap, subst, ◌∙◌, arith}
+use Rattle.std.proofs.Common.{◌≡◌, ℕ, ◌<◌, ◌⊎◌, inl, inr, Bool, true, List, length, get_or, find, Option, Some, None, All, Contains, MatchOption, refl, sym, ap, subst, ◌∙◌, arith}
 use Rattle.std.proofs.lemmas.Bool.{cases_lt}
 use Rattle.std.proofs.lemmas.List.{get_or_default}
 use Rattle.std.proofs.lemmas.Bool.Decides.{nat_tests}
@@ -82,30 +82,14 @@ IsPlaceOf-moved_out rows ranges place bias valid h = place_of_found rows ranges 
 -- ---- a removal that is widened
 
 order : (one other : Place) → IsUpTo one other ⊎ IsBefore other one
-order one other =
-    elim (cases_lt other.0 one.0) [
-      | inl below ↦ inr (omega arith, λ same. omega arith)
-      | inr above ↦ elim (cases_lt one.0 other.0) [
-        | inl before ↦ inl (omega arith, λ same. omega arith)
-        | inr from ↦ elim (cases_lt other.1 one.1) [ inl behind ↦ inr (omega arith, λ same. behind) | inr up ↦ inl (above, λ same. up) ]
-      ]
-    ]
+order one other = grind (arith, nat_tests)
 
 between : (place : Place) (range : AtomicRange) → IsBefore (range_start range) place → IsBefore place (range_end range) → IsInside place range
-between place range behind before =
-    let same : range.row ≡ place.0 = omega arith in
-    (same, behind.1 same, before.1 (sym same))
+between place range behind before = grind (arith, nat_tests)
 
 -- ends that are strictly inside no range leave none in half
 pub taken : (from to : Place) (range : AtomicRange) → ¬ IsInside from range → ¬ IsInside to range → IsWithin from to range ⊎ IsBeside from to range
-taken from to range from_out to_out =
-    elim (order from (range_start range)) [
-      | inl starts ↦ elim (order (range_end range) to) [
-        | inl ends ↦ inl (starts, ends)
-        | inr before ↦ elim (order to (range_start range)) [ inl beside ↦ inr (inl beside) | inr behind ↦ absurd (to_out (between to range behind before)) ]
-      ]
-      | inr behind ↦ elim (order (range_end range) from) [ inl beside ↦ inr (inr beside) | inr before ↦ absurd (from_out (between from range behind before)) ]
-    ]
+taken from to range from_out to_out = grind (arith, nat_tests)
 
 up_to_before : (one two three : Place) → IsUpTo one two → IsBefore two three → IsBefore one three
 up_to_before one two three h k = (omega arith, λ same. omega arith)
@@ -114,11 +98,7 @@ before_up_to : (one two three : Place) → IsBefore one two → IsUpTo two three
 before_up_to one two three h k = (omega arith, λ same. omega arith)
 
 never : (one other : Place) → IsBefore one other → IsUpTo other one → ⊥
-never one other h k =
-    let same : one.0 ≡ other.0 = omega arith in
-    let before : one.1 < other.1 = h.1 same in
-    let up : other.1 ≤ one.1 = k.1 (sym same) in
-    omega arith
+never one other h k = grind (arith, nat_tests)
 
 -- what is beside a removal does not overlap it
 not_beside : (from to : Place) (range : AtomicRange) → Overlaps from to range → IsBeside from to range → ⊥
@@ -150,20 +130,14 @@ ends_of ranges to (Some range) e =
 
 -- an end of a removal that is strictly inside a range makes the two overlap
 overlaps_at_start : (from to : Place) (range : AtomicRange) → IsUpTo from to → IsInside from range → Overlaps from to range
-overlaps_at_start from to range up h =
-    let behind : IsBefore (range_start range) from = (omega arith, λ same. omega arith) in
-    (before_up_to (range_start range) from to behind up, (omega arith, λ same. omega arith))
+overlaps_at_start from to range up h = grind (arith, nat_tests)
 
 overlaps_at_end : (from to : Place) (range : AtomicRange) → IsUpTo from to → IsInside to range → Overlaps from to range
-overlaps_at_end from to range up h =
-    let before : IsBefore to (range_end range) = (omega arith, λ same. omega arith) in
-    ((omega arith, λ same. omega arith), up_to_before from to (range_end range) up before)
+overlaps_at_end from to range up h = grind (arith, nat_tests)
 
 -- a removal that holds another one, and takes each range whole or not at all, takes those whole that the other one overlaps
 taken_over : (ranges : List AtomicRange) (from to first last : Place) (test : AtomicRange → Bool) (range : AtomicRange) → IsUpTo first from → IsUpTo to last → TakesWhole ranges first last → Found test ranges range → Overlaps from to range → IsWithin first last range
-taken_over ranges from to first last test range starts ends whole found overlap =
-    let P : AtomicRange → Type 0 = λ r. IsWithin first last r ⊎ IsBeside first last r in
-    within_from first last range (overlaps_more from to first last range starts ends overlap) (subst P (found.at range) (whole found.index range found.within))
+taken_over ranges from to first last test range starts ends whole found overlap = grind (arith, nat_tests)
 
 least_start : (ranges : List AtomicRange) (from to first last : Place) → IsUpTo from to → IsUpTo first from → IsUpTo to last → TakesWhole ranges first last → (found : Option AtomicRange) → inside ranges from ≡ found → IsUpTo first (border_or found from Backward)
 least_start ranges from to first last up starts ends whole None e = starts
@@ -195,67 +169,15 @@ IsWidened-widened rows ranges from to valid up =
       least = λ first last before behind all. (least_start ranges from to first last up before behind all (inside ranges from) refl, least_end ranges from to first last up before behind all (inside ranges to) refl);
     }
 
-up_to_all : (one two three : Place) → IsUpTo one two → IsUpTo two three → IsUpTo one three
-up_to_all one two three h k = (omega arith, λ same. omega arith)
-
--- a removal that starts by its end still does when it is widened
-pub IsUpTo-widened : (ranges : List AtomicRange) (from to : Place) → IsUpTo from to → IsUpTo (widened ranges from to).0 (widened ranges from to).1
-IsUpTo-widened ranges from to up =
-    up_to_all (moved_out ranges from Backward) from (moved_out ranges to Forward) (starts_of ranges from (inside ranges from) refl)
-    (up_to_all from to (moved_out ranges to Forward) up (ends_of ranges to (inside ranges to) refl))
-
 -- ---- what is found
 
-hit_back_parts : (place : Place) (range : AtomicRange) → is_hit place DeleteBackward range ≡ true → IsHit place DeleteBackward range
-hit_back_parts place range h = (grind (arith, nat_tests), grind (arith, nat_tests), grind (arith, nat_tests))
-
-hit_on_parts : (place : Place) (range : AtomicRange) → is_hit place DeleteForward range ≡ true → IsHit place DeleteForward range
-hit_on_parts place range h = (grind (arith, nat_tests), grind (arith, nat_tests), grind (arith, nat_tests))
-
-hit_back_test : (place : Place) (range : AtomicRange) → IsHit place DeleteBackward range → is_hit place DeleteBackward range ≡ true
-hit_back_test place range h = grind (arith, nat_tests)
-
-hit_on_test : (place : Place) (range : AtomicRange) → IsHit place DeleteForward range → is_hit place DeleteForward range ≡ true
-hit_on_test place range h = grind (arith, nat_tests)
-
 pub IsHit-is_hit : (place : Place) (direction : AtomicDeleteDirection) (range : AtomicRange) → is_hit place direction range ≡ true → IsHit place direction range
-IsHit-is_hit place DeleteBackward range h = hit_back_parts place range h
-IsHit-is_hit place DeleteForward range h = hit_on_parts place range h
+IsHit-is_hit place DeleteBackward range h = (grind (arith, nat_tests), grind (arith, nat_tests), grind (arith, nat_tests))
+IsHit-is_hit place DeleteForward range h = (grind (arith, nat_tests), grind (arith, nat_tests), grind (arith, nat_tests))
 
 pub is_hit-IsHit : (place : Place) (direction : AtomicDeleteDirection) (range : AtomicRange) → IsHit place direction range → is_hit place direction range ≡ true
-is_hit-IsHit place DeleteBackward range h = hit_back_test place range h
-is_hit-IsHit place DeleteForward range h = hit_on_test place range h
-
-contained : (test : AtomicRange → Bool) (ranges : List AtomicRange) (range : AtomicRange) → Found test ranges range → Contains ranges range
-contained test ranges range found = (found.index, found.within, found.at range)
-
-inside_cases : (ranges : List AtomicRange) (place : Place) (found : Option AtomicRange) → inside ranges place ≡ found → MatchOption found (All (λ range. ¬ IsInside place range) ranges) (λ range. Contains ranges range × IsInside place range)
-inside_cases ranges place None e = λ k d within h.
-    let passes = is_inside-IsInside place (get_or ranges k d) h in
-    let fails = fails-find (is_inside place) ranges e k d within in
-    cc
-inside_cases ranges place (Some range) e =
-    let found = Found-find (is_inside place) ranges range e in
-    (contained (is_inside place) ranges range found, IsInside-is_inside place range found.passes)
-
--- the range that strictly holds a place, or none of the list
-pub MatchOption-inside : (ranges : List AtomicRange) (place : Place) → MatchOption (inside ranges place) (All (λ range. ¬ IsInside place range) ranges) (λ range. Contains ranges range × IsInside place range)
-MatchOption-inside ranges place = inside_cases ranges place (inside ranges place) refl
-
-hit_cases : (ranges : List AtomicRange) (place : Place) (direction : AtomicDeleteDirection) (found : Option AtomicRange) → hit ranges place direction ≡ found → MatchOption found (All (λ range. ¬ IsHit place direction range) ranges) (λ range. Contains ranges range × IsHit place direction range)
-hit_cases ranges place direction None e = λ k d within h.
-    let passes = is_hit-IsHit place direction (get_or ranges k d) h in
-    let fails = fails-find (is_hit place direction) ranges e k d within in
-    cc
-hit_cases ranges place direction (Some range) e =
-    let found = Found-find (is_hit place direction) ranges range e in
-    (contained (is_hit place direction) ranges range found, IsHit-is_hit place direction range found.passes)
-
--- the range that is hit, or none of the list
-pub MatchOption-hit : (ranges : List AtomicRange) (place : Place) (direction : AtomicDeleteDirection) → MatchOption (hit ranges place direction) (All (λ range. ¬ IsHit place direction range) ranges) (λ range. Contains ranges range × IsHit place direction range)
-MatchOption-hit ranges place direction = hit_cases ranges place direction (hit ranges place direction) refl
-
--- ---- of valid ranges at most one is found
+is_hit-IsHit place DeleteBackward range h = grind (arith, nat_tests)
+is_hit-IsHit place DeleteForward range h = grind (arith, nat_tests)
 
 -- two ranges of a valid list that hold one character are the same
 same_range : (rows : List (List ℕ)) (ranges : List AtomicRange) (one other : AtomicRange) → AreValid rows ranges → Contains ranges one → Contains ranges other → ¬ AreDisjoint one other → one ≡ other
@@ -269,32 +191,41 @@ same_range rows ranges one other valid in_one in_other share =
     at_other = get_or_default ranges in_other.0 one other in_other.1 ∙ in_other.2
 
 inside_shares : (place : Place) (one other : AtomicRange) → IsInside place one → IsInside place other → ¬ AreDisjoint one other
-inside_shares place one other h k apart =
-    let same : one.row ≡ other.row = omega arith in
-    elim (apart same) [ inl before ↦ omega arith | inr behind ↦ omega arith ]
+inside_shares place one other h k apart = grind (arith, nat_tests)
 
 hit_shares : (place : Place) (direction : AtomicDeleteDirection) (one other : AtomicRange) → IsHit place direction one → IsHit place direction other → ¬ AreDisjoint one other
-hit_shares place DeleteBackward one other h k apart =
-    let same : one.row ≡ other.row = omega arith in
-    elim (apart same) [ inl before ↦ omega arith | inr behind ↦ omega arith ]
-hit_shares place DeleteForward one other h k apart =
-    let same : one.row ≡ other.row = omega arith in
-    elim (apart same) [ inl before ↦ omega arith | inr behind ↦ omega arith ]
+hit_shares place DeleteBackward one other h k apart = grind (arith, nat_tests)
+hit_shares place DeleteForward one other h k apart = grind (arith, nat_tests)
 
-only_inside : (rows : List (List ℕ)) (ranges : List AtomicRange) (place : Place) (range : AtomicRange) (found : Option AtomicRange) → AreValid rows ranges → Contains ranges range → IsInside place range → inside ranges place ≡ found → found ≡ Some range
-only_inside rows ranges place range None valid within h e = absurd (All-contains (λ r. ¬ IsInside place r) ranges range (inside_cases ranges place None e) within h)
-only_inside rows ranges place range (Some other) valid within h e =
-    let found = inside_cases ranges place (Some other) e in
-    ap Some (same_range rows ranges other range valid found.0 within (inside_shares place other range found.1 h))
+-- a search whose test stands for a fact of a range
+module _ (test : AtomicRange → Bool) (Holds : AtomicRange → Type 0) (holds : (range : AtomicRange) → test range ≡ true → Holds range) (passes : (range : AtomicRange) → Holds range → test range ≡ true) (ranges : List AtomicRange) where
+  found_cases : (found : Option AtomicRange) → find test ranges ≡ found → MatchOption found (All (λ range. ¬ Holds range) ranges) (λ range. Contains ranges range × Holds range)
+  found_cases None e = λ k d within h.
+      let pass = passes (get_or ranges k d) h in
+      let fails = fails-find test ranges e k d within in
+      cc
+  found_cases (Some range) e =
+      let found = Found-find test ranges range e in
+      ((found.index, found.within, found.at range), holds range found.passes)
+
+  only_found : (rows : List (List ℕ)) (range : AtomicRange) → AreValid rows ranges → ((one other : AtomicRange) → Holds one → Holds other → ¬ AreDisjoint one other) → Contains ranges range → Holds range → (found : Option AtomicRange) → find test ranges ≡ found → found ≡ Some range
+  only_found rows range valid share within h None e = absurd (All-contains (λ r. ¬ Holds r) ranges range (found_cases None e) within h)
+  only_found rows range valid share within h (Some other) e =
+      let found = found_cases (Some other) e in
+      ap Some (same_range rows ranges other range valid found.0 within (share other range found.1 h))
+
+-- the range that strictly holds a place, or none of the list; and a valid list has no other
+pub MatchOption-inside : (ranges : List AtomicRange) (place : Place) → MatchOption (inside ranges place) (All (λ range. ¬ IsInside place range) ranges) (λ range. Contains ranges range × IsInside place range)
+MatchOption-inside ranges place = found_cases (is_inside place) (IsInside place) (IsInside-is_inside place) (is_inside-IsInside place) ranges (inside ranges place) refl
 
 pub inside-only : (rows : List (List ℕ)) (ranges : List AtomicRange) (place : Place) (range : AtomicRange) → AreValid rows ranges → Contains ranges range → IsInside place range → inside ranges place ≡ Some range
-inside-only rows ranges place range valid within h = only_inside rows ranges place range (inside ranges place) valid within h refl
+inside-only rows ranges place range valid within h =
+    only_found (is_inside place) (IsInside place) (IsInside-is_inside place) (is_inside-IsInside place) ranges rows range valid (inside_shares place) within h (inside ranges place) refl
 
-only_hit : (rows : List (List ℕ)) (ranges : List AtomicRange) (place : Place) (direction : AtomicDeleteDirection) (range : AtomicRange) (found : Option AtomicRange) → AreValid rows ranges → Contains ranges range → IsHit place direction range → hit ranges place direction ≡ found → found ≡ Some range
-only_hit rows ranges place direction range None valid within h e = absurd (All-contains (λ r. ¬ IsHit place direction r) ranges range (hit_cases ranges place direction None e) within h)
-only_hit rows ranges place direction range (Some other) valid within h e =
-    let found = hit_cases ranges place direction (Some other) e in
-    ap Some (same_range rows ranges other range valid found.0 within (hit_shares place direction other range found.1 h))
+-- the same of the range that is hit
+pub MatchOption-hit : (ranges : List AtomicRange) (place : Place) (direction : AtomicDeleteDirection) → MatchOption (hit ranges place direction) (All (λ range. ¬ IsHit place direction range) ranges) (λ range. Contains ranges range × IsHit place direction range)
+MatchOption-hit ranges place direction = found_cases (is_hit place direction) (IsHit place direction) (IsHit-is_hit place direction) (is_hit-IsHit place direction) ranges (hit ranges place direction) refl
 
 pub hit-only : (rows : List (List ℕ)) (ranges : List AtomicRange) (place : Place) (direction : AtomicDeleteDirection) (range : AtomicRange) → AreValid rows ranges → Contains ranges range → IsHit place direction range → hit ranges place direction ≡ Some range
-hit-only rows ranges place direction range valid within h = only_hit rows ranges place direction range (hit ranges place direction) valid within h refl
+hit-only rows ranges place direction range valid within h =
+    only_found (is_hit place direction) (IsHit place direction) (IsHit-is_hit place direction) (is_hit-IsHit place direction) ranges rows range valid (hit_shares place direction) within h (hit ranges place direction) refl

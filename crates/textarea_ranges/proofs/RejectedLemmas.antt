@@ -1,16 +1,13 @@
 -- A list is accepted exactly if it is valid; and the list of the rejected, range by range.
-use Rattle.std.proofs.Common.{◌≡◌, ◌≢◌, ◌↔◌, ℕ, ◌<◌, ◌≤◌, ◌==◌, nat_le, nat_lt, ◌||◌, Bool, true, false, List, [], ◌∷◌, ◌++◌, length, Option, Some, None, if◌then◌else◌, refl, sym, ap, ◌∙◌, inl, inr, arith, subst, zero-le, leb-false, ltb-false, eqb-true}
-use Rattle.std.proofs.lemmas.Bool.{cases_Bool, eqb-false}
+use Rattle.std.proofs.Common.{◌≡◌, ◌≢◌, ◌↔◌, ℕ, ◌≤◌, List, [], ◌∷◌, ◌++◌, Option, Some, None, refl, sym, ap, ◌∙◌, inl, inr, arith, subst, zero-le}
 use Rattle.std.proofs.lemmas.Bool.Decides.{nat_tests}
 use Rattle.std.proofs.lemmas.List.Elements.{All-from_recursion, recursion_from_All}
 use Rattle.std.specs.List.{AllByRecursion}
 use Rattle.textarea_ranges.specs.declared.atomic.AtomicRange.{AtomicRange}
 use Rattle.textarea_ranges.specs.declared.atomic.RejectedAtomicRange.{RejectedAtomicRange}
 use Rattle.textarea_ranges.specs.declared.atomic.AtomicRangeRejectReason.{AtomicRangeRejectReason}
-use Rattle.textarea_ranges.specs.declared.atomic.AtomicRangeRejectReason.TheVariants.{Empty, RowOutOfBounds, ColumnOutOfBounds, OverlapsPrevious}
 use Rattle.textarea_ranges.specs.Order.{AreInOrder, in_order, is_before}
 use Rattle.textarea_ranges.specs.Rejected.{free_from, last_valid, reason, rejected_behind, rejected_of, with_reason, AreAccepted, AreRefused}
-use Rattle.textarea_text.specs.Place.{line_of}
 use Rattle.textarea_ranges.specs.Valid.{AreDisjoint, AreValid, IsPart}
 use Rattle.textarea_ranges.proofs.Lists.{AllPairs-later, EachLater, each_both, each_weaker, later-AllPairs}
 use Rattle.textarea_ranges.proofs.Sorts.{NotBefore}
@@ -23,46 +20,14 @@ record Suits (rows : List (List ℕ)) (last : Option AtomicRange) (range : Atomi
   part : IsPart rows range
   behind : free_from last range.row ≤ range.start_col
 
-abbrev first_reason : Bool → Bool → Bool → Bool → Option AtomicRangeRejectReason
-first_reason a b c d = if a then Some Empty else (if b then Some RowOutOfBounds else (if c then Some ColumnOutOfBounds else (if d then Some OverlapsPrevious else None)))
-
-no_reason : (a b c d : Bool) → first_reason a b c d ≡ None → (a ≡ false) × (b ≡ false) × (c ≡ false) × (d ≡ false)
-no_reason true b c d h = absurd cc
-no_reason false true c d h = absurd cc
-no_reason false false true d h = absurd cc
-no_reason false false false true h = absurd cc
-no_reason false false false false h = (refl, refl, refl, refl)
-
-either_false : (a b : Bool) → (a || b) ≡ false → (a ≡ false) × (b ≡ false)
-either_false true b h = absurd cc
-either_false false b h = (refl, h)
-
 Suits-reason : (rows : List (List ℕ)) (last : Option AtomicRange) (range : AtomicRange) → reason rows last range ≡ None → Suits rows last range
-Suits-reason rows last range h =
-    let tests = no_reason (range.start_col == range.end_col) (nat_le (length rows) range.row) (nat_lt range.end_col range.start_col || nat_lt (length (line_of rows range.row)) range.end_col) (nat_lt range.start_col (free_from last range.row)) h in
-    let some : range.start_col ≢ range.end_col = eqb-false (range.start_col) (range.end_col) tests.0 in
-    let row : range.row < length rows = leb-false (length rows) range.row tests.1 in
-    let columns = either_false (nat_lt range.end_col range.start_col) (nat_lt (length (line_of rows range.row)) range.end_col) tests.2 in
-    let ordered : range.start_col ≤ range.end_col = ltb-false range.end_col range.start_col columns.0 in
-    let within : range.end_col ≤ length (line_of rows range.row) = ltb-false (length (line_of rows range.row)) range.end_col columns.1 in
-    record { part = (row, omega arith, within); behind = ltb-false range.start_col (free_from last range.row) tests.3 }
+Suits-reason rows last range h = grind (arith, nat_tests)
 
 reason-Suits : (rows : List (List ℕ)) (last : Option AtomicRange) (range : AtomicRange) → Suits rows last range → reason rows last range ≡ None
-reason-Suits rows last range suits =
-    let part = suits.part in
-    let behind = suits.behind in
-    let a : range.start_col == range.end_col ≡ false = grind (arith, nat_tests) in
-    let b : nat_le (length rows) range.row ≡ false = grind (arith, nat_tests) in
-    let c : nat_lt range.end_col range.start_col ≡ false = grind (arith, nat_tests) in
-    let d : nat_lt (length (line_of rows range.row)) range.end_col ≡ false = grind (arith, nat_tests) in
-    let e : nat_lt range.start_col (free_from last range.row) ≡ false = grind (arith, nat_tests) in
-    rw (a, b, c, d, e) refl
+reason-Suits rows last range suits = grind (arith, nat_tests)
 
 free_from-same : (last : AtomicRange) (row : ℕ) → last.row ≡ row → free_from (Some last) row ≡ last.end_col
 free_from-same last row same = grind (arith, nat_tests)
-
-free_from-other : (last : AtomicRange) (row : ℕ) → last.row ≢ row → free_from (Some last) row ≡ 0
-free_from-other last row other = grind (arith, nat_tests)
 
 -- ---- ranges in order, behind the last valid one
 
@@ -102,11 +67,7 @@ ends_by_all rows range (first ∷ rest) suit order =
       here,
       each_both (EndsBy first) (NotBefore is_before first) (EndsBy range) (λ z ends not_before same.
           let more = not_before_parts first z not_before in
-          let row : range.row ≡ first.row = omega arith in
-          let next_row : first.row ≡ z.row = omega arith in
-          let one : range.end_col ≤ first.start_col = here row in
-          let two : first.end_col ≤ z.start_col = ends next_row in
-          omega arith) rest below order.1.0,
+          grind (arith, nat_tests)) rest below order.1.0,
     )
 
 disjoint-suit : (rows : List (List ℕ)) (last : Option AtomicRange) (ranges : List AtomicRange) → AllSuit rows last ranges → EachLater (NotBefore is_before) ranges → EachLater AreDisjoint ranges
@@ -121,17 +82,7 @@ parts-suit rows last [] suit = tt
 parts-suit rows last (range ∷ rest) suit = (suit.0.part, parts-suit rows (Some range) rest suit.1)
 
 free_behind : (rows : List (List ℕ)) (range z : AtomicRange) → AreDisjoint range z × NotBefore is_before range z → IsPart rows z → free_from (Some range) z.row ≤ z.start_col
-free_behind rows range z apart part =
-    let up = not_before_parts range z apart.1 in
-    elim (cases_Bool (range.row == z.row)) [
-      | inl equal ↦
-          let same : range.row ≡ z.row = eqb-true range.row z.row equal in
-          let free = free_from-same range z.row same in
-          elim (apart.0 same) [ inl before ↦ omega arith | inr behind ↦ absurd (let starts : range.start_col ≤ z.start_col = up.1 same in omega arith) ]
-      | inr unequal ↦
-          let free = free_from-other range z.row (eqb-false range.row z.row unequal) in
-          omega arith
-    ]
+free_behind rows range z apart part = grind (arith, nat_tests)
 
 suit-valid : (rows : List (List ℕ)) (last : Option AtomicRange) (ranges : List AtomicRange) → AllByRecursion (λ z. free_from last z.row ≤ z.start_col) ranges → AllByRecursion (IsPart rows) ranges → EachLater AreDisjoint ranges → EachLater (NotBefore is_before) ranges → AllSuit rows last ranges
 suit-valid rows last [] free parts disjoint order = tt
@@ -190,7 +141,3 @@ pub AreRefused-in_order : (rows : List (List ℕ)) (given held : List AtomicRang
 AreRefused-in_order rows given held rejected order listed some =
     let all : rejected ≡ rejected_of rows (in_order given) = listed ∙ ap (rejected_of rows) order in
     record { listed = all; some = some; invalid = λ valid. some (all ∙ (accepted_if_valid rows given).1 valid) }
-
-pub none_from_length : (rejected : List RejectedAtomicRange) → length rejected ≡ 0 → rejected ≡ []
-none_from_length [] h = refl
-none_from_length (one ∷ rest) h = absurd (omega arith)

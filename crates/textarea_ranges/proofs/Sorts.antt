@@ -1,12 +1,13 @@
 -- Sorts that keep the order of elements that tie: there is one result, and an insertion one by one gives it.
-use Rattle.std.proofs.Common.{◌≡◌, ℕ, zero, suc, ◌+◌, Bool, true, false, not, ◌&&◌, cond, List, [], ◌∷◌, get_or, filter, refl, sym, ap, subst, ◌∙◌, inl, inr, arith, suc-le-suc, zero-le}
-use Rattle.std.proofs.lemmas.Bool.{cases_Bool, cond-true, cond-false}
+use Rattle.std.proofs.Common.{◌≡◌, ℕ, zero, suc, ◌+◌, Bool, true, false, cond, List, [], ◌∷◌, get_or, filter, refl, sym, subst, ◌∙◌, inl, inr, arith, suc-le-suc, zero-le}
+use Rattle.std.proofs.lemmas.Bool.{cases_Bool}
+use Rattle.std.proofs.lemmas.Bool.Decides.{nat_tests}
 use Rattle.std.proofs.lemmas.List.Elements.{All-from_recursion, recursion_from_All}
 use Rattle.std.proofs.lemmas.List.Sorted.{sorted_far}
 use Rattle.std.specs.List.{AllByRecursion}
 use Rattle.std.specs.Cmp.{IsStrictWeakOrder}
 use Rattle.std.specs.List.Sorted.{IsSortedBy, IsStableBy, ties}
-use Rattle.textarea_ranges.proofs.Lists.{EachLater, filter-kept, filter-dropped, first_kept}
+use Rattle.textarea_ranges.proofs.Lists.{EachLater, filter-kept, first_kept}
 
 -- no later element comes before an earlier one
 abbrev pub NotBefore : {X : Type 0} → (X → X → Bool) → X → X → Type 0
@@ -34,11 +35,6 @@ not_before_itself lt o x = elim (cases_Bool (lt x x)) [ inl before ↦ o.one_way
 ties_from : {X : Type 0} (lt : X → X → Bool) (x y : X) → lt x y ≡ false → lt y x ≡ false → ties lt x y ≡ true
 ties_from lt x y p q = rw (p, q) refl
 
-ties_parts : (a b : Bool) → not a && not b ≡ true → (a ≡ false) × (b ≡ false)
-ties_parts true b h = absurd cc
-ties_parts false true h = absurd cc
-ties_parts false false h = (refl, refl)
-
 ties_itself : {X : Type 0} (lt : X → X → Bool) → IsStrictWeakOrder lt → (x : X) → ties lt x x ≡ true
 ties_itself lt o x = ties_from lt x x (not_before_itself lt o x) (not_before_itself lt o x)
 
@@ -48,16 +44,7 @@ first_not_before lt o x y xs ys later e =
     first_kept (NotBefore lt y) (ties lt x) (y ∷ ys) x (filter (ties lt x) xs) (not_before_itself lt o y, later.0) (e ∙ filter-kept (ties lt x) x xs (ties_itself lt o x))
 
 filter-tails : {X : Type 0} (test : X → Bool) (x y : X) (xs ys : List X) → x ≡ y → filter test (y ∷ ys) ≡ filter test (x ∷ xs) → filter test ys ≡ filter test xs
-filter-tails test x y xs ys same e =
-    elim (cases_Bool (test x)) [
-      | inl kept ↦
-          let also : test y ≡ true = rw (← same) kept in
-          let both : y ∷ filter test ys ≡ x ∷ filter test xs = sym (filter-kept test y ys also) ∙ e ∙ filter-kept test x xs kept in
-          cc
-      | inr dropped ↦
-          let also : test y ≡ false = rw (← same) dropped in
-          sym (filter-dropped test y ys also) ∙ e ∙ filter-dropped test x xs dropped
-    ]
+filter-tails test x y xs ys same e = grind (arith, nat_tests)
 
 -- two sorted lists in which elements that tie stand alike are the same list
 pub same_sorted : {X : Type 0} (lt : X → X → Bool) → IsStrictWeakOrder lt → (xs ys : List X) → EachLater (NotBefore lt) xs → EachLater (NotBefore lt) ys → IsStableBy lt xs ys → xs ≡ ys
@@ -84,51 +71,22 @@ abbrev pub put : {X : Type 0} → (X → X → Bool) → X → List X → List X
 put lt x [] = x ∷ []
 put lt x (y ∷ ys) = cond (lt y x) (y ∷ put lt x ys) (x ∷ y ∷ ys)
 
-put-past : {X : Type 0} (lt : X → X → Bool) (x y : X) (ys : List X) → lt y x ≡ true → put lt x (y ∷ ys) ≡ y ∷ put lt x ys
-put-past lt x y ys h = cond-true _ _ _ h
-
-put-here : {X : Type 0} (lt : X → X → Bool) (x y : X) (ys : List X) → lt y x ≡ false → put lt x (y ∷ ys) ≡ x ∷ y ∷ ys
-put-here lt x y ys h = cond-false _ _ _ h
-
 -- what holds of the element and of each in the list holds of each in the new list
 pub each_put : {X : Type 0} (P : X → Type 0) (lt : X → X → Bool) (x : X) (ys : List X) → P x → AllByRecursion P ys → AllByRecursion P (put lt x ys)
 each_put P lt x [] h all = (h, tt)
 each_put {X} P lt x (y ∷ ys) h all =
     elim (cases_Bool (lt y x)) [
-      | inl past ↦ rw (put-past lt x y ys past) (all.0, each_put P lt x ys h all.1)
-      | inr here ↦ rw (put-here lt x y ys here) (h, all)
+      | inl past ↦ rw past (all.0, each_put P lt x ys h all.1)
+      | inr here ↦ rw here (h, all)
     ]
 
 -- no two neighbours of one place tie with a third, where the one comes before the other
 no_third : {X : Type 0} (lt : X → X → Bool) → IsStrictWeakOrder lt → (x y z : X) → lt y x ≡ true → ties lt z x ≡ true → ties lt z y ≡ true → ⊥
-no_third lt o x y z before p q =
-    let left = ties_parts (lt z x) (lt x z) p in
-    let right = ties_parts (lt z y) (lt y z) q in
-    let not_before = o.chain y z x right.1 left.0 in
-    let both : true ≡ false = sym before ∙ not_before in
-    cc
+no_third lt o x y z before p q = grind (arith, nat_tests)
 
 pub stable_put : {X : Type 0} (lt : X → X → Bool) → IsStrictWeakOrder lt → (x : X) (ys : List X) → IsStableBy lt (x ∷ ys) (put lt x ys)
 stable_put lt o x [] z = refl
-stable_put {X} lt o x (y ∷ ys) z =
-    let t = ties lt z in
-    elim (cases_Bool (lt y x)) [
-      | inr here ↦ ap (filter t) (put-here lt x y ys here)
-      | inl past ↦
-          ap (filter t) (put-past lt x y ys past)
-          ∙ elim (cases_Bool (t y)) [
-            | inr without ↦
-                filter-dropped t y (put lt x ys) without ∙ stable_put lt o x ys z
-                ∙ ap (λ l. cond (t x) (x ∷ l) l) (sym (filter-dropped t y ys without))
-            | inl with ↦
-                elim (cases_Bool (t x)) [
-                  | inl both ↦ absurd (no_third lt o x y z past both with)
-                  | inr only ↦
-                      filter-kept t y (put lt x ys) with ∙ ap (λ l. y ∷ l) (stable_put lt o x ys z ∙ filter-dropped t x ys only)
-                      ∙ sym (filter-dropped t x (y ∷ ys) only ∙ filter-kept t y ys with)
-                ]
-          ]
-    ]
+stable_put {X} lt o x (y ∷ ys) z = grind (arith, nat_tests, stable_put lt o x ys z, no_third lt o x y z)
 
 behind_first : {X : Type 0} (lt : X → X → Bool) → IsStrictWeakOrder lt → (x y : X) (ys : List X) → lt y x ≡ false → AllByRecursion (NotBefore lt y) ys → AllByRecursion (NotBefore lt x) ys
 behind_first lt o x y [] h all = tt
@@ -138,8 +96,8 @@ pub sorted_put : {X : Type 0} (lt : X → X → Bool) → IsStrictWeakOrder lt �
 sorted_put lt o x [] later = (tt, tt)
 sorted_put {X} lt o x (y ∷ ys) later =
     elim (cases_Bool (lt y x)) [
-      | inl past ↦ rw (put-past lt x y ys past) (each_put (NotBefore lt y) lt x ys (o.one_way y x past) later.0, sorted_put lt o x ys later.1)
-      | inr here ↦ rw (put-here lt x y ys here) ((here, behind_first lt o x y ys here later.0), later)
+      | inl past ↦ rw past (each_put (NotBefore lt y) lt x ys (o.one_way y x past) later.0, sorted_put lt o x ys later.1)
+      | inr here ↦ rw here ((here, behind_first lt o x y ys here later.0), later)
     ]
 
 -- ---- a relation of each two, which doesn't depend on the order
@@ -148,8 +106,8 @@ pub later_put : {X : Type 0} (R : X → X → Type 0) → ((x y : X) → R x y �
 later_put R flip lt x [] later = later
 later_put {X} R flip lt x (y ∷ ys) later =
     elim (cases_Bool (lt y x)) [
-      | inl past ↦ rw (put-past lt x y ys past) (each_put (R y) lt x ys (flip x y later.0.0) later.1.0, later_put R flip lt x ys (later.0.1, later.1.1))
-      | inr here ↦ rw (put-here lt x y ys here) later
+      | inl past ↦ rw past (each_put (R y) lt x ys (flip x y later.0.0) later.1.0, later_put R flip lt x ys (later.0.1, later.1.1))
+      | inr here ↦ rw here later
     ]
 
 pub each_from_put : {X : Type 0} (P : X → Type 0) (lt : X → X → Bool) (x : X) (ys : List X) → AllByRecursion P (put lt x ys) → AllByRecursion P (x ∷ ys)
@@ -157,10 +115,10 @@ each_from_put P lt x [] all = all
 each_from_put {X} P lt x (y ∷ ys) all =
     elim (cases_Bool (lt y x)) [
       | inl past ↦
-          let parts : AllByRecursion P (y ∷ put lt x ys) = rw (put-past lt x y ys past) at all in
+          let parts : AllByRecursion P (y ∷ put lt x ys) = rw past at all in
           let rest = each_from_put P lt x ys parts.1 in
           (rest.0, (parts.0, rest.1))
-      | inr here ↦ rw (put-here lt x y ys here) at all
+      | inr here ↦ rw here at all
     ]
 
 pub later_from_put : {X : Type 0} (R : X → X → Type 0) → ((x y : X) → R x y → R y x) → (lt : X → X → Bool) (x : X) (ys : List X) → EachLater R (put lt x ys) → EachLater R (x ∷ ys)
@@ -168,9 +126,9 @@ later_from_put R flip lt x [] later = later
 later_from_put {X} R flip lt x (y ∷ ys) later =
     elim (cases_Bool (lt y x)) [
       | inl past ↦
-          let parts : EachLater R (y ∷ put lt x ys) = rw (put-past lt x y ys past) at later in
+          let parts : EachLater R (y ∷ put lt x ys) = rw past at later in
           let first = each_from_put (R y) lt x ys parts.0 in
           let rest = later_from_put R flip lt x ys parts.1 in
           ((flip y x first.0, rest.0), (first.1, rest.1))
-      | inr here ↦ rw (put-here lt x y ys here) at later
+      | inr here ↦ rw here at later
     ]

@@ -90,7 +90,8 @@ widened ranges from to = (moved_out ranges from Backward, moved_out ranges to Fo
 
 -- what widening makes of a removal: it holds the removal, and each range that overlaps it; each range is taken whole or
 -- not at all; and no smaller removal that holds the first one takes them so
-pub record IsWidened (ranges : List AtomicRange) (from to : Place) (wide : Place × Place) : Type 0 where
+pub record IsWidened (ranges : List AtomicRange) (from to : Place)
+    (wide : Place × Place) : Type 0 where
   pub starts : IsUpTo wide.0 from
   pub ends : IsUpTo to wide.1
   pub overlapping : All (λ range. Overlaps from to range → IsWithin wide.0 wide.1 range) ranges

@@ -15,7 +15,8 @@ free_from (Some last) row = if last.row == row then last.end_col else 0
 
 -- why the range is rejected behind the last valid range: none where it is valid too. The first test that speaks gives
 -- the reason
-abbrev pub reason : List (List ℕ) → Option AtomicRange → AtomicRange → Option AtomicRangeRejectReason
+abbrev pub reason : List (List ℕ) → Option AtomicRange → AtomicRange →
+    Option AtomicRangeRejectReason
 reason rows last range =
     if range.start_col == range.end_col then Some Empty
     else (if nat_le (length rows) range.row then Some RowOutOfBounds
@@ -31,12 +32,14 @@ with_reason range None = []
 with_reason range (Some reason) = record { range = range; reason = reason } ∷ []
 
 -- the last valid range with this range behind it: this one, where it has no reason to be rejected
-abbrev pub last_valid : Option AtomicRange → AtomicRange → Option AtomicRangeRejectReason → Option AtomicRange
+abbrev pub last_valid : Option AtomicRange → AtomicRange → Option AtomicRangeRejectReason →
+    Option AtomicRange
 last_valid last range None = Some range
 last_valid last range (Some reason) = last
 
 -- the rejected ranges of a list that is in order, behind the last valid range
-abbrev pub rejected_behind : List (List ℕ) → Option AtomicRange → List AtomicRange → List RejectedAtomicRange
+abbrev pub rejected_behind : List (List ℕ) → Option AtomicRange → List AtomicRange →
+    List RejectedAtomicRange
 rejected_behind rows last [] = []
 rejected_behind rows last (range ∷ rest) =
     let why = reason rows last range in
@@ -54,7 +57,8 @@ pub record AreAccepted (rows : List (List ℕ)) (given held : List AtomicRange) 
   pub none : rejected_of rows held ≡ []
 
 -- the given ranges are refused: all that are rejected are listed, which is one at least, and the given ones aren't valid
-pub record AreRefused (rows : List (List ℕ)) (given : List AtomicRange) (rejected : List RejectedAtomicRange) : Type 0 where
+pub record AreRefused (rows : List (List ℕ)) (given : List AtomicRange)
+    (rejected : List RejectedAtomicRange) : Type 0 where
   pub listed : rejected ≡ rejected_of rows (in_order given)
   pub some : rejected ≢ []
   pub invalid : ¬ AreValid rows given

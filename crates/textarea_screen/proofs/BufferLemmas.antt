@@ -2,7 +2,9 @@
 use Rattle.std.proofs.Common.{◌≡◌, ◌≢◌, ℕ, zero, suc, ◌+◌, ◌-◌, ◌*◌, ◌/◌, ◌%◌, ◌<◌, ◌≤◌, Bool, true, false, cond, eqb, leb, ltb, ◌&&◌, List, [], ◌∷◌, length, get_or, set, Option, None, Some, refl, sym, ap, ap₂, ◌∙◌, ⊎_elim, arith}
 use Rattle.std.specs.List.{slice_get, All}
 use Rattle.std.specs.Option.{option_map}
-use Rattle.std.proofs.lemmas.Bool.{ltb-true, leb-true, eqb-true, and_parts, and_from, cases_Bool, cond-true, cond-false, eq-eqb}
+use Rattle.std.proofs.lemmas.Bool.{cases_Bool, cond-true}
+use Rattle.std.proofs.lemmas.Bool.Decides.{nat_tests}
+use Rattle.std.proofs.lemmas.Iterator.Adapters.{option_map_id}
 use Rattle.std.proofs.lemmas.List.Elements.{All-tail}
 use Rattle.std.proofs.lemmas.Nat.{mul-add-lt, div-mul-add, mod-mul-add}
 use Rattle.std.proofs.lemmas.Option.{slice_get-get_or}
@@ -15,35 +17,18 @@ use Rattle.textarea_screen.specs.declared.screen.rect.Rect.{Rect}
 
 -- ---- places in the list of all cells
 
-record IsInside (area : Rect) (x y : ℕ) : Type 0 where
-  left : area.x ≤ x
-  right : x < area.x + area.width
-  top : area.y ≤ y
-  bottom : y < area.y + area.height
-
-inside : (area : Rect) (x y : ℕ) → contains area x y ≡ true → IsInside area x y
-inside area x y h =
-    let above_bottom = and_parts _ _ h in
-    let below_top = and_parts _ _ above_bottom.0 in
-    let between = and_parts _ _ below_top.0 in
-    record { left = leb-true _ _ between.0; right = ltb-true _ _ between.1; top = leb-true _ _ below_top.1; bottom = ltb-true _ _ above_bottom.1 }
-
 -- a cell of the rectangle stands before the end of the list
 pub place_in-below : (area : Rect) (x y : ℕ) → contains area x y ≡ true → place_in area x y < area.height * area.width
-place_in-below area x y h =
-    let i = inside area x y h in
-    omega (arith, mul-add-lt (y - area.y) area.width (x - area.x) area.height (omega (arith, i.top, i.bottom)) (omega (arith, i.left, i.right)))
+place_in-below area x y h = omega (arith, mul-add-lt (y - area.y) area.width (x - area.x) area.height (grind (arith, nat_tests)) (grind (arith, nat_tests)))
 
 -- two cells that stand in one place are one
 place_in-same : (area : Rect) (x y u v : ℕ) → contains area x y ≡ true → contains area u v ≡ true → place_in area u v ≡ place_in area x y → (u ≡ x) × (v ≡ y)
 place_in-same area x y u v h k e =
-    let i = inside area x y h in
-    let j = inside area u v k in
-    let b : x - area.x < area.width = omega (arith, i.left, i.right) in
-    let b' : u - area.x < area.width = omega (arith, j.left, j.right) in
+    let b : x - area.x < area.width = grind (arith, nat_tests) in
+    let b' : u - area.x < area.width = grind (arith, nat_tests) in
     let rows : v - area.y ≡ y - area.y = sym (div-mul-add (v - area.y) area.width (u - area.x) b') ∙ ap (λ n. n / area.width) e ∙ div-mul-add (y - area.y) area.width (x - area.x) b in
     let columns : u - area.x ≡ x - area.x = sym (mod-mul-add (v - area.y) area.width (u - area.x) b') ∙ ap (λ n. n % area.width) e ∙ mod-mul-add (y - area.y) area.width (x - area.x) b in
-    (omega (arith, columns, i.left, j.left), omega (arith, rows, i.top, j.top))
+    (grind (arith, nat_tests), grind (arith, nat_tests))
 
 -- ---- one cell is written
 
@@ -59,9 +44,12 @@ slice_get-set_other (x ∷ xs) zero (suc j) w h = refl
 slice_get-set_other (x ∷ xs) (suc i) zero w h = refl
 slice_get-set_other (x ∷ xs) (suc i) (suc j) w h = slice_get-set_other xs i j w (λ e. h (ap suc e))
 
-option_map-kept : (b : Bool) (f : ShownCell → ShownCell) (o : Option ShownCell) → b ≡ false → option_map (λ c. cond b (f c) c) o ≡ o
-option_map-kept b f None e = refl
-option_map-kept b f (Some c) e = ap Some (cond-false b (f c) c e)
+-- a cell is changed where a test passes, and kept elsewhere
+changed_where : (inside here : Bool) (was is : Option ShownCell) (f : ShownCell → ShownCell) → (inside ≡ true → here ≡ true → is ≡ option_map f was) →
+    (inside ≡ true → here ≡ false → is ≡ was) → cond inside is None ≡ option_map (λ c. cond here (f c) c) (cond inside was None)
+changed_where true true was is f changed kept = changed refl refl
+changed_where true false was is f changed kept = kept refl refl ∙ sym (option_map_id was)
+changed_where false here was is f changed kept = refl
 
 -- the cell at (u, v), in the list of all cells
 abbrev cell_in : Rect → List Cell → ℕ → ℕ → Option ShownCell
@@ -71,33 +59,17 @@ cell_in-set : (area : Rect) (cells : List Cell) (x y u v : ℕ) (f : ShownCell �
     shown_cell cell ≡ f (shown_cell (get_or cells (place_in area x y) d)) →
     cell_in area (set cells (place_in area x y) cell) u v ≡ option_map (λ c. cond (eqb u x && eqb v y) (f c) c) (cell_in area cells u v)
 cell_in-set area cells x y u v f d cell h room is =
+    changed_where (contains area u v) (eqb u x && eqb v y) _ _ f
+    (λ in_area here.
+    let at_x : u ≡ x = grind (arith, nat_tests) in
+    let at_y : v ≡ y = grind (arith, nat_tests) in
     let within : place_in area x y < length cells = omega (arith, place_in-below area x y h, room) in
-    ⊎_elim
-    (λ here.
-    let same = and_parts _ _ here in
-    let at_x : u ≡ x = eqb-true u x same.0 in
-    let at_y : v ≡ y = eqb-true v y same.1 in
-    let in_area : contains area u v ≡ true = ap₂ (contains area) at_x at_y ∙ h in
-    let place : place_in area u v ≡ place_in area x y = ap₂ (place_in area) at_x at_y in
-    cond-true (contains area u v) _ _ in_area
-    ∙ ap (λ n. option_map shown_cell (slice_get (set cells (place_in area x y) cell) n)) place
-    ∙ ap (option_map shown_cell) (slice_get-set_same cells (place_in area x y) cell within)
-    ∙ ap Some (is ∙ sym (cond-true (eqb u x && eqb v y) _ _ here))
-    ∙ sym (ap (λ o. option_map (λ c. cond (eqb u x && eqb v y) (f c) c) (option_map shown_cell o)) (slice_get-get_or cells (place_in area x y) d within))
-    ∙ ap (λ n. option_map (λ c. cond (eqb u x && eqb v y) (f c) c) (option_map shown_cell (slice_get cells n))) (sym place)
-    ∙ ap (option_map (λ c. cond (eqb u x && eqb v y) (f c) c)) (sym (cond-true (contains area u v) _ _ in_area)))
-    (λ there.
-    ⊎_elim
-    (λ in_area.
-    let other : place_in area u v ≢ place_in area x y =
-    λ e. let both = place_in-same area x y u v h in_area e in absurd (cc (and_from _ _ (eq-eqb u x both.0) (eq-eqb v y both.1))) in
-    cond-true (contains area u v) _ _ in_area
-    ∙ ap (option_map shown_cell) (slice_get-set_other cells (place_in area x y) (place_in area u v) cell other)
-    ∙ sym (cond-true (contains area u v) _ _ in_area)
-    ∙ sym (option_map-kept (eqb u x && eqb v y) f (cell_in area cells u v) there))
-    (λ outside. rw outside refl)
-    (cases_Bool (contains area u v)))
-    (cases_Bool (eqb u x && eqb v y))
+    rw (at_x, at_y)
+    (ap (option_map shown_cell) (slice_get-set_same cells (place_in area x y) cell within) ∙ ap Some is
+    ∙ sym (ap (λ o. option_map f (option_map shown_cell o)) (slice_get-get_or cells (place_in area x y) d within))))
+    (λ in_area there.
+    ap (option_map shown_cell) (slice_get-set_other cells (place_in area x y) (place_in area u v) cell
+    (λ e. let both = place_in-same area x y u v h in_area e in absurd (grind (arith, nat_tests)))))
 
 pub Changes-set : (old new : Buffer) (x y place : ℕ) (f : ShownCell → ShownCell) (d cell : Cell) → contains old.area x y ≡ true → place ≡ place_in old.area x y →
     length old.cells.items ≡ old.area.height * old.area.width → new.area ≡ old.area → new.cells.items ≡ set old.cells.items place cell →
@@ -117,13 +89,7 @@ unfolding cell_at
 Changes-outside buffer x y f outside = record {
   area = refl;
   cells = λ u v.
-      ⊎_elim
-      (λ here.
-      let same = and_parts _ _ here in
-      let nowhere : contains buffer.area u v ≡ false = ap₂ (contains buffer.area) (eqb-true u x same.0) (eqb-true v y same.1) ∙ outside in
-      rw nowhere refl)
-      (λ there. sym (option_map-kept (eqb u x && eqb v y) f (cell_in buffer.area buffer.cells.items u v) there))
-      (cases_Bool (eqb u x && eqb v y));
+      changed_where (contains buffer.area u v) (eqb u x && eqb v y) _ _ f (λ in_area here. absurd (grind (arith, nat_tests))) (λ in_area there. refl);
 }
 
 -- the cell that a list has at the place of (x, y)
@@ -149,9 +115,7 @@ pub cell_at-fresh : (buffer : Buffer) (x y : ℕ) → buffer.area.height * buffe
 unfolding cell_at
 cell_at-fresh buffer x y room fresh =
     ⊎_elim
-    (λ in_area.
-    let within : place_in buffer.area x y < length buffer.cells.items = omega (arith, place_in-below buffer.area x y in_area, room) in
-    cond-true _ _ _ in_area ∙ slice_get-fresh buffer.cells.items (place_in buffer.area x y) within fresh ∙ sym (cond-true _ _ _ in_area))
+    (λ in_area. rw in_area (slice_get-fresh buffer.cells.items (place_in buffer.area x y) (omega (arith, place_in-below buffer.area x y in_area, room)) fresh))
     (λ outside. rw outside refl)
     (cases_Bool (contains buffer.area x y))
 

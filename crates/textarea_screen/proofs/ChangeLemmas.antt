@@ -66,10 +66,6 @@ Changes-inside {a} {b} {f} g change same = record {
       (cases_Bool (contains (area_of a) x y));
 }
 
--- the same change of the same buffers
-pub Changes-at : {a b a' b' : Buffer} {f : Change} → Changes a b f → a' ≡ a → b' ≡ b → Changes a' b' f
-Changes-at {a} {b} {a'} {b'} {f} change is_a is_b = rw (is_a, is_b) change
-
 -- ---- cells that stay
 
 -- a change keeps the cells that it leaves as they are

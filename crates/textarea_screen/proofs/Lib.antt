@@ -1,2 +1,2 @@
-mod BufferLemmas
+pub mod BufferLemmas
 pub mod ChangeLemmas

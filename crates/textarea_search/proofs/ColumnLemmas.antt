@@ -1,18 +1,19 @@
 -- Bytes of a line, and the columns at which they stand.
-use Rattle.std.proofs.Common.{◌≡◌, ℕ, zero, suc, ◌+◌, ◌<◌, ◌≤◌, Bool, true, false, cond, List, [], ◌∷◌, ◌++◌, map, length, take, drop, reverse, Option, None, Some, option_map, refl, sym, ap, ◌∙◌, inl, inr, ⊎_elim, arith, IsUtf8, IsCharBoundary, encode_utf8_all, encode_utf8, MatchOption, is_some, true≢false}
+use Rattle.std.proofs.lemmas.Grind.{common_steps}
+use Rattle.std.proofs.Common.{◌≡◌, ℕ, zero, suc, ◌+◌, ◌<◌, ◌≤◌, Bool, true, false, List, [], ◌∷◌, ◌++◌, map, length, take, drop, reverse, Option, None, Some, option_map, refl, sym, ap, ◌∙◌, ⊎_elim, arith, IsUtf8, IsCharBoundary, encode_utf8_all, encode_utf8, MatchOption, is_some, true≢false}
 use Rattle.std.specs.Prelude.{All}
 use Rattle.std.specs.List.{find, slice_get}
 use Rattle.std.specs.Str.{chars}
 use Rattle.std.proofs.lemmas.Bool.{cases_lt}
 use Rattle.std.proofs.lemmas.Bool.Decides.{nat_tests}
 use Rattle.std.proofs.lemmas.List.{take-append-drop, take_at, length-append, length-take-le, length-drop, drop-drop}
-use Rattle.std.proofs.lemmas.List.Elements.{All-head, All-tail, All-weaker}
+use Rattle.std.proofs.lemmas.List.Elements.{All-weaker}
 use Rattle.std.proofs.lemmas.Option.{slice_get-map}
 use Rattle.std.proofs.lemmas.Str.{chars-append, encodes-append, encodes-chars, IsUtf8-take, length-encode, len_utf8_bounds, cons_from_encodes, length-le-encodes}
 use Rattle.textarea_search.specs.Columns.{column_at}
 use Rattle.textarea_search.specs.Starts.{is_ahead_in_line}
 use Rattle.textarea_search.proofs.ListedLemmas.{LiesFrom, starts_before}
-use Rattle.textarea_search.proofs.StartLemmas.{find-map, find-first, map_reverse, All-reverse}
+use Rattle.textarea_search.proofs.StartLemmas.{find-map, find-same, find-first, map_reverse, All-reverse}
 
 -- the byte at which a column of these characters begins
 abbrev pub byte_at : List ℕ → ℕ → ℕ
@@ -102,30 +103,12 @@ module _ (line : List ℕ) (column byte : ℕ) (text : IsUtf8 line) (stands : St
       (cases_lt (length cs) column)
 
 same_ahead : (x y m n : ℕ) (at : Bool) → SameOrder x y m n → is_ahead_in_line y at x ≡ is_ahead_in_line n at m
-same_ahead x y m n at o = elim (cases_lt m n) [
-  | inl lt ↦ let less = o.less lt in grind (arith, nat_tests)
-  | inr ge ↦ elim (cases_lt n m) [
-    | inl gt ↦ let more = o.more gt in grind (arith, nat_tests)
-    | inr le ↦ let e : m ≡ n = omega arith in let same = o.same e in grind (arith, nat_tests)
-  ]
-]
+same_ahead x y m n at o = grind (arith, common_steps, nat_tests)
 
 same_behind : (x y m n : ℕ) (at : Bool) → SameOrder x y m n → is_ahead_in_line x at y ≡ is_ahead_in_line m at n
-same_behind x y m n at o = elim (cases_lt m n) [
-  | inl lt ↦ let less = o.less lt in grind (arith, nat_tests)
-  | inr ge ↦ elim (cases_lt n m) [
-    | inl gt ↦ let more = o.more gt in grind (arith, nat_tests)
-    | inr le ↦ let e : m ≡ n = omega arith in let same = o.same e in grind (arith, nat_tests)
-  ]
-]
+same_behind x y m n at o = grind (arith, common_steps, nat_tests)
 
 -- ---- from a search by bytes to one by columns
-
-find-same : {X : Type 0} (p q : X → Bool) (xs : List X) → All (λ x. p x ≡ q x) xs → find p xs ≡ find q xs
-find-same p q [] h = refl
-find-same p q (x ∷ xs) h =
-    ap (λ b. cond b (Some x) (find p xs)) (All-head (λ x. p x ≡ q x) x xs h)
-    ∙ ap (cond (q x) (Some x)) (find-same p q xs (All-tail (λ x. p x ≡ q x) x xs h))
 
 abbrev pub column_of_span : List ℕ → ℕ × ℕ → ℕ
 column_of_span line s = column_at line s.0

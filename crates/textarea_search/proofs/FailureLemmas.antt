@@ -1,5 +1,7 @@
 -- What an error of `Regex::new` says of the text.
-use Rattle.std.proofs.Common.{◌≡◌, ◌≢◌, ℕ, List, inl, inr, subst, ⊎_elim}
+use Rattle.std.proofs.lemmas.Grind.{common_steps}
+use Rattle.std.proofs.lemmas.Bool.Decides.{nat_tests}
+use Rattle.std.proofs.Common.{arith, ◌≡◌, ◌≢◌, ℕ, List, subst}
 use Rattle.regex_syntax.specs.Verdict.{Refuses}
 use Rattle.regex_syntax.specs.declared.error.Error as parser
 use Rattle.regex_syntax.specs.declared.error.ErrorKind.TheVariants.{OutOfMemory}
@@ -14,8 +16,7 @@ use Rattle.textarea_search.specs.Failures.{IsNoPattern, IsPatternFailure, IsCarr
 
 no_pattern : (text : List ℕ) (e : parser.Error) → Refuses default_config text e.kind → e.kind ≢ OutOfMemory → IsNoPattern text
 unfolding Refuses
-no_pattern text e refused other =
-    ⊎_elim (λ memory. absurd (other memory)) (λ rest. ⊎_elim (λ none. inl none) (λ deep. inr deep.1) rest) refused
+no_pattern text e refused other = grind (arith, common_steps, nat_tests)
 
 pub IsPatternFailure-of_regex : (text : List ℕ) (error : Error) → IsRefusal default_config text error → IsRightKind default_config text error →
     IsPatternFailure text (Pattern error)

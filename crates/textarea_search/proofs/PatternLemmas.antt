@@ -1,5 +1,6 @@
 -- From a pattern that was built to the text that it was built of.
-use Rattle.std.proofs.Common.{◌≡◌, ℕ, zero, suc, ◌+◌, ◌<◌, ◌≤◌, ◌/◌, ◌%◌, Bool, true, false, cond, nat_lt, ◌∷◌, ◌++◌, List, [], map, length, get_or, Option, None, Some, IsSomeAnd, refl, ap, ◌∙◌, subst, arith, IsUtf8, string_bytes, Global}
+use Rattle.std.proofs.lemmas.Grind.{common_steps}
+use Rattle.std.proofs.Common.{◌≡◌, ℕ, zero, suc, ◌+◌, ◌<◌, ◌≤◌, true, ◌∷◌, ◌++◌, List, [], map, length, get_or, Option, None, Some, IsSomeAnd, refl, ap, ◌∙◌, subst, arith, IsUtf8, string_bytes, Global}
 use Rattle.std.specs.Prelude.{All, String}
 use Rattle.std.specs.Coded.{coded_ℕ, coded_list, coded×, Coded-set}
 use Rattle.std.specs.Option.{option_map_or}
@@ -7,7 +8,7 @@ use Rattle.std.proofs.Math.Logic.{∥∥₁_elim}
 use Rattle.std.proofs.Math.Utf8.{encode, encodes, scalar, scalars}
 use Rattle.std.proofs.lemmas.Bool.{and_parts}
 use Rattle.std.proofs.lemmas.Bool.Decides.{nat_tests}
-use Rattle.std.proofs.lemmas.List.Elements.{All-nil, All-cons, All-append}
+use Rattle.std.proofs.lemmas.List.Elements.{All-nil, All-append}
 use Rattle.std.proofs.lemmas.Str.{IsUtf8-string_bytes}
 use Rattle.regex_hir.specs.Re.{Re}
 use Rattle.regex_syntax.specs.Brackets.{Nested}
@@ -29,35 +30,9 @@ use Rattle.textarea_search.specs.Starts.{starts_from}
 abbrev AreBytes : List ℕ → Type 0
 AreBytes = All (λ b. b < 256)
 
-either_bytes : (b : Bool) (xs ys : List ℕ) → (b ≡ true → AreBytes xs) → (b ≡ false → AreBytes ys) → AreBytes (cond b xs ys)
-either_bytes true xs ys f g = f refl
-either_bytes false xs ys f g = g refl
-
-one : (n : ℕ) → n < 256 → (xs : List ℕ) → AreBytes xs → AreBytes (n ∷ xs)
-one n h xs hs = All-cons (λ b. b < 256) n xs h hs
-
-low_part : (n : ℕ) (xs : List ℕ) → AreBytes xs → AreBytes ((128 + n % 64) ∷ xs)
-low_part n xs hs = one (128 + n % 64) (omega arith) xs hs
-
-below : (m n : ℕ) → nat_lt m n ≡ true → m < n
-below m n h = grind (arith, nat_tests)
-
-below_last : (c : ℕ) → scalar c ≡ true → c < 1114112
-below_last c h = grind (arith, nat_tests)
-
 bytes_of_char : (c : ℕ) → scalar c ≡ true → AreBytes (encode c)
 unfolding encode
-bytes_of_char c h =
-    let most = below_last c h in
-    let none : AreBytes [] = All-nil (λ b. b < 256) in
-    let last = low_part c [] none in
-    let last_two = low_part (c / 64) ((128 + c % 64) ∷ []) last in
-    let last_three = low_part (c / 4096) ((128 + c / 64 % 64) ∷ (128 + c % 64) ∷ []) last_two in
-    either_bytes (nat_lt c 128) _ _ (λ t. one c (omega (arith, below c 128 t)) [] none)
-    (λ _. either_bytes (nat_lt c 2048) _ _ (λ t. one (192 + c / 64) (omega (arith, below c 2048 t)) ((128 + c % 64) ∷ []) last)
-    (λ _. either_bytes (nat_lt c 65536) _ _
-    (λ t. one (224 + c / 4096) (omega (arith, below c 65536 t)) ((128 + c / 64 % 64) ∷ (128 + c % 64) ∷ []) last_two)
-    (λ _. one (240 + c / 262144) (omega arith) ((128 + c / 4096 % 64) ∷ (128 + c / 64 % 64) ∷ (128 + c % 64) ∷ []) last_three)))
+bytes_of_char c h = grind (arith, common_steps, nat_tests)
 
 bytes_of_chars : (cs : List ℕ) → scalars cs ≡ true → AreBytes (encodes cs)
 bytes_of_chars [] h = All-nil (λ b. b < 256)

@@ -49,12 +49,9 @@ pub find_in_parts : {X : Type 0} (test : X → Bool) (front here beyond : List X
     find_or_first test (front ++ (here ++ beyond))
     ≡ option_or (find test here) (option_or (slice_get beyond 0) (slice_get (front ++ here) 0))
 find_in_parts test front here beyond none each =
-    let found : find test (front ++ (here ++ beyond)) ≡ option_or (find test here) (slice_get beyond 0) =
-    find-append test front (here ++ beyond) ∙ ap (λ o. option_or o (find test (here ++ beyond))) (find-none test front none)
-    ∙ find-append test here beyond ∙ ap (option_or (find test here)) (find-first test beyond each) in
-    ap (λ o. option_or o (slice_get (front ++ (here ++ beyond)) 0)) found
-    ∙ joined (find test here) (slice_get beyond 0) (slice_get (front ++ here) 0) (slice_get (front ++ (here ++ beyond)) 0)
-    (λ _ empty. ap (λ ys. slice_get (front ++ (here ++ ys)) 0) (nil_of_first beyond empty) ∙ ap (λ ys. slice_get (front ++ ys) 0) (append-nil here))
+    rw (find-append test front (here ++ beyond), find-none test front none, find-append test here beyond, find-first test beyond each)
+    (joined (find test here) (slice_get beyond 0) (slice_get (front ++ here) 0) (slice_get (front ++ (here ++ beyond)) 0)
+    (λ _ empty. rw (nil_of_first beyond empty, append-nil) refl))
 
 -- ---- the starts of lines
 
@@ -84,10 +81,7 @@ pub starts_in_parts : (columns : List ℕ → List ℕ) (lines : List (List ℕ)
     starts_from columns 0 lines
     ≡ starts_from columns 0 (take row lines) ++ (map (λ column. (row, column)) (columns (get_or lines row d)) ++ starts_from columns (row + 1) (drop (row + 1) lines))
 starts_in_parts columns lines row d within =
-    let cut : lines ≡ take row lines ++ (get_or lines row d ∷ drop (row + 1) lines) = sym (take-append-drop row lines) ∙ ap (λ ys. take row lines ++ ys) (drop_more lines row d within) in
-    let at : 0 + length (take row lines) ≡ row = zero-add (length (take row lines)) ∙ length-take-le row lines (omega arith) in
-    ap (starts_from columns 0) cut ∙ starts-append columns 0 (take row lines) (get_or lines row d ∷ drop (row + 1) lines)
-    ∙ ap (λ n. starts_from columns 0 (take row lines) ++ starts_from columns n (get_or lines row d ∷ drop (row + 1) lines)) at
+    rw (take-append-drop, drop_more lines row d within, zero-add, length-take-le row lines (omega arith)) at (starts-append columns 0 (take row lines) (drop row lines))
 
 -- ---- which places lie ahead of a cursor, and behind it
 
@@ -97,26 +91,31 @@ not_ahead cursor at p h = grind (arith, nat_tests)
 pub ahead : (cursor : ℕ × ℕ) (at : Bool) (p : ℕ × ℕ) → cursor.0 < p.0 → is_ahead cursor at p ≡ true
 ahead cursor at p h = grind (arith, nat_tests)
 
+-- ---- the text of a line
+
+pub text_at : (lines : List (String Global)) (i : ℕ) (line : String Global) → i < length lines → line ≡ get_or lines i line →
+    get_or (map string_bytes lines) i (string_bytes line) ≡ string_bytes line
+text_at lines i line within e = get_or-map string_bytes lines i line (string_bytes line) within ∙ ap string_bytes (sym e)
+
 -- ---- the first start of lines, and the last
 
 first_of_append : {X : Type 0} (xs ys : List X) (x : X) → slice_get xs 0 ≡ Some x → slice_get (xs ++ ys) 0 ≡ Some x
 first_of_append [] ys x e = cc
 first_of_append (z ∷ xs) ys x e = e
 
-pub first_start_here : (columns : List ℕ → List ℕ) (row : ℕ) (lines : List (List ℕ)) (i : ℕ) (d : List ℕ) (column : ℕ) → i < length lines →
-    slice_get (columns (get_or lines i d)) 0 ≡ Some column →
-    slice_get (starts_from columns row (drop i lines)) 0 ≡ Some (row, column)
-first_start_here columns row lines i d column within e =
-    rw (drop_more lines i d within)
-    (first_of_append (map (λ c. (row, c)) (columns (get_or lines i d))) _ (row, column)
-    (slice_get-map (λ c. (row, c)) (columns (get_or lines i d)) 0 ∙ ap (option_map (λ c. (row, c))) e))
+-- a line of these, as the code reads it, in front of the others
+module _ (columns : List ℕ → List ℕ) (row : ℕ) (lines : List (String Global)) (i : ℕ) (line : String Global) (within : i < length lines) (is_line : line ≡ get_or lines i line) where
+  from_line : drop i (map string_bytes lines) ≡ string_bytes line ∷ drop (i + 1) (map string_bytes lines)
+  from_line = rw (text_at lines i line within is_line) at (drop_more (map string_bytes lines) i (string_bytes line) (rw length-map within))
 
-pub first_start_next : (columns : List ℕ → List ℕ) (row : ℕ) (lines : List (List ℕ)) (i : ℕ) (d : List ℕ) → i < length lines →
-    slice_get (columns (get_or lines i d)) 0 ≡ None →
-    starts_from columns row (drop i lines) ≡ starts_from columns (row + 1) (drop (i + 1) lines)
-first_start_next columns row lines i d within e =
-    ap (starts_from columns row) (drop_more lines i d within)
-    ∙ ap (λ cs. map (λ c. (row, c)) cs ++ starts_from columns (row + 1) (drop (i + 1) lines)) (nil_of_first (columns (get_or lines i d)) e)
+  pub first_start_here : (column : ℕ) → slice_get (columns (string_bytes line)) 0 ≡ Some column →
+      slice_get (starts_from columns row (drop i (map string_bytes lines))) 0 ≡ Some (row, column)
+  first_start_here column e =
+      rw from_line (first_of_append (map (λ c. (row, c)) (columns (string_bytes line))) _ (row, column) (slice_get-map (λ c. (row, c)) (columns (string_bytes line)) 0 ∙ rw e refl))
+
+  pub first_start_next : slice_get (columns (string_bytes line)) 0 ≡ None →
+      starts_from columns row (drop i (map string_bytes lines)) ≡ starts_from columns (row + 1) (drop (i + 1) (map string_bytes lines))
+  first_start_next e = rw (from_line, nil_of_first (columns (string_bytes line)) e) refl
 
 nil_of_reverse : {X : Type 0} (xs : List X) → slice_get (reverse xs) 0 ≡ None → xs ≡ []
 nil_of_reverse [] e = refl
@@ -128,59 +127,42 @@ map_reverse f (x ∷ xs) =
     ap (map f) (reverse-append (x ∷ []) xs) ∙ map-append f (reverse xs) (x ∷ [])
     ∙ ap (λ ys. ys ++ f x ∷ []) (map_reverse f xs) ∙ sym (reverse-append (f x ∷ []) (map f xs))
 
--- the starts of the lines up to the one at i, the last first
-starts_reversed : (columns : List ℕ → List ℕ) (row : ℕ) (lines : List (List ℕ)) (i : ℕ) (d : List ℕ) → i < length lines →
-    reverse (starts_from columns row (take (i + 1) lines))
-    ≡ reverse (map (λ c. (row + i, c)) (columns (get_or lines i d))) ++ reverse (starts_from columns row (take i lines))
-starts_reversed columns row lines i d within =
-    let at : row + length (take i lines) ≡ row + i = ap (λ n. row + n) (length-take-le i lines (omega arith)) in
-    ap (λ ys. reverse (starts_from columns row ys)) (take_more lines i d within)
-    ∙ ap reverse (starts-append columns row (take i lines) (get_or lines i d ∷ [])
-    ∙ ap (λ n. starts_from columns row (take i lines) ++ starts_from columns n (get_or lines i d ∷ [])) at
-    ∙ ap (λ ys. starts_from columns row (take i lines) ++ ys) (append-nil (map (λ c. (row + i, c)) (columns (get_or lines i d)))))
-    ∙ reverse-append (starts_from columns row (take i lines)) (map (λ c. (row + i, c)) (columns (get_or lines i d)))
+-- the starts of the lines up to the one at i
+starts_more : (columns : List ℕ → List ℕ) (row : ℕ) (lines : List (List ℕ)) (i : ℕ) (d : List ℕ) → i < length lines →
+    starts_from columns row (take (i + 1) lines) ≡ starts_from columns row (take i lines) ++ map (λ c. (row + i, c)) (columns (get_or lines i d))
+starts_more columns row lines i d within = rw (take_more lines i d within, starts-append, length-take-le i lines (omega arith), append-nil) refl
 
-pub last_start_here : (columns : List ℕ → List ℕ) (row : ℕ) (lines : List (List ℕ)) (i : ℕ) (d : List ℕ) (column : ℕ) → i < length lines →
-    slice_get (reverse (columns (get_or lines i d))) 0 ≡ Some column →
-    slice_get (reverse (starts_from columns row (take (i + 1) lines))) 0 ≡ Some (row + i, column)
-last_start_here columns row lines i d column within e =
-    ap (λ ys. slice_get ys 0) (starts_reversed columns row lines i d within)
-    ∙ first_of_append (reverse (map (λ c. (row + i, c)) (columns (get_or lines i d)))) _ (row + i, column)
-    (ap (λ ys. slice_get ys 0) (sym (map_reverse (λ c. (row + i, c)) (columns (get_or lines i d))))
-    ∙ slice_get-map (λ c. (row + i, c)) (reverse (columns (get_or lines i d))) 0
-    ∙ ap (option_map (λ c. (row + i, c))) e)
+-- the same as the code reads it, the last first
+module _ (columns : List ℕ → List ℕ) (row : ℕ) (lines : List (String Global)) (i : ℕ) (line : String Global) (within : i < length lines) (is_line : line ≡ get_or lines i line) where
+  upto_line : reverse (starts_from columns row (take (i + 1) (map string_bytes lines)))
+      ≡ reverse (map (λ c. (row + i, c)) (columns (string_bytes line))) ++ reverse (starts_from columns row (take i (map string_bytes lines)))
+  upto_line =
+      rw (starts_more columns row (map string_bytes lines) i (string_bytes line) (rw length-map within), text_at lines i line within is_line)
+      (reverse-append (starts_from columns row (take i (map string_bytes lines))) (map (λ c. (row + i, c)) (columns (string_bytes line))))
 
-pub last_start_next : (columns : List ℕ → List ℕ) (row : ℕ) (lines : List (List ℕ)) (i : ℕ) (d : List ℕ) → i < length lines →
-    slice_get (reverse (columns (get_or lines i d))) 0 ≡ None →
-    reverse (starts_from columns row (take (i + 1) lines)) ≡ reverse (starts_from columns row (take i lines))
-last_start_next columns row lines i d within e =
-    starts_reversed columns row lines i d within
-    ∙ ap (λ cs. reverse (map (λ c. (row + i, c)) cs) ++ reverse (starts_from columns row (take i lines))) (nil_of_reverse (columns (get_or lines i d)) e)
+  pub last_start_here : (column : ℕ) → slice_get (reverse (columns (string_bytes line))) 0 ≡ Some column →
+      slice_get (reverse (starts_from columns row (take (i + 1) (map string_bytes lines)))) 0 ≡ Some (row + i, column)
+  last_start_here column e =
+      let place : ℕ → ℕ × ℕ = λ c. (row + i, c) in
+      ap (λ ys. slice_get ys 0) upto_line
+      ∙ first_of_append (reverse (map place (columns (string_bytes line)))) (reverse (starts_from columns row (take i (map string_bytes lines)))) (row + i, column)
+      (ap (λ ys. slice_get ys 0) (sym (map_reverse place (columns (string_bytes line))))
+      ∙ slice_get-map place (reverse (columns (string_bytes line))) 0 ∙ ap (option_map place) e)
 
--- ---- the text of a line
-
-pub text_at : (lines : List (String Global)) (i : ℕ) (line : String Global) → i < length lines → line ≡ get_or lines i line →
-    get_or (map string_bytes lines) i (string_bytes line) ≡ string_bytes line
-text_at lines i line within e = get_or-map string_bytes lines i line (string_bytes line) within ∙ ap string_bytes (sym e)
+  pub last_start_next : slice_get (reverse (columns (string_bytes line))) 0 ≡ None →
+      reverse (starts_from columns row (take (i + 1) (map string_bytes lines))) ≡ reverse (starts_from columns row (take i (map string_bytes lines)))
+  last_start_next e = rw (upto_line, nil_of_reverse (columns (string_bytes line)) e) refl
 
 -- ---- a search in parts
 
-find-same : {X : Type 0} (p q : X → Bool) (xs : List X) → ((x : X) → p x ≡ q x) → find p xs ≡ find q xs
+pub find-same : {X : Type 0} (p q : X → Bool) (xs : List X) → All (λ x. p x ≡ q x) xs → find p xs ≡ find q xs
 find-same p q [] h = refl
-find-same p q (x ∷ xs) h = rw (h x) (ap (cond (q x) (Some x)) (find-same p q xs h))
+find-same p q (x ∷ xs) h =
+    ap (λ b. cond b (Some x) (find p xs)) (All-head (λ x. p x ≡ q x) x xs h)
+    ∙ ap (cond (q x) (Some x)) (find-same p q xs (All-tail (λ x. p x ≡ q x) x xs h))
 
 same_row : (row : ℕ) (b : Bool) → (nat_lt row row || ((row == row) && b)) ≡ b
 same_row row b = grind (arith, nat_tests)
-
--- the starts up to a line, with those in it
-starts_upto : (columns : List ℕ → List ℕ) (lines : List (List ℕ)) (row : ℕ) (d : List ℕ) → row < length lines →
-    starts_from columns 0 (take row lines) ++ map (λ column. (row, column)) (columns (get_or lines row d)) ≡ starts_from columns 0 (take (row + 1) lines)
-starts_upto columns lines row d within =
-    let at : 0 + length (take row lines) ≡ row = zero-add (length (take row lines)) ∙ length-take-le row lines (omega arith) in
-    sym (ap (starts_from columns 0) (take_more lines row d within)
-    ∙ starts-append columns 0 (take row lines) (get_or lines row d ∷ [])
-    ∙ ap (λ n. starts_from columns 0 (take row lines) ++ starts_from columns n (get_or lines row d ∷ [])) at
-    ∙ ap (λ ys. starts_from columns 0 (take row lines) ++ ys) (append-nil (map (λ c. (row, c)) (columns (get_or lines row d)))))
 
 module _ (columns : List ℕ → List ℕ) (lines : List (List ℕ)) (row column : ℕ) (at : Bool) (d : List ℕ) (within : row < length lines) where
   pub next_start_in_parts : next_start (starts_from columns 0 lines) (row, column) at
@@ -199,11 +181,11 @@ module _ (columns : List ℕ → List ℕ) (lines : List (List ℕ)) (row column
       (starts_from-above columns (row + 1) (row + 1) (drop (row + 1) lines) (omega arith)) in
       let found : find test here ≡ option_map (λ c. (row, c)) (find (is_ahead_in_line column at) (columns (get_or lines row d))) =
       find-map test (λ c. (row, c)) (columns (get_or lines row d))
-      ∙ ap (option_map (λ c. (row, c))) (find-same (λ c. test (row, c)) (is_ahead_in_line column at) (columns (get_or lines row d)) (λ c. same_row row (is_ahead_in_line column at c))) in
+      ∙ ap (option_map (λ c. (row, c))) (find-same (λ c. test (row, c)) (is_ahead_in_line column at) (columns (get_or lines row d)) (λ k e lt. same_row row _)) in
       ap (find_or_first test) (starts_in_parts columns lines row d within)
       ∙ find_in_parts test front here beyond none each
       ∙ ap (λ o. option_or o (option_or (slice_get beyond 0) (slice_get (front ++ here) 0))) found
-      ∙ ap (λ ys. option_or (option_map (λ c. (row, c)) (find (is_ahead_in_line column at) (columns (get_or lines row d)))) (option_or (slice_get beyond 0) (slice_get ys 0))) (starts_upto columns lines row d within)
+      ∙ rw (starts_more columns 0 lines row d within, zero-add) refl
 
   pub previous_start_in_parts : previous_start (starts_from columns 0 lines) (row, column) at
       ≡ option_or (option_map (λ c. (row, c)) (find (λ c. is_ahead_in_line c at column) (reverse (columns (get_or lines row d)))))
@@ -224,7 +206,7 @@ module _ (columns : List ℕ → List ℕ) (lines : List (List ℕ)) (row column
       let found : find test (reverse here) ≡ option_map (λ c. (row, c)) (find (λ c. is_ahead_in_line c at column) (reverse (columns (get_or lines row d)))) =
       ap (find test) (sym (map_reverse (λ c. (row, c)) (columns (get_or lines row d))))
       ∙ find-map test (λ c. (row, c)) (reverse (columns (get_or lines row d)))
-      ∙ ap (option_map (λ c. (row, c))) (find-same (λ c. test (row, c)) (λ c. is_ahead_in_line c at column) (reverse (columns (get_or lines row d))) (λ c. same_row row (is_ahead_in_line c at column))) in
+      ∙ ap (option_map (λ c. (row, c))) (find-same (λ c. test (row, c)) (λ c. is_ahead_in_line c at column) (reverse (columns (get_or lines row d))) (λ k e lt. same_row row _)) in
       let turned : reverse (front ++ (here ++ beyond)) ≡ reverse beyond ++ (reverse here ++ reverse front) =
       reverse-append front (here ++ beyond) ∙ ap (λ ys. ys ++ reverse front) (reverse-append here beyond)
       ∙ append_assoc (reverse beyond) (reverse here) (reverse front) in
@@ -253,16 +235,11 @@ module _ (columns : List ℕ → List ℕ) (lines : List (String Global)) (row c
       next_start (starts_from columns 0 (map string_bytes lines)) (row, column) at ≡ Some (row, start)
   forward_here start found = forward_parts ∙ rw found refl
 
-  pub forward_beyond : (p : ℕ × ℕ) → find (is_ahead_in_line column at) (columns (string_bytes line)) ≡ None →
-      slice_get (starts_from columns (row + 1) (map string_bytes (take (length lines - (row + 1)) (drop (row + 1) lines)))) 0 ≡ Some p →
-      next_start (starts_from columns 0 (map string_bytes lines)) (row, column) at ≡ Some p
-  forward_beyond p none found = forward_parts ∙ rw (none, found) refl
-
-  pub forward_wrapped : find (is_ahead_in_line column at) (columns (string_bytes line)) ≡ None →
-      slice_get (starts_from columns (row + 1) (map string_bytes (take (length lines - (row + 1)) (drop (row + 1) lines)))) 0 ≡ None →
+  pub forward_from : (beyond : Option (ℕ × ℕ)) → find (is_ahead_in_line column at) (columns (string_bytes line)) ≡ None →
+      slice_get (starts_from columns (row + 1) (map string_bytes (take (length lines - (row + 1)) (drop (row + 1) lines)))) 0 ≡ beyond →
       next_start (starts_from columns 0 (map string_bytes lines)) (row, column) at
-      ≡ slice_get (starts_from columns 0 (map string_bytes (take (row + 1) lines))) 0
-  forward_wrapped none nothing = forward_parts ∙ rw (none, nothing) refl
+      ≡ option_or beyond (slice_get (starts_from columns 0 (map string_bytes (take (row + 1) lines))) 0)
+  forward_from beyond none e = forward_parts ∙ rw (none, e) refl
 
   back_parts : previous_start (starts_from columns 0 (map string_bytes lines)) (row, column) at
       ≡ option_or (option_map (λ c. (row, c)) (find (λ c. is_ahead_in_line c at column) (reverse (columns (string_bytes line)))))
@@ -277,13 +254,8 @@ module _ (columns : List ℕ → List ℕ) (lines : List (String Global)) (row c
       previous_start (starts_from columns 0 (map string_bytes lines)) (row, column) at ≡ Some (row, start)
   back_here start found = back_parts ∙ rw found refl
 
-  pub back_before : (p : ℕ × ℕ) → find (λ c. is_ahead_in_line c at column) (reverse (columns (string_bytes line))) ≡ None →
-      slice_get (reverse (starts_from columns 0 (map string_bytes (take row lines)))) 0 ≡ Some p →
-      previous_start (starts_from columns 0 (map string_bytes lines)) (row, column) at ≡ Some p
-  back_before p none found = back_parts ∙ rw (none, found) refl
-
-  pub back_wrapped : find (λ c. is_ahead_in_line c at column) (reverse (columns (string_bytes line))) ≡ None →
-      slice_get (reverse (starts_from columns 0 (map string_bytes (take row lines)))) 0 ≡ None →
+  pub back_from : (before : Option (ℕ × ℕ)) → find (λ c. is_ahead_in_line c at column) (reverse (columns (string_bytes line))) ≡ None →
+      slice_get (reverse (starts_from columns 0 (map string_bytes (take row lines)))) 0 ≡ before →
       previous_start (starts_from columns 0 (map string_bytes lines)) (row, column) at
-      ≡ slice_get (reverse (starts_from columns row (map string_bytes (take (length lines - row) (drop row lines))))) 0
-  back_wrapped none nothing = back_parts ∙ rw (none, nothing) refl
+      ≡ option_or before (slice_get (reverse (starts_from columns row (map string_bytes (take (length lines - row) (drop row lines))))) 0)
+  back_from before none e = back_parts ∙ rw (none, e) refl

@@ -34,32 +34,14 @@ is_empty_line-string line =
 
 -- ---- what the searches know of a row
 
--- a test whose first part is that a number is less than another
-not_less_and : (m n : ℕ) (b : Bool) → n ≤ m → (nat_lt m n && b) ≡ false
-not_less_and m n b h =
-    let first : nat_lt m n ≡ false = grind (arith, nat_tests) in
-    rw first refl
-
 less_and : (m n : ℕ) (b : Bool) → m < n → (nat_lt m n && b) ≡ b
-less_and m n b h =
-    let first : nat_lt m n ≡ true = grind (arith, nat_tests) in
-    rw first refl
-
--- a row that is not below the start is none that a search down looks for
-pub is_later_word_row-early : (rows : List (List ℕ)) (start row : ℕ) → row ≤ start → is_later_word_row rows start row ≡ false
-is_later_word_row-early rows start row early = not_less_and start row (is_some (next_word_last (line_of rows row) 0)) early
+less_and m n b h = grind (arith, nat_tests)
 
 pub is_later_word_row-at : (rows : List (List ℕ)) (start row : ℕ) (found : Option ℕ) → start < row → found ≡ next_word_last (line_of rows row) 0 → is_later_word_row rows start row ≡ is_some found
 is_later_word_row-at rows start row found later e = less_and start row (is_some (next_word_last (line_of rows row) 0)) later ∙ ap is_some (sym e)
 
-pub is_later_paragraph_start-early : (rows : List (List ℕ)) (start row : ℕ) → row ≤ start → is_later_paragraph_start rows start row ≡ false
-is_later_paragraph_start-early rows start row early = not_less_and start row (is_paragraph_start rows row) early
-
 pub is_later_paragraph_start-at : (rows : List (List ℕ)) (start row : ℕ) (b : Bool) → start < row → is_paragraph_start rows row ≡ b → is_later_paragraph_start rows start row ≡ b
 is_later_paragraph_start-at rows start row b later e = less_and start row (is_paragraph_start rows row) later ∙ e
-
-pub is_earlier_paragraph_start-late : (rows : List (List ℕ)) (start row : ℕ) → start ≤ row → is_earlier_paragraph_start rows start row ≡ false
-is_earlier_paragraph_start-late rows start row late = not_less_and row start (is_paragraph_start rows row) late
 
 pub is_earlier_paragraph_start-at : (rows : List (List ℕ)) (start row : ℕ) (b : Bool) → row < start → is_paragraph_start rows row ≡ b → is_earlier_paragraph_start rows start row ≡ b
 is_earlier_paragraph_start-at rows start row b earlier e = less_and row start (is_paragraph_start rows row) earlier ∙ e

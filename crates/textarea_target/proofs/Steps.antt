@@ -1,6 +1,7 @@
 -- One symbol on from a place of some lines, and one back.
-use Rattle.std.proofs.Common.{◌≡◌, ℕ, ◌+◌, ◌-◌, ◌==◌, ◌≢◌, ◌<◌, ◌≤◌, nat_lt, true, false, List, [], ◌∷◌, ◌++◌, length, drop, get_or, sym, ap, subst, refl, ◌∙◌, arith, Some, None}
+use Rattle.std.proofs.Common.{◌≡◌, ℕ, ◌+◌, ◌-◌, ◌==◌, ◌≢◌, ◌<◌, ◌≤◌, nat_lt, true, false, List, [], ◌∷◌, ◌++◌, length, drop, get_or, sym, ap, ap₂, subst, refl, ◌∙◌, arith, Some, None}
 use Rattle.std.proofs.lemmas.Bool.Decides.{nat_tests}
+use Rattle.std.proofs.lemmas.Grind.{common_steps}
 use Rattle.std.proofs.lemmas.List.{length-append, drop_all, drop_more}
 use Rattle.textarea_text.specs.Text.{Symbol, Character, Break, characters, following, joined}
 use Rattle.textarea_text.specs.Place.{Place, IsPlace, IsPlaceOf, StandsAt, end, index_of, line_end, place_of}
@@ -8,6 +9,7 @@ use Rattle.textarea_text.proofs.Splices.{lines-joined}
 use Rattle.textarea_text.proofs.Places.{index_parted, index_within, part_rows, place_of-index}
 use Rattle.textarea_text.proofs.StringRows.{stands_until}
 use Rattle.textarea_text.proofs.Befores.{character_stands, break_stands}
+use Rattle.textarea_pieces.proofs.PlaceLemmas.{is_at_end}
 use Rattle.textarea_target.specs.Target.{next_place, previous_place}
 
 -- ---- neighbours
@@ -31,15 +33,10 @@ next_behind text place symbol h stands =
     }
 
 pub next_place-is : (text : List Symbol) (place next : Place) → IsNext text place next → Some next ≡ next_place text place
-next_place-is text place next h =
-    let inside : nat_lt (index_of text place) (length text) ≡ true = grind (arith, nat_tests, h.index, h.within) in
-    rw inside (ap Some (sym (ap (place_of text) (sym h.index) ∙ h.next_is)))
+next_place-is text place next h = grind (arith, common_steps, nat_tests)
 
 pub previous_place-is : (text : List Symbol) (previous place : Place) → IsNext text previous place → Some previous ≡ previous_place text place
-previous_place-is text previous place h =
-    let later : (index_of text place == 0) ≡ false = grind (arith, nat_tests, h.index) in
-    let back : index_of text place - 1 ≡ index_of text previous = omega (arith, h.index) in
-    rw later (ap Some (sym (ap (place_of text) back ∙ h.place_is)))
+previous_place-is text previous place h = grind (arith, common_steps, nat_tests)
 
 -- ---- neighbours in lines
 
@@ -64,21 +61,11 @@ IsNext-line rows row column within whole =
 
 -- the last line's end is the text's end
 pub index_of-text_end : (rows : List (List ℕ)) (row column : ℕ) → IsPlaceOf rows (row, column) → length (get_or rows row []) ≤ column → length rows ≤ row + 1 → index_of (joined rows) (row, column) ≡ length (joined rows)
-unfolding part_rows
-index_of-text_end rows row column h whole last =
-    let parts = part_rows rows row column h in
-    let at : index_of (joined rows) (row, column) ≡ length parts.front =
-    ap (λ t. index_of t (row, column)) parts.is ∙ index_parted (row, column) parts.front parts.back parts.ends in
-    let rest : parts.back ≡ [] =
-    ap (λ (line : List ℕ). characters line ++ following (drop (row + 1) rows)) (drop_all column (get_or rows row []) whole)
-    ∙ ap following (drop_all (row + 1) rows last) in
-    omega (arith, at, ap length parts.is, ap length rest, length-append parts.front parts.back)
+index_of-text_end rows row column h whole last = (is_at_end rows row column (omega (arith, h.0)) (omega (arith, h.1))).index_is
 
 -- nothing is behind it
 pub next_place-none : (text : List Symbol) (place : Place) → index_of text place ≡ length text → None ≡ next_place text place
-next_place-none text place whole =
-    let outside : nat_lt (index_of text place) (length text) ≡ false = grind (arith, nat_tests, whole) in
-    rw outside refl
+next_place-none text place whole = grind (arith, common_steps, nat_tests)
 
 -- the column before a place inside a line
 pub IsNext-column-back : (rows : List (List ℕ)) (place : Place) → IsPlaceOf rows place → 0 < place.1 → IsNext (joined rows) (place.0, place.1 - 1) place
@@ -90,7 +77,6 @@ IsNext-column-back rows place h some =
 pub IsNext-line-back : (rows : List (List ℕ)) (place previous : Place) → IsPlaceOf rows place → place.1 ≡ 0 → place.0 ≢ 0 → previous ≡ line_end rows (place.0 - 1) → IsNext (joined rows) previous place
 IsNext-line-back rows place previous h none later is =
     let first : place.0 - 1 + 1 ≡ place.0 = omega arith in
+    let line = IsNext-line rows (place.0 - 1) (length (get_or rows (place.0 - 1) [])) (omega (arith, h.0)) refl in
     subst (λ (p : Place). IsNext (joined rows) p place) (sym is)
-    (subst (λ (n : ℕ). IsNext (joined rows) (line_end rows (place.0 - 1)) (place.0, n)) (sym none)
-    (subst (λ (n : ℕ). IsNext (joined rows) (line_end rows (place.0 - 1)) (n, 0)) first
-    (IsNext-line rows (place.0 - 1) (length (get_or rows (place.0 - 1) [])) (omega (arith, h.0)) refl)))
+    (subst (λ (p : Place). IsNext (joined rows) (line_end rows (place.0 - 1)) p) (ap₂ (λ (m n : ℕ). (m, n)) first (sym none)) line)

@@ -65,7 +65,8 @@ word_end rows place =
 -- the start of the word before the place in its row, else the previous row's end, else the text's start
 abbrev pub word_back : List (List ℕ) → Place → Place
 word_back rows place =
-    found_or (previous_word_start (line_of rows place.0) place.1) place.0 (previous_end rows place.0)
+    found_or (previous_word_start (line_of rows place.0) place.1) place.0
+    (previous_end rows place.0)
 
 -- ---- paragraphs
 

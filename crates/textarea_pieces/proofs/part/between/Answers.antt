@@ -3,25 +3,25 @@ use Rattle.std.specs.Str.{chars}
 use Rattle.std.proofs.lemmas.List.{length-take-le}
 use Rattle.textarea_text.specs.Text.{lines_of}
 use Rattle.textarea_text.proofs.StringRows.{line_at, row_within}
-use Rattle.textarea_pieces.proofs.PartLemmas.{up_to_in_text, column_within, column_within_last, line_in_part, part_from_lines, pieces_done, pieces_more}
+use Rattle.textarea_pieces.proofs.PartLemmas.{up_to_from_index, column_within, column_within_last, line_in_part, part_from_lines, pieces_done, pieces_more}
 use Rattle.textarea_pieces.proofs.part.between.Goals as goal
 
 pub overflow_sub-to : goal.overflow_sub-to
 overflow_sub-to c =
-    (up_to_in_text c.args.lines.now c.args.from c.args.to c.requires.from c.requires.to c.requires.ordered).0
+    (up_to_from_index (lines_of c.args.lines.now) c.args.from c.args.to c.requires.from c.requires.to c.requires.ordered).0
 
 pub slice_bounds-line-items-count : goal.slice_bounds-line-items-count
 slice_bounds-line-items-count c =
-    (up_to_in_text c.args.lines.now c.args.from c.args.to c.requires.from c.requires.to c.requires.ordered).0
+    (up_to_from_index (lines_of c.args.lines.now) c.args.from c.args.to c.requires.from c.requires.to c.requires.ordered).0
 
 pub slice_bounds-line-items-start : goal.slice_bounds-line-items-start
 slice_bounds-line-items-start c =
-    (up_to_in_text c.args.lines.now c.args.from c.args.to c.requires.from c.requires.to c.requires.ordered).0
+    (up_to_from_index (lines_of c.args.lines.now) c.args.from c.args.to c.requires.from c.requires.to c.requires.ordered).0
 
 pub text_behind-requires : goal.text_behind-requires
 text_behind-requires c =
     let line = c.line-item.result in
-    let ordered = (up_to_in_text c.args.lines.now c.args.from c.args.to c.requires.from c.requires.to c.requires.ordered).0 in
+    let ordered = (up_to_from_index (lines_of c.args.lines.now) c.args.from c.args.to c.requires.from c.requires.to c.requires.ordered).0 in
     let here = line_in_part c.args.lines.now c.args.from.0 (c.args.to.0 - c.args.from.0) c.loop-line.line-index line
     (omega (arith, row_within c.args.lines.now c.args.to c.requires.to)) (omega arith) c.line-item.is in
     omega (
@@ -34,7 +34,7 @@ text_behind-requires c =
 pub loop-line-preserved : goal.loop-line-preserved
 loop-line-preserved c =
     let line = c.line-item.result in
-    let ordered = (up_to_in_text c.args.lines.now c.args.from c.args.to c.requires.from c.requires.to c.requires.ordered).0 in
+    let ordered = (up_to_from_index (lines_of c.args.lines.now) c.args.from c.args.to c.requires.from c.requires.to c.requires.ordered).0 in
     let here = line_in_part c.args.lines.now c.args.from.0 (c.args.to.0 - c.args.from.0) c.loop-line.line-index line
     (omega (arith, row_within c.args.lines.now c.args.to c.requires.to)) (omega arith) c.line-item.is in
     record {
@@ -48,7 +48,7 @@ loop-line-preserved c =
 
 pub text_behind-requires-2 : goal.text_behind-requires-2
 text_behind-requires-2 c =
-    let up = up_to_in_text c.args.lines.now c.args.from c.args.to c.requires.from c.requires.to c.requires.ordered in
+    let up = up_to_from_index (lines_of c.args.lines.now) c.args.from c.args.to c.requires.from c.requires.to c.requires.ordered in
     let ordered = up.0 in
     let here = line_at c.args.lines.now c.args.to.0 c.index-lines-to.result (row_within c.args.lines.now c.args.to c.requires.to) c.index-lines-to.is in
     let within = c.requires.to.1 in
@@ -61,14 +61,14 @@ text_behind-requires-2 c =
 
 pub returns-clause-len : goal.returns-clause-len
 returns-clause-len c =
-    let up = up_to_in_text c.args.lines.now c.args.from c.args.to c.requires.from c.requires.to c.requires.ordered in
+    let up = up_to_from_index (lines_of c.args.lines.now) c.args.from c.args.to c.requires.from c.requires.to c.requires.ordered in
     let ordered = up.0 in
     omega (arith, c.in_ok-push-2.ensures.len, c.loop-line.invariant.len)
 
 pub returns-clause-text : goal.returns-clause-text
 returns-clause-text c =
     let rows = lines_of c.args.lines.now in
-    let up = up_to_in_text c.args.lines.now c.args.from c.args.to c.requires.from c.requires.to c.requires.ordered in
+    let up = up_to_from_index (lines_of c.args.lines.now) c.args.from c.args.to c.requires.from c.requires.to c.requires.ordered in
     let ordered = up.0 in
     let here = line_at c.args.lines.now c.args.to.0 c.index-lines-to.result (row_within c.args.lines.now c.args.to c.requires.to) c.index-lines-to.is in
     let last = c.text_before-last.ensures ∙ ap (λ t. take c.args.to.1 (chars t)) c.as_str-2.ensures.value ∙ ap (take c.args.to.1) (sym here) in

@@ -1,8 +1,9 @@
 use Rattle.std.proofs.Common.{◌≡◌, ◌≢◌, ◌∙◌, [], ap, arith, eqb-true, length, sym, vec_len}
 use Rattle.std.proofs.lemmas.Bool.{eqb-false}
+use Rattle.std.proofs.lemmas.List.{nil_from_length}
 use Rattle.textarea_text.specs.Text.{lines_of}
 use Rattle.textarea_ranges.specs.Rejected.{rejected_of}
-use Rattle.textarea_ranges.proofs.RejectedLemmas.{AreAccepted-in_order, AreRefused-in_order, none_from_length}
+use Rattle.textarea_ranges.proofs.RejectedLemmas.{AreAccepted-in_order, AreRefused-in_order}
 use Rattle.textarea_ranges.proofs.validate.validated.Goals as goal
 
 pub returns-then-is_empty : goal.returns-then-is_empty
@@ -12,7 +13,7 @@ returns-then-is_empty c =
     let listed : rejected.items ≡ rejected_of (lines_of c.args.lines.now) held.items = c.in_ok-rejected.ensures ∙ ap (rejected_of (lines_of c.args.lines.now)) c.as_slice.ensures.value in
     let empty : vec_len rejected ≡ 0 = eqb-true (vec_len rejected) 0 (sym c.is_empty.ensures ∙ c.if-is_empty.true) in
     let none : length rejected.items ≡ 0 = omega (arith, rejected.ok) in
-    AreAccepted-in_order (lines_of c.args.lines.now) c.args.ranges.items held.items rejected.items c.in_ok-ordered.ensures listed (none_from_length rejected.items none)
+    AreAccepted-in_order (lines_of c.args.lines.now) c.args.ranges.items held.items rejected.items c.in_ok-ordered.ensures listed (nil_from_length rejected.items none)
 
 pub returns-else-is_empty : goal.returns-else-is_empty
 returns-else-is_empty c =

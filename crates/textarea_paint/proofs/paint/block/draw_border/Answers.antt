@@ -1,8 +1,9 @@
+use Rattle.std.proofs.Math.Bool.{and-true}
 use Rattle.std.proofs.Common.{◌≡◌, ◌+◌, cond, ◌&&◌, ap, ◌∙◌, arith}
 use Rattle.textarea_screen.specs.Cell.{with_symbol}
 use Rattle.textarea_screen.specs.Rect.{contains}
 use Rattle.textarea_screen.proofs.ChangeLemmas.{Changes-inside}
-use Rattle.textarea_paint.proofs.BlockLemmas.{is_before_row, drawn_there}
+use Rattle.textarea_screen.proofs.BufferLemmas.{is_before_row}
 use Rattle.textarea_paint.proofs.paint.block.draw_border.Goals as goal
 
 pub returns-after-loop-y-clause-ok : goal.returns-after-loop-y-clause-ok
@@ -13,4 +14,4 @@ returns-after-loop-y-clause-ok c =
     (λ x y cell inside.
     ap (λ b. cond b (with_symbol c.args.text.now c.args.style cell) cell)
     (ap (λ row. is_before_row area row x y) bottom ∙ c.intersection-area.ensures x y
-    ∙ drawn_there (contains c.args.area x y) c.args.is_drawn (contains c.area.result x y) c.if-is_drawn.true (ap (λ a. contains a x y) c.area.ensures ∙ inside)))
+    ∙ rw (c.area.ensures, inside, c.if-is_drawn.true) (and-true (contains c.args.area x y))))

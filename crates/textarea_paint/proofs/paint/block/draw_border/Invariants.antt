@@ -1,7 +1,7 @@
 use Rattle.std.proofs.Common.{cond}
 use Rattle.textarea_screen.specs.Buffer.{Changes}
 use Rattle.textarea_screen.specs.Cell.{with_symbol}
-use Rattle.textarea_paint.proofs.BlockLemmas.{is_before_row}
+use Rattle.textarea_screen.proofs.BufferLemmas.{is_before_row}
 use Rattle.textarea_paint.proofs.paint.block.draw_border.Given as goal
 
 abbrev pub invariant-loop-y : goal.invariant-loop-y

@@ -1,11 +1,10 @@
-use Rattle.std.proofs.Common.{◌≡◌, ◌+◌, ◌-◌, ◌<◌, ◌≤◌, None, Some, length, map, get_or, take, reverse, sym, ap, ◌∙◌, arith, string_bytes}
-use Rattle.std.proofs.lemmas.List.{length-map}
+use Rattle.std.proofs.Common.{◌≡◌, ◌+◌, ◌-◌, ◌≤◌, None, Some, length, map, take, reverse, sym, ap, ◌∙◌, arith, string_bytes}
 use Rattle.std.specs.List.{slice_get}
 use Rattle.std.specs.Str.{chars}
 use Rattle.regex.specs.Strings.{matcher_pattern}
 use Rattle.textarea_search.specs.Spans.{columns_in}
 use Rattle.textarea_search.specs.Starts.{starts_from}
-use Rattle.textarea_search.proofs.StartLemmas.{last_start_here, last_start_next, text_at}
+use Rattle.textarea_search.proofs.StartLemmas.{last_start_here, last_start_next}
 use Rattle.textarea_search.proofs.PlaceLemmas.{place_here}
 use Rattle.textarea_search.proofs.search.lines.last_start.Goals as goal
 
@@ -13,38 +12,28 @@ pub loop-i-preserved : goal.loop-i-preserved
 loop-i-preserved c =
     let columns = columns_in (matcher_pattern c.args.matcher.now) in
     let line = c.index-lines-i.result in
-    let texts = map string_bytes c.args.lines.now in
     let i = c.loop-i.i - 1 in
     let same : i + 1 ≡ c.loop-i.i = omega (arith, c.loop-i.invariant.1) in
-    let within : i < length c.args.lines.now = omega (arith, c.loop-i.invariant.1) in
-    let within' : i < length (map string_bytes c.args.lines.now) = rw length-map within in
-    let text = text_at c.args.lines.now i line within c.index-lines-i.is in
-    let cs = columns (get_or texts i (string_bytes line)) in
-    let none : slice_get (reverse cs) 0 ≡ None =
-    rw (text, ← c.deref.ensures, ← c.loop-i.invariant.0) (sym c.in_default.ensures.found) in (
+    let none : slice_get (reverse (columns (string_bytes line))) 0 ≡ None =
+    rw (← c.deref.ensures, ← c.loop-i.invariant.0) (sym c.in_default.ensures.found) in (
       c.in_default.ensures.same ∙ c.loop-i.invariant.0,
       omega (arith, c.loop-i.invariant.1),
       c.loop-i.invariant.2
-          ∙ ap (λ n. slice_get (reverse (starts_from columns c.args.first_row (take n texts))) 0) (sym same)
-          ∙ ap (λ ys. slice_get ys 0) (last_start_next columns c.args.first_row texts i (string_bytes line) within' none),
+          ∙ ap (λ n. slice_get (reverse (starts_from columns c.args.first_row (take n (map string_bytes c.args.lines.now)))) 0) (sym same)
+          ∙ ap (λ ys. slice_get ys 0) (last_start_next columns c.args.first_row c.args.lines.now i line (omega (arith, c.loop-i.invariant.1)) c.index-lines-i.is none),
     )
 
 pub returns-in-Some-clause-found : goal.returns-in-Some-clause-found
 returns-in-Some-clause-found c =
     let columns = columns_in (matcher_pattern c.args.matcher.now) in
     let line = c.index-lines-i.result in
-    let texts = map string_bytes c.args.lines.now in
     let i = c.loop-i.i - 1 in
     let same : i + 1 ≡ c.loop-i.i = omega (arith, c.loop-i.invariant.1) in
-    let within : i < length c.args.lines.now = omega (arith, c.loop-i.invariant.1) in
-    let within' : i < length (map string_bytes c.args.lines.now) = rw length-map within in
-    let text = text_at c.args.lines.now i line within c.index-lines-i.is in
-    let cs = columns (get_or texts i (string_bytes line)) in
-    let some : slice_get (reverse cs) 0 ≡ Some c.in-Some.column =
-    rw (text, ← c.deref.ensures, ← c.loop-i.invariant.0) (sym c.in-Some.ensures.found) in
+    let some : slice_get (reverse (columns (string_bytes line))) 0 ≡ Some c.in-Some.column =
+    rw (← c.deref.ensures, ← c.loop-i.invariant.0) (sym c.in-Some.ensures.found) in
     sym (c.loop-i.invariant.2
-    ∙ ap (λ n. slice_get (reverse (starts_from columns c.args.first_row (take n texts))) 0) (sym same)
-    ∙ last_start_here columns c.args.first_row texts i (string_bytes line) c.in-Some.column within' some)
+    ∙ ap (λ n. slice_get (reverse (starts_from columns c.args.first_row (take n (map string_bytes c.args.lines.now)))) 0) (sym same)
+    ∙ last_start_here columns c.args.first_row c.args.lines.now i line (omega (arith, c.loop-i.invariant.1)) c.index-lines-i.is c.in-Some.column some)
 
 pub returns-in-Some-clause-within : goal.returns-in-Some-clause-within
 returns-in-Some-clause-within c =

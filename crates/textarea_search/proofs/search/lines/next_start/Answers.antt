@@ -5,7 +5,7 @@ use Rattle.regex.specs.Strings.{matcher_pattern}
 use Rattle.textarea_search.specs.Spans.{columns_in}
 use Rattle.textarea_search.specs.Starts.{starts_from, is_ahead_in_line}
 use Rattle.textarea_search.proofs.PlaceLemmas.{place_at, place_in_front, place_in_rest, place_of_some}
-use Rattle.textarea_search.proofs.StartLemmas.{forward_here, forward_beyond, forward_wrapped}
+use Rattle.textarea_search.proofs.StartLemmas.{forward_here, forward_from}
 use Rattle.textarea_search.proofs.search.lines.next_start.Goals as goal
 
 pub returns-in-Some-clause-found : goal.returns-in-Some-clause-found
@@ -27,7 +27,7 @@ returns-in-Some-first_start-clause-found c =
     let line = c.index-lines-row.result in
     let none : find (is_ahead_in_line c.args.cursor.1 c.args.match_cursor) (columns (string_bytes line)) ≡ None = rw (← c.deref.ensures) (sym c.in_default.ensures.found) in
     let place = c.in-Some-first_start.ensures.found ∙ ap (λ t. slice_get (starts_from (columns_in t) (c.args.cursor.0 + 1) (map string_bytes (take (length c.args.lines.now - (c.args.cursor.0 + 1)) (drop (c.args.cursor.0 + 1) c.args.lines.now)))) 0) c.in_default.ensures.same in
-    sym (forward_beyond columns c.args.lines.now c.args.cursor.0 c.args.cursor.1 c.args.match_cursor line (omega arith) c.index-lines-row.is c.in-Some-first_start.place none (sym place))
+    sym (forward_from columns c.args.lines.now c.args.cursor.0 c.args.cursor.1 c.args.match_cursor line (omega arith) c.index-lines-row.is (Some c.in-Some-first_start.place) none (sym place))
 
 pub returns-in-Some-first_start-clause-within : goal.returns-in-Some-first_start-clause-within
 returns-in-Some-first_start-clause-within c = place_in_rest c.args.lines.now (c.args.cursor.0 + 1) c.in-Some-first_start.place (omega arith) c.in-Some-first_start.ensures.within
@@ -39,7 +39,7 @@ returns-in-None-clause-found c =
     let none : find (is_ahead_in_line c.args.cursor.1 c.args.match_cursor) (columns (string_bytes line)) ≡ None = rw (← c.deref.ensures) (sym c.in_default.ensures.found) in
     let nothing = c.in-None.ensures.found ∙ ap (λ t. slice_get (starts_from (columns_in t) (c.args.cursor.0 + 1) (map string_bytes (take (length c.args.lines.now - (c.args.cursor.0 + 1)) (drop (c.args.cursor.0 + 1) c.args.lines.now)))) 0) c.in_default.ensures.same in
     c.first_start-in-None.ensures.found ∙ ap (λ t. slice_get (starts_from (columns_in t) 0 (map string_bytes (take (c.args.cursor.0 + 1) c.args.lines.now))) 0) (c.in-None.ensures.same ∙ c.in_default.ensures.same)
-    ∙ sym (forward_wrapped columns c.args.lines.now c.args.cursor.0 c.args.cursor.1 c.args.match_cursor line (omega arith) c.index-lines-row.is none (sym nothing))
+    ∙ sym (forward_from columns c.args.lines.now c.args.cursor.0 c.args.cursor.1 c.args.match_cursor line (omega arith) c.index-lines-row.is None none (sym nothing))
 
 pub returns-in-None-clause-within : goal.returns-in-None-clause-within
 returns-in-None-clause-within c = place_of_some _ c.first_start-in-None.ensures.within (λ p. place_in_front c.args.lines.now (c.args.cursor.0 + 1) p (omega arith))
