@@ -24,8 +24,7 @@ size_total-append (r ∷ rows) more = omega (arith, size_total-append rows more)
 -- one line more
 pub size_total-more : (rows : List RowsView) (i : ℕ) (r : RowsView) → i < length rows → r ≡ get_or rows i r → size_total (take (i + 1) rows) ≡ size_total (take i rows) + line_bytes r.ranges + 1
 size_total-more rows i r within e =
-    ap size_total (take_more rows i r within ∙ ap (λ s. take i rows ++ s ∷ []) (sym e))
-    ∙ omega (arith, size_total-append (take i rows) (r ∷ []))
+    rw (take_more rows i r within, ← e) (omega (arith, size_total-append (take i rows) (r ∷ [])))
 
 -- ---- lines give place to others
 
@@ -58,8 +57,7 @@ going kept row count = take (row + count - row) (drop row kept)
 
 going_are : (rows kept : List RowsView) (row count : ℕ) → kept ≡ rows → going kept row count ≡ take count (drop row rows)
 going_are rows kept row count is =
-    let size : row + count - row ≡ count = omega arith in
-    ap (λ n. take n (drop row kept)) size ∙ ap (λ t. take count (drop row t)) is
+    let size : row + count - row ≡ count = omega arith in rw (size, is)
 
 pub sizes_exchanged : (rows kept new : List RowsView) (row count : ℕ) → kept ≡ rows → Exchange size_total rows (going kept row count) new row count
 sizes_exchanged rows kept new row count is =

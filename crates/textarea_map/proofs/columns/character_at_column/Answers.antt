@@ -20,10 +20,7 @@ returns-then-column-at c =
       | inl h ↦ leads_to_first t cs c.args.column c.loop-c.index c.loop-c.at was.within was.at (omega (arith, h, was.reached)) was.before
       | inr h ↦
           leads_to_covering t cs c.args.column c.loop-c.index c.loop-c.at c.display_column_behind-next.result step.0 was.at
-          (c.display_column_behind-next.ensures.value
-          ∙ ap (λ n. column_after (max t 1) n c.in-Some.c) was.at
-          ∙ ap (column_after (max t 1) (column_at t cs c.loop-c.index)) (sym step.1)
-          ∙ sym (column_at-more t cs c.loop-c.index 0 step.0)) h.0 h.1
+          (cc (c.display_column_behind-next.ensures.value, was.at, step.1, column_at-more t cs c.loop-c.index 0 step.0)) h.0 h.1
     ]
 
 pub loop-c-preserved : goal.loop-c-preserved
@@ -41,10 +38,7 @@ loop-c-preserved c =
       left = step.2;
       within = omega (arith, step.0);
       bytes = omega (arith, was.bytes, shorter);
-      at = c.display_column_behind-next.ensures.value
-          ∙ ap (λ n. column_after (max t 1) n c.in-Some.c) was.at
-          ∙ ap (column_after (max t 1) (column_at t cs c.loop-c.index)) (sym step.1)
-          ∙ sym (column_at-more t cs c.loop-c.index 0 step.0);
+      at = cc (c.display_column_behind-next.ensures.value, was.at, step.1, column_at-more t cs c.loop-c.index 0 step.0);
       fits = omega (arith, was.fits, c.display_column_behind-next.ensures.near, shorter);
       before = below_more _ _ was.before (omega (arith, was.at, c.if-column-at.false));
       reached = c.if-column-next.false;
