@@ -13,6 +13,7 @@ use Rattle.textarea_wrap.specs.RowsView.{RowsView}
 use Rattle.textarea_wrap.specs.Cutting.{ranges_from}
 use Rattle.textarea_wrap.specs.Wrapped.{IsWrapped, IsRowRange, AreRowTexts}
 use Rattle.textarea_wrap.specs.declared.wrap.WrapMode.{WrapMode}
+use Rattle.textarea_wrap.proofs.FewestRowLemmas.{length-ranges_from}
 use Rattle.textarea_map.specs.declared.layout.Wrapping.{Wrapping}
 use Rattle.textarea_map.specs.Layout.{AreRowsOf, AreRowsOfLine}
 use Rattle.textarea_map.specs.Map.{ranges_at, range_at}
@@ -39,10 +40,6 @@ some_texts : (mode : WrapMode) (tab_len width : ℕ) (line : List ℕ) (texts : 
 some_texts mode tab_len width [] texts cut joined = omega (arith, ap length cut)
 some_texts mode tab_len width (byte ∷ line) [] cut joined = absurd (omega (arith, ap length joined))
 some_texts mode tab_len width (byte ∷ line) (t ∷ texts) cut joined = omega arith
-
-pub length-ranges_from : (at : ℕ) (texts : List (List ℕ)) → length (ranges_from at texts) ≡ length texts
-length-ranges_from at [] = refl
-length-ranges_from at (t ∷ texts) = ap suc (length-ranges_from (at + length t) texts)
 
 first_range : (at : ℕ) (texts : List (List ℕ)) → 0 < length texts → (range_at (ranges_from at texts) 0).0 ≡ at
 first_range at [] some = absurd (omega arith)

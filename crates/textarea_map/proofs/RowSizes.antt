@@ -15,7 +15,8 @@ use Rattle.textarea_map.specs.declared.layout.Wrapping.{Wrapping}
 use Rattle.textarea_map.specs.Layout.{AreRowsOf}
 use Rattle.textarea_map.specs.Map.{line_bytes, row_total, size_total}
 use Rattle.textarea_map.proofs.Numbers.{row_total-append}
-use Rattle.textarea_map.proofs.Holding.{last_range, length-ranges_from, some_rows}
+use Rattle.textarea_wrap.proofs.FewestRowLemmas.{length-ranges_from}
+use Rattle.textarea_map.proofs.Holding.{last_range, some_rows}
 
 pub size_total-append : (rows more : List RowsView) → size_total (rows ++ more) ≡ size_total rows + size_total more
 size_total-append [] more = omega arith

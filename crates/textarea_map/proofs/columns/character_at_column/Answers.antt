@@ -5,6 +5,7 @@ use Rattle.std.specs.Prelude.{encode_utf8}
 use Rattle.std.specs.Str.{chars}
 use Rattle.std.specs.Str.Iter.{chars_rest}
 use Rattle.textarea_wrap.specs.Columns.{column_after}
+use Rattle.textarea_wrap.proofs.ColumnLemmas.{shorter_behind}
 use Rattle.textarea_map.specs.Rows.{column_at}
 use Rattle.textarea_map.proofs.RowColumns.{column_at-more, leads_to_covering, leads_to_end, leads_to_first, passed}
 use Rattle.textarea_map.proofs.columns.character_at_column.Goals as goal
@@ -31,8 +32,7 @@ loop-c-preserved c =
     let split = c.in-Some.ensures.steps.0 in
     let read = chars_past_char _ _ c.in-Some.c was.text split in
     let step = passed cs _ c.loop-c.index c.in-Some.c was.within (was.left ∙ read) in
-    let shorter : length (chars_rest c.next.new.self) + 1 ≤ length (chars_rest c.loop-c.c-iterator) =
-    omega (arith, ap length split, length-append (encode_utf8 c.in-Some.c) (chars_rest c.next.new.self), length-encode c.in-Some.c, len_utf8_bounds c.in-Some.c) in
+    let shorter = shorter_behind c.in-Some.c _ _ split in
     record {
       text = IsUtf8-past_char _ _ c.in-Some.c was.text split;
       left = step.2;
