@@ -1,18 +1,17 @@
 -- Rows of lines, taken apart and put together.
-use Rattle.std.proofs.Common.{map, ap₂, ◌≡◌, ℕ, zero, suc, ◌+◌, ◌<◌, ◌^◌, max, List, [], ◌∷◌, ◌++◌, length, take, drop, get_or, sym, ap, refl, ◌∙◌, arith, subst, encode_utf8_all, String, string_bytes}
+use Rattle.std.proofs.Common.{map, ap₂, ◌≡◌, ℕ, zero, suc, ◌+◌, ◌<◌, ◌^◌, max, List, [], ◌∷◌, ◌++◌, length, take, drop, get_or, ap, refl, ◌∙◌, arith, encode_utf8_all, String, string_bytes}
 use Rattle.std.proofs.lemmas.List.{append_assoc, length-map, map-append, take_more}
-use Rattle.std.proofs.lemmas.Str.{encodes-chars, scalars-chars, IsUtf8-string_bytes}
+use Rattle.std.proofs.lemmas.Str.{scalars-chars, IsUtf8-string_bytes}
 use Rattle.std.specs.List.{range_with_len}
 use Rattle.std.specs.Str.{all_scalars}
 use Rattle.textarea_text.specs.Text.{characters_of, lines_of}
 use Rattle.textarea_text.proofs.StringRows.{line_at}
 use Rattle.textarea_wrap.specs.RowsView.{RowsView}
 use Rattle.textarea_wrap.specs.Wrapped.{IsWrapped}
-use Rattle.textarea_wrap.specs.declared.wrap.WrapMode.{WrapMode}
 use Rattle.textarea_wrap.specs.declared.wrap.WrapMode.TheVariants as mode
 use Rattle.textarea_map.specs.declared.layout.Wrapping.{Wrapping}
 use Rattle.textarea_map.proofs.Holding.{bytes_of_line}
-use Rattle.textarea_map.specs.Layout.{AreRowsOf, AreRowsOfLine, ticks_behind, ticks_of, with_tab_len}
+use Rattle.textarea_map.specs.Layout.{AreRowsOf, AreRowsOfLine, ticks_behind, ticks_of}
 use Rattle.textarea_text.specs.Replaced.{replaced}
 
 pub AreRowsOf-append : (w : Wrapping) (lines more : List (List ℕ)) (rows others : List RowsView) → AreRowsOf w lines rows → AreRowsOf w more others → AreRowsOf w (lines ++ more) (rows ++ others)

@@ -1,5 +1,5 @@
 -- A place is seen in one visual row, since the rows of a line are apart.
-use Rattle.std.proofs.Common.{ap₂, ◌≡◌, ℕ, zero, suc, ◌+◌, ◌-◌, ◌<◌, ◌≤◌, inl, inr, min, false, List, [], ◌∷◌, length, take, get_or, sym, ap, subst, ◌∙◌, arith}
+use Rattle.std.proofs.Common.{ap₂, ◌≡◌, ℕ, zero, suc, ◌+◌, ◌<◌, ◌≤◌, inl, inr, false, List, [], ◌∷◌, length, take, get_or, sym, ap, ◌∙◌, arith}
 use Rattle.std.proofs.lemmas.Bool.{cases_lt}
 use Rattle.textarea_text.specs.Place.{Place}
 use Rattle.textarea_text.proofs.Columns.{offset_in}
@@ -8,8 +8,8 @@ use Rattle.textarea_wrap.specs.RowsView.{RowsView}
 use Rattle.textarea_map.specs.declared.layout.Wrapping.{Wrapping}
 use Rattle.textarea_map.specs.Layout.{AreRowsOf}
 use Rattle.textarea_map.specs.Map.{ranges_at, range_at, row_total}
-use Rattle.textarea_map.specs.Rows.{row_at, column_at, greatest_column}
-use Rattle.textarea_map.specs.Seen.{IsAbove, IsBelow, IsPlaceNear, IsVisualPosition}
+use Rattle.textarea_map.specs.Rows.{row_at}
+use Rattle.textarea_map.specs.Seen.{IsAbove, IsBelow, IsVisualPosition}
 use Rattle.textarea_map.proofs.Holding.{cut_at}
 use Rattle.textarea_map.proofs.Parts.{offset_less, row_within}
 use Rattle.textarea_map.proofs.ThereAndBack.{one_place}

@@ -1,5 +1,5 @@
 -- The visual rows of all lines, each found by its line and its number there.
-use Rattle.std.proofs.Common.{◌≡◌, ℕ, zero, suc, ◌+◌, ◌-◌, ◌<◌, ◌≤◌, ◌^◌, inl, inr, true, false, nat_eq, Bool, List, [], ◌∷◌, ◌++◌, length, take, drop, get_or, sym, ap, refl, subst, ◌∙◌, arith, encode_utf8_all, String, string_bytes}
+use Rattle.std.proofs.Common.{◌≡◌, ℕ, zero, suc, ◌+◌, ◌-◌, ◌<◌, ◌≤◌, ◌^◌, inl, inr, true, false, nat_eq, Bool, List, [], ◌∷◌, length, take, drop, get_or, sym, ap, refl, ◌∙◌, arith, encode_utf8_all, String, string_bytes}
 use Rattle.std.proofs.lemmas.Bool.{cases_lt}
 use Rattle.std.proofs.lemmas.List.{get_or-append-add, get_or_append_left, length-append, length-map}
 use Rattle.std.proofs.lemmas.Bool.Decides.{nat_tests}

@@ -1,12 +1,9 @@
-use Rattle.std.proofs.Common.{◌≡◌, ◌+◌, ◌≤◌, inl, inr, max, sym, ap, ◌∙◌, arith, below_more, length}
-use Rattle.std.proofs.lemmas.List.{length-append, length-drop, nil_from_length}
-use Rattle.std.proofs.lemmas.Str.{chars-nil, chars_past_char, IsUtf8-past_char, length-encode, len_utf8_bounds}
-use Rattle.std.specs.Prelude.{encode_utf8}
+use Rattle.std.proofs.Common.{◌≡◌, inl, inr, ap, ◌∙◌, arith, below_more, length}
+use Rattle.std.proofs.lemmas.List.{length-drop, nil_from_length}
+use Rattle.std.proofs.lemmas.Str.{chars-nil, chars_past_char, IsUtf8-past_char}
 use Rattle.std.specs.Str.{chars}
 use Rattle.std.specs.Str.Iter.{chars_rest}
-use Rattle.textarea_wrap.specs.Columns.{column_after}
 use Rattle.textarea_wrap.proofs.ColumnLemmas.{shorter_behind}
-use Rattle.textarea_map.specs.Rows.{column_at}
 use Rattle.textarea_map.proofs.RowColumns.{column_at-more, leads_to_covering, leads_to_end, leads_to_first, passed}
 use Rattle.textarea_map.proofs.columns.character_at_column.Goals as goal
 

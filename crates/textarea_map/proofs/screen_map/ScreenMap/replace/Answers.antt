@@ -1,4 +1,4 @@
-use Rattle.std.proofs.Common.{◌≡◌, ◌+◌, ◌-◌, ◌≤◌, ◌∙◌, ℕ, List, ap, sym, arith, length, take, drop}
+use Rattle.std.proofs.Common.{◌≡◌, ◌+◌, ◌-◌, ◌≤◌, ◌∙◌, ℕ, List, ap, sym, arith, length, take}
 use Rattle.std.proofs.lemmas.List.{take_at}
 use Rattle.textarea_map.specs.Map.{IsNumbered, row_total, size_total, firsts_from, MapView}
 use Rattle.textarea_text.specs.Replaced.{replaced}

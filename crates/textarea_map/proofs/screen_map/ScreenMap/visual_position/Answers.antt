@@ -1,11 +1,10 @@
-use Rattle.std.proofs.Common.{◌≡◌, ◌+◌, ◌<◌, ◌≤◌, ◌-◌, ◌∙◌, ℕ, List, [], ap, arith, drop, encode_utf8_all, get_or, length, max, sym, take}
+use Rattle.std.proofs.Common.{◌≡◌, ◌+◌, ◌<◌, ◌≤◌, ◌∙◌, ℕ, List, [], ap, arith, encode_utf8_all, get_or, length, max, sym, take}
 use Rattle.std.proofs.lemmas.List.{length-map}
 use Rattle.std.specs.Str.{chars}
 use Rattle.textarea_text.specs.Text.{characters_of, lines_of}
 use Rattle.textarea_text.proofs.Columns.{offset_in}
 use Rattle.textarea_text.proofs.StringRows.{boundary_at, line_at, offset_of_line}
 use Rattle.textarea_wrap.specs.Columns.{display_end_column}
-use Rattle.textarea_wrap.specs.RowsView.{RowsView}
 use Rattle.textarea_wrap.specs.Wrapped.{IsWrapped}
 use Rattle.textarea_map.specs.Map.{MapView, range_at, ranges_at, row_total}
 use Rattle.textarea_map.proofs.Holding.{bytes_of_line, cut_of, first_begins, offset_within, range_is, rows_at, some_rows}
