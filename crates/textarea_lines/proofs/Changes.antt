@@ -19,14 +19,14 @@ use Rattle.textarea_lines.specs.declared.settings.LayoutSettings.{LayoutSettings
 use Rattle.textarea_lines.specs.Layout.{LaidOut, Layout, applied_to, laid_out_anew, after_replacement, replaced_in, laid_out_with, wrapping_of}
 use Rattle.textarea_lines.specs.Stored.{IsStored, HoldsRows}
 use Rattle.textarea_lines.specs.Wrappings.{is_same, is_wrapped, wrapping_for}
-use Rattle.textarea_lines.proofs.Layouts.{lines_of-replaced}
+use Rattle.textarea_lines.proofs.Layouts.{map-replaced}
 use Rattle.textarea_lines.proofs.SameCuts.{kept_whole, kept_wrapped}
 use Rattle.textarea_lines.proofs.Stores.{count_held, lines_held, seen}
 
 -- the text of the new lines
 pub text_replaced : {Z : Type 0} (items new : List (String Z)) (row count : ℕ) → 0 < length items → text_of (replaced items row count new) ≡ joined (replaced (lines (text_of items)) row count (lines_of new))
 text_replaced items new row count some =
-    ap joined (lines_of-replaced items new row count ∙ ap (λ t. replaced t row count (lines_of new)) (sym (lines_held items some)))
+    ap joined (map-replaced characters_of items new row count ∙ ap (λ t. replaced t row count (lines_of new)) (sym (lines_held items some)))
 
 -- as `replace` leaves them
 pub record Replacing {Z : Type 0} (old lent kept now new : List (String Z)) (row count : ℕ) : Type 0 where
@@ -38,7 +38,7 @@ pub record Replacing {Z : Type 0} (old lent kept now new : List (String Z)) (row
   pub new_some : 0 < length new
 
 pub now_as : {Z : Type 0} (old lent kept now new : List (String Z)) (row count : ℕ) → Replacing old lent kept now new row count → now ≡ replaced old row count new
-now_as old lent kept now new row count h = h.now_is ∙ ap (λ t. replaced t row count new) h.kept_is
+now_as old lent kept now new row count h = cc
 
 pub text_now : {Z : Type 0} (old lent kept now new : List (String Z)) (row count : ℕ) → Replacing old lent kept now new row count → text_of now ≡ joined (replaced (lines (text_of old)) row count (lines_of new))
 text_now old lent kept now new row count h = ap text_of (now_as old lent kept now new row count h) ∙ text_replaced old new row count h.some
@@ -51,32 +51,12 @@ holds_replaced settings old lent kept now new row count size n wrapping was map 
     record {
       stored = record { some = some; size_is = omega (arith, size_is, size_of_text now some, ap weight (text_now old lent kept now new row count h)); limit = limit };
       wrapping_is = wrapping_is ∙ cut_is ∙ ap (wrapping_for settings) (sym long);
-      laid_out = subst (λ (w : Wrapping). AreRowsOf w (lines_of now) map.rows) (sym wrapping_is)
-          (subst (λ (t : List RowsView). AreRowsOf wrapping (lines_of now) t) (sym rows_is)
-          (subst (λ (t : List (String _)). AreRowsOf wrapping (lines_of t) was) (ap (λ t. replaced t row count new) h.lent_is ∙ sym is) k));
+      laid_out = rw (wrapping_is, rows_is, is, ← h.lent_is) k;
     }
 
 pub layout_replaced : {Z : Type 0} (settings : LayoutSettings) (old lent kept now new : List (String Z)) (row count n before was after : ℕ) (first rows prepared : List RowsView) → Replacing old lent kept now new row count → n ≡ length new → was ≡ before → record { settings = settings; count = after; ticks = ticks_of prepared } ≡ after_replacement (record { settings = settings; count = was; ticks = ticks_of first }) (length lent) row count n → rows ≡ prepared → seen settings now after rows ≡ replaced_in (seen settings old before first) row count (lines_of new)
 layout_replaced settings old lent kept now new row count n before was after first rows prepared h n_is was_is layout rows_is =
-    ap (λ (t : List Symbol). record { text = t; layout = record { settings = settings; count = after; ticks = ticks_of rows } }) (text_now old lent kept now new row count h)
-    ∙ ap (λ (s : Layout). record { text = text; layout = s }) screen_is
-  where
-    text : List Symbol
-    text = joined (replaced (lines (text_of old)) row count (lines_of new))
-
-    long : length lent ≡ length (lines (text_of old))
-    long = ap length h.lent_is ∙ sym (count_held old h.some)
-
-    coming : n ≡ length (lines_of new)
-    coming = n_is ∙ sym (length-map new characters_of)
-
-    screen_is : record { settings = settings; count = after; ticks = ticks_of rows } ≡ after_replacement (record { settings = settings; count = before; ticks = ticks_of first }) (length (lines (text_of old))) row count (length (lines_of new))
-    screen_is =
-        ap (λ (t : List RowsView). record { settings = settings; count = after; ticks = ticks_of t }) rows_is
-        ∙ layout
-        ∙ ap (λ (m : ℕ). after_replacement (record { settings = settings; count = m; ticks = ticks_of first }) (length lent) row count n) was_is
-        ∙ ap (λ (m : ℕ). after_replacement (record { settings = settings; count = before; ticks = ticks_of first }) m row count n) long
-        ∙ ap (λ (m : ℕ). after_replacement (record { settings = settings; count = before; ticks = ticks_of first }) (length (lines (text_of old))) row count m) coming
+    cc (text_now old lent kept now new row count h, count_held old h.some, length-map new characters_of)
 
 -- ---- an edit
 
@@ -86,38 +66,23 @@ made laid items lent replacement splice some is lent_is h =
     let row = replacement.row in
     let count = replacement.count in
     let new = replacement.lines.items in
-    let coming_is : length (lines_of new) ≡ lines_coming splice = length-map new characters_of ∙ sym replacement.lines.ok.0 ∙ h.coming in
-    let text_is : joined (replaced (lines laid.text) row count (lines_of new)) ≡ applied laid.text splice =
-    ap (λ t. joined (replaced (lines t) row count (lines_of new))) (sym is)
-    ∙ sym (text_replaced items new row count some)
-    ∙ ap (λ t. text_of (replaced t row count new)) (sym lent_is)
-    ∙ h.text
-    ∙ ap (λ t. applied (text_of t) splice) lent_is
-    ∙ ap (λ t. applied t splice) is in
-    ap (λ (t : List Symbol). record { text = t; layout = after_replacement laid.layout (length (lines laid.text)) row count (length (lines_of new)) }) text_is
-    ∙ ap (λ (m : ℕ). record { text = applied laid.text splice; layout = after_replacement laid.layout (length (lines laid.text)) m count (length (lines_of new)) }) h.row
-    ∙ ap (λ (m : ℕ). record { text = applied laid.text splice; layout = after_replacement laid.layout (length (lines laid.text)) splice.place.0 m (length (lines_of new)) }) h.going
-    ∙ ap (λ (m : ℕ). record { text = applied laid.text splice; layout = after_replacement laid.layout (length (lines laid.text)) splice.place.0 (lines_going splice) m }) coming_is
+    cc (text_replaced items new row count some, length-map new characters_of, replacement.lines.ok.0)
 
 -- the size after a change
 pub size_made : {Z : Type 0} (items : List (String Z)) (text : List Symbol) (size after : ℕ) (splice : Splice) → IsStored items size → text_of items ≡ text → Fits text splice → after ≡ cond splice.inserts (size + weight splice.symbols) (size - weight splice.symbols) → after ≡ weight (applied text splice) + 1
-size_made items text size after splice stored is fits after_is = by splice.inserts fits.allowed after_is
+size_made items text size after splice stored is fits after_is =
+    by splice.inserts (stored.size_is ∙ size_of_text items stored.some ∙ ap (λ t. weight t + 1) is) fits.allowed after_is
   where
-    was : size ≡ weight text + 1
-    was = stored.size_is ∙ size_of_text items stored.some ∙ ap (λ t. weight t + 1) is
-
-    by : (b : Bool) → Allows b text splice.place splice.symbols → after ≡ cond b (size + weight splice.symbols) (size - weight splice.symbols) → after ≡ weight (cond b (inserted text splice.place splice.symbols) (removed text splice.place splice.symbols)) + 1
-    by true allowed e = omega (arith, was, e, weight_inserted text splice.place splice.symbols)
-    by false allowed e = omega (arith, was, e, weight_removed text splice.place splice.symbols allowed)
+    by : (b : Bool) → size ≡ weight text + 1 → Allows b text splice.place splice.symbols → after ≡ cond b (size + weight splice.symbols) (size - weight splice.symbols) → after ≡ weight (cond b (inserted text splice.place splice.symbols) (removed text splice.place splice.symbols)) + 1
+    by true was allowed e = omega (arith, was, e, weight_inserted text splice.place splice.symbols)
+    by false was allowed e = omega (arith, was, e, weight_removed text splice.place splice.symbols allowed)
 
 -- ---- all lines
 
 -- some lines, all of which were cut
 pub laid_new : {Z : Type 0} (settings : LayoutSettings) (items lent : List (String Z)) (old count : ℕ) (rows : List RowsView) → 0 < length items → lent ≡ items → count ≡ old + length lent → ticks_of rows ≡ ticks_behind old (length lent) → seen settings items count rows ≡ laid_out_anew settings old (text_of items)
 laid_new settings items lent old count rows some lent_is counted ticks =
-    let long : length lent ≡ length (lines (text_of items)) = ap length lent_is ∙ sym (count_held items some) in
-    ap (λ (n : ℕ). record { text = text_of items; layout = record { settings = settings; count = n; ticks = ticks_of rows } }) (counted ∙ ap (λ n. old + n) long)
-    ∙ ap (λ (t : List ℕ). record { text = text_of items; layout = record { settings = settings; count = old + length (lines (text_of items)); ticks = t } }) (ticks ∙ ap (ticks_behind old) long)
+    cc (count_held items some)
 
 -- how lines are cut before and after other settings
 pub record Reviewing {Z : Type 0} (old settings : LayoutSettings) (items : List (String Z)) (count : ℕ) (rows : List RowsView) (laid : LaidOut) (before after : Wrapping) : Type 0 where
@@ -128,21 +93,14 @@ pub record Reviewing {Z : Type 0} (old settings : LayoutSettings) (items : List 
 
 pub test_is : {Z : Type 0} (old settings : LayoutSettings) (items : List (String Z)) (count : ℕ) (rows : List RowsView) (laid : LaidOut) (before after : Wrapping) → Reviewing old settings items count rows laid before after → is_same (wrapping_for settings (length (lines laid.text))) (wrapping_of laid) ≡ is_same after before
 test_is old settings items count rows laid before after h =
-    ap (λ (l : LaidOut). is_same (wrapping_for settings (length (lines l.text))) (wrapping_of l)) (sym h.is)
-    ∙ ap (λ n. is_same (wrapping_for settings n) (wrapping_for old n)) (count_held items h.some)
-    ∙ ap (λ w. is_same w (wrapping_for old (length items))) (sym h.after_is)
-    ∙ ap (is_same after) (sym h.before_is)
+    rw (← h.is, count_held items h.some, h.after_is, h.before_is)
 
 pub viewed_same : {Z : Type 0} (old settings : LayoutSettings) (items : List (String Z)) (count : ℕ) (rows : List RowsView) (laid : LaidOut) (before after : Wrapping) → Reviewing old settings items count rows laid before after → is_same after before ≡ true → seen settings items count rows ≡ laid_out_with laid settings
-viewed_same old settings items count rows laid before after h same =
-    ap (λ (l : LaidOut). record { text = l.text; layout = record { settings = settings; count = l.layout.count; ticks = l.layout.ticks } }) h.is
-    ∙ ap (λ (b : Bool). cond b (record { text = laid.text; layout = record { settings = settings; count = laid.layout.count; ticks = laid.layout.ticks } }) (laid_out_anew settings laid.layout.count laid.text)) (sym (test_is old settings items count rows laid before after h ∙ same))
+viewed_same old settings items count rows laid before after h same = rw (test_is old settings items count rows laid before after h, same, ← h.is)
 
 pub viewed_anew : {Z : Type 0} (old settings : LayoutSettings) (items : List (String Z)) (count now : ℕ) (rows new : List RowsView) (laid : LaidOut) (before after : Wrapping) → Reviewing old settings items count rows laid before after → is_same after before ≡ false → seen settings items now new ≡ laid_out_anew settings count (text_of items) → seen settings items now new ≡ laid_out_with laid settings
 viewed_anew old settings items count now rows new laid before after h differs e =
-    e
-    ∙ ap (λ (l : LaidOut). laid_out_anew settings l.layout.count l.text) h.is
-    ∙ ap (λ (b : Bool). cond b (record { text = laid.text; layout = record { settings = settings; count = laid.layout.count; ticks = laid.layout.ticks } }) (laid_out_anew settings laid.layout.count laid.text)) (sym (test_is old settings items count rows laid before after h ∙ differs))
+    rw (test_is old settings items count rows laid before after h, differs, ← h.is) e
 
 -- where the lines are cut as before, their rows stay right: those of wrapped lines as they are, others at the new tab stops
 pub holds_wrapped : {Z : Type 0} (old settings : LayoutSettings) (items : List (String Z)) (size : ℕ) (map : MapView) → is_wrapped settings ≡ true → is_same (wrapping_for settings (length items)) map.wrapping ≡ true → HoldsRows old items size map → HoldsRows settings items size map

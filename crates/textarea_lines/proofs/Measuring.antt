@@ -24,32 +24,20 @@ pub record Measuring {Z : Type 0} (settings : LayoutSettings) (items lent : List
 -- what was counted of the lines that are lent is so of the text's
 pub counted_in_text : {Z : Type 0} (settings : LayoutSettings) (items lent : List (String Z)) (size count inner_width : ℕ) (map : MapView) (laid : LaidOut) (wrapping now : Wrapping) (n : ℕ) → Measuring settings items lent size count inner_width map laid wrapping now → IsRowCount wrapping (lines_of lent) n → IsRowCount (cut_at_width laid.layout.settings inner_width (length (lines laid.text))) (lines laid.text) n
 counted_in_text settings items lent size count inner_width map laid wrapping now n m h =
-    let lent_lines : lines_of lent ≡ lines (text_of items) = ap lines_of m.lent_is ∙ sym (lines_held items m.held.stored.some) in
-    let many : length lent ≡ length (lines (text_of items)) = ap length m.lent_is ∙ sym (count_held items m.held.stored.some) in
-    subst (λ (l : LaidOut). IsRowCount (cut_at_width l.layout.settings inner_width (length (lines l.text))) (lines l.text) n) m.is
-    (subst (λ k. IsRowCount (cut_at_width settings inner_width k) (lines (text_of items)) n) many
-    (subst (λ (w : Wrapping). IsRowCount w (lines (text_of items)) n) m.wrapping_is
-    (subst (λ (t : List (List ℕ)). IsRowCount wrapping t n) lent_lines h)))
+    rw (← m.is, count_held items m.held.stored.some, lines_held items m.held.stored.some, ← m.lent_is, ← m.wrapping_is) h
 
 -- where the lines are cut so as they stand, their rows are those that are kept
 pub counted_as_kept : {Z : Type 0} (settings : LayoutSettings) (items lent : List (String Z)) (size count inner_width : ℕ) (map : MapView) (laid : LaidOut) (wrapping now : Wrapping) (n : ℕ) → Measuring settings items lent size count inner_width map laid wrapping now → is_same wrapping now ≡ true → n ≡ row_total map.rows → IsRowCount wrapping (lines_of lent) n
 counted_as_kept settings items lent size count inner_width map laid wrapping now n m same e =
-    let kept : AreRowsOf now (lines_of lent) map.rows =
-    subst (λ (w : Wrapping). AreRowsOf w (lines_of lent) map.rows) (sym m.now_is)
-    (subst (λ (t : List (String _)). AreRowsOf (wrapping_for settings (length t)) (lines_of t) map.rows) (sym m.lent_is) (right_rows settings items size map m.held)) in
-    (map.rows, AreRowsOf-same wrapping now (lines_of lent) map.rows same kept, e)
+    (map.rows, AreRowsOf-same wrapping now (lines_of lent) map.rows same (rw (m.now_is, m.lent_is) (right_rows settings items size map m.held)), e)
 
 -- whether they are cut so as they stand, of the text and of the lines that are lent
 pub same_as_kept : {Z : Type 0} (settings : LayoutSettings) (items lent : List (String Z)) (size count inner_width : ℕ) (map : MapView) (laid : LaidOut) (wrapping now : Wrapping) → Measuring settings items lent size count inner_width map laid wrapping now → is_same (cut_at_width laid.layout.settings inner_width (length (lines laid.text))) (wrapping_of laid) ≡ is_same wrapping now
 same_as_kept settings items lent size count inner_width map laid wrapping now m =
-    ap (λ (l : LaidOut). is_same (cut_at_width l.layout.settings inner_width (length (lines l.text))) (wrapping_of l)) (sym m.is)
-    ∙ ap (λ k. is_same (cut_at_width settings inner_width k) (wrapping_for settings k)) (count_held items m.held.stored.some ∙ ap length (sym m.lent_is))
-    ∙ ap (λ w. is_same w (wrapping_for settings (length lent))) (sym m.wrapping_is)
-    ∙ ap (is_same wrapping) (sym m.now_is)
+    rw (m.wrapping_is, m.now_is, m.lent_is, ← m.is, count_held items m.held.stored.some)
 
 -- where they were cut so when they were measured, the count is the one of that time
 pub counted_as_measured : {Z : Type 0} (items lent : List (String Z)) (wrapping : Wrapping) (kept : Option Measured) (last : Measured) → lent ≡ items → is_same wrapping last.wrapping ≡ true → kept ≡ Some last → IfSome kept (λ was. IsRowCount was.wrapping (lines_of items) was.rows) → IsRowCount wrapping (lines_of lent) last.rows
 counted_as_measured items lent wrapping kept last lent_is same is h =
-    let there : IsRowCount last.wrapping (lines_of items) last.rows = subst (λ (o : Option Measured). IfSome o (λ was. IsRowCount was.wrapping (lines_of items) was.rows)) is h in
-    subst (λ (t : List (String _)). IsRowCount wrapping (lines_of t) last.rows) (sym lent_is)
-    (there.0, AreRowsOf-same wrapping last.wrapping (lines_of items) there.0 same there.1, there.2)
+    let there : IsRowCount last.wrapping (lines_of items) last.rows = rw is at h in
+    rw lent_is (there.0, AreRowsOf-same wrapping last.wrapping (lines_of items) there.0 same there.1, there.2)

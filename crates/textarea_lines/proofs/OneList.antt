@@ -10,7 +10,4 @@ rows_same (r ∷ rows) [] ranges ticks = absurd cc
 rows_same (r ∷ rows) (s ∷ others) ranges ticks =
     let first_ranges : r.ranges ≡ s.ranges = cc in
     let first_tick : r.tick ≡ s.tick = cc in
-    let more_ranges : map (λ (q : RowsView). q.ranges) rows ≡ map (λ (q : RowsView). q.ranges) others = cc in
-    let more_ticks : ticks_of rows ≡ ticks_of others = cc in
-    let first : r ≡ s = ap₂ (λ (t : List (ℕ × ℕ)) (n : ℕ). record { ranges = t; tick = n }) first_ranges first_tick in
-    ap₂ (λ (q : RowsView) (t : List RowsView). q ∷ t) first (rows_same rows others more_ranges more_ticks)
+    ap₂ ◌∷◌ (ap₂ (λ (t : List (ℕ × ℕ)) (n : ℕ). record { ranges = t; tick = n }) first_ranges first_tick) (rows_same rows others (cc) (cc))

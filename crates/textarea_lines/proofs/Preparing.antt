@@ -2,7 +2,7 @@
 use Rattle.std.proofs.Common.{◌≡◌, ℕ, ◌+◌, ◌-◌, Bool, true, false, cond, List, length, sym, ap, ◌∙◌, subst, String, Result, Ok, Err}
 use Rattle.std.specs.Result.{IfOk}
 use Rattle.textarea_text.specs.Replaced.{replaced}
-use Rattle.textarea_text.specs.Text.{lines_of}
+use Rattle.textarea_text.specs.Text.{characters_of, lines_of}
 use Rattle.textarea_wrap.specs.RowsView.{RowsView}
 use Rattle.textarea_map.specs.declared.layout.Wrapping.{Wrapping}
 use Rattle.textarea_map.specs.Layout.{AreRowsOf, ticks_behind, ticks_of}
@@ -10,59 +10,34 @@ use Rattle.textarea_map.proofs.Layouts.{AreRowsOf-replaced}
 use Rattle.textarea_lines.specs.declared.settings.LayoutSettings.{LayoutSettings}
 use Rattle.textarea_lines.specs.Layout.{Layout, all_cut, after_replacement, some_cut}
 use Rattle.textarea_lines.specs.Wrappings.{is_same, wrapping_for}
-use Rattle.textarea_lines.proofs.Layouts.{lines_of-replaced, map-replaced, replaced_whole}
+use Rattle.textarea_lines.proofs.Layouts.{map-replaced, replaced_whole}
 use Rattle.textarea_lines.proofs.SameCuts.{AreRowsOf-same}
 
--- what three and four clauses say together of a call that succeeded
-pub IfOk-from_three : {T E : Type 0} (r : Result T E) (P Q R S : T → Type 0) → ((x : T) → P x → Q x → R x → S x) → IfOk r P → IfOk r Q → IfOk r R → IfOk r S
-IfOk-from_three (Ok x) P Q R S f p q h = f x p q h
-IfOk-from_three (Err e) P Q R S f p q h = tt
-
+-- what four clauses say together of a call that succeeded
 pub IfOk-from_four : {T E : Type 0} (r : Result T E) (P Q R S U : T → Type 0) → ((x : T) → P x → Q x → R x → S x → U x) → IfOk r P → IfOk r Q → IfOk r R → IfOk r S → IfOk r U
 IfOk-from_four (Ok x) P Q R S U f p q h k = f x p q h k
 IfOk-from_four (Err e) P Q R S U f p q h k = tt
 
 -- ---- rows
 
--- rows that take the place of others, as a preparation has them
-prepared_as : (rows others cut : List RowsView) (at number row count : ℕ) → at ≡ row → number ≡ count → others ≡ cut → replaced rows at number others ≡ replaced rows row count cut
-prepared_as rows others cut at number row count at_is number_is others_is =
-    ap (λ n. replaced rows n number others) at_is ∙ ap (λ n. replaced rows row n others) number_is ∙ ap (replaced rows row count) others_is
-
 pub rows_of_some : {Z : Type 0} (was now after : Wrapping) (items new lent : List (String Z)) (row count at number : ℕ) (rows cut others : List RowsView) → is_same after was ≡ true → after ≡ now → AreRowsOf was (lines_of items) rows → lent ≡ new → AreRowsOf after (lines_of lent) cut → at ≡ row → number ≡ count → others ≡ cut → AreRowsOf now (lines_of (replaced items row count new)) (replaced rows at number others)
 rows_of_some was now after items new lent row count at number rows cut others same is h lent_is k at_is number_is others_is =
-    let changed : AreRowsOf after (replaced (lines_of items) row count (lines_of new)) (replaced rows row count cut) =
-    AreRowsOf-replaced after (lines_of items) (lines_of new) rows cut row count (AreRowsOf-same after was (lines_of items) rows same h) (subst (λ (t : List (String _)). AreRowsOf after (lines_of t) cut) lent_is k) in
-    subst (λ (w : Wrapping). AreRowsOf w (lines_of (replaced items row count new)) (replaced rows at number others)) is
-    (subst (λ (t : List RowsView). AreRowsOf after (lines_of (replaced items row count new)) t) (sym (prepared_as rows others cut at number row count at_is number_is others_is))
-    (subst (λ (t : List (List ℕ)). AreRowsOf after t (replaced rows row count cut)) (sym (lines_of-replaced items new row count)) changed))
+    rw (← is, at_is, number_is, others_is, map-replaced characters_of items new row count)
+    (AreRowsOf-replaced after (lines_of items) (lines_of new) rows cut row count (AreRowsOf-same after was (lines_of items) rows same h) (rw lent_is at k))
 
 pub rows_of_all : (now after : Wrapping) (lines : List (List ℕ)) (n at number : ℕ) (rows cut others : List RowsView) → length rows ≡ n → after ≡ now → AreRowsOf after lines cut → at ≡ 0 → number ≡ n → others ≡ cut → AreRowsOf now lines (replaced rows at number others)
 rows_of_all now after lines n at number rows cut others size is k at_is number_is others_is =
-    subst (λ (w : Wrapping). AreRowsOf w lines (replaced rows at number others)) is
-    (subst (λ (t : List RowsView). AreRowsOf after lines t) (sym (prepared_as rows others cut at number 0 n at_is number_is others_is ∙ replaced_whole rows cut n size)) k)
+    rw (← is, at_is, number_is, others_is, replaced_whole rows cut n size) k
 
 -- ---- what clauses see of them
 
 abbrev screen_at : LayoutSettings → ℕ → List ℕ → Layout
 screen_at settings count ticks = record { settings = settings; count = count; ticks = ticks }
 
-screen_is : (settings : LayoutSettings) (count count' : ℕ) (ticks ticks' : List ℕ) → count ≡ count' → ticks ≡ ticks' → screen_at settings count ticks ≡ screen_at settings count' ticks'
-screen_is settings count count' ticks ticks' e e' = ap (λ (n : ℕ). screen_at settings n ticks) e ∙ ap (λ (t : List ℕ). screen_at settings count' t) e'
-
 pub screen_of_some : (settings : LayoutSettings) (old count n row going coming size at number : ℕ) (rows cut others : List RowsView) → is_same (wrapping_for settings (n - going + coming)) (wrapping_for settings n) ≡ true → count ≡ old + size → size ≡ coming → ticks_of cut ≡ ticks_behind old size → at ≡ row → number ≡ going → others ≡ cut → screen_at settings count (ticks_of (replaced rows at number others)) ≡ after_replacement (screen_at settings old (ticks_of rows)) n row going coming
 screen_of_some settings old count n row going coming size at number rows cut others same counted size_is ticks at_is number_is others_is =
-    screen_is settings count (old + coming) (ticks_of (replaced rows at number others)) (replaced (ticks_of rows) row going (ticks_behind old coming))
-    (counted ∙ ap (λ m. old + m) size_is)
-    (ap ticks_of (prepared_as rows others cut at number row going at_is number_is others_is)
-    ∙ map-replaced (λ (r : RowsView). r.tick) rows cut row going
-    ∙ ap (replaced (ticks_of rows) row going) (ticks ∙ ap (ticks_behind old) size_is))
-    ∙ ap (λ (b : Bool). cond b (some_cut (screen_at settings old (ticks_of rows)) row going coming) (all_cut settings old (n - going + coming))) (sym same)
+    cc (map-replaced (λ (r : RowsView). r.tick) rows cut row going)
 
 pub screen_of_all : (settings : LayoutSettings) (old count n row going coming size at number : ℕ) (rows cut others : List RowsView) → is_same (wrapping_for settings (n - going + coming)) (wrapping_for settings n) ≡ false → length rows ≡ n → count ≡ old + size → size ≡ n - going + coming → ticks_of cut ≡ ticks_behind old size → at ≡ 0 → number ≡ n → others ≡ cut → screen_at settings count (ticks_of (replaced rows at number others)) ≡ after_replacement (screen_at settings old (ticks_of rows)) n row going coming
 screen_of_all settings old count n row going coming size at number rows cut others differs long counted size_is ticks at_is number_is others_is =
-    screen_is settings count (old + (n - going + coming)) (ticks_of (replaced rows at number others)) (ticks_behind old (n - going + coming))
-    (counted ∙ ap (λ m. old + m) size_is)
-    (ap ticks_of (prepared_as rows others cut at number 0 n at_is number_is others_is ∙ replaced_whole rows cut n long)
-    ∙ ticks ∙ ap (ticks_behind old) size_is)
-    ∙ ap (λ (b : Bool). cond b (some_cut (screen_at settings old (ticks_of rows)) row going coming) (all_cut settings old (n - going + coming))) (sym differs)
+    cc (replaced_whole rows cut n long)

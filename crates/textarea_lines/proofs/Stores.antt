@@ -56,19 +56,12 @@ right_rows settings items size map h = subst (λ (w : Wrapping). AreRowsOf w (li
 pub laid_out_as : {Z : Type 0} (settings : LayoutSettings) (items : List (String Z)) (size count : ℕ) (map : MapView) (laid : LaidOut) → HoldsRows settings items size map → seen settings items count map.rows ≡ laid → IsLaidOutAs laid map.rows
 laid_out_as settings items size count map laid h is =
     subst (λ (l : LaidOut). IsLaidOutAs l map.rows) is
-    (record {
-      laid_out = subst (λ (t : List (List ℕ)). AreRowsOf (wrapping_for settings (length t)) t map.rows) (sym (lines_held items h.stored.some))
-          (subst (λ n. AreRowsOf (wrapping_for settings n) (lines_of items) map.rows) (sym (length-map items characters_of)) (right_rows settings items size map h));
-      ticks = refl;
-    })
+    (record { laid_out = rw (lines_held items h.stored.some, length-map items characters_of) (right_rows settings items size map h); ticks = refl })
 
 -- the columns between tab stops are the view's, wrapped or not
 pub tab_len_of : (settings : LayoutSettings) (n : ℕ) → (wrapping_for settings n).tab_len ≡ settings.tab_len
-tab_len_of settings n = by (is_wrapped settings)
-  where
-    by : (b : Bool) → (cond b (cut_at_width settings settings.inner_width n) (whole_lines settings)).tab_len ≡ settings.tab_len
-    by true = refl
-    by false = refl
+tab_len_of settings n =
+    elim (is_wrapped settings) as (λ b. (cond b (cut_at_width settings settings.inner_width n) (whole_lines settings)).tab_len ≡ settings.tab_len) [ true ↦ refl | false ↦ refl ]
 
 pub tab_len_kept : {Z : Type 0} (settings : LayoutSettings) (items : List (String Z)) (size : ℕ) (map : MapView) → HoldsRows settings items size map → map.wrapping.tab_len ≡ settings.tab_len
 tab_len_kept settings items size map h = ap (λ (w : Wrapping). w.tab_len) h.wrapping_is ∙ tab_len_of settings (length items)
@@ -76,15 +69,13 @@ tab_len_kept settings items size map h = ap (λ (w : Wrapping). w.tab_len) h.wra
 -- a place of the text is one of the lines that are lent
 pub place_in_lent : {Z : Type 0} (settings : LayoutSettings) (items lent : List (String Z)) (size count : ℕ) (map : MapView) (laid : LaidOut) (place : Place) → HoldsRows settings items size map → lent ≡ items → seen settings items count map.rows ≡ laid → IsPlace laid.text place → IsPlaceOf (lines_of lent) place
 place_in_lent settings items lent size count map laid place h lent_is is there =
-    subst (λ t. IsPlaceOf (lines_of t) place) (sym lent_is)
-    (rows_place items place h.stored.some (subst (λ (l : LaidOut). IsPlace l.text place) (sym is) there))
+    rw lent_is (rows_place items place h.stored.some (rw (← is) at there))
 
 -- what is so of the lines that are lent, at the map's tab stops, is so of the text's
 pub in_text : {Z : Type 0} (settings : LayoutSettings) (items lent : List (String Z)) (size count : ℕ) (map : MapView) (laid : LaidOut) (Fact : ℕ → List (List ℕ) → Type 0) → HoldsRows settings items size map → lent ≡ items → seen settings items count map.rows ≡ laid → Fact map.wrapping.tab_len (lines_of lent) → Fact laid.layout.settings.tab_len (lines laid.text)
 in_text settings items lent size count map laid Fact held lent_is is h =
     subst (λ (l : LaidOut). Fact l.layout.settings.tab_len (lines l.text)) is
-    (subst (Fact settings.tab_len) (ap lines_of lent_is ∙ sym (lines_held items held.stored.some))
-    (subst (λ n. Fact n (lines_of lent)) (tab_len_kept settings items size map held) h))
+    (rw (lines_held items held.stored.some, ← lent_is, ← (tab_len_kept settings items size map held)) h)
 
 -- copies of the lines, with the same rows
 pub holds_copied : {Z : Type 0} (settings : LayoutSettings) (old copies : List (String Z)) (size : ℕ) (map again : MapView) → HoldsRows settings old size map → lines_of copies ≡ lines_of old → (again.rows ≡ map.rows) × (again.wrapping ≡ map.wrapping) → HoldsRows settings copies size again
@@ -98,17 +89,8 @@ holds_copied settings old copies size map again h e same =
         limit = h.stored.limit;
       };
       wrapping_is = same.1 ∙ h.wrapping_is ∙ ap (wrapping_for settings) (sym long);
-      laid_out = subst (λ (w : Wrapping). AreRowsOf w (lines_of copies) again.rows) (sym same.1)
-          (subst (λ (t : List RowsView). AreRowsOf map.wrapping (lines_of copies) t) (sym same.0)
-          (subst (λ (t : List (List ℕ)). AreRowsOf map.wrapping t map.rows) (sym e) h.laid_out));
+      laid_out = rw (same.1, same.0, e) h.laid_out;
     }
 
--- what was measured of the lines is true of the same lines elsewhere
-pub measured_of : (lines same : List (List ℕ)) (measured : Option Measured) → lines ≡ same → IfSome measured (λ last. IsRowCount last.wrapping lines last.rows) → IfSome measured (λ last. IsRowCount last.wrapping same last.rows)
-measured_of lines same measured e h = subst (λ (t : List (List ℕ)). IfSome measured (λ last. IsRowCount last.wrapping t last.rows)) e h
-
 pub seen_copied : {Z : Type 0} (settings : LayoutSettings) (old copies : List (String Z)) (count again : ℕ) (rows others : List RowsView) → lines_of copies ≡ lines_of old → again ≡ count → others ≡ rows → seen settings copies again others ≡ seen settings old count rows
-seen_copied settings old copies count again rows others e count_is rows_are =
-    ap (λ (t : List (List ℕ)). record { text = joined t; layout = record { settings = settings; count = again; ticks = ticks_of others } }) e
-    ∙ ap (λ (n : ℕ). record { text = text_of old; layout = record { settings = settings; count = n; ticks = ticks_of others } }) count_is
-    ∙ ap (λ (t : List RowsView). record { text = text_of old; layout = record { settings = settings; count = count; ticks = ticks_of t } }) rows_are
+seen_copied settings old copies count again rows others e count_is rows_are = cc

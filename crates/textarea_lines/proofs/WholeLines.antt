@@ -77,14 +77,8 @@ pushed (Err v) old new x e h none = absurd cc
 
 -- the cursor stays in its row where there is no break
 pub row_before : (splice : Splice) → breaks_of splice.symbols ≡ 0 → (place_before splice).0 ≡ splice.place.0
-row_before splice none = by splice.inserts
-  where
-    to : Place
-    to = end splice.place splice.symbols
-
-    by : (b : Bool) → (cond (not b) to splice.place).0 ≡ splice.place.0
-    by true = refl
-    by false = omega (arith, end_row splice.place splice.symbols, none)
+row_before splice none =
+    elim splice.inserts as (λ b. (cond (not b) (end splice.place splice.symbols) splice.place).0 ≡ splice.place.0) [ true ↦ refl | false ↦ omega (arith, end_row splice.place splice.symbols, none) ]
 
 -- an edit without a break was made in lines that aren't wrapped
 pub record Inside {Z : Type 0} (settings : LayoutSettings) (old now lent : List (String Z)) (size after : ℕ) (map : MapView) (splice : Splice) (row : ℕ) : Type 0 where
@@ -106,7 +100,7 @@ inside_line settings old now lent size after map splice row h =
 
 inside_rows : {Z : Type 0} (settings : LayoutSettings) (old now lent : List (String Z)) (size after : ℕ) (map : MapView) (splice : Splice) (row : ℕ) → Inside settings old now lent size after map splice row → AreRowsOf (whole_lines settings) (lines_of old) map.rows
 inside_rows settings old now lent size after map splice row h =
-    subst (λ (w : Wrapping). AreRowsOf w (lines_of old) map.rows) (whole_is settings (length old) h.whole) (right_rows settings old size map h.holds)
+    rw (whole_is settings (length old) h.whole) at (right_rows settings old size map h.holds)
 
 -- there are as many lines
 as_many : {Z : Type 0} (settings : LayoutSettings) (old now lent : List (String Z)) (size after : ℕ) (map : MapView) (splice : Splice) (row : ℕ) → Inside settings old now lent size after map splice row → length now ≡ length old
@@ -133,9 +127,8 @@ line_lent settings old now lent size after map splice row h =
     let line = inside_line settings old now lent size after map splice row h in
     let above : length (take row (lines_of old)) ≡ row = length-take-le row (lines_of old) (omega (arith, line.within)) in
     let first : row - row ≡ 0 = omega arith in
-    ap (λ t. get_or (lines_of t) row []) h.lent_is ∙ ap (λ t. get_or t row []) line.new_is
-    ∙ get_or-append_right (take row (lines_of old)) (line.line ∷ drop (row + 1) (lines_of old)) row row [] above (omega arith)
-    ∙ ap (λ n. get_or (line.line ∷ drop (row + 1) (lines_of old)) n []) first
+    ap (λ t. get_or (lines_of t) row []) h.lent_is
+    ∙ rw (line.new_is, get_or-append_right (take row (lines_of old)) (line.line ∷ drop (row + 1) (lines_of old)) row row [] above (omega arith), first)
 
 -- the line can be cut
 pub can_cut : {Z : Type 0} (settings : LayoutSettings) (old now lent : List (String Z)) (size after : ℕ) (map : MapView) (splice : Splice) (row : ℕ) → Inside settings old now lent size after map splice row → CanStayWhole lent map.rows row
@@ -156,33 +149,23 @@ can_cut settings old now lent size after map splice row h =
     }
 
 pub holds_inside : {Z : Type 0} (settings : LayoutSettings) (old now lent : List (String Z)) (size after : ℕ) (map new : MapView) (splice : Splice) (row tick : ℕ) → Inside settings old now lent size after map splice row → HasWholeLine map.wrapping.tab_len (get_or (lines_of lent) row []) row tick map.rows new.rows → new.wrapping ≡ map.wrapping → HoldsRows settings now after new
-holds_inside settings old now lent size after map new splice row tick h whole_line same =
+holds_inside settings old now lent size after map new splice row tick h k same =
     let line = inside_line settings old now lent size after map splice row h in
     let right = inside_rows settings old now lent size after map splice row h in
-    let k = subst (λ n. HasWholeLine n (get_or (lines_of lent) row []) row tick map.rows new.rows) (tab_len_kept settings old size map h.holds) whole_line in
     let cut : AreRowsOfLine (whole_lines settings) line.line k.cut =
-    subst (λ (t : List ℕ). AreRowsOfLine (whole_lines settings) t k.cut) (line_lent settings old now lent size after map splice row h) (record { characters = k.characters; short = k.short; cut = k.right }) in
-    let all : AreRowsOf (whole_lines settings) (replaced (lines_of old) row 1 (line.line ∷ [])) (replaced map.rows row 1 (k.cut ∷ [])) =
-    AreRowsOf-replaced (whole_lines settings) (lines_of old) (line.line ∷ []) map.rows (k.cut ∷ []) row 1 right (cut, tt) in
+    rw (← (line_lent settings old now lent size after map splice row h), ← (tab_len_kept settings old size map h.holds)) (record { characters = k.characters; short = k.short; cut = k.right }) in
     let wrapping : new.wrapping ≡ wrapping_for settings (length now) =
     same ∙ h.holds.wrapping_is ∙ ap (wrapping_for settings) (sym (as_many settings old now lent size after map splice row h)) in
     record {
       stored = inside_stored settings old now lent size after map splice row h;
       wrapping_is = wrapping;
-      laid_out = subst (λ (w : Wrapping). AreRowsOf w (lines_of now) new.rows) (sym (wrapping ∙ whole_is settings (length now) h.whole))
-          (subst (λ (t : List (List ℕ)). AreRowsOf (whole_lines settings) t new.rows) (sym line.new_is)
-          (subst (λ (t : List RowsView). AreRowsOf (whole_lines settings) (replaced (lines_of old) row 1 (line.line ∷ [])) t) (sym k.new_is) all));
+      laid_out = rw (wrapping ∙ whole_is settings (length now) h.whole, line.new_is, k.new_is)
+          (AreRowsOf-replaced (whole_lines settings) (lines_of old) (line.line ∷ []) map.rows (k.cut ∷ []) row 1 right (cut, tt));
     }
 
 -- where lines aren't wrapped, one line is cut
 recut_one : (layout : Layout) (n row going coming : ℕ) → is_wrapped layout.settings ≡ false → going ≡ 1 → coming ≡ 1 → after_replacement layout n row going coming ≡ some_cut layout row 1 1
-recut_one layout n row going coming whole one one' =
-    let settings = layout.settings in
-    let after : ℕ = n - going + coming in
-    let same : is_same (wrapping_for settings after) (wrapping_for settings n) ≡ true =
-    ap (λ w. is_same w (wrapping_for settings n)) (whole_is settings after whole) ∙ ap (is_same (whole_lines settings)) (whole_is settings n whole) in
-    ap (λ (b : Bool). cond b (some_cut layout row going coming) (all_cut settings layout.count after)) same
-    ∙ ap (λ m. some_cut layout row m coming) one ∙ ap (some_cut layout row 1) one'
+recut_one layout n row going coming whole one one' = rw (whole, one, one')
 
 going_one : (b : Bool) (breaks : ℕ) → breaks ≡ 0 → (cond b 1 (breaks + 1) ≡ 1) × (cond b (breaks + 1) 1 ≡ 1)
 going_one true breaks e = (refl, omega arith)
@@ -190,15 +173,7 @@ going_one false breaks e = (omega arith, refl)
 
 pub layout_inside : {Z : Type 0} (settings : LayoutSettings) (old now lent : List (String Z)) (size after count counted : ℕ) (map : MapView) (new : List RowsView) (splice : Splice) (row : ℕ) → Inside settings old now lent size after map splice row → HasWholeLine map.wrapping.tab_len (get_or (lines_of lent) row []) row (count + 1) map.rows new → counted ≡ count + 1 → seen settings now counted new ≡ applied_to (seen settings old count map.rows) splice
 layout_inside settings old now lent size after count counted map new splice row h k counted_is =
-    let n = length (lines (text_of old)) in
     let numbers = going_one splice.inserts (breaks_of splice.symbols) h.none in
     let layout : Layout = record { settings = settings; count = count; ticks = ticks_of map.rows } in
-    let ticks : ticks_of new ≡ replaced (ticks_of map.rows) row 1 (ticks_behind count 1) =
-    ap ticks_of k.new_is ∙ map-replaced (λ (r : RowsView). r.tick) map.rows (k.cut ∷ []) row 1 ∙ ap (λ (m : ℕ). replaced (ticks_of map.rows) row 1 (m ∷ [])) k.tick_is in
-    let recut_is : record { settings = settings; count = counted; ticks = ticks_of new } ≡ after_replacement layout n splice.place.0 (lines_going splice) (lines_coming splice) =
-    ap (λ (m : ℕ). record { settings = settings; count = m; ticks = ticks_of new }) counted_is
-    ∙ ap (λ (t : List ℕ). record { settings = settings; count = count + 1; ticks = t }) ticks
-    ∙ ap (λ m. some_cut layout m 1 1) h.row_is
-    ∙ sym (recut_one layout n splice.place.0 (lines_going splice) (lines_coming splice) h.whole numbers.0 numbers.1) in
-    ap (λ (t : List Symbol). record { text = t; layout = record { settings = settings; count = counted; ticks = ticks_of new } }) h.now_is
-    ∙ ap (λ (s : Layout). record { text = applied (text_of old) splice; layout = s }) recut_is
+    rw (recut_one layout (length (lines (text_of old))) splice.place.0 (lines_going splice) (lines_coming splice) h.whole numbers.0 numbers.1)
+    (cc (map-replaced (λ (r : RowsView). r.tick) map.rows (k.cut ∷ []) row 1))

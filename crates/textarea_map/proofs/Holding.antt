@@ -2,6 +2,7 @@
 use Rattle.std.proofs.Common.{◌≡◌, ℕ, zero, suc, ◌+◌, ◌<◌, ◌≤◌, inl, inr, max, List, [], ◌∷◌, length, take, get_or, sym, ap, refl, ◌∙◌, arith, subst, encode_utf8_all, String, string_bytes}
 use Rattle.std.proofs.lemmas.Bool.{cases_lt}
 use Rattle.std.proofs.lemmas.List.{length-append}
+use Rattle.std.proofs.Math.ListN.{get_or-map}
 use Rattle.std.proofs.lemmas.Str.{encodes-chars, IsUtf8-string_bytes}
 use Rattle.std.specs.List.{concat, AllByRecursion}
 use Rattle.std.specs.Str.{chars}
@@ -12,6 +13,7 @@ use Rattle.textarea_wrap.specs.RowsView.{RowsView}
 use Rattle.textarea_wrap.specs.Cutting.{ranges_from}
 use Rattle.textarea_wrap.specs.Wrapped.{IsWrapped, IsRowRange, AreRowTexts}
 use Rattle.textarea_wrap.specs.declared.wrap.WrapMode.{WrapMode}
+use Rattle.textarea_wrap.proofs.FewestRowLemmas.{length-ranges_from}
 use Rattle.textarea_map.specs.declared.layout.Wrapping.{Wrapping}
 use Rattle.textarea_map.specs.Layout.{AreRowsOf, AreRowsOfLine}
 use Rattle.textarea_map.specs.Map.{ranges_at, range_at}
@@ -38,10 +40,6 @@ some_texts : (mode : WrapMode) (tab_len width : ℕ) (line : List ℕ) (texts : 
 some_texts mode tab_len width [] texts cut joined = omega (arith, ap length cut)
 some_texts mode tab_len width (byte ∷ line) [] cut joined = absurd (omega (arith, ap length joined))
 some_texts mode tab_len width (byte ∷ line) (t ∷ texts) cut joined = omega arith
-
-pub length-ranges_from : (at : ℕ) (texts : List (List ℕ)) → length (ranges_from at texts) ≡ length texts
-length-ranges_from at [] = refl
-length-ranges_from at (t ∷ texts) = ap suc (length-ranges_from (at + length t) texts)
 
 first_range : (at : ℕ) (texts : List (List ℕ)) → 0 < length texts → (range_at (ranges_from at texts) 0).0 ≡ at
 first_range at [] some = absurd (omega arith)
@@ -86,25 +84,22 @@ holds_offset mode tab_len width line ranges row offset h inside within from next
     }
 
 -- one line of some
-pub rows_at : (w : Wrapping) (lines : List (List ℕ)) (rows : List RowsView) (i : ℕ) (d : RowsView) → AreRowsOf w lines rows → i < length lines → AreRowsOfLine w (get_or lines i []) (get_or rows i d)
-rows_at w [] rows i d h within = absurd (omega arith)
-rows_at w (line ∷ lines) [] i d h within = absurd h
-rows_at w (line ∷ lines) (r ∷ rows) zero d h within = h.0
-rows_at w (line ∷ lines) (r ∷ rows) (suc i) d h within = rows_at w lines rows i d h.1 (omega arith)
+pub rows_at : (w : Wrapping) (lines : List (List ℕ)) (rows : List RowsView) (i : ℕ) → AreRowsOf w lines rows → i < length lines → AreRowsOfLine w (get_or lines i []) (get_or rows i (record { ranges = []; tick = 0 }))
+rows_at w [] rows i h within = absurd (omega arith)
+rows_at w (line ∷ lines) [] i h within = absurd h
+rows_at w (line ∷ lines) (r ∷ rows) zero h within = h.0
+rows_at w (line ∷ lines) (r ∷ rows) (suc i) h within = rows_at w lines rows i h.1 (omega arith)
 
 pub cut_at : (w : Wrapping) (lines : List (List ℕ)) (rows : List RowsView) (i : ℕ) → AreRowsOf w lines rows → i < length lines → IsWrapped w.mode w.tab_len (max w.width 1) (encode_utf8_all (get_or lines i [])) (ranges_at rows i)
-cut_at w [] rows i h within = absurd (omega arith)
-cut_at w (line ∷ lines) [] i h within = absurd h
-cut_at w (line ∷ lines) (r ∷ rows) zero h within = h.0.cut
-cut_at w (line ∷ lines) (r ∷ rows) (suc i) h within = cut_at w lines rows i h.1 (omega arith)
+cut_at w lines rows i h within = rw (get_or-map (λ (r : RowsView). r.ranges) rows i (record { ranges = []; tick = 0 })) (rows_at w lines rows i h within).cut
 
-all_ranges : (line : List ℕ) (ranges : List (ℕ × ℕ)) (row : ℕ) → AllByRecursion (IsRowRange line) ranges → row < length ranges → IsRowRange line (range_at ranges row)
-all_ranges line [] row h within = absurd (omega arith)
-all_ranges line (range ∷ ranges) zero h within = h.0
-all_ranges line (range ∷ ranges) (suc row) h within = all_ranges line ranges row h.1 (omega arith)
+pub all_at : {X : Type 0} (P : X → Type 0) (items : List X) (i : ℕ) (d : X) → AllByRecursion P items → i < length items → P (get_or items i d)
+all_at P [] i d h within = absurd (omega arith)
+all_at P (item ∷ items) zero d h within = h.0
+all_at P (item ∷ items) (suc i) d h within = all_at P items i d h.1 (omega arith)
 
 pub range_is : (mode : WrapMode) (tab_len width : ℕ) (line : List ℕ) (ranges : List (ℕ × ℕ)) (row : ℕ) → IsWrapped mode tab_len width line ranges → row < length ranges → IsRowRange line (range_at ranges row)
-range_is mode tab_len width line ranges row h within = all_ranges line ranges row h.placed within
+range_is mode tab_len width line ranges row h within = all_at (IsRowRange line) ranges row (0, 0) h.placed within
 
 -- the bytes of a line, from its `String` and from its characters
 pub bytes_of_line : {Z : Type 0} (items : List (String Z)) (i : ℕ) (line : String Z) (text : List ℕ) → i < length items → line ≡ get_or items i line → text ≡ string_bytes line → text ≡ encode_utf8_all (get_or (lines_of items) i [])

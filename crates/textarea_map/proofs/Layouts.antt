@@ -1,17 +1,17 @@
 -- Rows of lines, taken apart and put together.
-use Rattle.std.proofs.Common.{map, ap₂, ◌≡◌, ℕ, zero, suc, ◌+◌, ◌<◌, ◌^◌, max, List, [], ◌∷◌, ◌++◌, length, take, drop, get_or, sym, ap, refl, ◌∙◌, arith, subst, encode_utf8_all, String, string_bytes}
+use Rattle.std.proofs.Common.{map, ap₂, ◌≡◌, ℕ, zero, suc, ◌+◌, ◌<◌, ◌^◌, max, List, [], ◌∷◌, ◌++◌, length, take, drop, get_or, ap, refl, ◌∙◌, arith, encode_utf8_all, String, string_bytes}
 use Rattle.std.proofs.lemmas.List.{append_assoc, length-map, map-append, take_more}
-use Rattle.std.proofs.lemmas.Str.{encodes-chars, scalars-chars, IsUtf8-string_bytes}
+use Rattle.std.proofs.lemmas.Str.{scalars-chars, IsUtf8-string_bytes}
 use Rattle.std.specs.List.{range_with_len}
 use Rattle.std.specs.Str.{all_scalars}
 use Rattle.textarea_text.specs.Text.{characters_of, lines_of}
 use Rattle.textarea_text.proofs.StringRows.{line_at}
 use Rattle.textarea_wrap.specs.RowsView.{RowsView}
 use Rattle.textarea_wrap.specs.Wrapped.{IsWrapped}
-use Rattle.textarea_wrap.specs.declared.wrap.WrapMode.{WrapMode}
 use Rattle.textarea_wrap.specs.declared.wrap.WrapMode.TheVariants as mode
 use Rattle.textarea_map.specs.declared.layout.Wrapping.{Wrapping}
-use Rattle.textarea_map.specs.Layout.{AreRowsOf, AreRowsOfLine, ticks_behind, ticks_of, with_tab_len}
+use Rattle.textarea_map.proofs.Holding.{bytes_of_line}
+use Rattle.textarea_map.specs.Layout.{AreRowsOf, AreRowsOfLine, ticks_behind, ticks_of}
 use Rattle.textarea_text.specs.Replaced.{replaced}
 
 pub AreRowsOf-append : (w : Wrapping) (lines more : List (List ℕ)) (rows others : List RowsView) → AreRowsOf w lines rows → AreRowsOf w more others → AreRowsOf w (lines ++ more) (rows ++ others)
@@ -49,44 +49,35 @@ AreRowsOf-replaced w lines new rows others start count h k =
 -- one line more
 pub AreRowsOf-more : {Z : Type 0} (w : Wrapping) (before : List (List ℕ)) (items : List (String Z)) (i : ℕ) (line : String Z) (text : List ℕ) (rows : List RowsView) (cut : RowsView) → i < length items → line ≡ get_or items i line → text ≡ string_bytes line → AreRowsOf w (before ++ take i (lines_of items)) rows → IsWrapped w.mode w.tab_len (max w.width 1) text cut.ranges → length text < 2 ^ 48 → AreRowsOf w (before ++ take (i + 1) (lines_of items)) (rows ++ cut ∷ [])
 AreRowsOf-more w before items i line text rows cut within read same h k short =
-    let bytes : text ≡ encode_utf8_all (get_or (lines_of items) i []) =
-    same ∙ sym (encodes-chars (string_bytes line) (IsUtf8-string_bytes line)) ∙ ap encode_utf8_all (sym (line_at items i line within read)) in
+    let bytes = bytes_of_line items i line text within read same in
     let here : AreRowsOfLine w (get_or (lines_of items) i []) cut =
     record {
       characters = ap all_scalars (line_at items i line within read) ∙ scalars-chars (string_bytes line) (IsUtf8-string_bytes line);
       short = omega (arith, short, ap length bytes);
-      cut = subst (λ (t : List ℕ). IsWrapped w.mode w.tab_len (max w.width 1) t cut.ranges) bytes k;
+      cut = rw bytes at k;
     } in
-    subst (λ (t : List (List ℕ)). AreRowsOf w t (rows ++ cut ∷ []))
-    (append_assoc before (take i (lines_of items)) (get_or (lines_of items) i [] ∷ []) ∙ ap (λ t. before ++ t) (sym (take_more (lines_of items) i [] (omega (arith, length-map items characters_of)))))
+    rw (take_more (lines_of items) i [] (omega (arith, length-map items characters_of)), ← append_assoc)
     (AreRowsOf-append w (before ++ take i (lines_of items)) (get_or (lines_of items) i [] ∷ []) rows (cut ∷ []) h (here, tt))
 
 range_append : (first size more : ℕ) → range_with_len first size ++ range_with_len (first + size) more ≡ range_with_len first (size + more)
 range_append first zero more =
     let start : first + 0 ≡ first = omega arith in
-    let sum : more ≡ 0 + more = omega arith in
-    ap (λ n. range_with_len n more) start ∙ ap (range_with_len first) sum
+    let sum : 0 + more ≡ more = omega arith in
+    rw (start, sum)
 range_append first (suc size) more =
     let start : first + suc size ≡ first + 1 + size = omega arith in
-    let sum : suc (size + more) ≡ suc size + more = omega arith in
-    ap (λ n. first ∷ (range_with_len (first + 1) size ++ range_with_len n more)) start
-    ∙ ap (λ t. first ∷ t) (range_append (first + 1) size more)
-    ∙ ap (range_with_len first) sum
+    let sum : suc size + more ≡ suc (size + more) = omega arith in
+    rw (start, sum, range_append (first + 1) size more)
 
 -- some calls more
 pub ticks_append : (count size more : ℕ) → ticks_behind count size ++ ticks_behind (count + size) more ≡ ticks_behind count (size + more)
 ticks_append count size more =
-    let start : count + size + 1 ≡ count + 1 + size = omega arith in
-    ap (λ n. range_with_len (count + 1) size ++ range_with_len n more) start ∙ range_append (count + 1) size more
+    let start : count + size + 1 ≡ count + 1 + size = omega arith in rw (start, range_append (count + 1) size more)
 
 -- one line more
 pub ticks_more : (before after : List RowsView) (cut : RowsView) (ticks : List ℕ) (count i : ℕ) → after ≡ before ++ cut ∷ [] → ticks_of before ≡ ticks ++ ticks_behind count i → cut.tick ≡ count + i + 1 → ticks_of after ≡ ticks ++ ticks_behind count (i + 1)
 ticks_more before after cut ticks count i is e tick =
-    ap ticks_of is ∙ map-append (λ (r : RowsView). r.tick) before (cut ∷ [])
-    ∙ ap (λ t. t ++ cut.tick ∷ []) e
-    ∙ ap (λ (n : ℕ). (ticks ++ ticks_behind count i) ++ n ∷ []) tick
-    ∙ append_assoc ticks (ticks_behind count i) ((count + i + 1) ∷ [])
-    ∙ ap (λ t. ticks ++ t) (ticks_append count i 1)
+    rw (is, map-append (λ (r : RowsView). r.tick) before (cut ∷ []), e, append_assoc, tick, ticks_append count i 1)
 
 -- two maps of the same lines, where a line has one right cutting
 pub ranges_same : (w : Wrapping) (lines : List (List ℕ)) (rows others : List RowsView) → ((line : List ℕ) (ranges more : List (ℕ × ℕ)) → IsWrapped w.mode w.tab_len (max w.width 1) line ranges → IsWrapped w.mode w.tab_len (max w.width 1) line more → ranges ≡ more) → AreRowsOf w lines rows → AreRowsOf w lines others → map (λ (r : RowsView). r.ranges) rows ≡ map (λ (r : RowsView). r.ranges) others
@@ -96,7 +87,7 @@ ranges_same w [] [] (s ∷ others) one h k = absurd k
 ranges_same w (line ∷ lines) [] others one h k = absurd h
 ranges_same w (line ∷ lines) (r ∷ rows) [] one h k = absurd k
 ranges_same w (line ∷ lines) (r ∷ rows) (s ∷ others) one h k =
-    ap₂ (λ (x : List (ℕ × ℕ)) (xs : List (List (ℕ × ℕ))). x ∷ xs) (one (encode_utf8_all line) r.ranges s.ranges h.0.cut k.0.cut) (ranges_same w lines rows others one h.1 k.1)
+    ap₂ ◌∷◌ (one (encode_utf8_all line) r.ranges s.ranges h.0.cut k.0.cut) (ranges_same w lines rows others one h.1 k.1)
 
 -- where lines aren't wrapped, neither the width nor the tab stops count
 pub whole_anyhow : (tab_len width other_tab_len other_width : ℕ) (line : List ℕ) (ranges : List (ℕ × ℕ)) → IsWrapped mode.None tab_len width line ranges → IsWrapped mode.None other_tab_len other_width line ranges
@@ -105,17 +96,11 @@ whole_anyhow tab_len width other_tab_len other_width [] ranges h =
 whole_anyhow tab_len width other_tab_len other_width (b ∷ line) ranges h =
     record { texts = h.texts; cut = h.cut; joined = h.joined; ranges_are = h.ranges_are; placed = h.placed }
 
-pub whole_at_tab_len : (w : Wrapping) (tab_len : ℕ) (lines : List (List ℕ)) (rows : List RowsView) → w.mode ≡ mode.None → AreRowsOf w lines rows → AreRowsOf (with_tab_len w tab_len) lines rows
-whole_at_tab_len w tab_len [] [] whole h = tt
-whole_at_tab_len w tab_len [] (r ∷ rows) whole h = absurd h
-whole_at_tab_len w tab_len (line ∷ lines) [] whole h = absurd h
-whole_at_tab_len w tab_len (line ∷ lines) (r ∷ rows) whole h =
-    let here : IsWrapped mode.None w.tab_len (max w.width 1) (encode_utf8_all line) r.ranges =
-    subst (λ (m : WrapMode). IsWrapped m w.tab_len (max w.width 1) (encode_utf8_all line) r.ranges) whole h.0.cut in (
-      record {
-        characters = h.0.characters;
-        short = h.0.short;
-        cut = subst (λ (m : WrapMode). IsWrapped m tab_len (max w.width 1) (encode_utf8_all line) r.ranges) (sym whole) (whole_anyhow w.tab_len (max w.width 1) tab_len (max w.width 1) (encode_utf8_all line) r.ranges here);
-      },
-      whole_at_tab_len w tab_len lines rows whole h.1,
-    )
+pub whole_anywhere : (w v : Wrapping) (lines : List (List ℕ)) (rows : List RowsView) → w.mode ≡ mode.None → v.mode ≡ mode.None → AreRowsOf w lines rows → AreRowsOf v lines rows
+whole_anywhere w v [] [] e e' h = tt
+whole_anywhere w v [] (r ∷ rows) e e' h = absurd h
+whole_anywhere w v (line ∷ lines) [] e e' h = absurd h
+whole_anywhere w v (line ∷ lines) (r ∷ rows) e e' h = (
+  record { characters = h.0.characters; short = h.0.short; cut = rw e' (whole_anyhow w.tab_len (max w.width 1) v.tab_len (max v.width 1) (encode_utf8_all line) r.ranges (rw e at h.0.cut)) },
+  whole_anywhere w v lines rows e e' h.1,
+)

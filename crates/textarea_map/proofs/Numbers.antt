@@ -18,8 +18,7 @@ row_total-take_drop n rows = sym (row_total-append (take n rows) (drop n rows)) 
 -- one line more
 pub row_total-more : (rows : List RowsView) (i : ℕ) (r : RowsView) → i < length rows → r ≡ get_or rows i r → row_total (take (i + 1) rows) ≡ row_total (take i rows) + length r.ranges
 row_total-more rows i r within e =
-    ap row_total (take_more rows i r within) ∙ row_total-append (take i rows) (get_or rows i r ∷ [])
-    ∙ ap (λ (s : RowsView). row_total (take i rows) + (length s.ranges + 0)) (sym e) ∙ omega arith
+    rw (take_more rows i r within, ← e) (omega (arith, row_total-append (take i rows) (r ∷ [])))
 
 pub row_total-take_le : (n : ℕ) (rows : List RowsView) → row_total (take n rows) ≤ row_total rows
 row_total-take_le n rows = omega (arith, row_total-take_drop n rows)
@@ -64,14 +63,12 @@ row_total-sum (r ∷ rows) = ap (λ n. length r.ranges + n) (row_total-sum rows)
 
 pub numbered_more : (rows : List RowsView) (firsts : List ℕ) (i at : ℕ) → i < length rows → length firsts ≡ length rows → at ≡ row_total (take i rows) → take i firsts ≡ take i (firsts_from 0 rows) → take (i + 1) (set firsts i at) ≡ take (i + 1) (firsts_from 0 rows)
 numbered_more rows firsts i at within size e above =
-    take_more_set firsts i at (omega arith)
-    ∙ ap (λ t. t ++ at ∷ []) above
-    ∙ ap (λ (n : ℕ). take i (firsts_from 0 rows) ++ n ∷ []) (e ∙ omega arith ∙ sym (get_or-firsts 0 rows i 0 within))
-    ∙ sym (take_more (firsts_from 0 rows) i 0 (omega (arith, length-firsts 0 rows)))
+    let number : at ≡ get_or (firsts_from 0 rows) i 0 = omega (arith, e, get_or-firsts 0 rows i 0 within) in
+    cc (take_more_set firsts i at (omega arith), take_more (firsts_from 0 rows) i 0 (omega (arith, length-firsts 0 rows)))
 
 pub numbered_all : (rows : List RowsView) (firsts : List ℕ) (n : ℕ) → take n firsts ≡ take n (firsts_from 0 rows) → drop n firsts ≡ drop n (firsts_from 0 rows) → firsts ≡ firsts_from 0 rows
 numbered_all rows firsts n above below =
-    sym (take-append-drop n firsts) ∙ ap (λ t. t ++ drop n firsts) above ∙ ap (λ t. take n (firsts_from 0 rows) ++ t) below ∙ take-append-drop n (firsts_from 0 rows)
+    cc (take-append-drop n firsts, take-append-drop n (firsts_from 0 rows))
 
 -- ---- lines give place to others
 
@@ -79,15 +76,10 @@ pub row_total-span : (rows : List RowsView) (row count : ℕ) → row_total (tak
 row_total-span rows row count =
     omega (arith, ap row_total (take-add row count rows), row_total-append (take row rows) (take count (drop row rows)))
 
-take-replaced : (rows new : List RowsView) (row count : ℕ) → row ≤ length rows → take row (replaced rows row count new) ≡ take row rows
-take-replaced rows new row count within = take_at (take row rows) (new ++ drop (row + count) rows) row (length-take-le row rows within)
-
 -- the lines above keep their numbers
 pub numbers_above : (rows new : List RowsView) (firsts : List ℕ) (row count : ℕ) → row ≤ length rows → firsts ≡ firsts_from 0 rows → take row firsts ≡ take row (firsts_from 0 (replaced rows row count new))
 numbers_above rows new firsts row count within e =
-    ap (take row) e ∙ take-firsts 0 row rows
-    ∙ ap (firsts_from 0) (sym (take-replaced rows new row count within))
-    ∙ sym (take-firsts 0 row (replaced rows row count new))
+    cc (take-firsts 0 row rows, take-firsts 0 row (replaced rows row count new), take_at (take row rows) (new ++ drop (row + count) rows) row (length-take-le row rows within))
 
 -- so do the lines below, where as many lines with as many rows came
 pub numbers_below : (rows new : List RowsView) (firsts : List ℕ) (row count : ℕ) → row + count ≤ length rows → length new ≡ count → row_total (take (row + count) rows) ≡ row_total (take row rows) + row_total new → firsts ≡ firsts_from 0 rows → drop (row + count) firsts ≡ drop (row + count) (firsts_from 0 (replaced rows row count new))
@@ -95,10 +87,7 @@ numbers_below rows new firsts row count within size same e =
     let seam : length (take row rows) + length new ≡ row + count = omega (arith, length-take-le row rows (omega arith)) in
     let now : row_total (take (row + count) (replaced rows row count new)) ≡ row_total (take (row + count) rows) =
     ap row_total (take_two (take row rows) new (drop (row + count) rows) (row + count) seam) ∙ row_total-append (take row rows) new ∙ sym same in
-    ap (drop (row + count)) e ∙ drop-firsts 0 (row + count) rows
-    ∙ ap (λ n. firsts_from (0 + n) (drop (row + count) rows)) (sym now)
-    ∙ ap (λ t. firsts_from (0 + row_total (take (row + count) (replaced rows row count new))) t) (sym (drop_two (take row rows) new (drop (row + count) rows) (row + count) seam))
-    ∙ sym (drop-firsts 0 (row + count) (replaced rows row count new))
+    cc (drop-firsts 0 (row + count) rows, drop_two (take row rows) new (drop (row + count) rows) (row + count) seam, drop-firsts 0 (row + count) (replaced rows row count new))
 
 -- the number of rows afterwards, from the numbers of the first row that goes and of the one behind the last
 pub total_replaced : (rows new : List RowsView) (row count total first end more : ℕ) → first ≡ row_total (take row rows) → end ≡ row_total (take (row + count) rows) → total ≡ row_total rows → more ≡ row_total new → total - (end - first) + more ≡ row_total (replaced rows row count new)

@@ -1,5 +1,5 @@
 -- A place is seen in one visual row, since the rows of a line are apart.
-use Rattle.std.proofs.Common.{◌≡◌, ℕ, zero, suc, ◌+◌, ◌-◌, ◌<◌, ◌≤◌, inl, inr, min, false, List, [], ◌∷◌, length, take, get_or, sym, ap, subst, ◌∙◌, arith}
+use Rattle.std.proofs.Common.{ap₂, ◌≡◌, ℕ, zero, suc, ◌+◌, ◌<◌, ◌≤◌, inl, inr, false, List, [], ◌∷◌, length, take, get_or, sym, ap, ◌∙◌, arith}
 use Rattle.std.proofs.lemmas.Bool.{cases_lt}
 use Rattle.textarea_text.specs.Place.{Place}
 use Rattle.textarea_text.proofs.Columns.{offset_in}
@@ -8,8 +8,8 @@ use Rattle.textarea_wrap.specs.RowsView.{RowsView}
 use Rattle.textarea_map.specs.declared.layout.Wrapping.{Wrapping}
 use Rattle.textarea_map.specs.Layout.{AreRowsOf}
 use Rattle.textarea_map.specs.Map.{ranges_at, range_at, row_total}
-use Rattle.textarea_map.specs.Rows.{row_at, column_at, greatest_column}
-use Rattle.textarea_map.specs.Seen.{IsAbove, IsBelow, IsPlaceNear, IsVisualPosition}
+use Rattle.textarea_map.specs.Rows.{row_at}
+use Rattle.textarea_map.specs.Seen.{IsAbove, IsBelow, IsVisualPosition}
 use Rattle.textarea_map.proofs.Holding.{cut_at}
 use Rattle.textarea_map.proofs.Parts.{offset_less, row_within}
 use Rattle.textarea_map.proofs.ThereAndBack.{one_place}
@@ -62,19 +62,12 @@ seen_once w lines rows place a b h s u =
       | inr more ↦ elim (cases_lt q.number p.number) [ inl less ↦ absurd (not_before w lines rows w.tab_len place b a q p h u s less) | inr most ↦ omega (arith, more, most) ]
     ] in
     let row : a.0 ≡ b.0 = omega (arith, p.row_is, q.row_is, ap (λ (n : ℕ). row_total (take n rows)) line, number) in
-    let column : a.1 ≡ b.1 = s.column ∙ ap (λ (n : ℕ). column_at w.tab_len (row_at lines rows n).text (place.1 - (row_at lines rows n).first)) row ∙ sym u.column in
-    ap (λ (n : ℕ). (n, a.1)) row ∙ ap (λ (n : ℕ). (b.0, n)) column
-
-near_one : (w : Wrapping) (lines : List (List ℕ)) (rows : List RowsView) (a b target other : Place) → a ≡ b → IsPlaceNear w.tab_len lines rows a target → IsPlaceNear w.tab_len lines rows b other → target ≡ other
-near_one w lines rows a b target other same p q =
-    one_place w.tab_len lines rows (b.0, min b.1 (greatest_column w.tab_len (row_at lines rows b.0))) target other (subst (λ (s : Place). IsPlaceNear w.tab_len lines rows s target) same p) q
+    ap₂ (λ (m n : ℕ). (m, n)) row (cc (s.column, row, u.column))
 
 pub one_above : (w : Wrapping) (lines : List (List ℕ)) (rows : List RowsView) (place target other : Place) → AreRowsOf w lines rows → IsAbove w.tab_len lines rows place target → IsAbove w.tab_len lines rows place other → target ≡ other
 one_above w lines rows place target other h p q =
-    near_one w lines rows (p.seen.0 - 1, p.seen.1) (q.seen.0 - 1, q.seen.1) target other
-    (ap (λ (s : Place). (s.0 - 1, s.1)) (seen_once w lines rows place p.seen q.seen h p.visual_position q.visual_position)) p.near q.near
+    one_place w.tab_len lines rows _ target other (rw (seen_once w lines rows place p.seen q.seen h p.visual_position q.visual_position) at p.near) q.near
 
 pub one_below : (w : Wrapping) (lines : List (List ℕ)) (rows : List RowsView) (place target other : Place) → AreRowsOf w lines rows → IsBelow w.tab_len lines rows place target → IsBelow w.tab_len lines rows place other → target ≡ other
 one_below w lines rows place target other h p q =
-    near_one w lines rows (p.seen.0 + 1, p.seen.1) (q.seen.0 + 1, q.seen.1) target other
-    (ap (λ (s : Place). (s.0 + 1, s.1)) (seen_once w lines rows place p.seen q.seen h p.visual_position q.visual_position)) p.near q.near
+    one_place w.tab_len lines rows _ target other (rw (seen_once w lines rows place p.seen q.seen h p.visual_position q.visual_position) at p.near) q.near

@@ -34,12 +34,7 @@ parts_of line range scalar h =
     let seam : drop range.1 bytes ≡ drop (range.1 - range.0) (drop range.0 bytes) =
     ap (λ n. drop n bytes) (omega (arith, h.ordered)) ∙ sym (drop-drop (range.1 - range.0) range.0 bytes) in
     let joined : encode_utf8_all (front ++ (text ++ rest)) ≡ bytes =
-    encodes-append front (text ++ rest) ∙ ap (λ t. encode_utf8_all front ++ t) (encodes-append text rest)
-    ∙ ap (λ t. t ++ (encode_utf8_all text ++ encode_utf8_all rest)) front_bytes
-    ∙ ap (λ t. take range.0 bytes ++ (t ++ encode_utf8_all rest)) text_bytes
-    ∙ ap (λ t. take range.0 bytes ++ (take (range.1 - range.0) (drop range.0 bytes) ++ t)) (rest_bytes ∙ seam)
-    ∙ ap (λ t. take range.0 bytes ++ t) (take-append-drop (range.1 - range.0) (drop range.0 bytes))
-    ∙ take-append-drop range.0 bytes in
+    cc (encodes-append front (text ++ rest), encodes-append text rest, front_bytes, text_bytes, rest_bytes, seam, take-append-drop (range.1 - range.0) (drop range.0 bytes), take-append-drop range.0 bytes) in
     let whole : line ≡ front ++ (text ++ rest) = encodes_same line (front ++ (text ++ rest)) (sym joined) in
     let start_inside : range.0 ≤ length bytes = h.start.0 in
     let end_inside : range.1 ≤ length bytes = h.end.0 in
@@ -72,18 +67,15 @@ offset_less cs column later ordered within =
     let joined : take later cs ≡ front ++ more = ap (λ n. take n cs) (sym size) ∙ take-add column (later - column) cs in
     omega (arith, ap (λ t. length (encode_utf8_all t)) joined, ap length (encodes-append front more), length-append (encode_utf8_all front) (encode_utf8_all more), length-le-encodes more, length-take-le (later - column) (drop column cs) (omega (arith, length-drop column cs)))
 
-length_parts : (line : List ℕ) (range : ℕ × ℕ) (p : Parts line range) → length p.front + length p.text ≤ length line
-length_parts line range p =
-    omega (arith, ap length p.whole, length-append p.front (p.text ++ p.rest), length-append p.text p.rest)
-
 pub row_within : (line : List ℕ) (range : ℕ × ℕ) (p : Parts line range) → length p.front + length p.text ≤ length line
-row_within line range p = length_parts line range p
+row_within line range p =
+    omega (arith, ap length p.whole, length-append p.front (p.text ++ p.rest), length-append p.text p.rest)
 
 -- an offset from the row's first byte on is that of a column from the row's first one on
 pub column_from : (line : List ℕ) (range : ℕ × ℕ) (p : Parts line range) (column : ℕ) → column ≤ length line → range.0 ≤ offset_in line column → length p.front ≤ column
 column_from line range p column within from =
     elim (cases_lt column (length p.front)) [
-      | inl less ↦ absurd (omega (arith, offset_less line column (length p.front) less (omega (arith, length_parts line range p)), p.begins, from))
+      | inl less ↦ absurd (omega (arith, offset_less line column (length p.front) less (omega (arith, row_within line range p)), p.begins, from))
       | inr more ↦ more
     ]
 
@@ -108,18 +100,12 @@ characters_between line range p column slice from to valid is =
     let part = take index p.text in
     let left = encode_utf8_all (drop index p.text) ++ encode_utf8_all p.rest in
     let bytes : encode_utf8_all line ≡ encode_utf8_all p.front ++ (encode_utf8_all p.text ++ encode_utf8_all p.rest) =
-    ap encode_utf8_all p.whole ∙ encodes-append p.front (p.text ++ p.rest) ∙ ap (λ t. encode_utf8_all p.front ++ t) (encodes-append p.text p.rest) in
+    cc (p.whole, encodes-append p.front (p.text ++ p.rest), encodes-append p.text p.rest) in
     let behind : drop range.0 (encode_utf8_all line) ≡ encode_utf8_all part ++ left =
-    ap (drop range.0) bytes ∙ drop_at (encode_utf8_all p.front) (encode_utf8_all p.text ++ encode_utf8_all p.rest) range.0 p.begins_bytes
-    ∙ ap (λ t. t ++ encode_utf8_all p.rest) (encodes_cut p.text index)
-    ∙ append_assoc (encode_utf8_all part) (encode_utf8_all (drop index p.text)) (encode_utf8_all p.rest) in
+    cc (bytes, drop_at (encode_utf8_all p.front) (encode_utf8_all p.text ++ encode_utf8_all p.rest) range.0 p.begins_bytes, encodes_cut p.text index, append_assoc (encode_utf8_all part) (encode_utf8_all (drop index p.text)) (encode_utf8_all p.rest)) in
     let before : take column line ≡ p.front ++ part =
-    ap (λ n. take n line) (omega arith) ∙ take-add (length p.front) index line
-    ∙ ap (λ t. take (length p.front) t ++ take index (drop (length p.front) line)) p.whole
-    ∙ ap (λ t. t ++ take index (drop (length p.front) line)) (take_at p.front (p.text ++ p.rest) (length p.front) refl)
-    ∙ ap (λ t. p.front ++ take index (drop (length p.front) t)) p.whole
-    ∙ ap (λ t. p.front ++ take index t) (drop_at p.front (p.text ++ p.rest) (length p.front) refl)
-    ∙ ap (λ t. p.front ++ t) (take-append-le index p.text p.rest (omega arith)) in
+    let where_is : column ≡ length p.front + index = omega arith in
+    cc (where_is, take-add (length p.front) index line, p.whole, take_at p.front (p.text ++ p.rest) (length p.front) refl, drop_at p.front (p.text ++ p.rest) (length p.front) refl, take-append-le index p.text p.rest (omega arith)) in
     let size : offset_in line column - range.0 ≡ length (encode_utf8_all part) =
     omega (arith, ap (λ t. length (encode_utf8_all t)) before, ap length (encodes-append p.front part), length-append (encode_utf8_all p.front) (encode_utf8_all part), p.begins_bytes) in
     chars_from_bytes slice part valid

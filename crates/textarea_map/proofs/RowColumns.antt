@@ -1,5 +1,5 @@
 -- The display columns of the places of a row.
-use Rattle.std.proofs.Common.{◌≡◌, ℕ, zero, suc, ◌+◌, ◌-◌, ◌<◌, ◌≤◌, ◌⊎◌, inl, inr, max, cond, nat_eq, true, false, List, [], ◌∷◌, length, take, drop, get_or, sym, ap, subst, ◌∙◌, arith}
+use Rattle.std.proofs.Common.{◌≡◌, ℕ, ◌+◌, ◌-◌, ◌<◌, ◌≤◌, ◌⊎◌, inl, inr, max, cond, nat_eq, true, false, List, [], ◌∷◌, length, take, drop, get_or, sym, ap, subst, ◌∙◌, arith}
 use Rattle.std.proofs.Math.Seq.{take-add}
 use Rattle.std.proofs.lemmas.Bool.Decides.{nat_tests}
 use Rattle.std.proofs.lemmas.Bool.{cases_lt}
@@ -9,6 +9,7 @@ use Rattle.textarea_wrap.specs.Columns.{plain_width, next_stop, column_after, en
 use Rattle.textarea_wrap.proofs.ColumnLemmas.{end_column-append, end_column-after}
 use Rattle.textarea_map.specs.Rows.{column_at}
 use Rattle.textarea_map.specs.Seen.{HasNoZeroWidth, LeadsTo}
+use Rattle.textarea_map.proofs.Holding.{all_at}
 
 -- columns never fall along a row
 pub column_at-le : (tab_len : ℕ) (text : List ℕ) (i j : ℕ) → i ≤ j → column_at tab_len text i ≤ column_at tab_len text j
@@ -31,15 +32,10 @@ column_after-more t x c some (inl e) =
 column_after-more t x c some (inr wide) =
     elim (nat_eq c 9) as (λ is_tab. x < cond is_tab (next_stop t x) (x + plain_width c)) [ true ↦ stop-more t x some | false ↦ omega arith ]
 
-all_at : (text : List ℕ) (i : ℕ) → HasNoZeroWidth text → i < length text → (get_or text i 0 ≡ 9) ⊎ (0 < plain_width (get_or text i 0))
-all_at [] i all h = absurd (omega arith)
-all_at (c ∷ text) zero all h = all.0
-all_at (c ∷ text) (suc i) all h = all_at text i all.1 (omega arith)
-
 -- where each character has a column, they grow
 pub column_at-less : (tab_len : ℕ) (text : List ℕ) (i j : ℕ) → HasNoZeroWidth text → i < j → j ≤ length text → column_at tab_len text i < column_at tab_len text j
 column_at-less tab_len text i j all h within =
-    omega (arith, column_at-le tab_len text (i + 1) j (omega arith), column_at-more tab_len text i 0 (omega arith), column_after-more (max tab_len 1) (column_at tab_len text i) (get_or text i 0) (omega arith) (all_at text i all (omega arith)))
+    omega (arith, column_at-le tab_len text (i + 1) j (omega arith), column_at-more tab_len text i 0 (omega arith), column_after-more (max tab_len 1) (column_at tab_len text i) (get_or text i 0) (omega arith) (all_at (λ c. (c ≡ 9) ⊎ (0 < plain_width c)) text i 0 all (omega arith)))
 
 -- ---- the walk over a row's characters
 

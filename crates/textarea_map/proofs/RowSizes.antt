@@ -15,7 +15,8 @@ use Rattle.textarea_map.specs.declared.layout.Wrapping.{Wrapping}
 use Rattle.textarea_map.specs.Layout.{AreRowsOf}
 use Rattle.textarea_map.specs.Map.{line_bytes, row_total, size_total}
 use Rattle.textarea_map.proofs.Numbers.{row_total-append}
-use Rattle.textarea_map.proofs.Holding.{last_range, length-ranges_from, some_rows}
+use Rattle.textarea_wrap.proofs.FewestRowLemmas.{length-ranges_from}
+use Rattle.textarea_map.proofs.Holding.{last_range, some_rows}
 
 pub size_total-append : (rows more : List RowsView) → size_total (rows ++ more) ≡ size_total rows + size_total more
 size_total-append [] more = omega arith
@@ -24,8 +25,7 @@ size_total-append (r ∷ rows) more = omega (arith, size_total-append rows more)
 -- one line more
 pub size_total-more : (rows : List RowsView) (i : ℕ) (r : RowsView) → i < length rows → r ≡ get_or rows i r → size_total (take (i + 1) rows) ≡ size_total (take i rows) + line_bytes r.ranges + 1
 size_total-more rows i r within e =
-    ap size_total (take_more rows i r within ∙ ap (λ s. take i rows ++ s ∷ []) (sym e))
-    ∙ omega (arith, size_total-append (take i rows) (r ∷ []))
+    rw (take_more rows i r within, ← e) (omega (arith, size_total-append (take i rows) (r ∷ [])))
 
 -- ---- lines give place to others
 
@@ -58,8 +58,7 @@ going kept row count = take (row + count - row) (drop row kept)
 
 going_are : (rows kept : List RowsView) (row count : ℕ) → kept ≡ rows → going kept row count ≡ take count (drop row rows)
 going_are rows kept row count is =
-    let size : row + count - row ≡ count = omega arith in
-    ap (λ n. take n (drop row kept)) size ∙ ap (λ t. take count (drop row t)) is
+    let size : row + count - row ≡ count = omega arith in rw (size, is)
 
 pub sizes_exchanged : (rows kept new : List RowsView) (row count : ℕ) → kept ≡ rows → Exchange size_total rows (going kept row count) new row count
 sizes_exchanged rows kept new row count is =

@@ -1,5 +1,5 @@
 -- From a place to its visual row and column, and back.
-use Rattle.std.proofs.Common.{◌≡◌, ℕ, ◌+◌, ◌-◌, ◌<◌, ◌≤◌, ◌^◌, inl, inr, min, false, Bool, cond, List, [], length, get_or, sym, ap, refl, subst, ◌∙◌, arith}
+use Rattle.std.proofs.Common.{ap₂, ◌≡◌, ℕ, ◌+◌, ◌-◌, ◌<◌, ◌≤◌, ◌^◌, inl, inr, min, false, Bool, cond, List, [], length, get_or, sym, ap, refl, subst, ◌∙◌, arith}
 use Rattle.std.proofs.lemmas.Bool.{cases_lt}
 use Rattle.textarea_text.specs.Place.{Place, IsPlaceOf}
 use Rattle.textarea_wrap.specs.Columns.{display_end_column}
@@ -49,14 +49,12 @@ leads_back t text index all within =
 
 same_place : (a b : Place) (first : ℕ) → a.0 ≡ b.0 → first ≤ a.1 → first ≤ b.1 → a.1 - first ≡ b.1 - first → a ≡ b
 same_place a b first rows from from' e =
-    let columns : a.1 ≡ b.1 = omega arith in
-    ap (λ (n : ℕ). (n, a.1)) rows ∙ ap (λ (n : ℕ). (b.0, n)) columns
+    ap₂ (λ (m n : ℕ). (m, n)) rows (omega arith)
 
 pub found_again : (t : ℕ) (lines : List (List ℕ)) (rows : List RowsView) (place seen found : Place) → IsVisualPosition t lines rows place seen → HasNoZeroWidth (row_at lines rows seen.0).text → IsPlaceAt t lines rows seen found → found ≡ place
 found_again t lines rows place seen found s all f =
     let row = row_at lines rows seen.0 in
-    let back : LeadsTo t row.text seen.1 (place.1 - row.first) =
-    subst (λ (n : ℕ). LeadsTo t row.text n (place.1 - row.first)) (sym s.column) (leads_back t row.text (place.1 - row.first) all (omega (arith, s.holds.to))) in
+    let back : LeadsTo t row.text seen.1 (place.1 - row.first) = rw s.column (leads_back t row.text (place.1 - row.first) all (omega (arith, s.holds.to))) in
     same_place found place row.first (f.line ∙ sym s.holds.line) f.from s.holds.from (leads_to_one t row.text seen.1 (found.1 - row.first) (place.1 - row.first) f.leads back)
 
 pub one_place : (t : ℕ) (lines : List (List ℕ)) (rows : List RowsView) (seen place other : Place) → IsPlaceAt t lines rows seen place → IsPlaceAt t lines rows seen other → place ≡ other

@@ -1,5 +1,5 @@
 -- The visual rows of all lines, each found by its line and its number there.
-use Rattle.std.proofs.Common.{◌≡◌, ℕ, zero, suc, ◌+◌, ◌-◌, ◌<◌, ◌≤◌, ◌^◌, inl, inr, true, false, nat_eq, Bool, List, [], ◌∷◌, ◌++◌, length, take, drop, get_or, sym, ap, refl, subst, ◌∙◌, arith, encode_utf8_all, String, string_bytes}
+use Rattle.std.proofs.Common.{◌≡◌, ℕ, zero, suc, ◌+◌, ◌-◌, ◌<◌, ◌≤◌, ◌^◌, inl, inr, true, false, nat_eq, Bool, List, [], ◌∷◌, length, take, drop, get_or, sym, ap, refl, ◌∙◌, arith, encode_utf8_all, String, string_bytes}
 use Rattle.std.proofs.lemmas.Bool.{cases_lt}
 use Rattle.std.proofs.lemmas.List.{get_or-append-add, get_or_append_left, length-append, length-map}
 use Rattle.std.proofs.lemmas.Bool.Decides.{nat_tests}
@@ -64,31 +64,22 @@ row_of_lines w m [] rows i k d h within there = absurd (omega arith)
 row_of_lines w m (line ∷ lines) [] i k d h within there = absurd h
 row_of_lines w m (line ∷ lines) (r ∷ rows) zero k d h within there =
     let here = rows_of_line m line r.ranges in
-    let same : get_or here k d ≡ get_or (here ++ rows_from (m + 1) lines rows) (0 + k) d =
-    sym (get_or_append_left here (rows_from (m + 1) lines rows) d k (omega (arith, there, length-rows_of_line m line r.ranges)))
-    ∙ ap (λ (n : ℕ). get_or (here ++ rows_from (m + 1) lines rows) n d) (omega arith) in
-    let number : m ≡ m + 0 = omega arith in
-    subst (λ (n : ℕ). IsNumbered (get_or (here ++ rows_from (m + 1) lines rows) (0 + k) d) n line r.ranges k) number
-    (subst (λ (v : VisualRow). IsNumbered v m line r.ranges k) same (row_of_line m line r.ranges k d there))
+    let index : 0 + k ≡ k = omega arith in
+    let number : m + 0 ≡ m = omega arith in
+    rw (number, index, get_or_append_left here (rows_from (m + 1) lines rows) d k (omega (arith, there, length-rows_of_line m line r.ranges))) (row_of_line m line r.ranges k d there)
 row_of_lines w m (line ∷ lines) (r ∷ rows) (suc i) k d h within there =
     let here = rows_of_line m line r.ranges in
     let later = rows_from (m + 1) lines rows in
-    let index = row_total (take i rows) + k in
-    let same : get_or later index d ≡ get_or (here ++ later) (length r.ranges + row_total (take i rows) + k) d =
-    sym (get_or-append-add here later index d)
-    ∙ ap (λ (n : ℕ). get_or (here ++ later) n d) (omega (arith, length-rows_of_line m line r.ranges)) in
-    let number : m + 1 + i ≡ m + suc i = omega arith in
-    subst (λ (n : ℕ). IsNumbered (get_or (here ++ later) (length r.ranges + row_total (take i rows) + k) d) n (get_or lines i []) (ranges_at rows i) k) number
-    (subst (λ (v : VisualRow). IsNumbered v (m + 1 + i) (get_or lines i []) (ranges_at rows i) k) same
-    (row_of_lines w (m + 1) lines rows i k d h.1 (omega arith) there))
+    let index : length r.ranges + row_total (take i rows) + k ≡ length here + (row_total (take i rows) + k) = omega (arith, length-rows_of_line m line r.ranges) in
+    let number : m + suc i ≡ m + 1 + i = omega arith in
+    rw (number, index, get_or-append-add here later (row_total (take i rows) + k) d) (row_of_lines w (m + 1) lines rows i k d h.1 (omega arith) there)
 
 pub row_numbered : (w : Wrapping) (lines : List (List ℕ)) (rows : List RowsView) (i k : ℕ) → AreRowsOf w lines rows → i < length lines → k < length (ranges_at rows i) → IsNumbered (row_at lines rows (row_total (take i rows) + k)) i (get_or lines i []) (ranges_at rows i) k
 unfolding row_at visual_rows
 row_numbered w lines rows i k h within there =
     let none : VisualRow = record { line = 0; first = 0; text = []; is_last = true } in
     let number : 0 + i ≡ i = omega arith in
-    subst (λ (n : ℕ). IsNumbered (get_or (rows_from 0 lines rows) (row_total (take i rows) + k) none) n (get_or lines i []) (ranges_at rows i) k) number
-    (row_of_lines w 0 lines rows i k none h within there)
+    rw number at (row_of_lines w 0 lines rows i k none h within there)
 
 -- the line of a visual row, and the row's number there
 pub record IsRowOfLine (rows : List RowsView) (row : ℕ) : Type 0 where
@@ -128,11 +119,9 @@ cut_out w lines rows row h below =
     let within : found.line < length lines = omega (arith, found.within, length-AreRowsOf w lines rows h) in
     let line = get_or lines found.line [] in
     let ranges = ranges_at rows found.line in
-    let number : IsNumbered (row_at lines rows row) found.line line ranges found.number =
-    subst (λ (n : ℕ). IsNumbered (row_at lines rows n) found.line line ranges found.number) (sym found.row_is) (row_numbered w lines rows found.line found.number h within found.there) in
-    let d : RowsView = record { ranges = []; tick = 0 } in
+    let number : IsNumbered (row_at lines rows row) found.line line ranges found.number = rw (← found.row_is) at (row_numbered w lines rows found.line found.number h within found.there) in
     let p : Parts line (range_at ranges found.number) =
-    parts_of line (range_at ranges found.number) (rows_at w lines rows found.line d h within).characters (range_is _ _ _ _ ranges found.number (cut_at w lines rows found.line h within) found.there) in
+    parts_of line (range_at ranges found.number) (rows_at w lines rows found.line h within).characters (range_is _ _ _ _ ranges found.number (cut_at w lines rows found.line h within) found.there) in
     record {
       line = found.line;
       number = found.number;
@@ -159,23 +148,22 @@ some_from_bytes : (cs : List ℕ) → 0 < length (encode_utf8_all cs) → 0 < le
 some_from_bytes [] h = absurd (omega arith)
 some_from_bytes (c ∷ cs) h = omega arith
 
-not_both : (a : Bool) → a ≡ true → a ≡ false → ⊥
-not_both a t f = cc
+-- a row that isn't its line's last has one behind it
+more_rows : (is_last : Bool) (number size : ℕ) → number < size → (number + 1 ≡ size → is_last ≡ true) → is_last ≡ false → number + 1 < size
+more_rows is_last number size there last e =
+    elim (cases_lt (number + 1) size) [ inl more ↦ more | inr most ↦ absurd (cc (last (omega (arith, there, most)), e)) ]
 
 row_of_cut : (w : Wrapping) (lines : List (List ℕ)) (rows : List RowsView) (row : ℕ) (p : IsCutOut lines rows row) → AreRowsOf w lines rows → IsRowOfLines lines (row_at lines rows row)
 row_of_cut w lines rows row p h =
     let line = get_or lines p.line [] in
     let ranges = ranges_at rows p.line in
-    let d : RowsView = record { ranges = []; tick = 0 } in
     let held = row_within line (range_at ranges p.number) p.parts in
     record {
       within = omega (arith, p.within, p.line_is);
       inside = omega (arith, held, ap (λ (n : ℕ). length (get_or lines n [])) p.line_is, p.first_is, p.size_is);
-      short = omega (arith, held, p.first_is, p.size_is, length-le-encodes line, (rows_at w lines rows p.line d h p.within).short);
+      short = omega (arith, held, p.first_is, p.size_is, length-le-encodes line, (rows_at w lines rows p.line h p.within).short);
       some = λ e.
-          let last : p.number + 1 ≡ length ranges → ⊥ = λ l. not_both _ (p.last l) e in
-          let more : p.number + 1 < length ranges =
-          elim (cases_lt (p.number + 1) (length ranges)) [ inl m ↦ m | inr m ↦ absurd (last (omega (arith, p.there, m))) ] in
+          let more = more_rows _ p.number (length ranges) p.there p.last e in
           omega (arith, p.size_is, some_from_bytes p.parts.text (omega (arith, p.parts.text_bytes, some_bytes _ _ _ _ ranges p.number (cut_at w lines rows p.line h p.within) more)));
     }
 
@@ -194,10 +182,9 @@ seen_in w lines rows place k offset first column slice h is_place there from nex
     let ranges = ranges_at rows place.0 in
     let range = range_at ranges k in
     let cut = cut_at w lines rows place.0 h is_place.0 in
-    let d : RowsView = record { ranges = []; tick = 0 } in
-    let p = parts_of line range (rows_at w lines rows place.0 d h is_place.0).characters (range_is _ _ _ _ ranges k cut there) in
+    let p = parts_of line range (rows_at w lines rows place.0 h is_place.0).characters (range_is _ _ _ _ ranges k cut there) in
     let held = holds_offset _ _ _ _ ranges k offset cut short there from next in
-    let number = subst (λ (n : ℕ). IsNumbered (row_at lines rows (n + k)) place.0 line ranges k) (sym first_is) (row_numbered w lines rows place.0 k h is_place.0 there) in
+    let number = rw (← first_is) at (row_numbered w lines rows place.0 k h is_place.0 there) in
     let first_same : (row_at lines rows (first + k)).first ≡ length p.front = number.first_is ∙ ap length (sym p.front_is) in
     let text_same : (row_at lines rows (first + k)).text ≡ p.text = number.text_is ∙ sym p.text_is in
     let size : length (row_at lines rows (first + k)).text ≡ length p.text = ap length text_same in
@@ -214,12 +201,10 @@ seen_in w lines rows place k offset first column slice h is_place there from nex
           from = omega (arith, after, first_same);
           to = omega (arith, before, first_same, size);
           before_next = λ e.
-              let more : k + 1 < length ranges =
-              let last : k + 1 ≡ length ranges → ⊥ = λ l. not_both _ (number.last l) e in
-              elim (cases_lt (k + 1) (length ranges)) [ inl m ↦ m | inr m ↦ absurd (last (omega (arith, there, m))) ] in
+              let more = more_rows _ k (length ranges) there number.last e in
               omega (arith, first_same, size, column_before line range p place.1 (omega (arith, offset_is, held.before_next more)));
         };
-        column = column_is ∙ ap (display_end_column w.tab_len 0) (spelled ∙ ap (λ (n : ℕ). take (place.1 - n) p.text) (sym first_same) ∙ ap (take (place.1 - (row_at lines rows (first + k)).first)) (sym text_same));
+        column = rw (column_is, spelled, first_same, text_same);
       },
     )
 
@@ -230,7 +215,7 @@ number_there [] line number row within e below = absurd (omega arith)
 number_there (r ∷ rows) zero number row within e below = omega (arith, e, below)
 number_there (r ∷ rows) (suc line) number row within e below =
     let step : suc line + 1 ≡ suc (line + 1) = omega arith in
-    let whole : row_total (take (suc line + 1) (r ∷ rows)) ≡ length r.ranges + row_total (take (line + 1) rows) = ap (λ n. row_total (take n (r ∷ rows))) step in
+    let whole = ap (λ n. row_total (take n (r ∷ rows))) step in
     number_there rows line number (row - length r.ranges) (omega arith) (omega (arith, e)) (omega (arith, e, below, whole))
 
 pub record IsTextOfRow (row : VisualRow) (line number : ℕ) (ranges : List (ℕ × ℕ)) (text : List ℕ) : Type 0 where
@@ -251,20 +236,15 @@ last_row v number size there last more =
 pub text_of_row : (w : Wrapping) (lines : List (List ℕ)) (rows : List RowsView) (row line number : ℕ) (ranges : List (ℕ × ℕ)) (text : List ℕ) → AreRowsOf w lines rows → line < length lines → number < length (ranges_at rows line) → row_total (take line rows) + number ≡ row → ranges ≡ ranges_at rows line → text ≡ encode_utf8_all (get_or lines line []) → IsTextOfRow (row_at lines rows row) line number ranges text
 text_of_row w lines rows row line number ranges text h within there row_is ranges_is text_is =
     let cut = cut_at w lines rows line h within in
-    let d : RowsView = record { ranges = []; tick = 0 } in
-    let numbered = subst (λ (n : ℕ). IsNumbered (row_at lines rows n) line (get_or lines line []) (ranges_at rows line) number) row_is (row_numbered w lines rows line number h within there) in
-    let bytes = encode_utf8_all (get_or lines line []) in
-    let at_bytes : IsTextOfRow (row_at lines rows row) line number (ranges_at rows line) bytes =
-    record {
+    let numbered = rw row_is at (row_numbered w lines rows line number h within there) in
+    rw (text_is, ranges_is) record {
       placed = range_is _ _ _ _ (ranges_at rows line) number cut there;
-      short = (rows_at w lines rows line d h within).short;
+      short = (rows_at w lines rows line h within).short;
       line_is = sym numbered.line_is;
       first_is = sym numbered.first_is;
       text_is = sym numbered.text_is;
       last_is = last_row (row_at lines rows row) number (length (ranges_at rows line)) there numbered.last numbered.more;
-    } in
-    subst (λ (t : List ℕ). IsTextOfRow (row_at lines rows row) line number ranges t) (sym text_is)
-    (subst (λ (r : List (ℕ × ℕ)). IsTextOfRow (row_at lines rows row) line number r bytes) (sym ranges_is) at_bytes)
+    }
 
 -- the same from the line and the row that are found, and from the lines that are lent
 pub record IsFoundRow {Z : Type 0} (items : List (String Z)) (rows : List RowsView) (row line number : ℕ) (ranges : List (ℕ × ℕ)) (text : List ℕ) : Type 0 where

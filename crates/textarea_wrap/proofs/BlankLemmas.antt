@@ -16,7 +16,8 @@ use Rattle.unicode_segmentation.specs.Word.{word_bounds}
 use Rattle.unicode_segmentation.proofs.Computing.{unicode_segmentation}
 use Rattle.textarea_wrap.specs.Units.{is_blank, units_of_piece, line_units}
 use Rattle.textarea_wrap.specs.Cutting.{Stretch}
-use Rattle.textarea_wrap.proofs.FewestWordLemmas.{AreBlanksClusters}
+use Rattle.textarea_wrap.proofs.Alls.{all_append}
+use Rattle.textarea_wrap.proofs.FewestWordLemmas.{AreBlanksClusters, IsBlankCluster}
 
 -- the character joins nothing by the rules that read further back
 pub record IsPlain (c : ℕ) : Type 0 where
@@ -181,13 +182,9 @@ blanks_of_piece piece = cond_both (is_blank piece) (graphemes true piece) (piece
     (λ blank. blanks_from_clusters _ (cut_clusters [] (chars piece) (ArePlain-blank (chars piece) blank)))
     (λ content. ((λ blank. absurd (false≢true (sym content ∙ blank))), tt))
 
-blanks_append : (xs ys : Stretch) → AreBlanksClusters xs → AreBlanksClusters ys → AreBlanksClusters (xs ++ ys)
-blanks_append [] ys p q = q
-blanks_append (x ∷ xs) ys p q = (p.0, blanks_append xs ys p.1 q)
-
 blanks_of_pieces : (pieces : Stretch) → AreBlanksClusters (flat_map units_of_piece pieces)
 blanks_of_pieces [] = tt
-blanks_of_pieces (piece ∷ pieces) = blanks_append (units_of_piece piece) (flat_map units_of_piece pieces) (blanks_of_piece piece) (blanks_of_pieces pieces)
+blanks_of_pieces (piece ∷ pieces) = all_append IsBlankCluster (units_of_piece piece) (flat_map units_of_piece pieces) (blanks_of_piece piece) (blanks_of_pieces pieces)
 
 pub AreBlanksClusters-line_units : (line : List ℕ) → AreBlanksClusters (line_units line)
 AreBlanksClusters-line_units line = blanks_of_pieces (word_bounds line)

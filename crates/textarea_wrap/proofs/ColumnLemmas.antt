@@ -1,13 +1,19 @@
 -- Columns of characters and pieces that are put together.
-use Rattle.std.proofs.Common.{◌≡◌, ℕ, ◌+◌, ◌-◌, ◌/◌, ◌%◌, ◌<◌, ◌≤◌, true, false, cond, nat_eq, le_refl, le_trans, List, [], ◌∷◌, ◌++◌, refl, sym, ap, subst, ◌∙◌, append-nil, arith}
+use Rattle.std.proofs.Common.{length, length-append, ◌≡◌, ℕ, ◌+◌, ◌-◌, ◌/◌, ◌%◌, ◌<◌, ◌≤◌, true, false, cond, nat_eq, le_refl, le_trans, List, [], ◌∷◌, ◌++◌, refl, sym, ap, subst, ◌∙◌, append-nil, arith}
 use Rattle.std.proofs.Math.Nat.{div-add-mod, mul-le-mul_left}
 use Rattle.std.proofs.lemmas.Nat.{le-div, mod_below}
 use Rattle.std.proofs.lemmas.Bool.Decides.{nat_tests}
 use Rattle.std.proofs.lemmas.Grind.{flat_map-append}
 use Rattle.std.specs.List.{flat_map}
+use Rattle.std.proofs.lemmas.Str.{length-encode, len_utf8_bounds}
+use Rattle.std.specs.Prelude.{encode_utf8}
 use Rattle.std.specs.Str.{chars}
 use Rattle.textarea_wrap.specs.Cutting.{Stretch}
 use Rattle.textarea_wrap.specs.Columns.{plain_width, next_stop, column_after, end_column, stretch_width}
+
+-- behind a character a text is shorter
+pub shorter_behind : (c : ℕ) (left text : List ℕ) → text ≡ encode_utf8 c ++ left → length left + 1 ≤ length text
+shorter_behind c left text is = omega (arith, ap length is, length-append (encode_utf8 c) left, length-encode c, len_utf8_bounds c)
 
 pub end_column-append : (tab_len column : ℕ) (cs ds : List ℕ) → end_column tab_len column (cs ++ ds) ≡ end_column tab_len (end_column tab_len column cs) ds
 end_column-append tab_len column [] ds = refl

@@ -1,5 +1,5 @@
 -- The rows of a line are the fewest that its mode allows.
-use Rattle.std.proofs.Common.{◌≡◌, ℕ, suc, ◌+◌, ◌<◌, List, [], ◌∷◌, length, refl, sym, ap, subst, ◌∙◌, arith}
+use Rattle.std.proofs.Common.{◌≡◌, ℕ, suc, ◌+◌, ◌<◌, List, [], ◌∷◌, length, refl, ap, arith}
 use Rattle.textarea_wrap.specs.declared.wrap.WrapMode.{WrapMode}
 use Rattle.textarea_wrap.specs.declared.wrap.WrapMode.TheVariants as mode
 use Rattle.textarea_wrap.specs.Cutting.{ranges_from}
@@ -8,7 +8,7 @@ use Rattle.textarea_wrap.proofs.BlankLemmas.{AreBlanksClusters-line_units}
 use Rattle.textarea_wrap.proofs.FewestLemmas.{HasFewestGlyphRows-cutting}
 use Rattle.textarea_wrap.proofs.FewestWordLemmas.{HasFewestWordRows-cutting}
 
-length-ranges_from : (at : ℕ) (texts : List (List ℕ)) → length (ranges_from at texts) ≡ length texts
+pub length-ranges_from : (at : ℕ) (texts : List (List ℕ)) → length (ranges_from at texts) ≡ length texts
 length-ranges_from at [] = refl
 length-ranges_from at (text ∷ texts) = ap suc (length-ranges_from (at + length text) texts)
 
@@ -22,5 +22,5 @@ pub HasFewestRows-wrapped : (mode : WrapMode) (t w : ℕ) (line : List ℕ) (ran
     → HasFewestRows mode t w line (length ranges)
 HasFewestRows-wrapped mode t w [] ranges some wrapped = absurd (omega arith)
 HasFewestRows-wrapped mode t w (byte ∷ line) ranges some wrapped =
-    subst (HasFewestRows mode t w (byte ∷ line)) (sym (ap length wrapped.ranges_are ∙ length-ranges_from 0 wrapped.texts))
+    rw (wrapped.ranges_are, length-ranges_from)
     (HasFewestRows-cutting mode t w (byte ∷ line) wrapped.texts wrapped.cut)

@@ -6,13 +6,17 @@ use Rattle.std.specs.List.{concat, flat_map, AllByRecursion}
 use Rattle.unicode_segmentation.specs.Grapheme.{graphemes}
 use Rattle.textarea_wrap.specs.Columns.{stretch_width}
 use Rattle.textarea_wrap.specs.Units.{is_blank, line_units}
-use Rattle.textarea_wrap.specs.Cutting.{Stretch, Block, shared, split, pieces_of, units_of, rows_of, FitsBehind, HasNoRoomForUnit, IsFittingStretch, IsBlock, AreBlocks, IsGlyphCutting, IsWordCutting, AreFittingRows, IsFittingBlock, AreFittingBlocks, HasFewestWordRows}
+use Rattle.textarea_wrap.specs.Cutting.{Stretch, Block, shared, split, pieces_of, units_of, rows_of, FitsBehind, IsFittingStretch, IsBlock, AreBlocks, IsGlyphCutting, IsWordCutting, AreFittingRows, IsFittingBlock, AreFittingBlocks, HasFewestWordRows}
+use Rattle.textarea_wrap.proofs.Alls.{all_parts}
 use Rattle.textarea_wrap.proofs.ColumnLemmas.{stretch_width-front, stretch_width-back}
 use Rattle.textarea_wrap.proofs.FewestLemmas.{fronts, greedy_ahead}
 
 -- a whitespace unit, taken by itself, is one cluster
+abbrev pub IsBlankCluster : List ℕ → Type 0
+IsBlankCluster unit = is_blank unit ≡ true → length (graphemes true unit) ≡ 1
+
 abbrev pub AreBlanksClusters : Stretch → Type 0
-AreBlanksClusters units = AllByRecursion (λ unit. is_blank unit ≡ true → length (graphemes true unit) ≡ 1) units
+AreBlanksClusters units = AllByRecursion IsBlankCluster units
 
 push-injective : (a b : Stretch) (x y : List ℕ) → a ++ x ∷ [] ≡ b ++ y ∷ [] → (a ≡ b) × (x ≡ y)
 push-injective [] [] x y h = let e : x ≡ y = cc in (refl, e)
@@ -113,8 +117,7 @@ pub block_reaches : (t w : ℕ) (block other : Block) (left rest front : Stretch
     → units_of other ≡ front ++ (units_of block ++ next ∷ over) → left ≡ (next ∷ over) ++ rest → ⊥
 block_reaches t w (shared stretch) (shared row) left rest front next over is fit other_is left_is =
     let some : 0 < length stretch = omega (arith, ap length is.0.stretch_is, length-append is.0.front (is.0.last ∷ [])) in
-    let behind : left ++ [] ≡ next ∷ (over ++ (rest ++ [])) = ap (λ r. r ++ []) left_is ∙ ap (λ r. next ∷ r) (append_assoc over rest []) in
-    subst (HasNoRoomForUnit t w stretch) behind is.1 (later_fits t w row (rest ++ []) fit front stretch next over other_is some)
+    (rw (left_is, append_assoc over rest []) at is.1) (later_fits t w row (rest ++ []) fit front stretch next over other_is some)
 block_reaches t w (shared stretch) (split unit rows) left rest front next over is fit other_is left_is =
     let some : 0 < length stretch = omega (arith, ap length is.0.stretch_is, length-append is.0.front (is.0.last ∷ [])) in
     omega (arith, ap length other_is, length-append front (stretch ++ next ∷ over), length-append stretch (next ∷ over))
@@ -154,14 +157,6 @@ step t w block other left rest front is fit blanks same =
     (λ p. inl (p.0, sym p.2))
     (fronts front (units_of block ++ left) (units_of other) rest same)
 
-blanks_front : (xs ys : Stretch) → AreBlanksClusters (xs ++ ys) → AreBlanksClusters xs
-blanks_front [] ys h = tt
-blanks_front (x ∷ xs) ys h = (h.0, blanks_front xs ys h.1)
-
-blanks_back : (xs ys : Stretch) → AreBlanksClusters (xs ++ ys) → AreBlanksClusters ys
-blanks_back [] ys h = h
-blanks_back (x ∷ xs) ys h = blanks_back xs ys h.1
-
 pub block_some : (t w : ℕ) (block : Block) (left : Stretch) → IsBlock t w block left → 0 < length (units_of block)
 block_some t w (shared stretch) left is = omega (arith, ap length is.0.stretch_is, length-append is.0.front (is.0.last ∷ []))
 block_some t w (split unit rows) left is = omega arith
@@ -174,13 +169,14 @@ words_ahead t w [] (block ∷ greedy) front blanks cut same fit =
     let some = block_some t w block (flat_map units_of greedy ++ []) cut.0 in
     absurd (omega (arith, ap length same, length-append front (units_of block ++ flat_map units_of greedy), length-append (units_of block) (flat_map units_of greedy)))
 words_ahead t w (other ∷ others) (block ∷ greedy) front blanks cut same fit =
+    let parts = all_parts IsBlankCluster (units_of block) (flat_map units_of greedy) blanks in
     let greedy_rows = length-append (rows_of block) (flat_map rows_of greedy) in
     let other_rows = length-append (rows_of other) (flat_map rows_of others) in
     ⊎_elim
     (λ p. let behind = words_ahead t w others (block ∷ greedy) p.0 blanks cut p.1 fit.1 in omega arith)
     (λ p. let count = p.2 in
-    let behind = words_ahead t w others greedy p.0 (blanks_back (units_of block) (flat_map units_of greedy) blanks) cut.1 p.1 fit.1 in omega arith)
-    (step t w block other (flat_map units_of greedy) (flat_map units_of others) front cut.0 fit.0 (blanks_front (units_of block) (flat_map units_of greedy) blanks) same)
+    let behind = words_ahead t w others greedy p.0 parts.1 cut.1 p.1 fit.1 in omega arith)
+    (step t w block other (flat_map units_of greedy) (flat_map units_of others) front cut.0 fit.0 parts.0 same)
 
 -- a cutting at unit ends has the fewest rows
 pub HasFewestWordRows-cutting : (t w : ℕ) (line : List ℕ) (rows : List (List ℕ)) → AreBlanksClusters (line_units line) → IsWordCutting t w line rows

@@ -1,5 +1,5 @@
 -- A walk over the clusters of a text, with the rows that are full and the row that is open.
-use Rattle.std.proofs.Common.{◌≡◌, ℕ, ◌+◌, ◌<◌, ◌≤◌, ◌⊎◌, inl, inr, true, List, [], ◌∷◌, ◌++◌, map, length, refl, sym, ap, ap₂, subst, ◌∙◌, ⊎_elim, append_assoc, append-nil, length-append, arith}
+use Rattle.std.proofs.Common.{◌≡◌, ℕ, ◌+◌, ◌<◌, ◌≤◌, ◌⊎◌, inl, inr, true, List, [], ◌∷◌, ◌++◌, map, length, refl, sym, ap, subst, ◌∙◌, ⊎_elim, append_assoc, append-nil, length-append, arith}
 use Rattle.std.proofs.lemmas.List.{map-append}
 use Rattle.std.proofs.lemmas.List.Folds.{concat-append}
 use Rattle.std.specs.List.{concat}
@@ -15,8 +15,7 @@ pieces_of-append [] others = refl
 pieces_of-append (stretch ∷ stretches) others = ap (λ t. stretch ++ t) (pieces_of-append stretches others) ∙ sym (append_assoc stretch (pieces_of stretches) (pieces_of others))
 
 pub pieces_of-push : (stretches : List Stretch) (stretch later : Stretch) → pieces_of (stretches ++ stretch ∷ []) ++ later ≡ pieces_of stretches ++ (stretch ++ later)
-pieces_of-push stretches stretch later =
-    ap (λ t. t ++ later) (pieces_of-append stretches (stretch ∷ []) ∙ ap (λ t. pieces_of stretches ++ t) (append-nil stretch)) ∙ append_assoc (pieces_of stretches) stretch later
+pieces_of-push stretches stretch later = simp (pieces_of-append, append-nil, append_assoc)
 
 pub concat-pieces_of : (stretches : List Stretch) → concat (map concat stretches) ≡ concat (pieces_of stretches)
 concat-pieces_of [] = refl
@@ -53,21 +52,17 @@ nonempty_from_bytes [] h = h
 nonempty_from_bytes (piece ∷ stretch) h = omega arith
 
 pub length-concat-push : (stretch : Stretch) (piece : List ℕ) → length (concat (stretch ++ piece ∷ [])) ≡ length (concat stretch) + length piece
-length-concat-push stretch piece =
-    ap length (concat-append stretch (piece ∷ []) ∙ ap (λ t. concat stretch ++ t) (append-nil piece)) ∙ length-append (concat stretch) piece
+length-concat-push stretch piece = simp (concat-append, append-nil, length-append)
 
 -- a text more, behind texts that end where it begins
 pub ranges_from-push : (start : ℕ) (before rows : List (ℕ × ℕ)) (full : List Stretch) (stretch : Stretch) (row_start row_end : ℕ)
     → rows ≡ before ++ ranges_from start (map concat full) → row_start ≡ start + length (concat (map concat full)) → row_end ≡ row_start + length (concat stretch)
     → rows ++ (row_start, row_end) ∷ [] ≡ before ++ ranges_from start (map concat (full ++ stretch ∷ []))
 ranges_from-push start before rows full stretch row_start row_end rows_are begins ends =
-    ap₂ (λ t r. t ++ r ∷ []) rows_are (ap₂ (λ m n. (m, n)) begins (ends ∙ ap (λ n. n + length (concat stretch)) begins))
-    ∙ append_assoc before _ _
-    ∙ ap (λ t. before ++ t) (sym (ap (ranges_from start) (map-append concat full (stretch ∷ [])) ∙ ranges_from-append start (map concat full) (concat stretch ∷ [])))
+    simp (map-append, ranges_from-append, rows_are, ends, begins, append_assoc)
 
 pub length-concat-map-push : (full : List Stretch) (stretch : Stretch) → length (concat (map concat (full ++ stretch ∷ []))) ≡ length (concat (map concat full)) + length (concat stretch)
-length-concat-map-push full stretch =
-    ap (λ t. length (concat t)) (map-append concat full (stretch ∷ [])) ∙ length-concat-push (map concat full) (concat stretch)
+length-concat-map-push full stretch = simp (map-append, length-concat-push)
 
 module _ (tab_len width start : ℕ) (clusters : Stretch) (before : List (ℕ × ℕ)) where
   abbrev Walk : List (ℕ × ℕ) → Stretch → ℕ → ℕ → ℕ → Type 0
@@ -95,7 +90,6 @@ module _ (tab_len width start : ℕ) (clusters : Stretch) (before : List (ℕ ×
         → IsGlyphWalk tab_len width start clusters before rows left row_start (row_end + length cluster) end
     IsGlyphWalk-extend end_is room =
         let regroup = append_assoc w.open_stretch (cluster ∷ []) left in
-        let ends = w.ends in
         let cluster_some = w.some.0 in
         let len = length-concat-push w.open_stretch cluster in
         record {
@@ -116,7 +110,6 @@ module _ (tab_len width start : ℕ) (clusters : Stretch) (before : List (ℕ ×
     pub IsGlyphWalk-break : row_start < row_end → end ≡ end_column tab_len column (chars cluster) → width < end
         → IsGlyphWalk tab_len width start clusters before (rows ++ (row_start, row_end) ∷ []) left row_end (row_end + length cluster) (end_column tab_len 0 (chars cluster))
     IsGlyphWalk-break started end_is over =
-        let ends = w.ends in
         let cluster_some = w.some.0 in
         let over_is = end_is ∙ ap (λ x. end_column tab_len x (chars cluster)) w.column_is ∙ sym (stretch_width-push tab_len w.open_stretch cluster) in
         record {
@@ -143,7 +136,6 @@ module _ (tab_len width start : ℕ) (clusters : Stretch) (before : List (ℕ ×
     pub IsGlyphWalk-end_open : row_start < row_end
         → (texts : List (List ℕ)) × IsGlyphCutting tab_len width text texts × (concat texts ≡ text) × (rows ++ (row_start, row_end) ∷ [] ≡ before ++ ranges_from start texts)
     IsGlyphWalk-end_open started =
-        let ends = w.ends in
         let all = sym (append-nil _) ∙ pieces_of-push w.full w.open_stretch [] ∙ w.joined ∙ whole in (
           map concat (w.full ++ w.open_stretch ∷ []),
           record {

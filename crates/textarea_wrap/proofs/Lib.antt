@@ -1,3 +1,4 @@
+pub mod Alls
 pub mod BlankLemmas
 pub mod ColumnLemmas
 pub mod DigitLemmas

@@ -11,8 +11,8 @@ use Rattle.textarea_wrap.proofs.FewestWordLemmas.{block_reaches, block_some, wid
 
 -- ---- at cluster ends
 
-row_ends : (t w : ℕ) (stretch left rest row over : Stretch) → IsGlyphRow t w stretch (left ++ []) → row ≡ stretch ++ over → left ≡ over ++ rest → (stretch_width t row ≤ w) ⊎ (length row ≡ 1) → over ≡ []
-row_ends t w stretch left rest row [] greedy row_is left_is fits = refl
+row_ends : (t w : ℕ) (stretch left rest row over : Stretch) → IsGlyphRow t w stretch (left ++ []) → row ≡ stretch ++ over → left ≡ over ++ rest → (stretch_width t row ≤ w) ⊎ (length row ≡ 1) → (row ≡ stretch) × (left ≡ rest)
+row_ends t w stretch left rest row [] greedy row_is left_is fits = (row_is ∙ append-nil stretch, left_is)
 row_ends t w stretch left rest row (next ∷ over) greedy row_is left_is fits =
     absurd (not_shorter t w stretch (left ++ []) [] (over ++ rest) next row greedy (append-nil left ∙ left_is) over row_is fits)
 
@@ -22,16 +22,8 @@ stretches_same t w [] (row ∷ b) h k same = absurd (omega (arith, k.0.nonempty,
 stretches_same t w (stretch ∷ a) [] h k same = absurd (omega (arith, h.0.nonempty, ap length same, length-append stretch (pieces_of a)))
 stretches_same t w (stretch ∷ a) (row ∷ b) h k same =
     ⊎_elim
-    (λ p.
-    let none : p.0 ≡ [] = row_ends t w stretch (pieces_of a) (pieces_of b) row p.0 h.0 p.1 p.2 k.0.fits in
-    let first : stretch ≡ row = sym (append-nil stretch) ∙ ap (λ e. stretch ++ e) (sym none) ∙ sym p.1 in
-    let rest = stretches_same t w a b h.1 k.1 (p.2 ∙ ap (λ e. e ++ pieces_of b) none) in
-    ap₂ (λ (x : Stretch) (xs : List Stretch). x ∷ xs) first rest)
-    (λ p.
-    let none : p.0 ≡ [] = row_ends t w row (pieces_of b) (pieces_of a) stretch p.0 k.0 p.1 p.2 h.0.fits in
-    let first : stretch ≡ row = p.1 ∙ ap (λ e. row ++ e) none ∙ append-nil row in
-    let rest = stretches_same t w a b h.1 k.1 (sym (p.2 ∙ ap (λ e. e ++ pieces_of a) none)) in
-    ap₂ (λ (x : Stretch) (xs : List Stretch). x ∷ xs) first rest)
+    (λ p. let ends = row_ends t w stretch (pieces_of a) (pieces_of b) row p.0 h.0 p.1 p.2 k.0.fits in ap₂ ◌∷◌ (sym ends.0) (stretches_same t w a b h.1 k.1 ends.1))
+    (λ p. let ends = row_ends t w row (pieces_of b) (pieces_of a) stretch p.0 k.0 p.1 p.2 h.0.fits in ap₂ ◌∷◌ ends.0 (stretches_same t w a b h.1 k.1 (sym ends.1)))
     (fronts stretch (pieces_of a) row (pieces_of b) same)
 
 glyphs_same : (t w : ℕ) (text : List ℕ) (rows others : List (List ℕ)) → IsGlyphCutting t w text rows → IsGlyphCutting t w text others → rows ≡ others
@@ -48,8 +40,8 @@ block_fits : (t w : ℕ) (block : Block) (later : Stretch) → IsBlock t w block
 block_fits t w (shared stretch) later h = h.0
 block_fits t w (split unit rows) later h = (h.0, (h.1.stretches, h.1.whole, rows_fit t w h.1.stretches [] h.1.cut, h.1.rows_are))
 
-block_ends : (t w : ℕ) (block other : Block) (left rest over : Stretch) → IsBlock t w block (left ++ []) → IsBlock t w other (rest ++ []) → units_of other ≡ units_of block ++ over → left ≡ over ++ rest → over ≡ []
-block_ends t w block other left rest [] h k other_is left_is = refl
+block_ends : (t w : ℕ) (block other : Block) (left rest over : Stretch) → IsBlock t w block (left ++ []) → IsBlock t w other (rest ++ []) → units_of other ≡ units_of block ++ over → left ≡ over ++ rest → (units_of other ≡ units_of block) × (left ≡ rest)
+block_ends t w block other left rest [] h k other_is left_is = (other_is ∙ append-nil (units_of block), left_is)
 block_ends t w block other left rest (next ∷ over) h k other_is left_is =
     absurd (block_reaches t w block other left rest [] next over h (block_fits t w other (rest ++ []) k) other_is left_is)
 
@@ -71,17 +63,11 @@ blocks_same t w [] (other ∷ b) h k same =
 blocks_same t w (block ∷ a) [] h k same =
     absurd (omega (arith, block_some t w block (flat_map units_of a ++ []) h.0, ap length same, length-append (units_of block) (flat_map units_of a)))
 blocks_same t w (block ∷ a) (other ∷ b) h k same =
+    let both = λ (first : units_of block ≡ units_of other) (rest : flat_map units_of a ≡ flat_map units_of b).
+    ap₂ ◌++◌ (block_rows t w block other (flat_map units_of a ++ []) (flat_map units_of b ++ []) h.0 k.0 first) (blocks_same t w a b h.1 k.1 rest) in
     ⊎_elim
-    (λ p.
-    let none : p.0 ≡ [] = block_ends t w block other (flat_map units_of a) (flat_map units_of b) p.0 h.0 k.0 p.1 p.2 in
-    let first : units_of block ≡ units_of other = sym (append-nil (units_of block)) ∙ ap (λ e. units_of block ++ e) (sym none) ∙ sym p.1 in
-    let rest = blocks_same t w a b h.1 k.1 (p.2 ∙ ap (λ e. e ++ flat_map units_of b) none) in
-    ap₂ ◌++◌ (block_rows t w block other (flat_map units_of a ++ []) (flat_map units_of b ++ []) h.0 k.0 first) rest)
-    (λ p.
-    let none : p.0 ≡ [] = block_ends t w other block (flat_map units_of b) (flat_map units_of a) p.0 k.0 h.0 p.1 p.2 in
-    let first : units_of block ≡ units_of other = p.1 ∙ ap (λ e. units_of other ++ e) none ∙ append-nil (units_of other) in
-    let rest = blocks_same t w a b h.1 k.1 (sym (p.2 ∙ ap (λ e. e ++ flat_map units_of a) none)) in
-    ap₂ ◌++◌ (block_rows t w block other (flat_map units_of a ++ []) (flat_map units_of b ++ []) h.0 k.0 first) rest)
+    (λ p. let ends = block_ends t w block other (flat_map units_of a) (flat_map units_of b) p.0 h.0 k.0 p.1 p.2 in both (sym ends.0) ends.1)
+    (λ p. let ends = block_ends t w other block (flat_map units_of b) (flat_map units_of a) p.0 k.0 h.0 p.1 p.2 in both ends.0 (sym ends.1))
     (fronts (units_of block) (flat_map units_of a) (units_of other) (flat_map units_of b) same)
 
 words_same : (t w : ℕ) (line : List ℕ) (rows others : List (List ℕ)) → IsWordCutting t w line rows → IsWordCutting t w line others → rows ≡ others

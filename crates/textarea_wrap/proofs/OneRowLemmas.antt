@@ -12,7 +12,7 @@ use Rattle.textarea_wrap.specs.declared.wrap.WrapMode.{WrapMode}
 use Rattle.textarea_wrap.specs.declared.wrap.WrapMode.TheVariants as mode
 use Rattle.textarea_wrap.specs.Wrapped.{IsWrapped, TakesOneRow}
 use Rattle.textarea_wrap.proofs.GlyphLemmas.{nonempty_from_bytes}
-use Rattle.textarea_wrap.proofs.RowLemmas.{ArePieces, ArePieces-segments, ArePieces-line_units, concat-line_units, IsWrapped-empty, IsWrapped-whole, IsWrapped-glyphs, IsWrapped-words, IsWrapped-words_or_glyphs}
+use Rattle.textarea_wrap.proofs.RowLemmas.{ArePieces, ArePieces-segments, ArePieces-line_units, concat-line_units, IsWrapped-empty, IsWrapped-whole, IsWrapped-glyphs, IsWrapped-units}
 
 chars-pieces : (xs : Stretch) → ArePieces xs → flat_map chars xs ≡ chars (concat xs)
 chars-pieces [] p = sym chars-nil
@@ -54,21 +54,20 @@ module _ (t w : ℕ) (line : List ℕ) (ranges : List (ℕ × ℕ)) (u : IsUtf8 
         rows_are = ap (λ row. row ∷ []) (sym clusters_joined);
       } one_row
 
-  units_joined : concat (line_units line) ≡ line
-  units_joined = concat-line_units line u
-
   units_fit : IsFittingStretch t w (line_units line) []
-  units_fit = let fits = within_pieces (line_units line) (ArePieces-line_units line u) units_joined in one_fitting_stretch t w (line_units line) fits.0 fits.1
+  units_fit = let fits = within_pieces (line_units line) (ArePieces-line_units line u) (concat-line_units line u) in one_fitting_stretch t w (line_units line) fits.0 fits.1
 
   one_unit_row : ranges ≡ ranges_from 0 (concat (line_units line) ∷ [])
-  one_unit_row = one_row ∙ ap (λ row. ranges_from 0 (row ∷ [])) (sym units_joined)
+  one_unit_row = one_row ∙ ap (λ row. ranges_from 0 (row ∷ [])) (sym (concat-line_units line u))
+
+  one_unit : (kind : WrapMode) → (kind ≡ mode.None → ⊥) → (kind ≡ mode.Glyph → ⊥) → IsWrapped kind t w line ranges
+  one_unit = IsWrapped-units t w line ranges u some (shared (line_units line) ∷ []) (append-nil (line_units line)) ((units_fit, tt), tt) one_unit_row
 
   one_row_within : (kind : WrapMode) → IsWrapped kind t w line ranges
   one_row_within mode.None = IsWrapped-whole t w line ranges u some ranges_are
-  one_row_within mode.Word = IsWrapped-words t w line ranges u some (shared (line_units line) ∷ []) (append-nil (line_units line)) ((units_fit, tt), tt) one_unit_row
+  one_row_within mode.Word = one_unit mode.Word (λ e. cc) (λ e. cc)
   one_row_within mode.Glyph = one_glyph_row
-  one_row_within mode.WordOrGlyph =
-      IsWrapped-words_or_glyphs t w line ranges u some (shared (line_units line) ∷ []) (append-nil (line_units line)) ((units_fit, tt), tt) one_unit_row
+  one_row_within mode.WordOrGlyph = one_unit mode.WordOrGlyph (λ e. cc) (λ e. cc)
 
 pub IsWrapped-one_row : (kind : WrapMode) (t w : ℕ) (line : List ℕ) (ranges : List (ℕ × ℕ)) → IsUtf8 line → TakesOneRow kind t w line
     → ranges ≡ (0, length line) ∷ [] → IsWrapped kind t w line ranges

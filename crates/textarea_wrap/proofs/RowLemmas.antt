@@ -15,6 +15,7 @@ use Rattle.textarea_wrap.specs.Cutting.{Stretch, Block, shared, split, pieces_of
 use Rattle.textarea_wrap.specs.declared.wrap.WrapMode.{WrapMode}
 use Rattle.textarea_wrap.specs.declared.wrap.WrapMode.TheVariants as mode
 use Rattle.textarea_wrap.specs.Wrapped.{IsCutting, IsRowRange, IsWrapped}
+use Rattle.textarea_wrap.proofs.Alls.{all_append, all_parts}
 use Rattle.textarea_wrap.proofs.GlyphLemmas.{concat-pieces_of}
 
 -- a text that is not empty
@@ -24,18 +25,6 @@ pub record IsPiece (piece : List ℕ) : Type 0 where
 
 abbrev pub ArePieces : Stretch → Type 0
 ArePieces = AllByRecursion IsPiece
-
-pub ArePieces-append : (xs ys : Stretch) → ArePieces xs → ArePieces ys → ArePieces (xs ++ ys)
-ArePieces-append [] ys p q = q
-ArePieces-append (x ∷ xs) ys p q = (p.0, ArePieces-append xs ys p.1 q)
-
-pub ArePieces-front : (xs ys : Stretch) → ArePieces (xs ++ ys) → ArePieces xs
-ArePieces-front [] ys p = tt
-ArePieces-front (x ∷ xs) ys p = (p.0, ArePieces-front xs ys p.1)
-
-pub ArePieces-back : (xs ys : Stretch) → ArePieces (xs ++ ys) → ArePieces ys
-ArePieces-back [] ys p = p
-ArePieces-back (x ∷ xs) ys p = ArePieces-back xs ys p.1
 
 pub IsUtf8-concat : (xs : Stretch) → ArePieces xs → IsUtf8 (concat xs)
 IsUtf8-concat [] p = IsUtf8-nil
@@ -82,7 +71,7 @@ concat-units (piece ∷ pieces) p =
 ArePieces-units : (pieces : Stretch) → ArePieces pieces → ArePieces (flat_map units_of_piece pieces)
 ArePieces-units [] p = tt
 ArePieces-units (piece ∷ pieces) p =
-    ArePieces-append (units_of_piece piece) (flat_map units_of_piece pieces) (ArePieces-units_of_piece piece p.0) (ArePieces-units pieces p.1)
+    all_append IsPiece (units_of_piece piece) (flat_map units_of_piece pieces) (ArePieces-units_of_piece piece p.0) (ArePieces-units pieces p.1)
 
 -- the units make up the line
 pub concat-line_units : (line : List ℕ) → IsUtf8 line → concat (line_units line) ≡ line
@@ -95,15 +84,13 @@ ArePieces-line_units line u = ArePieces-units (word_bounds line) (ArePieces-segm
 
 ArePieces-stretches : (tab_len width : ℕ) (stretches : List Stretch) (later : Stretch) → AreGlyphRows tab_len width stretches later → ArePieces (pieces_of stretches) → ArePieces (map concat stretches)
 ArePieces-stretches tab_len width [] later rows p = tt
-ArePieces-stretches tab_len width (stretch ∷ stretches) later rows p = (
-  IsPiece-concat stretch rows.0.nonempty (ArePieces-front stretch (pieces_of stretches) p),
-  ArePieces-stretches tab_len width stretches later rows.1 (ArePieces-back stretch (pieces_of stretches) p),
-)
+ArePieces-stretches tab_len width (stretch ∷ stretches) later rows p =
+    let parts = all_parts IsPiece stretch (pieces_of stretches) p in
+    (IsPiece-concat stretch rows.0.nonempty parts.0, ArePieces-stretches tab_len width stretches later rows.1 parts.1)
 
 pub ArePieces-glyphs : (tab_len width : ℕ) (text : List ℕ) (rows : Stretch) → IsUtf8 text → IsGlyphCutting tab_len width text rows → ArePieces rows
 ArePieces-glyphs tab_len width text rows u cutting =
-    subst ArePieces (sym cutting.rows_are)
-    (ArePieces-stretches tab_len width cutting.stretches [] cutting.cut (subst ArePieces (sym cutting.whole) (ArePieces-segments (is_grapheme_break true) text u)))
+    rw cutting.rows_are (ArePieces-stretches tab_len width cutting.stretches [] cutting.cut (rw cutting.whole (ArePieces-segments (is_grapheme_break true) text u)))
 
 pub concat-glyphs : (tab_len width : ℕ) (text : List ℕ) (rows : Stretch) → IsUtf8 text → IsGlyphCutting tab_len width text rows → concat rows ≡ text
 concat-glyphs tab_len width text rows u cutting =
@@ -122,9 +109,10 @@ ArePieces-blocks : (tab_len width : ℕ) (blocks : List Block) (later : Stretch)
     → ArePieces (flat_map rows_of blocks) × (concat (flat_map rows_of blocks) ≡ concat (flat_map units_of blocks))
 ArePieces-blocks tab_len width [] later are p = (tt, refl)
 ArePieces-blocks tab_len width (block ∷ blocks) later are p =
-    let here = ArePieces-block tab_len width block (flat_map units_of blocks ++ later) are.0 (ArePieces-front (units_of block) (flat_map units_of blocks) p) in
-    let rest = ArePieces-blocks tab_len width blocks later are.1 (ArePieces-back (units_of block) (flat_map units_of blocks) p) in (
-      ArePieces-append (rows_of block) (flat_map rows_of blocks) here.0 rest.0,
+    let parts = all_parts IsPiece (units_of block) (flat_map units_of blocks) p in
+    let here = ArePieces-block tab_len width block (flat_map units_of blocks ++ later) are.0 parts.0 in
+    let rest = ArePieces-blocks tab_len width blocks later are.1 parts.1 in (
+      all_append IsPiece (rows_of block) (flat_map rows_of blocks) here.0 rest.0,
       concat-append (rows_of block) (flat_map rows_of blocks) ∙ ap₂ ◌++◌ here.1 rest.1 ∙ sym (concat-append (units_of block) (flat_map units_of blocks)),
     )
 
@@ -183,14 +171,11 @@ module _ (tab_len width : ℕ) (line : List ℕ) (ranges : List (ℕ × ℕ)) (u
     rows_made : ArePieces (flat_map rows_of blocks) × (concat (flat_map rows_of blocks) ≡ concat (flat_map units_of blocks))
     rows_made = ArePieces-blocks tab_len width blocks [] cut (subst ArePieces (sym whole) (ArePieces-line_units line u))
 
-    pub IsWrapped-words : IsWrapped mode.Word tab_len width line ranges
-    IsWrapped-words = IsWrapped-texts mode.Word tab_len width line ranges (flat_map rows_of blocks) some words_cut (rows_made.1 ∙ ap concat whole ∙ concat-line_units line u) ranges_are rows_made.0
-
-    pub IsWrapped-words_or_glyphs : IsWrapped mode.WordOrGlyph tab_len width line ranges
-    IsWrapped-words_or_glyphs = IsWrapped-texts mode.WordOrGlyph tab_len width line ranges (flat_map rows_of blocks) some words_cut (rows_made.1 ∙ ap concat whole ∙ concat-line_units line u) ranges_are rows_made.0
+    joined : concat (flat_map rows_of blocks) ≡ line
+    joined = rows_made.1 ∙ ap concat whole ∙ concat-line_units line u
 
     pub IsWrapped-units : (kind : WrapMode) → (kind ≡ mode.None → ⊥) → (kind ≡ mode.Glyph → ⊥) → IsWrapped kind tab_len width line ranges
     IsWrapped-units mode.None not_none not_glyph = absurd (not_none refl)
-    IsWrapped-units mode.Word not_none not_glyph = IsWrapped-words
+    IsWrapped-units mode.Word not_none not_glyph = IsWrapped-texts mode.Word tab_len width line ranges (flat_map rows_of blocks) some words_cut joined ranges_are rows_made.0
     IsWrapped-units mode.Glyph not_none not_glyph = absurd (not_glyph refl)
-    IsWrapped-units mode.WordOrGlyph not_none not_glyph = IsWrapped-words_or_glyphs
+    IsWrapped-units mode.WordOrGlyph not_none not_glyph = IsWrapped-texts mode.WordOrGlyph tab_len width line ranges (flat_map rows_of blocks) some words_cut joined ranges_are rows_made.0

@@ -1,5 +1,5 @@
 -- A walk over the units of a line, with the blocks that are full and the row that is open.
-use Rattle.std.proofs.Common.{◌≡◌, ℕ, ◌+◌, ◌<◌, ◌≤◌, ◌⊎◌, inl, inr, true, not, List, [], ◌∷◌, ◌++◌, length, refl, sym, ap, ap₂, subst, ◌∙◌, ⊎_elim, append_assoc, append-nil, length-append, arith, map, ◌-◌, add-one, take, take_all, drop, drop-cons, length-drop, get_or, Bor}
+use Rattle.std.proofs.Common.{◌≡◌, ℕ, ◌+◌, ◌<◌, ◌≤◌, ◌⊎◌, inl, inr, true, not, List, [], ◌∷◌, ◌++◌, length, refl, sym, ap, subst, ◌∙◌, ⊎_elim, append_assoc, append-nil, length-append, arith, map, ◌-◌, add-one, take, take_all, drop, drop-cons, length-drop, get_or, Bor}
 use Rattle.std.proofs.lemmas.Grind.{flat_map-append}
 use Rattle.std.proofs.lemmas.List.Folds.{concat-append}
 use Rattle.std.specs.List.{concat, flat_map, AllByRecursion}
@@ -12,12 +12,10 @@ use Rattle.textarea_wrap.proofs.ColumnLemmas.{stretch_width-one, stretch_width-p
 use Rattle.textarea_wrap.proofs.GlyphLemmas.{ranges_from-append, length-concat-push, nonempty_from_bytes}
 
 pub units_of-push : (blocks : List Block) (block : Block) (later : Stretch) → flat_map units_of (blocks ++ block ∷ []) ++ later ≡ flat_map units_of blocks ++ (units_of block ++ later)
-units_of-push blocks block later =
-    ap (λ t. t ++ later) (flat_map-append units_of blocks (block ∷ []) ∙ ap (λ t. flat_map units_of blocks ++ t) (append-nil (units_of block)))
-    ∙ append_assoc (flat_map units_of blocks) (units_of block) later
+units_of-push blocks block later = simp (flat_map-append, append-nil, append_assoc)
 
 pub rows_of-push : (blocks : List Block) (block : Block) → flat_map rows_of (blocks ++ block ∷ []) ≡ flat_map rows_of blocks ++ rows_of block
-rows_of-push blocks block = flat_map-append rows_of blocks (block ∷ []) ∙ ap (λ t. flat_map rows_of blocks ++ t) (append-nil (rows_of block))
+rows_of-push blocks block = simp (flat_map-append, append-nil)
 
 pub AreBlocks-push : (tab_len width : ℕ) (blocks : List Block) (block : Block) (later : Stretch) → AreBlocks tab_len width blocks (units_of block ++ later)
     → IsBlock tab_len width block later → AreBlocks tab_len width (blocks ++ block ∷ []) later
@@ -30,16 +28,13 @@ ranges-push : (before rows : List (ℕ × ℕ)) (blocks : List Block) (block : B
     → rows ≡ before ++ ranges_from 0 (flat_map rows_of blocks) → at ≡ length (concat (flat_map rows_of blocks))
     → rows ++ ranges_from at (rows_of block) ≡ before ++ ranges_from 0 (flat_map rows_of (blocks ++ block ∷ []))
 ranges-push before rows blocks block at rows_are at_is =
-    ap₂ (λ t n. t ++ ranges_from n (rows_of block)) rows_are at_is ∙ append_assoc before _ _
-    ∙ ap (λ t. before ++ t) (sym (ap (ranges_from 0) (rows_of-push blocks block)
-    ∙ ranges_from-append 0 (flat_map rows_of blocks) (rows_of block)
-    ∙ ap (λ n. ranges_from 0 (flat_map rows_of blocks) ++ ranges_from n (rows_of block)) (omega arith)))
+    let offset : 0 + length (concat (flat_map rows_of blocks)) ≡ at = omega arith in
+    simp (rows_of-push, ranges_from-append, rows_are, append_assoc, offset)
 
 length-rows-push : (blocks : List Block) (block : Block)
     → length (concat (flat_map rows_of (blocks ++ block ∷ []))) ≡ length (concat (flat_map rows_of blocks)) + length (concat (rows_of block))
 length-rows-push blocks block =
-    ap (λ t. length (concat t)) (rows_of-push blocks block) ∙ ap length (concat-append (flat_map rows_of blocks) (rows_of block))
-    ∙ length-append (concat (flat_map rows_of blocks)) (concat (rows_of block))
+    simp (rows_of-push, concat-append, length-append)
 
 module _ (tab_len width : ℕ) (units : Stretch) (before : List (ℕ × ℕ)) where
   pub IsWordWalk-start : AllByRecursion (λ p. 0 < length p) units → IsWordWalk tab_len width units before before units 0 0 0
@@ -75,7 +70,6 @@ module _ (tab_len width : ℕ) (units : Stretch) (before : List (ℕ × ℕ)) wh
         → IsWordWalk tab_len width units before rows left row_start (row_end + length unit) end
     IsWordWalk-join room =
         let regroup = append_assoc w.open_stretch (unit ∷ []) left in
-        let ends = w.ends in
         let unit_some = w.some.0 in
         let len = length-concat-push w.open_stretch unit in
         record {
@@ -102,7 +96,6 @@ module _ (tab_len width : ℕ) (units : Stretch) (before : List (ℕ × ℕ)) wh
     pub IsWordWalk-close : row_start < row_end → width < end → (HangsOver width end unit left → ⊥)
         → IsWordWalk tab_len width units before (rows ++ (row_start, row_end) ∷ []) (unit ∷ left) row_end row_end 0
     IsWordWalk-close started over stands =
-        let ends = w.ends in
         let block = shared w.open_stretch in
         let range : (row_start, row_end) ∷ [] ≡ ranges_from row_start (rows_of block) = ap (λ n. (row_start, n) ∷ []) w.ends in
         record {
@@ -128,7 +121,6 @@ module _ (tab_len width : ℕ) (units : Stretch) (before : List (ℕ × ℕ)) wh
     -- a row that holds nothing is at column 0
     pub IsWordWalk-empty : row_end ≤ row_start → IsWordWalk tab_len width units before rows (unit ∷ left) row_end row_end 0
     IsWordWalk-empty none =
-        let ends = w.ends in
         let same : row_start ≡ row_end = omega arith in
         let nothing = w.closed none in
         record {
@@ -150,7 +142,6 @@ module _ (tab_len width : ℕ) (units : Stretch) (before : List (ℕ × ℕ)) wh
         → IsGlyphCutting tab_len width unit texts → concat texts ≡ unit
         → IsWordWalk tab_len width units before (rows ++ ranges_from row_end texts) left (row_end + length unit) (row_end + length unit) 0
     IsWordWalk-split texts none over cutting whole =
-        let ends = w.ends in
         let same : row_start ≡ row_end = omega arith in
         let nothing = w.closed none in
         let begins = sym same ∙ w.begins in

@@ -1,69 +1,68 @@
-use Rattle.std.proofs.Common.{◌≡◌, ◌+◌, ◌-◌, ◌∙◌, ap, refl, sym, arith, length, true}
+use Rattle.std.proofs.Common.{◌≡◌, ◌+◌, ◌-◌, ◌∙◌, ap, refl, sym, arith, length, vec_len}
 use Rattle.std.proofs.lemmas.List.{length-map}
 use Rattle.std.proofs.lemmas.Result.{IfOk-weaker}
 use Rattle.textarea_text.specs.Text.{characters_of, lines_of}
 use Rattle.textarea_map.proofs.Layouts.{length-AreRowsOf}
-use Rattle.textarea_lines.specs.Layout.{lines_after}
+use Rattle.textarea_lines.specs.Layout.{count_after, lines_after}
 use Rattle.textarea_lines.specs.Wrappings.{is_same, wrapping_for}
-use Rattle.textarea_lines.proofs.Preparing.{IfOk-from_four, IfOk-from_three, rows_of_all, rows_of_some, screen_of_all, screen_of_some}
+use Rattle.textarea_lines.proofs.Preparing.{IfOk-from_four, rows_of_all, rows_of_some, screen_of_all, screen_of_some}
 use Rattle.textarea_lines.proofs.cut.prepare_rows.Goals as goal
+use Rattle.textarea_lines.proofs.cut.prepare_rows.Goals.{After-is_same}
+
+long : (c : After-is_same) → length c.args.map.now.rows ≡ length c.args.lines.now
+long c = length-AreRowsOf c.args.map.now.wrapping (lines_of c.args.lines.now) c.args.map.now.rows c.requires.rows ∙ length-map c.args.lines.now characters_of
+
+after : (c : After-is_same) → c.wrapping_for-after.result ≡ wrapping_for c.args.settings (count_after (length c.args.lines.now) c.args.replacement.now)
+after c = c.wrapping_for-after.ensures ∙ ap (λ n. wrapping_for c.args.settings (length c.args.lines.now - c.args.replacement.now.count + n)) c.as_slice-new.ensures.len
+
+test : (c : After-is_same) → is_same c.wrapping_for-after.result c.args.map.now.wrapping ≡ c.is_same.result
+test c = ap (is_same c.wrapping_for-after.result) (sym c.wrapping-before.ensures) ∙ sym c.is_same.ensures
+
+settled : (c : After-is_same) → is_same (wrapping_for c.args.settings (count_after (length c.args.lines.now) c.args.replacement.now)) (wrapping_for c.args.settings (length c.args.lines.now)) ≡ c.is_same.result
+settled c = rw (← (after c), ← c.requires.wrapping) (test c)
 
 pub make_room-requires : goal.make_room-requires
-make_room-requires c =
-    omega (arith, c.requires.within, length-AreRowsOf c.args.map.now.wrapping (lines_of c.args.lines.now) c.args.map.now.rows c.requires.rows, length-map c.args.lines.now characters_of)
+make_room-requires c = omega (arith, c.requires.within, long (goal.at.make_room-requires c).After-is_same)
 
 pub returns-then-is_same-clause-wrapping : goal.returns-then-is_same-clause-wrapping
 returns-then-is_same-clause-wrapping c =
-    let items = c.args.lines.now in
-    let new = c.args.replacement.now in
-    IfOk-weaker c.make_room.result _ _ (λ p e. e ∙ c.wrapping_for-after.ensures ∙ ap (λ n. wrapping_for c.args.settings (length items - new.count + n)) c.as_slice-new.ensures.len) c.make_room.ensures.wrapping
+    IfOk-weaker c.make_room.result _ _ (λ p e. e ∙ after (goal.at.returns-then-is_same-clause-wrapping c).After-is_same) c.make_room.ensures.wrapping
 
 pub returns-then-is_same-clause-rows : goal.returns-then-is_same-clause-rows
 returns-then-is_same-clause-rows c =
     let items = c.args.lines.now in
     let new = c.args.replacement.now in
-    let same : is_same c.wrapping_for-after.result c.args.map.now.wrapping ≡ true =
-    ap (is_same c.wrapping_for-after.result) (sym c.wrapping-before.ensures) ∙ sym c.is_same.ensures ∙ c.if-is_same.true in
+    let same = test (goal.at.returns-then-is_same-clause-rows c).After-is_same ∙ c.if-is_same.true in
     IfOk-from_four c.make_room.result _ _ _ _ _
     (λ p row count rows wrapping. rows_of_some _ _ c.wrapping_for-after.result items new.lines.items c.as_slice-new.result.now new.row new.count p.row p.count c.args.map.now.rows c.in_ok-rows.rows.items p.rows.items same (sym wrapping) c.requires.rows c.as_slice-new.ensures.value c.in_ok-rows.ensures.rows row count rows)
     c.make_room.ensures.row c.make_room.ensures.count c.make_room.ensures.rows c.make_room.ensures.wrapping
 
 pub returns-then-is_same-clause-layout : goal.returns-then-is_same-clause-layout
 returns-then-is_same-clause-layout c =
-    let items = c.args.lines.now in
     let new = c.args.replacement.now in
-    let after = c.wrapping_for-after.ensures ∙ ap (λ n. wrapping_for c.args.settings (length items - new.count + n)) c.as_slice-new.ensures.len in
-    let same = ap (λ w. is_same w (wrapping_for c.args.settings (length items))) (sym after) ∙ ap (is_same c.wrapping_for-after.result) (sym (c.wrapping-before.ensures ∙ c.requires.wrapping)) ∙ sym c.is_same.ensures ∙ c.if-is_same.true in
-    IfOk-from_three c.make_room.result _ _ _ _
-    (λ p row count rows. screen_of_some c.args.settings c.args.count.now c.rows_of.new.count (length items) new.row new.count _ (length c.as_slice-new.result.now) p.row p.count c.args.map.now.rows c.in_ok-rows.rows.items p.rows.items same c.in_ok-rows.ensures.counted c.as_slice-new.ensures.len c.in_ok-rows.ensures.ticks row count rows)
-    c.make_room.ensures.row c.make_room.ensures.count c.make_room.ensures.rows
+    let same = settled (goal.at.returns-then-is_same-clause-layout c).After-is_same ∙ c.if-is_same.true in
+    IfOk-from_four c.make_room.result _ _ _ _ _
+    (λ p row count rows wrapping. screen_of_some c.args.settings c.args.count.now c.rows_of.new.count (length c.args.lines.now) new.row new.count _ (length c.as_slice-new.result.now) p.row p.count c.args.map.now.rows c.in_ok-rows.rows.items p.rows.items same c.in_ok-rows.ensures.counted c.as_slice-new.ensures.len c.in_ok-rows.ensures.ticks row count rows)
+    c.make_room.ensures.row c.make_room.ensures.count c.make_room.ensures.rows c.make_room.ensures.wrapping
 
 pub make_room-requires-2 : goal.make_room-requires-2
-make_room-requires-2 c =
-    omega (arith, c.requires.within, length-AreRowsOf c.args.map.now.wrapping (lines_of c.args.lines.now) c.args.map.now.rows c.requires.rows, length-map c.args.lines.now characters_of)
+make_room-requires-2 c = omega (arith, long (goal.at.make_room-requires-2 c).After-is_same)
 
 pub returns-clause-wrapping : goal.returns-clause-wrapping
 returns-clause-wrapping c =
-    let items = c.args.lines.now in
-    let new = c.args.replacement.now in
-    IfOk-weaker c.make_room-2.result _ _ (λ p e. e ∙ c.wrapping_for-after.ensures ∙ ap (λ n. wrapping_for c.args.settings (length items - new.count + n)) c.as_slice-new.ensures.len) c.make_room-2.ensures.wrapping
+    IfOk-weaker c.make_room-2.result _ _ (λ p e. e ∙ after (goal.at.returns-clause-wrapping c).After-is_same) c.make_room-2.ensures.wrapping
 
 pub returns-clause-rows : goal.returns-clause-rows
 returns-clause-rows c =
     let items = c.args.lines.now in
-    let new = c.args.replacement.now in
-    let long : length c.args.map.now.rows ≡ length items = length-AreRowsOf c.args.map.now.wrapping (lines_of c.args.lines.now) c.args.map.now.rows c.requires.rows ∙ length-map items characters_of in
     IfOk-from_four c.make_room-2.result _ _ _ _ _
-    (λ p row count rows wrapping. rows_of_all _ c.wrapping_for-after.result (lines_after items new) (length items) p.row p.count c.args.map.now.rows c.in_ok-rows-2.rows.items p.rows.items long (sym wrapping) c.in_ok-rows-2.ensures.rows row count rows)
+    (λ p row count rows wrapping. rows_of_all _ c.wrapping_for-after.result (lines_after items c.args.replacement.now) (length items) p.row p.count c.args.map.now.rows c.in_ok-rows-2.rows.items p.rows.items (long (goal.at.returns-clause-rows c).After-is_same) (sym wrapping) c.in_ok-rows-2.ensures.rows row count rows)
     c.make_room-2.ensures.row c.make_room-2.ensures.count c.make_room-2.ensures.rows c.make_room-2.ensures.wrapping
 
 pub returns-clause-layout : goal.returns-clause-layout
 returns-clause-layout c =
-    let items = c.args.lines.now in
     let new = c.args.replacement.now in
-    let long : length c.args.map.now.rows ≡ length items = length-AreRowsOf c.args.map.now.wrapping (lines_of c.args.lines.now) c.args.map.now.rows c.requires.rows ∙ length-map items characters_of in
-    let after = c.wrapping_for-after.ensures ∙ ap (λ n. wrapping_for c.args.settings (length items - new.count + n)) c.as_slice-new.ensures.len in
-    let differs = ap (λ w. is_same w (wrapping_for c.args.settings (length items))) (sym after) ∙ ap (is_same c.wrapping_for-after.result) (sym (c.wrapping-before.ensures ∙ c.requires.wrapping)) ∙ sym c.is_same.ensures ∙ c.if-is_same.false in
-    IfOk-from_three c.make_room-2.result _ _ _ _
-    (λ p row count rows. screen_of_all c.args.settings c.args.count.now c.rows_after.new.count (length items) new.row new.count _ _ p.row p.count c.args.map.now.rows c.in_ok-rows-2.rows.items p.rows.items differs long c.in_ok-rows-2.ensures.counted refl c.in_ok-rows-2.ensures.ticks row count rows)
-    c.make_room-2.ensures.row c.make_room-2.ensures.count c.make_room-2.ensures.rows
+    let known = (goal.at.returns-clause-layout c).After-is_same in
+    IfOk-from_four c.make_room-2.result _ _ _ _ _
+    (λ p row count rows wrapping. screen_of_all c.args.settings c.args.count.now c.rows_after.new.count (length c.args.lines.now) new.row new.count _ _ p.row p.count c.args.map.now.rows c.in_ok-rows-2.rows.items p.rows.items (settled known ∙ c.if-is_same.false) (long known) c.in_ok-rows-2.ensures.counted refl c.in_ok-rows-2.ensures.ticks row count rows)
+    c.make_room-2.ensures.row c.make_room-2.ensures.count c.make_room-2.ensures.rows c.make_room-2.ensures.wrapping

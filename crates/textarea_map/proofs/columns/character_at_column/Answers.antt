@@ -1,11 +1,9 @@
-use Rattle.std.proofs.Common.{◌≡◌, ◌+◌, ◌≤◌, inl, inr, max, sym, ap, ◌∙◌, arith, below_more, length}
-use Rattle.std.proofs.lemmas.List.{length-append, length-drop, nil_from_length}
-use Rattle.std.proofs.lemmas.Str.{chars-nil, chars_past_char, IsUtf8-past_char, length-encode, len_utf8_bounds}
-use Rattle.std.specs.Prelude.{encode_utf8}
+use Rattle.std.proofs.Common.{◌≡◌, inl, inr, ap, ◌∙◌, arith, below_more, length}
+use Rattle.std.proofs.lemmas.List.{length-drop, nil_from_length}
+use Rattle.std.proofs.lemmas.Str.{chars-nil, chars_past_char, IsUtf8-past_char}
 use Rattle.std.specs.Str.{chars}
 use Rattle.std.specs.Str.Iter.{chars_rest}
-use Rattle.textarea_wrap.specs.Columns.{column_after}
-use Rattle.textarea_map.specs.Rows.{column_at}
+use Rattle.textarea_wrap.proofs.ColumnLemmas.{shorter_behind}
 use Rattle.textarea_map.proofs.RowColumns.{column_at-more, leads_to_covering, leads_to_end, leads_to_first, passed}
 use Rattle.textarea_map.proofs.columns.character_at_column.Goals as goal
 
@@ -20,10 +18,7 @@ returns-then-column-at c =
       | inl h ↦ leads_to_first t cs c.args.column c.loop-c.index c.loop-c.at was.within was.at (omega (arith, h, was.reached)) was.before
       | inr h ↦
           leads_to_covering t cs c.args.column c.loop-c.index c.loop-c.at c.display_column_behind-next.result step.0 was.at
-          (c.display_column_behind-next.ensures.value
-          ∙ ap (λ n. column_after (max t 1) n c.in-Some.c) was.at
-          ∙ ap (column_after (max t 1) (column_at t cs c.loop-c.index)) (sym step.1)
-          ∙ sym (column_at-more t cs c.loop-c.index 0 step.0)) h.0 h.1
+          (cc (c.display_column_behind-next.ensures.value, was.at, step.1, column_at-more t cs c.loop-c.index 0 step.0)) h.0 h.1
     ]
 
 pub loop-c-preserved : goal.loop-c-preserved
@@ -34,17 +29,13 @@ loop-c-preserved c =
     let split = c.in-Some.ensures.steps.0 in
     let read = chars_past_char _ _ c.in-Some.c was.text split in
     let step = passed cs _ c.loop-c.index c.in-Some.c was.within (was.left ∙ read) in
-    let shorter : length (chars_rest c.next.new.self) + 1 ≤ length (chars_rest c.loop-c.c-iterator) =
-    omega (arith, ap length split, length-append (encode_utf8 c.in-Some.c) (chars_rest c.next.new.self), length-encode c.in-Some.c, len_utf8_bounds c.in-Some.c) in
+    let shorter = shorter_behind c.in-Some.c _ _ split in
     record {
       text = IsUtf8-past_char _ _ c.in-Some.c was.text split;
       left = step.2;
       within = omega (arith, step.0);
       bytes = omega (arith, was.bytes, shorter);
-      at = c.display_column_behind-next.ensures.value
-          ∙ ap (λ n. column_after (max t 1) n c.in-Some.c) was.at
-          ∙ ap (column_after (max t 1) (column_at t cs c.loop-c.index)) (sym step.1)
-          ∙ sym (column_at-more t cs c.loop-c.index 0 step.0);
+      at = cc (c.display_column_behind-next.ensures.value, was.at, step.1, column_at-more t cs c.loop-c.index 0 step.0);
       fits = omega (arith, was.fits, c.display_column_behind-next.ensures.near, shorter);
       before = below_more _ _ was.before (omega (arith, was.at, c.if-column-at.false));
       reached = c.if-column-next.false;

@@ -2,50 +2,31 @@ use Rattle.std.proofs.Common.{◌∙◌, ap, length, sym}
 use Rattle.textarea_lines.specs.Wrappings.{wrapping_for}
 use Rattle.textarea_lines.proofs.Measuring.{Measuring, counted_as_kept, counted_as_measured, counted_in_text, same_as_kept}
 use Rattle.textarea_lines.proofs.laid_out.LaidOutLines.rows_at_width.Goals as goal
+use Rattle.textarea_lines.proofs.laid_out.LaidOutLines.rows_at_width.Goals.{After-wrapping}
+
+steps : (c : After-wrapping) → Measuring c.self.inside.settings c.self.inside.lines.items c.as_slice-lines.result.now c.self.inside.size c.self.inside.count c.args.inner_width c.self.inside.map c.args.self.now c.wrapping_at-wrapping.result c.wrapping.result
+steps c = record {
+  held = c.self.invariant.held;
+  is = c.self.view_is;
+  lent_is = c.as_slice-lines.ensures.value;
+  wrapping_is = c.wrapping_at-wrapping.ensures;
+  now_is = c.wrapping.ensures ∙ c.self.invariant.held.wrapping_is ∙ ap (λ t. wrapping_for c.self.inside.settings (length t)) (sym c.as_slice-lines.ensures.value);
+}
 
 pub returns-then-is_same-clause-rows : goal.returns-then-is_same-clause-rows
 returns-then-is_same-clause-rows c =
-    let inside = c.self.inside in
-    let lent = c.as_slice-lines.result.now in
-    let laid = c.args.self.now in
-    let wrapping = c.wrapping_at-wrapping.result in
-    let now = c.wrapping.result in
-    let steps : Measuring inside.settings inside.lines.items lent inside.size inside.count c.args.inner_width inside.map laid wrapping now =
-    record { held = c.self.invariant.held; is = c.self.view_is; lent_is = c.as_slice-lines.ensures.value; wrapping_is = c.wrapping_at-wrapping.ensures; now_is = c.wrapping.ensures ∙ c.self.invariant.held.wrapping_is ∙ ap (λ t. wrapping_for inside.settings (length t)) (sym c.as_slice-lines.ensures.value) } in
-    counted_in_text inside.settings inside.lines.items lent inside.size inside.count c.args.inner_width inside.map laid wrapping now c.row_count.result steps
-    (counted_as_kept inside.settings inside.lines.items lent inside.size inside.count c.args.inner_width inside.map laid wrapping now c.row_count.result steps (sym c.is_same.ensures ∙ c.if-is_same.true) c.row_count.ensures)
+    let known = steps (goal.at.returns-then-is_same-clause-rows c).After-wrapping in
+    counted_in_text _ _ _ _ _ _ _ _ _ _ _ known (counted_as_kept _ _ _ _ _ _ _ _ _ _ _ known (sym c.is_same.ensures ∙ c.if-is_same.true) c.row_count.ensures)
 
 pub returns-then-is_same-2-clause-rows : goal.returns-then-is_same-2-clause-rows
 returns-then-is_same-2-clause-rows c =
-    let inside = c.self.inside in
-    let lent = c.as_slice-lines.result.now in
-    let laid = c.args.self.now in
-    let wrapping = c.wrapping_at-wrapping.result in
-    let now = c.wrapping.result in
-    let steps : Measuring inside.settings inside.lines.items lent inside.size inside.count c.args.inner_width inside.map laid wrapping now =
-    record { held = c.self.invariant.held; is = c.self.view_is; lent_is = c.as_slice-lines.ensures.value; wrapping_is = c.wrapping_at-wrapping.ensures; now_is = c.wrapping.ensures ∙ c.self.invariant.held.wrapping_is ∙ ap (λ t. wrapping_for inside.settings (length t)) (sym c.as_slice-lines.ensures.value) } in
-    counted_in_text inside.settings inside.lines.items lent inside.size inside.count c.args.inner_width inside.map laid wrapping now c.in-Some.measured.rows steps
-    (counted_as_measured inside.lines.items lent wrapping inside.measured c.in-Some.measured steps.lent_is (sym c.is_same-in-Some.ensures ∙ c.if-is_same-2.true) c.in-Some.is c.self.invariant.measured)
+    counted_in_text _ _ _ _ _ _ _ _ _ _ _ (steps (goal.at.returns-then-is_same-2-clause-rows c).After-wrapping)
+    (counted_as_measured _ _ _ _ c.in-Some.measured c.as_slice-lines.ensures.value (sym c.is_same-in-Some.ensures ∙ c.if-is_same-2.true) c.in-Some.is c.self.invariant.measured)
 
 pub returns-in_err-rows-clause-no_memory : goal.returns-in_err-rows-clause-no_memory
 returns-in_err-rows-clause-no_memory c = λ yes.
-    let inside = c.self.inside in
-    let lent = c.as_slice-lines.result.now in
-    let laid = c.args.self.now in
-    let wrapping = c.wrapping_at-wrapping.result in
-    let now = c.wrapping.result in
-    let steps : Measuring inside.settings inside.lines.items lent inside.size inside.count c.args.inner_width inside.map laid wrapping now =
-    record { held = c.self.invariant.held; is = c.self.view_is; lent_is = c.as_slice-lines.ensures.value; wrapping_is = c.wrapping_at-wrapping.ensures; now_is = c.wrapping.ensures ∙ c.self.invariant.held.wrapping_is ∙ ap (λ t. wrapping_for inside.settings (length t)) (sym c.as_slice-lines.ensures.value) } in
-    let test = same_as_kept inside.settings inside.lines.items lent inside.size inside.count c.args.inner_width inside.map laid wrapping now steps in
+    let test = same_as_kept _ _ _ _ _ _ _ _ _ _ (steps (goal.at.returns-in_err-rows-clause-no_memory c).After-wrapping) in
     absurd (cc (test, yes, c.is_same.ensures, c.if-is_same.false))
 
 pub returns-clause-rows : goal.returns-clause-rows
-returns-clause-rows c =
-    let inside = c.self.inside in
-    let lent = c.as_slice-lines.result.now in
-    let laid = c.args.self.now in
-    let wrapping = c.wrapping_at-wrapping.result in
-    let now = c.wrapping.result in
-    let steps : Measuring inside.settings inside.lines.items lent inside.size inside.count c.args.inner_width inside.map laid wrapping now =
-    record { held = c.self.invariant.held; is = c.self.view_is; lent_is = c.as_slice-lines.ensures.value; wrapping_is = c.wrapping_at-wrapping.ensures; now_is = c.wrapping.ensures ∙ c.self.invariant.held.wrapping_is ∙ ap (λ t. wrapping_for inside.settings (length t)) (sym c.as_slice-lines.ensures.value) } in
-    counted_in_text inside.settings inside.lines.items lent inside.size inside.count c.args.inner_width inside.map laid wrapping now c.in_ok-rows.rows steps c.in_ok-rows.ensures.rows
+returns-clause-rows c = counted_in_text _ _ _ _ _ _ _ _ _ _ _ (steps (goal.at.returns-clause-rows c).After-wrapping) c.in_ok-rows.ensures.rows

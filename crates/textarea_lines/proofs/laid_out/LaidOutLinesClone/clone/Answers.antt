@@ -1,7 +1,7 @@
 use Rattle.std.proofs.Common.{◌∙◌, sym}
 use Rattle.textarea_text.specs.Text.{lines_of}
 use Rattle.textarea_text.proofs.Copies.{lines_copied}
-use Rattle.textarea_lines.proofs.Stores.{holds_copied, measured_of, seen_copied}
+use Rattle.textarea_lines.proofs.Stores.{holds_copied, seen_copied}
 use Rattle.textarea_lines.proofs.laid_out.LaidOutLinesClone.clone.Goals as goal
 
 pub invariant_of-result : goal.invariant_of-result
@@ -11,7 +11,7 @@ invariant_of-result c =
     let same = lines_copied inside.lines.items copies c.in_ok-clone.ensures.cases.0 in
     record {
       held = holds_copied inside.settings inside.lines.items copies inside.size inside.map c.in_ok-clone-2.field-0 c.self.invariant.held same c.in_ok-clone-2.ensures.cases;
-      measured = measured_of (lines_of inside.lines.items) (lines_of copies) inside.measured (sym same) c.self.invariant.measured;
+      measured = rw same c.self.invariant.measured;
     }
 
 pub returns : goal.returns

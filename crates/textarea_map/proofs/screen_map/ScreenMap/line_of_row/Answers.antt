@@ -1,8 +1,9 @@
-use Rattle.std.proofs.Common.{◌+◌, ◌-◌, ◌/◌, ◌<◌, ◌∙◌, ap, arith, length, take}
+use Rattle.std.proofs.Common.{◌≡◌, ◌+◌, ◌-◌, ◌/◌, ◌<◌, ◌∙◌, ap, arith, length, take}
 use Rattle.std.proofs.lemmas.List.{take_all}
 use Rattle.textarea_map.specs.Map.{row_total, MapView}
 use Rattle.textarea_map.proofs.Numbers.{length-firsts, number_at, some_lines}
 use Rattle.textarea_map.proofs.screen_map.ScreenMap.line_of_row.Goals as goal
+use Rattle.textarea_map.proofs.screen_map.ScreenMap.line_of_row.Goals.{After-index}
 
 pub halving-init : goal.halving-init
 halving-init c =
@@ -14,21 +15,16 @@ halving-init c =
 pub index-requires : goal.index-requires
 index-requires c = omega (arith, c.halving.invariant.1, ap length c.self.invariant.numbers, length-firsts 0 c.self.inside.rows.items)
 
+middle : (c : After-index) → c.index.result.now ≡ row_total (take (c.halving.low + (c.halving.high - c.halving.low) / 2) c.self.inside.rows.items)
+middle c = number_at _ _ _ _ c.self.invariant.numbers (omega (arith, c.halving.invariant.1)) c.index.ensures
+
 pub halving-preserved-then-index-row : goal.halving-preserved-then-index-row
 halving-preserved-then-index-row c =
-    let rows = c.self.inside.rows.items in
-    let middle = c.halving.low + (c.halving.high - c.halving.low) / 2 in
-    let within : middle < length rows = omega (arith, c.halving.invariant.1) in
-    let number = number_at c.self.inside.firsts.items rows middle c.index.result.now c.self.invariant.numbers within c.index.ensures in
-    (omega arith, c.halving.invariant.1, omega (arith, number), c.halving.invariant.3)
+    (omega arith, c.halving.invariant.1, omega (arith, middle (goal.at.halving-preserved-then-index-row c).After-index), c.halving.invariant.3)
 
 pub halving-preserved : goal.halving-preserved
 halving-preserved c =
-    let rows = c.self.inside.rows.items in
-    let middle = c.halving.low + (c.halving.high - c.halving.low) / 2 in
-    let within : middle < length rows = omega (arith, c.halving.invariant.1) in
-    let number = number_at c.self.inside.firsts.items rows middle c.index.result.now c.self.invariant.numbers within c.index.ensures in
-    (omega arith, omega (arith, within), c.halving.invariant.2, omega (arith, number))
+    (omega arith, omega (arith, c.halving.invariant.1), c.halving.invariant.2, omega (arith, middle (goal.at.halving-preserved c).After-index))
 
 pub index-requires-2 : goal.index-requires-2
 index-requires-2 c = omega (arith, c.halving.invariant.0, c.halving.invariant.1, ap length c.self.invariant.numbers, length-firsts 0 c.self.inside.rows.items)

@@ -3,85 +3,57 @@ use Rattle.std.proofs.lemmas.List.{length-map}
 use Rattle.std.specs.Str.{chars}
 use Rattle.textarea_text.specs.Text.{characters_of, lines_of}
 use Rattle.textarea_map.proofs.Layouts.{length-AreRowsOf}
-use Rattle.textarea_map.proofs.VisualRows.{found_row, number_there}
+use Rattle.textarea_map.proofs.VisualRows.{IsFoundRow, found_row, number_there}
 use Rattle.textarea_map.proofs.screen_map.ScreenMap.row_text.Goals as goal
+use Rattle.textarea_map.proofs.screen_map.ScreenMap.row_text.Goals.{After-rows_of-ranges, After-as_str-text}
 
 minus-zero : (n : ℕ) → n - 0 ≡ n
 minus-zero n = omega arith
 
-pub offset_bounds-ranges-number : goal.offset_bounds-ranges-number
-offset_bounds-ranges-number c =
-    omega (arith, number_there c.args.self.now.rows c.line_of_row-line.result.0 c.line_of_row-line.result.1 c.args.row c.line_of_row-line.ensures.line c.line_of_row-line.ensures.row c.line_of_row-line.ensures.inside, ap length c.rows_of-ranges.ensures)
+there : (c : After-rows_of-ranges) → c.line_of_row-line.result.1 < length c.rows_of-ranges.result.now
+there c = omega (arith, number_there _ _ _ _ c.line_of_row-line.ensures.line c.line_of_row-line.ensures.row c.line_of_row-line.ensures.inside, ap length c.rows_of-ranges.ensures)
 
-pub bounds-ranges-number : goal.bounds-ranges-number
-bounds-ranges-number c =
-    omega (arith, number_there c.args.self.now.rows c.line_of_row-line.result.0 c.line_of_row-line.result.1 c.args.row c.line_of_row-line.ensures.line c.line_of_row-line.ensures.row c.line_of_row-line.ensures.inside, ap length c.rows_of-ranges.ensures)
-
-pub bounds-ranges-number-2 : goal.bounds-ranges-number-2
-bounds-ranges-number-2 c =
-    omega (arith, number_there c.args.self.now.rows c.line_of_row-line.result.0 c.line_of_row-line.result.1 c.args.row c.line_of_row-line.ensures.line c.line_of_row-line.ensures.row c.line_of_row-line.ensures.inside, ap length c.rows_of-ranges.ensures)
-
-pub offset_bounds-lines-line : goal.offset_bounds-lines-line
-offset_bounds-lines-line c =
-    let within : c.line_of_row-line.result.0 < length c.args.lines.now =
-    omega (arith, c.line_of_row-line.ensures.line, length-AreRowsOf c.args.self.now.wrapping (lines_of c.args.lines.now) c.args.self.now.rows c.requires.rows, length-map c.args.lines.now characters_of) in
-    omega arith
-
-pub bounds-lines-line : goal.bounds-lines-line
-bounds-lines-line c =
+within : (c : After-rows_of-ranges) → c.line_of_row-line.result.0 < length c.args.lines.now
+within c =
     omega (arith, c.line_of_row-line.ensures.line, length-AreRowsOf c.args.self.now.wrapping (lines_of c.args.lines.now) c.args.self.now.rows c.requires.rows, length-map c.args.lines.now characters_of)
 
+found : (c : After-as_str-text) → IsFoundRow c.args.lines.now c.args.self.now.rows c.args.row c.line_of_row-line.result.0 c.line_of_row-line.result.1 c.rows_of-ranges.result.now c.as_str-text.result.now
+found c = found_row _ _ _ _ _ _ _ c.index-lines-line.result _ c.requires.rows c.line_of_row-line.ensures.line c.line_of_row-line.ensures.row c.line_of_row-line.ensures.inside c.rows_of-ranges.ensures c.index-lines-line.is c.as_str-text.ensures.value
+
+pub offset_bounds-ranges-number : goal.offset_bounds-ranges-number
+offset_bounds-ranges-number c = omega (arith, there (goal.at.offset_bounds-ranges-number c).After-rows_of-ranges)
+
+pub bounds-ranges-number : goal.bounds-ranges-number
+bounds-ranges-number c = there (goal.at.bounds-ranges-number c).After-rows_of-ranges
+
+pub bounds-ranges-number-2 : goal.bounds-ranges-number-2
+bounds-ranges-number-2 c = there (goal.at.bounds-ranges-number-2 c).After-rows_of-ranges
+
+pub offset_bounds-lines-line : goal.offset_bounds-lines-line
+offset_bounds-lines-line c = omega (arith, within (goal.at.offset_bounds-lines-line c).After-rows_of-ranges)
+
+pub bounds-lines-line : goal.bounds-lines-line
+bounds-lines-line c = within (goal.at.bounds-lines-line c).After-rows_of-ranges
+
 pub range-requires-clause-end_boundary : goal.range-requires-clause-end_boundary
-range-requires-clause-end_boundary c =
-    let found = found_row c.args.self.now.wrapping c.args.lines.now c.args.self.now.rows c.args.row c.line_of_row-line.result.0 c.line_of_row-line.result.1 c.rows_of-ranges.result.now c.index-lines-line.result c.as_str-text.result.now c.requires.rows c.line_of_row-line.ensures.line c.line_of_row-line.ensures.row c.line_of_row-line.ensures.inside c.rows_of-ranges.ensures c.index-lines-line.is c.as_str-text.ensures.value in
-    found.text_is.placed.start
+range-requires-clause-end_boundary c = (found (goal.at.range-requires-clause-end_boundary c).After-as_str-text).text_is.placed.start
 
-pub range-requires-2-clause-start_le_end : goal.range-requires-2-clause-start_le_end
-range-requires-2-clause-start_le_end c =
-    let found = found_row c.args.self.now.wrapping c.args.lines.now c.args.self.now.rows c.args.row c.line_of_row-line.result.0 c.line_of_row-line.result.1 c.rows_of-ranges.result.now c.index-lines-line.result c.as_str-text.result.now c.requires.rows c.line_of_row-line.ensures.line c.line_of_row-line.ensures.row c.line_of_row-line.ensures.inside c.rows_of-ranges.ensures c.index-lines-line.is c.as_str-text.ensures.value in
-    found.text_is.placed.ordered
-
-pub range-requires-2-clause-start_boundary : goal.range-requires-2-clause-start_boundary
-range-requires-2-clause-start_boundary c =
-    let found = found_row c.args.self.now.wrapping c.args.lines.now c.args.self.now.rows c.args.row c.line_of_row-line.result.0 c.line_of_row-line.result.1 c.rows_of-ranges.result.now c.index-lines-line.result c.as_str-text.result.now c.requires.rows c.line_of_row-line.ensures.line c.line_of_row-line.ensures.row c.line_of_row-line.ensures.inside c.rows_of-ranges.ensures c.index-lines-line.is c.as_str-text.ensures.value in
-    λ _. found.text_is.placed.start
-
-pub range-requires-2-clause-end_boundary : goal.range-requires-2-clause-end_boundary
-range-requires-2-clause-end_boundary c =
-    let found = found_row c.args.self.now.wrapping c.args.lines.now c.args.self.now.rows c.args.row c.line_of_row-line.result.0 c.line_of_row-line.result.1 c.rows_of-ranges.result.now c.index-lines-line.result c.as_str-text.result.now c.requires.rows c.line_of_row-line.ensures.line c.line_of_row-line.ensures.row c.line_of_row-line.ensures.inside c.rows_of-ranges.ensures c.index-lines-line.is c.as_str-text.ensures.value in
-    found.text_is.placed.end
+pub range-requires-2 : goal.range-requires-2
+range-requires-2 c =
+    let placed = (found (goal.at.range-requires-2 c).After-as_str-text).text_is.placed in
+    record { start_le_end = placed.ordered; start_boundary = λ _. placed.start; end_boundary = placed.end }
 
 pub overflow_add-result : goal.overflow_add-result
-overflow_add-result c =
-    let found = found_row c.args.self.now.wrapping c.args.lines.now c.args.self.now.rows c.args.row c.line_of_row-line.result.0 c.line_of_row-line.result.1 c.rows_of-ranges.result.now c.index-lines-line.result c.as_str-text.result.now c.requires.rows c.line_of_row-line.ensures.line c.line_of_row-line.ensures.row c.line_of_row-line.ensures.inside c.rows_of-ranges.ensures c.index-lines-line.is c.as_str-text.ensures.value in
-    omega (arith, found.there)
+overflow_add-result c = omega (arith, (found (goal.at.overflow_add-result c).After-as_str-text).there)
 
-pub returns-clause-line : goal.returns-clause-line
-returns-clause-line c =
-    let found = found_row c.args.self.now.wrapping c.args.lines.now c.args.self.now.rows c.args.row c.line_of_row-line.result.0 c.line_of_row-line.result.1 c.rows_of-ranges.result.now c.index-lines-line.result c.as_str-text.result.now c.requires.rows c.line_of_row-line.ensures.line c.line_of_row-line.ensures.row c.line_of_row-line.ensures.inside c.rows_of-ranges.ensures c.index-lines-line.is c.as_str-text.ensures.value in
-    found.text_is.line_is
-
-pub returns-clause-first : goal.returns-clause-first
-returns-clause-first c =
-    let found = found_row c.args.self.now.wrapping c.args.lines.now c.args.self.now.rows c.args.row c.line_of_row-line.result.0 c.line_of_row-line.result.1 c.rows_of-ranges.result.now c.index-lines-line.result c.as_str-text.result.now c.requires.rows c.line_of_row-line.ensures.line c.line_of_row-line.ensures.row c.line_of_row-line.ensures.inside c.rows_of-ranges.ensures c.index-lines-line.is c.as_str-text.ensures.value in
-    ap (λ t. length (chars t)) (c.range.ensures.value ∙ ap (λ n. take n c.as_str-text.result.now) (minus-zero _)) ∙ found.text_is.first_is
-
-pub returns-clause-text : goal.returns-clause-text
-returns-clause-text c =
-    let found = found_row c.args.self.now.wrapping c.args.lines.now c.args.self.now.rows c.args.row c.line_of_row-line.result.0 c.line_of_row-line.result.1 c.rows_of-ranges.result.now c.index-lines-line.result c.as_str-text.result.now c.requires.rows c.line_of_row-line.ensures.line c.line_of_row-line.ensures.row c.line_of_row-line.ensures.inside c.rows_of-ranges.ensures c.index-lines-line.is c.as_str-text.ensures.value in
-    ap chars c.range-2.ensures.value ∙ found.text_is.text_is
-
-pub returns-clause-is_last : goal.returns-clause-is_last
-returns-clause-is_last c =
-    let found = found_row c.args.self.now.wrapping c.args.lines.now c.args.self.now.rows c.args.row c.line_of_row-line.result.0 c.line_of_row-line.result.1 c.rows_of-ranges.result.now c.index-lines-line.result c.as_str-text.result.now c.requires.rows c.line_of_row-line.ensures.line c.line_of_row-line.ensures.row c.line_of_row-line.ensures.inside c.rows_of-ranges.ensures c.index-lines-line.is c.as_str-text.ensures.value in
-    found.text_is.last_is
-
-pub returns-clause-before : goal.returns-clause-before
-returns-clause-before c =
-    let found = found_row c.args.self.now.wrapping c.args.lines.now c.args.self.now.rows c.args.row c.line_of_row-line.result.0 c.line_of_row-line.result.1 c.rows_of-ranges.result.now c.index-lines-line.result c.as_str-text.result.now c.requires.rows c.line_of_row-line.ensures.line c.line_of_row-line.ensures.row c.line_of_row-line.ensures.inside c.rows_of-ranges.ensures c.index-lines-line.is c.as_str-text.ensures.value in
-    omega (arith, found.text_is.short, found.text_is.placed.start.0, c.range.ensures.len)
-
-pub returns-clause-short : goal.returns-clause-short
-returns-clause-short c =
-    let found = found_row c.args.self.now.wrapping c.args.lines.now c.args.self.now.rows c.args.row c.line_of_row-line.result.0 c.line_of_row-line.result.1 c.rows_of-ranges.result.now c.index-lines-line.result c.as_str-text.result.now c.requires.rows c.line_of_row-line.ensures.line c.line_of_row-line.ensures.row c.line_of_row-line.ensures.inside c.rows_of-ranges.ensures c.index-lines-line.is c.as_str-text.ensures.value in
-    omega (arith, found.text_is.short, found.text_is.placed.end.0, c.range-2.ensures.len)
+pub returns : goal.returns
+returns c =
+    let is = (found (goal.at.returns c).After-as_str-text).text_is in
+    record {
+      line = is.line_is;
+      first = ap (λ t. length (chars t)) (c.range.ensures.value ∙ ap (λ n. take n c.as_str-text.result.now) (minus-zero _)) ∙ is.first_is;
+      text = ap chars c.range-2.ensures.value ∙ is.text_is;
+      is_last = is.last_is;
+      before = omega (arith, is.short, is.placed.start.0, c.range.ensures.len);
+      short = omega (arith, is.short, is.placed.end.0, c.range-2.ensures.len);
+    }

@@ -1,10 +1,10 @@
-use Rattle.std.proofs.Common.{◌+◌, ◌≤◌, length, sym, ap, ◌∙◌, arith, length-append}
+use Rattle.std.proofs.Common.{sym, ap, ◌∙◌, arith}
 use Rattle.std.proofs.lemmas.List.{nil_from_length}
-use Rattle.std.proofs.lemmas.Str.{chars-nil, chars_past_char, IsUtf8-past_char, length-encode, len_utf8_bounds}
+use Rattle.std.proofs.lemmas.Str.{chars-nil, chars_past_char, IsUtf8-past_char}
 use Rattle.std.specs.Str.{chars}
 use Rattle.std.specs.Str.Iter.{chars_rest}
-use Rattle.std.specs.Prelude.{encode_utf8}
 use Rattle.textarea_wrap.specs.Columns.{end_column}
+use Rattle.textarea_wrap.proofs.ColumnLemmas.{shorter_behind}
 use Rattle.textarea_wrap.proofs.wrap.columns.column_behind_text.Goals as goal
 
 pub loop-c-preserved : goal.loop-c-preserved
@@ -13,13 +13,10 @@ loop-c-preserved c =
     let step = c.in-Some.ensures.steps.0 in
     let read = chars_past_char _ _ c.in-Some.c was.text step in
     let made = c.column_behind-end.ensures in
-    let shorter : length (chars_rest c.next.new.self) + 1 ≤ length (chars_rest c.loop-c.c-iterator) =
-    omega (arith, ap length step, length-append (encode_utf8 c.in-Some.c) (chars_rest c.next.new.self), length-encode c.in-Some.c, len_utf8_bounds c.in-Some.c) in
     record {
       text = IsUtf8-past_char _ _ c.in-Some.c was.text step;
-      left = ap (λ x. end_column c.args.tab_len x (chars (chars_rest c.next.new.self))) made.value
-          ∙ sym (ap (end_column c.args.tab_len c.loop-c.end) read) ∙ was.left;
-      fits = omega (arith, was.fits, made.near);
+      left = rw made.value (rw read at was.left);
+      fits = omega (arith, was.fits, made.near, shorter_behind _ _ _ step);
       after = omega (arith, was.after, made.after);
     }
 

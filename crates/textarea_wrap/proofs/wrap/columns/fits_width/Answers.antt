@@ -1,12 +1,11 @@
-use Rattle.std.proofs.Common.{◌≡◌, ◌+◌, ◌≤◌, length, sym, ap, ◌∙◌, arith, refl, length-append}
+use Rattle.std.proofs.Common.{◌≡◌, sym, ap, ◌∙◌, arith, refl}
 use Rattle.std.proofs.lemmas.Bool.{false≢true}
 use Rattle.std.proofs.lemmas.List.{nil_from_length}
-use Rattle.std.proofs.lemmas.Str.{chars-nil, chars_past_char, IsUtf8-past_char, length-encode, len_utf8_bounds}
+use Rattle.std.proofs.lemmas.Str.{chars-nil, chars_past_char, IsUtf8-past_char}
 use Rattle.std.specs.Str.{chars}
 use Rattle.std.specs.Str.Iter.{chars_rest}
-use Rattle.std.specs.Prelude.{encode_utf8}
 use Rattle.textarea_wrap.specs.Columns.{end_column}
-use Rattle.textarea_wrap.proofs.ColumnLemmas.{end_column-after}
+use Rattle.textarea_wrap.proofs.ColumnLemmas.{end_column-after, shorter_behind}
 use Rattle.textarea_wrap.proofs.wrap.columns.fits_width.Goals as goal
 
 pub returns-then-width-column : goal.returns-then-width-column
@@ -15,8 +14,7 @@ returns-then-width-column c =
     let read = chars_past_char _ _ c.in-Some.c was.text c.in-Some.ensures.steps.0 in
     let left = chars (chars_rest c.next.new.self) in
     let whole : end_column c.args.tab_len c.column_behind-column.result left ≡ end_column c.args.tab_len 0 (chars c.args.text.now) =
-    ap (λ x. end_column c.args.tab_len x left) c.column_behind-column.ensures.value
-    ∙ sym (ap (end_column c.args.tab_len c.loop-c.column) read) ∙ was.left in
+    rw c.column_behind-column.ensures.value (rw read at was.left) in
     let wider = end_column-after c.args.tab_len c.column_behind-column.result left in
     let over = c.if-width-column.true in
     (λ h. absurd (false≢true h), λ h. absurd (omega (arith, sym whole)))
@@ -27,13 +25,10 @@ loop-c-preserved c =
     let step = c.in-Some.ensures.steps.0 in
     let read = chars_past_char _ _ c.in-Some.c was.text step in
     let made = c.column_behind-column.ensures in
-    let shorter : length (chars_rest c.next.new.self) + 1 ≤ length (chars_rest c.loop-c.c-iterator) =
-    omega (arith, ap length step, length-append (encode_utf8 c.in-Some.c) (chars_rest c.next.new.self), length-encode c.in-Some.c, len_utf8_bounds c.in-Some.c) in
     record {
       text = IsUtf8-past_char _ _ c.in-Some.c was.text step;
-      left = ap (λ x. end_column c.args.tab_len x (chars (chars_rest c.next.new.self))) made.value
-          ∙ sym (ap (end_column c.args.tab_len c.loop-c.column) read) ∙ was.left;
-      fits = omega (arith, was.fits, made.near);
+      left = rw made.value (rw read at was.left);
+      fits = omega (arith, was.fits, made.near, shorter_behind _ _ _ step);
       within = let kept = c.if-width-column.false in omega arith;
     }
 

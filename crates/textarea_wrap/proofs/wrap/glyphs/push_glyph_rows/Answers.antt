@@ -1,9 +1,9 @@
-use Rattle.std.proofs.Common.{◌≡◌, ◌+◌, inl, inr, true, length, refl, sym, ap, subst, ◌∙◌, arith, length-append}
+use Rattle.std.proofs.Common.{◌≡◌, ◌+◌, inl, inr, true, length, refl, ap, ◌∙◌, arith, length-append}
 use Rattle.std.specs.List.{concat}
-use Rattle.unicode_segmentation.specs.Grapheme.{graphemes, is_grapheme_break}
+use Rattle.unicode_segmentation.specs.Grapheme.{is_grapheme_break}
 use Rattle.unicode_segmentation.specs.Iter.{graphemes_left}
 use Rattle.unicode_segmentation.proofs.SegmentsLemmas.{concat-segments, segments_nonempty}
-use Rattle.textarea_wrap.proofs.GlyphLemmas.{IsGlyphWalk, IsGlyphWalk-start, IsGlyphWalk-extend, IsGlyphWalk-break, IsGlyphWalk-end_open, IsGlyphWalk-end_closed}
+use Rattle.textarea_wrap.proofs.GlyphLemmas.{IsGlyphWalk-start, IsGlyphWalk-extend, IsGlyphWalk-break, IsGlyphWalk-end_open, IsGlyphWalk-end_closed}
 use Rattle.textarea_wrap.proofs.wrap.glyphs.push_glyph_rows.Goals as goal
 use Rattle.textarea_wrap.proofs.wrap.glyphs.push_glyph_rows.Goals.{then-row_start-row_end+then-width-end+in_ok-push, else-row_start-row_end, else-row_start-row_end-via-then-row_start-row_end+else-width-end, else-row_start-row_end-via-else-row_start-row_end}
 
@@ -13,8 +13,7 @@ loop-cluster-init c =
     let bytes : length (concat (graphemes_left c.into_iter-cluster-iterator.result)) ≡ length c.args.text.now =
     ap (λ t. length (concat t)) all ∙ ap length (concat-segments (is_grapheme_break true) c.args.text.now c.utf8.text) in
     record {
-      walk = subst (λ left. IsGlyphWalk c.args.tab_len c.args.width c.args.start (graphemes true c.args.text.now) c.args.rows.now.items c.args.rows.now.items left c.args.start c.args.start 0) (sym all)
-          (IsGlyphWalk-start _ _ _ _ _ (segments_nonempty (is_grapheme_break true) c.args.text.now));
+      walk = rw all (IsGlyphWalk-start _ _ _ _ _ (segments_nonempty (is_grapheme_break true) c.args.text.now));
       bytes = omega arith;
       narrow = omega arith;
     }
@@ -24,7 +23,7 @@ loop-cluster-preserved c =
     let was = c.loop-cluster.invariant in
     let left = graphemes_left c.next.new.self in
     let cluster = c.in-Some.cluster.now in
-    let walk = subst (λ t. IsGlyphWalk c.args.tab_len c.args.width c.args.start (graphemes true c.args.text.now) c.args.rows.now.items c.loop-cluster.rows.items t c.loop-cluster.row_start c.loop-cluster.row_end c.loop-cluster.column) c.in-Some.ensures.steps was.walk in
+    let walk = rw c.in-Some.ensures.steps at was.walk in
     let len : length (concat (graphemes_left c.loop-cluster.cluster-iterator)) ≡ length cluster + length (concat left) =
     ap (λ t. length (concat t)) c.in-Some.ensures.steps ∙ length-append cluster (concat left) in
     let made = c.column_behind_text-end.ensures in
@@ -52,10 +51,8 @@ loop-cluster-preserved c =
 
 pub returns-in_ok-push-2 : goal.returns-in_ok-push-2
 returns-in_ok-push-2 c =
-    let walk = subst (λ t. IsGlyphWalk c.args.tab_len c.args.width c.args.start (graphemes true c.args.text.now) c.args.rows.now.items c.loop-cluster.rows.items t c.loop-cluster.row_start c.loop-cluster.row_end c.loop-cluster.column) c.in-None.ensures.steps.0 c.loop-cluster.invariant.walk in
-    rw c.in_ok-push-2.ensures.ok (IsGlyphWalk-end_open _ _ _ _ _ _ _ _ _ c.args.text.now c.utf8.text refl walk c.if-row_start-row_end-2.true)
+    rw c.in_ok-push-2.ensures.ok (IsGlyphWalk-end_open _ _ _ _ _ _ _ _ _ c.args.text.now c.utf8.text refl (rw c.in-None.ensures.steps.0 at c.loop-cluster.invariant.walk) c.if-row_start-row_end-2.true)
 
 pub returns-else-row_start-row_end-2 : goal.returns-else-row_start-row_end-2
 returns-else-row_start-row_end-2 c =
-    let walk = subst (λ t. IsGlyphWalk c.args.tab_len c.args.width c.args.start (graphemes true c.args.text.now) c.args.rows.now.items c.loop-cluster.rows.items t c.loop-cluster.row_start c.loop-cluster.row_end c.loop-cluster.column) c.in-None.ensures.steps.0 c.loop-cluster.invariant.walk in
-    IsGlyphWalk-end_closed _ _ _ _ _ _ _ _ _ c.args.text.now c.utf8.text refl walk c.if-row_start-row_end-2.false
+    IsGlyphWalk-end_closed _ _ _ _ _ _ _ _ _ c.args.text.now c.utf8.text refl (rw c.in-None.ensures.steps.0 at c.loop-cluster.invariant.walk) c.if-row_start-row_end-2.false

@@ -1,6 +1,5 @@
-use Rattle.std.proofs.Common.{◌≡◌, ℕ, List, [], map, ap, subst, arith, drop, Bor}
+use Rattle.std.proofs.Common.{◌≡◌, ℕ, List, [], map, ap, arith, drop, Bor}
 use Rattle.std.proofs.lemmas.List.{drop_all}
-use Rattle.textarea_wrap.specs.WordWalk.{IsWordWalk}
 use Rattle.textarea_wrap.proofs.WordLemmas.{IsWordWalk-start, IsWordWalk-end_open, IsWordWalk-later, units_at, length-units_at}
 use Rattle.textarea_wrap.proofs.wrap.words.push_word_rows.Goals as goal
 
@@ -13,8 +12,7 @@ loop-i-init c = record {
 
 pub place_unit-requires-clause-some : goal.place_unit-requires-clause-some
 place_unit-requires-clause-some c =
-    (subst (λ t. IsWordWalk c.args.tab_len c.args.width (map (λ (unit : Bor (List ℕ)). unit.now) c.args.units.now) c.args.rows.now.items c.loop-i.rows.items t c.loop-i.row.start c.loop-i.row.end c.loop-i.row.column)
-    (units_at c.args.units.now c.loop-i.i c.loop-i-test.true) c.loop-i.invariant.walk).some.0
+    (rw (units_at c.args.units.now c.loop-i.i c.loop-i-test.true) at c.loop-i.invariant.walk).some.0
 
 pub place_unit-requires-clause-short : goal.place_unit-requires-clause-short
 place_unit-requires-clause-short c =
@@ -32,10 +30,9 @@ loop-i-preserved c =
     let units = c.args.units.now in
     let i = c.loop-i.i in
     let len = length-units_at units i c.loop-i-test.true in
-    let walk_at = λ (left : List (List ℕ)). IsWordWalk c.args.tab_len c.args.width (map (λ (unit : Bor (List ℕ)). unit.now) units) c.args.rows.now.items c.loop-i.rows.items left c.loop-i.row.start c.loop-i.row.end c.loop-i.row.column in
     let placed = c.in_ok-row.ensures in
     record {
-      walk = IsWordWalk-later _ _ _ _ _ _ _ _ units i (placed.placed _ _ (subst walk_at (units_at units i c.loop-i-test.true) was.walk));
+      walk = IsWordWalk-later _ _ _ _ _ _ _ _ units i (placed.placed _ _ (rw (units_at units i c.loop-i-test.true) at was.walk));
       bytes = omega (arith, was.bytes, placed.end);
       narrow = omega (arith, was.narrow, placed.near);
     }
@@ -44,5 +41,4 @@ pub returns-in_ok-push : goal.returns-in_ok-push
 returns-in_ok-push c =
     let units = c.args.units.now in
     let none : map (λ (unit : Bor (List ℕ)). unit.now) (drop c.loop-i.i units) ≡ [] = ap (map (λ (unit : Bor (List ℕ)). unit.now)) (drop_all c.loop-i.i units c.loop-i-test.false) in
-    let walk = subst (λ t. IsWordWalk c.args.tab_len c.args.width (map (λ (unit : Bor (List ℕ)). unit.now) units) c.args.rows.now.items c.loop-i.rows.items t c.loop-i.row.start c.loop-i.row.end c.loop-i.row.column) none c.loop-i.invariant.walk in
-    rw c.in_ok-push.ensures.ok (IsWordWalk-end_open _ _ _ _ _ _ _ _ walk c.if-row.true)
+    rw c.in_ok-push.ensures.ok (IsWordWalk-end_open _ _ _ _ _ _ _ _ (rw none at c.loop-i.invariant.walk) c.if-row.true)
