@@ -5,9 +5,9 @@ use Rattle.std.specs.Str.{chars}
 use Rattle.std.proofs.lemmas.Bool.{cases_lt}
 use Rattle.std.proofs.lemmas.Bool.Decides.{nat_tests}
 use Rattle.std.proofs.lemmas.Grind.{common_steps}
-use Rattle.std.proofs.lemmas.List.{append-nil, append_assoc, take-append-drop, map_more, length-take-le, get_or-take, get_or-drop, drop-drop, drop-take, take-take, length-drop, get_or_default}
+use Rattle.std.proofs.lemmas.List.{append-nil, append_assoc, take-append-drop, length-take-le, get_or-take, get_or-drop, drop-take, take-take, length-drop}
 use Rattle.std.proofs.lemmas.List.Elements.{filter-append, All-head, All-tail}
-use Rattle.std.proofs.lemmas.Str.{chars-append, IsUtf8-take, IsUtf8-between, IsUtf8-append, encodes-append, chars-nil}
+use Rattle.std.proofs.lemmas.Str.{chars-append, IsUtf8-take, chars-nil}
 use Rattle.textarea_screen.specs.declared.screen.style.Style.{Style}
 use Rattle.textarea_screen.specs.Text.{ShownSpan}
 use Rattle.textarea_highlight.specs.declared.highlight.borders.Mark.{Mark}

@@ -1,5 +1,5 @@
 -- What is shown for a text, character by character.
-use Rattle.std.proofs.Common.{◌≡◌, ◌≢◌, ◌||◌, None, ℕ, zero, suc, ◌+◌, ◌-◌, ◌<◌, ◌≤◌, Bool, true, false, not, ◌==◌, cond, List, [], ◌∷◌, ◌++◌, take, drop, length, replicate, get_or, refl, sym, ap, ◌∙◌, arith, IsUtf8, encode_utf8_all}
+use Rattle.std.proofs.Common.{◌≡◌, ◌≢◌, None, ℕ, zero, suc, ◌+◌, ◌-◌, ◌<◌, ◌≤◌, Bool, true, false, not, ◌==◌, cond, List, [], ◌∷◌, ◌++◌, take, drop, length, replicate, get_or, refl, sym, ap, ◌∙◌, arith, IsUtf8, encode_utf8_all}
 use Rattle.std.specs.List.{list_any, filter}
 use Rattle.std.specs.Str.{chars}
 use Rattle.std.proofs.lemmas.Bool.Decides.{nat_tests}
@@ -7,7 +7,7 @@ use Rattle.std.proofs.lemmas.List.{append_assoc, drop_more, take-append-drop}
 use Rattle.std.proofs.lemmas.List.Folds.{list_any-append}
 use Rattle.std.proofs.lemmas.Str.{encodes-chars, length-le-encodes, encodes-append}
 use Rattle.std.proofs.lemmas.Bool.{false≢true}
-use Rattle.textarea_wrap.specs.Columns.{next_stop, column_after, end_column}
+use Rattle.textarea_wrap.specs.Columns.{next_stop, column_after}
 use Rattle.textarea_highlight.specs.Display.{is_tab, shown_char, with_spaces, without_tabs, shown}
 use Rattle.textarea_highlight.proofs.SpaceLemmas.{spaces_encoded}
 

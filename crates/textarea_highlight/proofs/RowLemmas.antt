@@ -1,7 +1,6 @@
 -- The spans of a row, put together from its parts.
-use Rattle.std.proofs.Common.{arith, ◌≡◌, List, ◌++◌, Option, sym, ap, subst, ◌∙◌}
+use Rattle.std.proofs.Common.{arith, ◌≡◌, List, ◌++◌, Option}
 use Rattle.std.proofs.lemmas.Grind.{common_steps}
-use Rattle.std.proofs.lemmas.List.{append_assoc}
 use Rattle.textarea_screen.specs.declared.screen.style.Style.{Style}
 use Rattle.textarea_screen.specs.Style.{empty_style}
 use Rattle.textarea_screen.specs.Text.{ShownSpan}

@@ -1,17 +1,17 @@
 -- The pieces of a row together show the row as a whole, where tabs have stops.
-use Rattle.std.proofs.Common.{◌≡◌, ℕ, ◌<◌, ◌≤◌, false, ◌==◌, List, [], ◌∷◌, ◌++◌, take, drop, length, slice_range, Option, None, Some, refl, sym, ap, subst, ◌∙◌, ⊎_elim, arith, All, IsUtf8, IsCharBoundary, encode_utf8_all}
+use Rattle.std.proofs.Common.{◌≡◌, ℕ, ◌<◌, ◌≤◌, false, ◌==◌, List, [], ◌∷◌, ◌++◌, take, drop, length, slice_range, Option, None, Some, refl, ap, ◌∙◌, arith, All, IsUtf8, IsCharBoundary, encode_utf8_all}
 use Rattle.std.specs.Str.{chars}
 use Rattle.std.proofs.lemmas.Bool.Decides.{nat_tests}
 use Rattle.std.proofs.lemmas.Grind.{common_steps}
 use Rattle.std.proofs.lemmas.List.{append_assoc, map-append, drop_all}
 use Rattle.std.proofs.lemmas.List.Folds.{drop_split}
-use Rattle.std.proofs.lemmas.Str.{chars-append, encodes-append, chars-nil, IsUtf8-drop, IsUtf8-between, IsCharBoundary-start, IsCharBoundary-end}
+use Rattle.std.proofs.lemmas.Str.{chars-append, encodes-append, chars-nil, IsUtf8-between, IsCharBoundary-start, IsCharBoundary-end}
 use Rattle.textarea_screen.specs.declared.screen.style.Style.{Style}
 use Rattle.textarea_screen.specs.Text.{ShownSpan}
 use Rattle.textarea_wrap.specs.Columns.{column_after, end_column}
 use Rattle.textarea_highlight.specs.declared.highlight.borders.Border.{Border}
-use Rattle.textarea_highlight.specs.Display.{shown_char, with_spaces, shown}
-use Rattle.textarea_highlight.specs.Cut.{piece_of, shown_piece, IsCut, text_of_spans}
+use Rattle.textarea_highlight.specs.Display.{with_spaces, shown}
+use Rattle.textarea_highlight.specs.Cut.{piece_of, IsCut, text_of_spans}
 use Rattle.textarea_highlight.proofs.CutLemmas.{IsEdge, column_to}
 
 with_spaces-append : (tab_len column : ℕ) (xs ys : List ℕ) →
@@ -50,8 +50,14 @@ whole_from row borders base tab_len mask from (span ∷ spans) u placed h at cut
     let at' = edge_boundary row borders mid placed cut.1.edge in
     let le : from ≤ mid = omega (arith, cut.1.not_empty) in
     let column = end_column tab_len 0 (chars (take from row)) in
-    rw (cut.1.text, whole_from row borders base tab_len mask mid spans u placed h at' cut.2, ← column_to tab_len row from mid u le at at', chars_parts row from mid u le at at',
-    shown-append mask tab_len column (piece_of row from mid) (chars (drop mid row)) h, encodes-append) refl
+    rw (
+      cut.1.text,
+      whole_from row borders base tab_len mask mid spans u placed h at' cut.2,
+      ← column_to tab_len row from mid u le at at',
+      chars_parts row from mid u le at at',
+      shown-append mask tab_len column (piece_of row from mid) (chars (drop mid row)) h,
+      encodes-append,
+    ) refl
 
 pub whole : (row : List ℕ) (borders : List Border) (base : Style) (tab_len : ℕ) (mask : Option ℕ) (spans : List ShownSpan) →
     IsUtf8 row → All (λ border. IsCharBoundary row border.offset) borders → 0 < tab_len →

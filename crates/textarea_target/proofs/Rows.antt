@@ -1,5 +1,5 @@
 -- Searches over the rows of some lines: for a row that holds a word, and for one at which a paragraph begins.
-use Rattle.std.proofs.Common.{◌≡◌, ℕ, ◌==◌, ◌<◌, ◌≤◌, nat_lt, ◌&&◌, Bool, true, false, List, [], ◌∷◌, length, encode_utf8_all, sym, ap, refl, ◌∙◌, arith, Option, String, string_len, string_bytes}
+use Rattle.std.proofs.Common.{◌≡◌, ℕ, ◌==◌, ◌<◌, nat_lt, ◌&&◌, Bool, List, [], ◌∷◌, length, encode_utf8_all, sym, ap, refl, ◌∙◌, arith, Option, String, string_len, string_bytes}
 use Rattle.std.proofs.lemmas.Bool.Decides.{nat_tests}
 use Rattle.std.proofs.lemmas.Str.{encodes-chars, length-le-encodes, IsUtf8-string_bytes}
 use Rattle.std.specs.Option.{is_some}

@@ -1,12 +1,12 @@
 -- One symbol on from a place of some lines, and one back.
-use Rattle.std.proofs.Common.{◌≡◌, ℕ, ◌+◌, ◌-◌, ◌==◌, ◌≢◌, ◌<◌, ◌≤◌, nat_lt, true, false, List, [], ◌∷◌, ◌++◌, length, drop, get_or, sym, ap, ap₂, subst, refl, ◌∙◌, arith, Some, None}
+use Rattle.std.proofs.Common.{◌≡◌, ℕ, ◌+◌, ◌-◌, ◌≢◌, ◌<◌, ◌≤◌, List, [], ◌∷◌, length, get_or, sym, ap₂, subst, refl, arith, Some, None}
 use Rattle.std.proofs.lemmas.Bool.Decides.{nat_tests}
 use Rattle.std.proofs.lemmas.Grind.{common_steps}
-use Rattle.std.proofs.lemmas.List.{length-append, drop_all, drop_more}
-use Rattle.textarea_text.specs.Text.{Symbol, Character, Break, characters, following, joined}
+use Rattle.std.proofs.lemmas.List.{drop_more}
+use Rattle.textarea_text.specs.Text.{Symbol, Character, Break, joined}
 use Rattle.textarea_text.specs.Place.{Place, IsPlace, IsPlaceOf, StandsAt, end, index_of, line_end, place_of}
 use Rattle.textarea_text.proofs.Splices.{lines-joined}
-use Rattle.textarea_text.proofs.Places.{index_parted, index_within, part_rows, place_of-index}
+use Rattle.textarea_text.proofs.Places.{index_within, place_of-index}
 use Rattle.textarea_text.proofs.StringRows.{stands_until}
 use Rattle.textarea_text.proofs.Befores.{character_stands, break_stands}
 use Rattle.textarea_pieces.proofs.PlaceLemmas.{is_at_end}
