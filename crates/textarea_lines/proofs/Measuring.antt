@@ -1,9 +1,8 @@
 -- How many visual rows lines have in all at a width: as they are cut, as they were measured last, and anew.
-use Rattle.std.proofs.Common.{◌≡◌, ℕ, true, List, length, sym, ap, ◌∙◌, subst, String, Option, Some}
+use Rattle.std.proofs.Common.{◌≡◌, ℕ, true, List, length, String, Option, Some}
 use Rattle.std.specs.Option.{IfSome}
-use Rattle.textarea_text.specs.Text.{lines, lines_of, text_of}
+use Rattle.textarea_text.specs.Text.{lines, lines_of}
 use Rattle.textarea_map.specs.declared.layout.Wrapping.{Wrapping}
-use Rattle.textarea_map.specs.Layout.{AreRowsOf}
 use Rattle.textarea_map.specs.Map.{IsRowCount, MapView, row_total}
 use Rattle.textarea_lines.specs.declared.measured.Measured.{Measured}
 use Rattle.textarea_lines.specs.declared.settings.LayoutSettings.{LayoutSettings}

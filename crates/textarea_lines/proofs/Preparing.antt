@@ -1,5 +1,5 @@
 -- Rows that are prepared while the old ones stand: of some lines, or of all.
-use Rattle.std.proofs.Common.{◌≡◌, ℕ, ◌+◌, ◌-◌, Bool, true, false, cond, List, length, sym, ap, ◌∙◌, subst, String, Result, Ok, Err}
+use Rattle.std.proofs.Common.{◌≡◌, ℕ, ◌+◌, ◌-◌, true, false, List, length, String, Result, Ok, Err}
 use Rattle.std.specs.Result.{IfOk}
 use Rattle.textarea_text.specs.Replaced.{replaced}
 use Rattle.textarea_text.specs.Text.{characters_of, lines_of}
@@ -8,7 +8,7 @@ use Rattle.textarea_map.specs.declared.layout.Wrapping.{Wrapping}
 use Rattle.textarea_map.specs.Layout.{AreRowsOf, ticks_behind, ticks_of}
 use Rattle.textarea_map.proofs.Layouts.{AreRowsOf-replaced}
 use Rattle.textarea_lines.specs.declared.settings.LayoutSettings.{LayoutSettings}
-use Rattle.textarea_lines.specs.Layout.{Layout, all_cut, after_replacement, some_cut}
+use Rattle.textarea_lines.specs.Layout.{Layout, after_replacement}
 use Rattle.textarea_lines.specs.Wrappings.{is_same, wrapping_for}
 use Rattle.textarea_lines.proofs.Layouts.{map-replaced, replaced_whole}
 use Rattle.textarea_lines.proofs.SameCuts.{AreRowsOf-same}

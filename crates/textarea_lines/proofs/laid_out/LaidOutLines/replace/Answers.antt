@@ -1,7 +1,4 @@
-use Rattle.std.proofs.Common.{◌+◌, ◌≤◌, ◌∙◌, ap, sym, arith, length}
-use Rattle.textarea_text.specs.Replaced.{replaced}
-use Rattle.textarea_text.specs.Text.{lines}
-use Rattle.textarea_lines.specs.Layout.{LaidOut}
+use Rattle.std.proofs.Common.{ap, arith, length}
 use Rattle.textarea_lines.proofs.Stores.{count_held}
 use Rattle.textarea_lines.proofs.Changes.{Replacing, holds_replaced, layout_replaced}
 use Rattle.textarea_lines.proofs.laid_out.LaidOutLines.replace.Goals as goal

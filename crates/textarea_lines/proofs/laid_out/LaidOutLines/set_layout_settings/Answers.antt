@@ -1,9 +1,6 @@
 use Rattle.std.proofs.Common.{◌∙◌, ◌+◌, ap, sym, length}
-use Rattle.textarea_text.specs.Text.{lines_of}
 use Rattle.textarea_map.specs.Layout.{ticks_behind}
 use Rattle.textarea_lines.specs.Wrappings.{wrapping_for}
-use Rattle.textarea_lines.specs.declared.laid_out.LaidOutLines.TheInside.{Inside}
-use Rattle.textarea_lines.proofs.Stores.{seen}
 use Rattle.textarea_lines.proofs.Changes.{Reviewing, holds_whole, holds_wrapped, laid_new, test_is, viewed_anew, viewed_same}
 use Rattle.textarea_lines.proofs.laid_out.LaidOutLines.set_layout_settings.Goals as goal
 use Rattle.textarea_lines.proofs.laid_out.LaidOutLines.set_layout_settings.Goals.{After-is_same, then-not-is_wrapped, else-not-is_wrapped}

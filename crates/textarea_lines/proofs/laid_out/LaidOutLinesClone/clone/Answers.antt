@@ -1,5 +1,4 @@
-use Rattle.std.proofs.Common.{◌∙◌, sym}
-use Rattle.textarea_text.specs.Text.{lines_of}
+use Rattle.std.proofs.Common.{◌∙◌}
 use Rattle.textarea_text.proofs.Copies.{lines_copied}
 use Rattle.textarea_lines.proofs.Stores.{holds_copied, seen_copied}
 use Rattle.textarea_lines.proofs.laid_out.LaidOutLinesClone.clone.Goals as goal
