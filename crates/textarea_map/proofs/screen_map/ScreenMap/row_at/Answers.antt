@@ -3,8 +3,8 @@ use Rattle.std.proofs.lemmas.List.{length-map}
 use Rattle.std.specs.Str.{chars}
 use Rattle.textarea_text.specs.Text.{characters_of, lines_of}
 use Rattle.textarea_map.proofs.Layouts.{length-AreRowsOf}
-use Rattle.textarea_map.proofs.VisualRows.{found_row, number_there}
-use Rattle.textarea_map.proofs.screen_map.ScreenMap.row_text.Goals as goal
+use Rattle.textarea_map.proofs.VisualRows.{found_row, number_there, row_shown}
+use Rattle.textarea_map.proofs.screen_map.ScreenMap.row_at.Goals as goal
 
 minus-zero : (n : ℕ) → n - 0 ≡ n
 minus-zero n = omega arith
@@ -56,24 +56,15 @@ overflow_add-result c =
     let found = found_row c.args.self.now.wrapping c.args.lines.now c.args.self.now.rows c.args.row c.line_of_row-line.result.0 c.line_of_row-line.result.1 c.rows_of-ranges.result.now c.index-lines-line.result c.as_str-text.result.now c.requires.rows c.line_of_row-line.ensures.line c.line_of_row-line.ensures.row c.line_of_row-line.ensures.inside c.rows_of-ranges.ensures c.index-lines-line.is c.as_str-text.ensures.value in
     omega (arith, found.there)
 
-pub returns-clause-line : goal.returns-clause-line
-returns-clause-line c =
+pub returns-clause-shown : goal.returns-clause-shown
+returns-clause-shown c =
     let found = found_row c.args.self.now.wrapping c.args.lines.now c.args.self.now.rows c.args.row c.line_of_row-line.result.0 c.line_of_row-line.result.1 c.rows_of-ranges.result.now c.index-lines-line.result c.as_str-text.result.now c.requires.rows c.line_of_row-line.ensures.line c.line_of_row-line.ensures.row c.line_of_row-line.ensures.inside c.rows_of-ranges.ensures c.index-lines-line.is c.as_str-text.ensures.value in
+    let before = c.range.ensures.value ∙ ap (λ n. take n c.as_str-text.result.now) (minus-zero _) in
+    row_shown _ _ _ _ _ _
     found.text_is.line_is
-
-pub returns-clause-first : goal.returns-clause-first
-returns-clause-first c =
-    let found = found_row c.args.self.now.wrapping c.args.lines.now c.args.self.now.rows c.args.row c.line_of_row-line.result.0 c.line_of_row-line.result.1 c.rows_of-ranges.result.now c.index-lines-line.result c.as_str-text.result.now c.requires.rows c.line_of_row-line.ensures.line c.line_of_row-line.ensures.row c.line_of_row-line.ensures.inside c.rows_of-ranges.ensures c.index-lines-line.is c.as_str-text.ensures.value in
-    ap (λ t. length (chars t)) (c.range.ensures.value ∙ ap (λ n. take n c.as_str-text.result.now) (minus-zero _)) ∙ found.text_is.first_is
-
-pub returns-clause-text : goal.returns-clause-text
-returns-clause-text c =
-    let found = found_row c.args.self.now.wrapping c.args.lines.now c.args.self.now.rows c.args.row c.line_of_row-line.result.0 c.line_of_row-line.result.1 c.rows_of-ranges.result.now c.index-lines-line.result c.as_str-text.result.now c.requires.rows c.line_of_row-line.ensures.line c.line_of_row-line.ensures.row c.line_of_row-line.ensures.inside c.rows_of-ranges.ensures c.index-lines-line.is c.as_str-text.ensures.value in
-    ap chars c.range-2.ensures.value ∙ found.text_is.text_is
-
-pub returns-clause-is_last : goal.returns-clause-is_last
-returns-clause-is_last c =
-    let found = found_row c.args.self.now.wrapping c.args.lines.now c.args.self.now.rows c.args.row c.line_of_row-line.result.0 c.line_of_row-line.result.1 c.rows_of-ranges.result.now c.index-lines-line.result c.as_str-text.result.now c.requires.rows c.line_of_row-line.ensures.line c.line_of_row-line.ensures.row c.line_of_row-line.ensures.inside c.rows_of-ranges.ensures c.index-lines-line.is c.as_str-text.ensures.value in
+    (omega (arith, c.range.ensures.len, found.text_is.start_is))
+    (ap (λ t. length (chars t)) before ∙ found.text_is.first_is)
+    (ap chars c.range-2.ensures.value ∙ found.text_is.text_is)
     found.text_is.last_is
 
 pub returns-clause-before : goal.returns-clause-before
