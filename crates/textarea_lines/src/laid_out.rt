@@ -1,4 +1,6 @@
 //! The lines of a text with their visual rows, kept line by line.
+mod width;
+
 ghost use Rattle.std.specs.Prelude.{◌≡◌, ◌+◌, ◌-◌, ◌<◌, ◌≤◌, ◌^◌, ◌↔◌, [], length, vec_len, false, true, IfOk, IfSome, IsOk, IsTrue, OnErr, OnOk, if◌then◌else◌};
 ghost use Rattle.textarea_text.specs.Place.{Place, IsPlace};
 ghost use Rattle.textarea_text.specs.Size.{size_of, weight};
@@ -22,6 +24,7 @@ use textarea_map::layout::rows_in;
 use textarea_map::screen_map::ScreenMap;
 use textarea_text::rows::{Replacement, size_within_limit, within_limit};
 use textarea_wrap::wrap::WrapCount;
+pub use width::PreparedWidth;
 
 /// Lines of text, one at least, and the rows into which each is cut. A change cuts the lines that it touches, and all lines
 /// only where the number of lines changes how they are cut.
