@@ -1,8 +1,7 @@
 -- Lines that are lent with their rows, and lines at an inner width that is prepared.
 use Rattle.std.proofs.Common.{◌≡◌, ℕ, ◌+◌, ◌≤◌, ◌^◌, Bool, true, false, cond, List, Option, Some, None, length, sym, ap, ◌∙◌, refl, subst, String}
 use Rattle.std.proofs.lemmas.List.{length-map}
-use Rattle.textarea_text.specs.Text.{Symbol, characters_of, lines, lines_of, text_of}
-use Rattle.textarea_text.specs.Size.{size_of}
+use Rattle.textarea_text.specs.Text.{Symbol, characters_of, lines, lines_of}
 use Rattle.textarea_wrap.specs.RowsView.{RowsView}
 use Rattle.textarea_map.specs.declared.layout.Wrapping.{Wrapping}
 use Rattle.textarea_map.specs.Layout.{AreRowsOf, ticks_behind, ticks_of, with_tab_len}
@@ -13,7 +12,7 @@ use Rattle.textarea_lines.specs.Layout.{LaidOut, at_width, laid_out_anew, laid_o
 use Rattle.textarea_lines.specs.Stored.{HoldsRows}
 use Rattle.textarea_lines.specs.View.{IsCutFor, IsCutWhereOther, IsLent, IsViewOf, lent_rows}
 use Rattle.textarea_lines.specs.Wrappings.{is_same, is_wrapped, wrapping_for}
-use Rattle.textarea_lines.proofs.Changes.{Reviewing, test_is}
+use Rattle.textarea_lines.proofs.Changes.{Reviewing, holds_whole, holds_wrapped, test_is}
 use Rattle.textarea_lines.proofs.SameCuts.{kept_whole, kept_wrapped}
 use Rattle.textarea_lines.proofs.Stores.{count_held, laid_out_as, lines_held, seen, tab_len_of}
 
@@ -82,23 +81,50 @@ kept_at old settings n before tab is same = by (is_wrapped settings) refl
     by true wrapped = kept_wrapped settings n before wrapped same
     by false whole = sym stops ∙ kept_whole old settings n before is whole same
 
--- their rows stay right
-pub holds_kept : {Z : Type 0} (old settings : LayoutSettings) (items : List (String Z)) (size count : ℕ) (map : MapView) (laid : LaidOut) → Holds old items size count map laid → settings.tab_len ≡ old.tab_len → stays_cut laid settings ≡ true → Holds settings items size count map (laid_out_with laid settings)
-holds_kept old settings items size count map laid h tab stays =
-    let same : is_same (wrapping_for settings (length items)) map.wrapping ≡ true =
+-- as they stand, and as they are kept
+stays_same : {Z : Type 0} (old settings : LayoutSettings) (items : List (String Z)) (size count : ℕ) (map : MapView) (laid : LaidOut) → Holds old items size count map laid → stays_cut laid settings ≡ true → is_same (wrapping_for settings (length items)) map.wrapping ≡ true
+stays_same old settings items size count map laid h stays =
     ap (is_same (wrapping_for settings (length items))) h.rows.wrapping_is
     ∙ sym (ap (λ n. is_same (wrapping_for settings n) (wrapping_for old n)) (count_held items h.rows.stored.some))
     ∙ ap (λ (l : LaidOut). is_same (wrapping_for settings (length (lines l.text))) (wrapping_of l)) h.is
-    ∙ stays in
+    ∙ stays
+
+-- the same rows under the settings
+seen_kept : {Z : Type 0} (old settings : LayoutSettings) (items : List (String Z)) (size count : ℕ) (map : MapView) (rows : List RowsView) (laid : LaidOut) → Holds old items size count map laid → stays_cut laid settings ≡ true → rows ≡ map.rows → seen settings items count rows ≡ laid_out_with laid settings
+seen_kept old settings items size count map rows laid h stays rows_are =
+    ap (seen settings items count) rows_are
+    ∙ ap (λ (l : LaidOut). record { text = l.text; layout = record { settings = settings; count = l.layout.count; ticks = l.layout.ticks } }) h.is
+    ∙ ap (λ (b : Bool). cond b (record { text = laid.text; layout = record { settings = settings; count = laid.layout.count; ticks = laid.layout.ticks } }) (laid_out_anew settings laid.layout.count laid.text)) (sym stays)
+
+-- their rows stay right: at the same tab stops, where they are wrapped, and where they are not, at the new tab stops
+pub holds_kept : {Z : Type 0} (old settings : LayoutSettings) (items : List (String Z)) (size count : ℕ) (map : MapView) (laid : LaidOut) → Holds old items size count map laid → settings.tab_len ≡ old.tab_len → stays_cut laid settings ≡ true → Holds settings items size count map (laid_out_with laid settings)
+holds_kept old settings items size count map laid h tab stays =
     record {
-      rows = record { stored = h.rows.stored; wrapping_is = kept_at old settings (length items) map.wrapping tab h.rows.wrapping_is same; laid_out = h.rows.laid_out };
-      is = ap (λ (l : LaidOut). record { text = l.text; layout = record { settings = settings; count = l.layout.count; ticks = l.layout.ticks } }) h.is
-          ∙ ap (λ (b : Bool). cond b (record { text = laid.text; layout = record { settings = settings; count = laid.layout.count; ticks = laid.layout.ticks } }) (laid_out_anew settings laid.layout.count laid.text)) (sym stays);
+      rows = record {
+        stored = h.rows.stored;
+        wrapping_is = kept_at old settings (length items) map.wrapping tab h.rows.wrapping_is (stays_same old settings items size count map laid h stays);
+        laid_out = h.rows.laid_out;
+      };
+      is = seen_kept old settings items size count map map.rows laid h stays refl;
+    }
+
+pub holds_kept_wrapped : {Z : Type 0} (old settings : LayoutSettings) (items : List (String Z)) (size count : ℕ) (map : MapView) (laid : LaidOut) → Holds old items size count map laid → is_wrapped settings ≡ true → stays_cut laid settings ≡ true → Holds settings items size count map (laid_out_with laid settings)
+holds_kept_wrapped old settings items size count map laid h wrapped stays =
+    record {
+      rows = holds_wrapped old settings items size map wrapped (stays_same old settings items size count map laid h stays) h.rows;
+      is = seen_kept old settings items size count map map.rows laid h stays refl;
+    }
+
+pub holds_kept_whole : {Z : Type 0} (old settings : LayoutSettings) (items : List (String Z)) (size count : ℕ) (map now : MapView) (laid : LaidOut) → Holds old items size count map laid → is_wrapped settings ≡ false → stays_cut laid settings ≡ true → now.rows ≡ map.rows → now.wrapping ≡ with_tab_len map.wrapping settings.tab_len → AreRowsOf now.wrapping (lines_of items) now.rows → Holds settings items size count now (laid_out_with laid settings)
+holds_kept_whole old settings items size count map now laid h whole stays rows_are wrapping_is right =
+    record {
+      rows = holds_whole old settings items size map now whole (stays_same old settings items size count map laid h stays) h.rows wrapping_is right;
+      is = seen_kept old settings items size count map now.rows laid h stays rows_are;
     }
 
 -- ---- a width that is prepared
 
--- the map and the count at a width that is prepared, where they are these now
+-- the map of the rows at a width that is prepared, and the count there, where they are these now
 abbrev pub map_at : Option CutAnew → MapView → MapView
 map_at None map = map
 map_at (Some cut) map = cut.map

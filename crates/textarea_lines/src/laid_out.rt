@@ -171,20 +171,8 @@ impl LaidOutLines {
         ensures err { OnErr result (self.new ≡ self.old) }
         ensures no_memory { stays_cut self.old settings ≡ true → IsOk result }
     {
-        let before = self.map.wrapping();
-        let after = wrapping_for(settings, self.lines.len());
-        if is_same(after, before) {
-            if !is_wrapped(settings) {
-                self.map.set_tab_len(settings.tab_len);
-            }
-            self.settings = settings;
-            return Ok(());
-        }
-        let mut count = self.count.clone()?;
-        let alloc = *self.lines.allocator();
-        self.map = ScreenMap::new(alloc, self.lines.as_slice(), after, &mut count)?;
-        self.count = count;
-        self.settings = settings;
+        let cut = self.cut_for(settings)?;
+        self.put(settings, cut);
         Ok(())
     }
 

@@ -5,7 +5,7 @@ ghost use Rattle.textarea_lines.specs.View.{IsCutWhereOther, IsPrepared, IsViewO
 
 use super::LaidOutLines;
 use crate::cut::CutAnew;
-use crate::settings::{LayoutSettings, is_same, wrapping_for};
+use crate::settings::{LayoutSettings, is_same, is_wrapped, wrapping_for};
 use crate::view::LaidOutView;
 use std::alloc::AllocError;
 use std::marker::Model;
@@ -54,6 +54,26 @@ impl LaidOutLines {
         Ok(Some(CutAnew { map, count }))
     }
 
+    // Sets what decides how the lines are cut and seen, with what was cut for it, without memory.
+    pub(super) fn put(&mut self, settings: LayoutSettings, cut: Option<CutAnew>)
+        requires { IsCutWhereOther self.old settings cut }
+        ensures { self.new ≡ laid_out_with self.old settings }
+    {
+        match cut {
+            Some(cut) => {
+                let CutAnew { map, count } = cut;
+                self.map = map;
+                self.count = count;
+            }
+            None => {
+                if !is_wrapped(settings) {
+                    self.map.set_tab_len(settings.tab_len);
+                }
+            }
+        }
+        self.settings = settings;
+    }
+
     /// Makes the lines ready for an inner width, in columns. They are cut for it, each once, only where they are cut in another
     /// way at it, and only then memory is taken. They stay as they are.
     pub fn prepare_width(&self, inner_width: u16) -> Result<PreparedWidth, AllocError>
@@ -89,11 +109,12 @@ impl LaidOutLines {
             ≡ laid_out_with self.old (at_width self.old prepared.inner_width) }
     {
         let PreparedWidth { inner_width, cut } = prepared;
-        if let Some(cut) = cut {
-            let CutAnew { map, count } = cut;
-            self.map = map;
-            self.count = count;
-        }
-        self.settings.inner_width = inner_width;
+        self.put(
+            LayoutSettings {
+                inner_width,
+                ..self.settings
+            },
+            cut,
+        );
     }
 }
