@@ -15,6 +15,7 @@ use Rattle.textarea_lines.specs.Layout.{LaidOut, Layout, all_cut, laid_out_anew,
 use Rattle.textarea_lines.specs.Wrappings.{is_same, wrapping_for}
 use Rattle.textarea_document.specs.State.{DocumentState, document_of, fresh_document, logged}
 use Rattle.textarea_document.specs.Outcomes.{after_change, edited, redone_by, layout_after, undone_by}
+use Rattle.textarea_document.specs.Rows.{laid_out_of, with_layout_settings}
 use Rattle.textarea_document.specs.Sound.{IsSound}
 use Rattle.textarea_document.proofs.Ranges.{valid_none}
 
@@ -112,3 +113,14 @@ pub sound_viewed : {T E : Type 0} (r : Result T E) (laid new : LaidOut) (setting
 sound_viewed r laid new settings cursor anchor ranges log ok err h =
     subst (λ (t : List Symbol). IsSound (record { text = t; layout = new.layout; cursor = cursor; anchor = anchor; ranges = ranges; log = log })) (sym (text_viewed r laid new settings ok err))
     (resound (document_of laid cursor anchor ranges log) new.layout h)
+
+-- the lines under other settings are those of the document under them
+pub laid_out_seen : (document : DocumentState) (settings : LayoutSettings) → laid_out_with (laid_out_of document) settings ≡ laid_out_of (with_layout_settings document settings)
+laid_out_seen document settings =
+    let after = laid_out_with (laid_out_of document) settings in
+    ap (λ (t : List Symbol). record { text = t; layout = after.layout }) (text_seen (laid_out_of document) settings)
+
+-- a document whose lines are seen under other settings
+pub settings_put : (laid new : LaidOut) (settings : LayoutSettings) (cursor : Place) (anchor : Option Place) (ranges : List AtomicRange) (log : Log) → new ≡ laid_out_with laid settings → document_of new cursor anchor ranges log ≡ with_layout_settings (document_of laid cursor anchor ranges log) settings
+settings_put laid new settings cursor anchor ranges log is =
+    ap (λ (l : LaidOut). document_of l cursor anchor ranges log) (is ∙ laid_out_seen (document_of laid cursor anchor ranges log) settings)

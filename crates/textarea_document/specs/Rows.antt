@@ -3,7 +3,7 @@ use Rattle.std.specs.Prelude.{ℕ, Option}
 use Rattle.textarea_text.specs.Place.{Place}
 use Rattle.textarea_lines.specs.declared.settings.LayoutSettings.{LayoutSettings}
 use Rattle.textarea_lines.specs.Rows.{IsFoundAbove, IsFoundBelow, IsRowCountAt}
-use Rattle.textarea_lines.specs.Layout.{LaidOut, laid_out_with}
+use Rattle.textarea_lines.specs.Layout.{LaidOut, at_width, laid_out_with}
 use Rattle.textarea_document.specs.State.{DocumentState}
 
 -- the text with its layout
@@ -26,3 +26,8 @@ HasRowsAt document inner_width count = IsRowCountAt (laid_out_of document) inner
 abbrev pub with_layout_settings : DocumentState → LayoutSettings → DocumentState
 with_layout_settings document settings =
     record document { layout = (laid_out_with (laid_out_of document) settings).layout }
+
+-- the same settings, but with an inner area of this many columns
+abbrev pub with_inner_width : DocumentState → ℕ → DocumentState
+with_inner_width document inner_width =
+    with_layout_settings document (at_width (laid_out_of document) inner_width)

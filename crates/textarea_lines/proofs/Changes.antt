@@ -16,7 +16,7 @@ use Rattle.textarea_map.specs.declared.layout.Wrapping.{Wrapping}
 use Rattle.textarea_map.specs.Layout.{AreRowsOf, ticks_behind, ticks_of, with_tab_len}
 use Rattle.textarea_map.specs.Map.{MapView}
 use Rattle.textarea_lines.specs.declared.settings.LayoutSettings.{LayoutSettings}
-use Rattle.textarea_lines.specs.Layout.{LaidOut, applied_to, laid_out_anew, after_replacement, replaced_in, laid_out_with, wrapping_of}
+use Rattle.textarea_lines.specs.Layout.{LaidOut, Layout, applied_to, laid_out_anew, after_replacement, replaced_in, wrapping_of}
 use Rattle.textarea_lines.specs.Stored.{IsStored, HoldsRows}
 use Rattle.textarea_lines.specs.Wrappings.{is_same, is_wrapped, wrapping_for}
 use Rattle.textarea_lines.proofs.Layouts.{map-replaced}
@@ -94,13 +94,6 @@ pub record Reviewing {Z : Type 0} (old settings : LayoutSettings) (items : List 
 pub test_is : {Z : Type 0} (old settings : LayoutSettings) (items : List (String Z)) (count : ℕ) (rows : List RowsView) (laid : LaidOut) (before after : Wrapping) → Reviewing old settings items count rows laid before after → is_same (wrapping_for settings (length (lines laid.text))) (wrapping_of laid) ≡ is_same after before
 test_is old settings items count rows laid before after h =
     rw (← h.is, count_held items h.some, h.after_is, h.before_is)
-
-pub viewed_same : {Z : Type 0} (old settings : LayoutSettings) (items : List (String Z)) (count : ℕ) (rows : List RowsView) (laid : LaidOut) (before after : Wrapping) → Reviewing old settings items count rows laid before after → is_same after before ≡ true → seen settings items count rows ≡ laid_out_with laid settings
-viewed_same old settings items count rows laid before after h same = rw (test_is old settings items count rows laid before after h, same, ← h.is)
-
-pub viewed_anew : {Z : Type 0} (old settings : LayoutSettings) (items : List (String Z)) (count now : ℕ) (rows new : List RowsView) (laid : LaidOut) (before after : Wrapping) → Reviewing old settings items count rows laid before after → is_same after before ≡ false → seen settings items now new ≡ laid_out_anew settings count (text_of items) → seen settings items now new ≡ laid_out_with laid settings
-viewed_anew old settings items count now rows new laid before after h differs e =
-    rw (test_is old settings items count rows laid before after h, differs, ← h.is) e
 
 -- where the lines are cut as before, their rows stay right: those of wrapped lines as they are, others at the new tab stops
 pub holds_wrapped : {Z : Type 0} (old settings : LayoutSettings) (items : List (String Z)) (size : ℕ) (map : MapView) → is_wrapped settings ≡ true → is_same (wrapping_for settings (length items)) map.wrapping ≡ true → HoldsRows old items size map → HoldsRows settings items size map

@@ -7,3 +7,4 @@ mod Measuring
 mod WholeLines
 mod OneList
 mod Steps
+mod Widths

@@ -91,6 +91,15 @@ stays_cut laid settings = is_same (wrapping_for settings (length (lines laid.tex
 abbrev pub is_cut_at : LaidOut → ℕ → Bool
 is_cut_at laid inner_width = is_same (wrapping_at laid inner_width) (wrapping_of laid)
 
+-- the settings, but with an inner area of this many columns
+abbrev pub at_width : LaidOut → ℕ → LayoutSettings
+at_width laid inner_width = record {
+  mode = laid.layout.settings.mode;
+  tab_len = laid.layout.settings.tab_len;
+  line_numbers = laid.layout.settings.line_numbers;
+  inner_width = inner_width;
+}
+
 -- the same text seen in another way: its lines are cut anew where they are cut in another way
 abbrev pub laid_out_with : LaidOut → LayoutSettings → LaidOut
 laid_out_with laid settings =

@@ -2,3 +2,4 @@ pub mod Wrappings
 pub mod Layout
 pub mod Stored
 pub mod Rows
+pub mod View

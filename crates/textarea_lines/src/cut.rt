@@ -14,6 +14,13 @@ use textarea_map::screen_map::{PreparedRows, ScreenMap};
 use textarea_text::rows::Replacement;
 use textarea_wrap::wrap::{Rows, WrapCount, WrapMode, line_ranges};
 
+// The rows of all lines, cut anew, and the count afterwards.
+#[derive(Drop)]
+pub struct CutAnew {
+    pub map: ScreenMap,
+    pub count: WrapCount,
+}
+
 // The rows of all lines after the replacement: of those above it, of its lines, and of those below it.
 pub(crate) fn rows_after(
     alloc: Global,

@@ -1,4 +1,6 @@
 //! The lines of a text with their visual rows, kept line by line.
+mod width;
+
 ghost use Rattle.std.specs.Prelude.{◌≡◌, ◌+◌, ◌-◌, ◌<◌, ◌≤◌, ◌^◌, ◌↔◌, [], length, vec_len, false, true, IfOk, IfSome, IsOk, IsTrue, OnErr, OnOk, if◌then◌else◌};
 ghost use Rattle.textarea_text.specs.Place.{Place, IsPlace};
 ghost use Rattle.textarea_text.specs.Size.{size_of, weight};
@@ -22,6 +24,7 @@ use textarea_map::layout::rows_in;
 use textarea_map::screen_map::ScreenMap;
 use textarea_text::rows::{Replacement, size_within_limit, within_limit};
 use textarea_wrap::wrap::WrapCount;
+pub use width::PreparedWidth;
 
 /// Lines of text, one at least, and the rows into which each is cut. A change cuts the lines that it touches, and all lines
 /// only where the number of lines changes how they are cut.
@@ -168,20 +171,8 @@ impl LaidOutLines {
         ensures err { OnErr result (self.new ≡ self.old) }
         ensures no_memory { stays_cut self.old settings ≡ true → IsOk result }
     {
-        let before = self.map.wrapping();
-        let after = wrapping_for(settings, self.lines.len());
-        if is_same(after, before) {
-            if !is_wrapped(settings) {
-                self.map.set_tab_len(settings.tab_len);
-            }
-            self.settings = settings;
-            return Ok(());
-        }
-        let mut count = self.count.clone()?;
-        let alloc = *self.lines.allocator();
-        self.map = ScreenMap::new(alloc, self.lines.as_slice(), after, &mut count)?;
-        self.count = count;
-        self.settings = settings;
+        let cut = self.cut_for(settings)?;
+        self.put(settings, cut);
         Ok(())
     }
 

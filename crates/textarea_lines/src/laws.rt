@@ -4,6 +4,7 @@ ghost use Rattle.textarea_text.specs.Place.{Place};
 ghost use Rattle.textarea_wrap.specs.RowsView.{RowsView};
 ghost use Rattle.textarea_lines.specs.Rows.{IsFoundAbove, IsFoundBelow, IsLaidOutAs};
 ghost use Rattle.textarea_lines.specs.Layout.{LaidOut};
+ghost use Rattle.textarea_lines.specs.View.{IsViewOf, LentRows};
 
 use textarea_map::laws::{one_map, seen_once};
 
@@ -26,4 +27,12 @@ pub fn one_place_up_and_down()
 {
     one_list_of_rows();
     seen_once();
+}
+
+/// A text as it is laid out is lent in one way.
+pub fn one_view()
+    ensures { (laid : LaidOut) (view other : LentRows) →
+        IsViewOf laid view → IsViewOf laid other → view ≡ other }
+{
+    one_list_of_rows();
 }

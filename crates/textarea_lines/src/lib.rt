@@ -6,3 +6,4 @@ pub mod laid_out;
 pub mod laws;
 mod measured;
 pub mod settings;
+pub mod view;

@@ -23,6 +23,7 @@ use Rattle.textarea_map.proofs.Parts.{Parts, characters_between, column_before, 
 -- the row is the one of this number in a line
 pub record IsNumbered (row : VisualRow) (number : ℕ) (line : List ℕ) (ranges : List (ℕ × ℕ)) (k : ℕ) : Type 0 where
   pub line_is : row.line ≡ number
+  pub start_is : row.start ≡ (range_at ranges k).0
   pub first_is : row.first ≡ length (chars (take (range_at ranges k).0 (encode_utf8_all line)))
   pub text_is : row.text ≡ chars (take ((range_at ranges k).1 - (range_at ranges k).0) (drop (range_at ranges k).0 (encode_utf8_all line)))
   pub last : k + 1 ≡ length ranges → row.is_last ≡ true
@@ -30,13 +31,14 @@ pub record IsNumbered (row : VisualRow) (number : ℕ) (line : List ℕ) (ranges
 
 row_of_line : (number : ℕ) (line : List ℕ) (ranges : List (ℕ × ℕ)) (k : ℕ) (d : VisualRow) → k < length ranges → IsNumbered (get_or (rows_of_line number line ranges) k d) number line ranges k
 row_of_line number line [] k d h = absurd (omega arith)
-row_of_line number line (r ∷ []) zero d h = record { line_is = refl; first_is = refl; text_is = refl; last = λ _. refl; more = λ m. absurd (omega (arith, m)) }
+row_of_line number line (r ∷ []) zero d h = record { line_is = refl; start_is = refl; first_is = refl; text_is = refl; last = λ _. refl; more = λ m. absurd (omega (arith, m)) }
 row_of_line number line (r ∷ []) (suc k) d h = absurd (omega arith)
-row_of_line number line (r ∷ s ∷ ranges) zero d h = record { line_is = refl; first_is = refl; text_is = refl; last = λ e. absurd (omega (arith, e)); more = λ _. refl }
+row_of_line number line (r ∷ s ∷ ranges) zero d h = record { line_is = refl; start_is = refl; first_is = refl; text_is = refl; last = λ e. absurd (omega (arith, e)); more = λ _. refl }
 row_of_line number line (r ∷ s ∷ ranges) (suc k) d h =
     let found = row_of_line number line (s ∷ ranges) k d (omega arith) in
     record {
       line_is = found.line_is;
+      start_is = found.start_is;
       first_is = found.first_is;
       text_is = found.text_is;
       last = λ e. found.last (omega (arith, e));
@@ -77,7 +79,7 @@ row_of_lines w m (line ∷ lines) (r ∷ rows) (suc i) k d h within there =
 pub row_numbered : (w : Wrapping) (lines : List (List ℕ)) (rows : List RowsView) (i k : ℕ) → AreRowsOf w lines rows → i < length lines → k < length (ranges_at rows i) → IsNumbered (row_at lines rows (row_total (take i rows) + k)) i (get_or lines i []) (ranges_at rows i) k
 unfolding row_at visual_rows
 row_numbered w lines rows i k h within there =
-    let none : VisualRow = record { line = 0; first = 0; text = []; is_last = true } in
+    let none : VisualRow = record { line = 0; start = 0; first = 0; text = []; is_last = true } in
     let number : 0 + i ≡ i = omega arith in
     rw number at (row_of_lines w 0 lines rows i k none h within there)
 
@@ -210,6 +212,9 @@ seen_in w lines rows place k offset first column slice h is_place there from nex
 
 -- ---- a visual row as the code has it
 
+pub row_shown : (row : VisualRow) (line start first : ℕ) (text : List ℕ) (is_last : Bool) → line ≡ row.line → start ≡ row.start → first ≡ row.first → text ≡ row.text → is_last ≡ row.is_last → record { line = line; start = start; first = first; text = text; is_last = is_last } ≡ row
+row_shown row line start first text is_last l s f t e = rw (l, s, f, t, e) refl
+
 pub number_there : (rows : List RowsView) (line number row : ℕ) → line < length rows → row_total (take line rows) + number ≡ row → row < row_total (take (line + 1) rows) → number < length (ranges_at rows line)
 number_there [] line number row within e below = absurd (omega arith)
 number_there (r ∷ rows) zero number row within e below = omega (arith, e, below)
@@ -222,6 +227,7 @@ pub record IsTextOfRow (row : VisualRow) (line number : ℕ) (ranges : List (ℕ
   pub placed : IsRowRange text (range_at ranges number)
   pub short : length text < 2 ^ 48
   pub line_is : line ≡ row.line
+  pub start_is : (range_at ranges number).0 ≡ row.start
   pub first_is : length (chars (take (range_at ranges number).0 text)) ≡ row.first
   pub text_is : chars (take ((range_at ranges number).1 - (range_at ranges number).0) (drop (range_at ranges number).0 text)) ≡ row.text
   pub last_is : nat_eq (number + 1) (length ranges) ≡ row.is_last
@@ -241,6 +247,7 @@ text_of_row w lines rows row line number ranges text h within there row_is range
       placed = range_is _ _ _ _ (ranges_at rows line) number cut there;
       short = (rows_at w lines rows line h within).short;
       line_is = sym numbered.line_is;
+      start_is = sym numbered.start_is;
       first_is = sym numbered.first_is;
       text_is = sym numbered.text_is;
       last_is = last_row (row_at lines rows row) number (length (ranges_at rows line)) there numbered.last numbered.more;

@@ -2,3 +2,4 @@ pub mod Layout
 pub mod Map
 pub mod Rows
 pub mod Seen
+pub mod Shown

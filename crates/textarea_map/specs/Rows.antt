@@ -3,10 +3,11 @@ use Rattle.std.specs.Prelude.{ℕ, ◌+◌, ◌-◌, Bool, true, false, List, []
 use Rattle.textarea_wrap.specs.Columns.{display_end_column}
 use Rattle.textarea_wrap.specs.RowsView.{RowsView}
 
--- A row as it is seen: the number of its line, the column of that line at which it begins, its characters, and whether it is its
--- line's last row.
+-- A row as it is seen: the number of its line, the bytes of that line before it, the column of that line at which it begins, its
+-- characters, and whether it is its line's last row.
 pub record VisualRow : Type 0 where
   pub line : ℕ
+  pub start : ℕ
   pub first : ℕ
   pub text : List ℕ
   pub is_last : Bool
@@ -15,6 +16,7 @@ pub record VisualRow : Type 0 where
 abbrev pub row_between : ℕ → List ℕ → ℕ × ℕ → Bool → VisualRow
 row_between number line range is_last = record {
   line = number;
+  start = range.0;
   first = length (chars (take range.0 (encode_utf8_all line)));
   text = chars (take (range.1 - range.0) (drop range.0 (encode_utf8_all line)));
   is_last = is_last;
@@ -38,7 +40,7 @@ visual_rows lines rows = rows_from 0 lines rows
 
 -- a visual row by its number; there is an empty one where there is none of this number
 unfoldable pub row_at : List (List ℕ) → List RowsView → ℕ → VisualRow
-row_at lines rows row = get_or (visual_rows lines rows) row (record { line = 0; first = 0; text = []; is_last = true })
+row_at lines rows row = get_or (visual_rows lines rows) row (record { line = 0; start = 0; first = 0; text = []; is_last = true })
 
 -- ---- columns
 

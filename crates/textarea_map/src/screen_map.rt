@@ -9,6 +9,7 @@ ghost use Rattle.textarea_map.specs.Layout.{AreRowsOf, ticks_behind, ticks_of, w
 ghost use Rattle.textarea_map.specs.Map.{IsReady, IsWithinLimit, firsts_from, ranges_at, row_total, rows_with, size_total};
 
 use crate::layout::{Wrapping, count_rows, rows_of, size_of_rows};
+pub use look_up::RowText;
 use std::alloc::{AllocError, Global};
 use std::marker::Model;
 use textarea_text::replace::replace_items;
@@ -238,8 +239,8 @@ impl ScreenMap {
         self.total
     }
 
-    /// The first visual row of the line, or the number of visual rows behind the last line.
-    pub fn first_row(&self, line: usize) -> usize
+    // The first visual row of the line, or the number of visual rows behind the last line.
+    fn first_row(&self, line: usize) -> usize
         requires { line ≤ length self.now.rows }
         ensures { result ≡ row_total (take line self.now.rows) }
     {
@@ -250,8 +251,8 @@ impl ScreenMap {
         }
     }
 
-    /// The line of the visual row, and the row's number among the rows of that line.
-    pub fn line_of_row(&self, row: usize) -> (usize, usize)
+    // The line of the visual row, and the row's number among the rows of that line.
+    fn line_of_row(&self, row: usize) -> (usize, usize)
         requires { row < row_total self.now.rows }
         ensures line { result.0 < length self.now.rows }
         ensures row { row_total (take result.0 self.now.rows) + result.1 ≡ row }
@@ -270,8 +271,8 @@ impl ScreenMap {
         (low, row - self.firsts[low])
     }
 
-    /// For each row of the line the offset in bytes of its first byte, and the offset behind its last one.
-    pub fn rows_of(&self, line: usize) -> &[(usize, usize)]
+    // For each row of the line the offset in bytes of its first byte, and the offset behind its last one.
+    fn rows_of(&self, line: usize) -> &[(usize, usize)]
         requires { line < length self.now.rows }
         ensures { result.now ≡ ranges_at self.now.rows line }
     {

@@ -1,12 +1,17 @@
 //! The visual rows of a document.
 ghost use Rattle.std.specs.Prelude.{◌≡◌, true, IfOk, IfSome, IsOk, OnErr, OnOk};
 ghost use Rattle.textarea_text.specs.Place.{IsPlace};
-ghost use Rattle.textarea_lines.specs.Layout.{is_cut_at, stays_cut};
-ghost use Rattle.textarea_document.specs.Rows.{HasRowsAt, IsAboveCursor, IsBelowCursor, laid_out_of, with_layout_settings};
+ghost use Rattle.textarea_map.specs.Map.{row_total};
+ghost use Rattle.textarea_lines.specs.Layout.{at_width, is_cut_at, stays_cut};
+ghost use Rattle.textarea_lines.specs.Rows.{OfRows};
+ghost use Rattle.textarea_lines.specs.View.{IsPrepared, IsViewOf};
+ghost use Rattle.textarea_document.specs.Rows.{HasRowsAt, IsAboveCursor, IsBelowCursor, laid_out_of, with_inner_width, with_layout_settings};
 
 use crate::document::Document;
 use std::alloc::AllocError;
+use textarea_lines::laid_out::PreparedWidth;
 use textarea_lines::settings::LayoutSettings;
+use textarea_lines::view::LaidOutView;
 
 impl Document {
     /// What decides how the lines are cut and seen.
@@ -42,6 +47,48 @@ impl Document {
         ensures below { IsBelowCursor self.now result }
     {
         self.laid.below(self.cursor)
+    }
+
+    /// How many visual rows the text has in all.
+    pub fn row_count(&self) -> usize
+        ensures { OfRows (laid_out_of self.now) (λ rows. result ≡ row_total rows) }
+    {
+        self.laid.row_count()
+    }
+
+    /// The lines with their visual rows, as they stand.
+    pub fn view(&self) -> LaidOutView<'_>
+        ensures { IsViewOf (laid_out_of self.now) result }
+    {
+        self.laid.view()
+    }
+
+    /// Makes the lines ready for an inner width, in columns. They are cut for it, each once, only where they are cut in another
+    /// way at it, and only then memory is taken. The document stays as it is.
+    pub fn prepare_width(&self, inner_width: u16) -> Result<PreparedWidth, AllocError>
+        ensures prepared { IfOk result (IsPrepared (laid_out_of self.now)) }
+        ensures width { IfOk result (λ prepared. prepared.inner_width ≡ inner_width) }
+        ensures no_memory { let laid = laid_out_of self.now in
+            stays_cut laid (at_width laid inner_width) ≡ true → IsOk result }
+    {
+        self.laid.prepare_width(inner_width)
+    }
+
+    /// The lines with their visual rows, as they will stand once the width is put in.
+    pub fn view_with<'a>(&'a self, prepared: &'a PreparedWidth) -> LaidOutView<'a>
+        requires { IsPrepared (laid_out_of self.now) prepared.now }
+        ensures { IsViewOf
+            (laid_out_of (with_inner_width self.now prepared.now.inner_width)) result }
+    {
+        self.laid.view_with(prepared)
+    }
+
+    /// Sets the inner width that is prepared, without memory; no line is cut.
+    pub fn put_width(&mut self, prepared: PreparedWidth)
+        requires { IsPrepared (laid_out_of self.old) prepared }
+        ensures { self.new ≡ with_inner_width self.old prepared.inner_width }
+    {
+        self.laid.put_width(prepared);
     }
 
     /// How many visual rows the text would have in all in an inner area of this width, in columns. Where the lines are cut so

@@ -1,12 +1,13 @@
 //! Look-ups of a screen map: where a place is seen, which place a visual row and a display column lead back to, and where a
 //! cursor goes up and down. None of them takes memory. The lines that the map was made for are lent. A tab reaches to the next
 //! tab stop, and takes one column where there are none.
-ghost use Rattle.std.specs.Prelude.{◌≡◌, ◌+◌, ◌<◌, ◌≤◌, ◌^◌, [], chars, length, get_or, min, MatchOption};
+ghost use Rattle.std.specs.Prelude.{◌≡◌, ◌+◌, ◌<◌, ◌≤◌, ◌^◌, length, min, take, MatchOption};
 ghost use Rattle.textarea_text.specs.Text.{lines_of};
 ghost use Rattle.textarea_text.specs.Place.{IsPlaceOf};
 ghost use Rattle.textarea_map.specs.Layout.{AreRowsOf};
 ghost use Rattle.textarea_map.specs.Map.{range_at, row_total};
 ghost use Rattle.textarea_map.specs.Rows.{greatest_column, row_at, row_width};
+ghost use Rattle.textarea_map.specs.Shown.{shown_row};
 ghost use Rattle.textarea_map.specs.Seen.{IsAbove, IsBelow, IsInFirstRow, IsInLastRow, IsPlaceAt, IsPlaceNear, IsVisualPosition};
 
 use super::ScreenMap;
@@ -14,13 +15,16 @@ use crate::columns::{character_at_column, greatest_cursor_column};
 use textarea_text::rows::{byte_offset, column_count};
 use textarea_wrap::wrap::columns::display_column_behind_text;
 
-// A visual row: its line, what stands before it in that line, its own text, and whether it is its line's last row.
+/// A visual row: its line, its number among the rows of that line, what stands before it in that line, its own text, and whether
+/// it is its line's last row. Of the line's bytes it has those from `before.len()` on, up to `before.len() + text.len()`, and its
+/// first character is the line's character of the number `before.chars().count()`.
 #[derive(Clone, Copy)]
-struct RowText<'a> {
-    line: usize,
-    before: &'a str,
-    text: &'a str,
-    is_last: bool,
+pub struct RowText<'a> {
+    pub line: usize,
+    pub number: usize,
+    pub before: &'a str,
+    pub text: &'a str,
+    pub is_last: bool,
 }
 
 // The last of the rows of a line that begins at the offset or before it.
@@ -45,17 +49,13 @@ fn row_holding(ranges: &[(usize, usize)], offset: usize) -> usize
 }
 
 impl ScreenMap {
-    // The text of a visual row.
-    fn row_text<'a>(&self, lines: &'a [String], row: usize) -> RowText<'a>
+    /// A visual row, as parts of the lines that are lent.
+    pub fn row_at<'a>(&self, lines: &'a [String], row: usize) -> RowText<'a>
         requires rows { AreRowsOf self.now.wrapping (lines_of lines.now) self.now.rows }
         requires row { row < row_total self.now.rows }
-        ensures line { result.line ≡ (row_at (lines_of lines.now) self.now.rows row).line }
-        ensures first { length (chars result.before.now)
-            ≡ (row_at (lines_of lines.now) self.now.rows row).first }
-        ensures text { chars result.text.now
-            ≡ (row_at (lines_of lines.now) self.now.rows row).text }
-        ensures is_last { result.is_last
-            ≡ (row_at (lines_of lines.now) self.now.rows row).is_last }
+        ensures shown { shown_row result ≡ row_at (lines_of lines.now) self.now.rows row }
+        ensures number { row_total (take result.line self.now.rows) + result.number ≡ row }
+        ensures line { result.line < length self.now.rows }
         ensures before { length result.before.now < 2 ^ 48 }
         ensures short { length result.text.now < 2 ^ 48 }
     {
@@ -65,6 +65,7 @@ impl ScreenMap {
         let text = lines[line].as_str();
         RowText {
             line,
+            number,
             before: &text[..start],
             text: &text[start..end],
             is_last: number + 1 == ranges.len(),
@@ -78,7 +79,7 @@ impl ScreenMap {
         ensures { result
             ≡ row_width self.now.wrapping.tab_len (row_at (lines_of lines.now) self.now.rows row) }
     {
-        let shown = self.row_text(lines, row);
+        let shown = self.row_at(lines, row);
         display_column_behind_text(shown.text, 0, self.wrapping.tab_len)
     }
 
@@ -90,7 +91,7 @@ impl ScreenMap {
         ensures { result ≡ greatest_column self.now.wrapping.tab_len
             (row_at (lines_of lines.now) self.now.rows row) }
     {
-        let shown = self.row_text(lines, row);
+        let shown = self.row_at(lines, row);
         greatest_cursor_column(shown.text, shown.is_last, self.wrapping.tab_len)
     }
 
@@ -121,7 +122,7 @@ impl ScreenMap {
         ensures found { IsPlaceAt self.now.wrapping.tab_len (lines_of lines.now)
             self.now.rows seen result }
     {
-        let shown = self.row_text(lines, seen.0);
+        let shown = self.row_at(lines, seen.0);
         let index = character_at_column(shown.text, seen.1, self.wrapping.tab_len);
         (shown.line, column_count(shown.before) + index)
     }

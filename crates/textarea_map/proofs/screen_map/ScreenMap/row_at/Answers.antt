@@ -3,9 +3,9 @@ use Rattle.std.proofs.lemmas.List.{length-map}
 use Rattle.std.specs.Str.{chars}
 use Rattle.textarea_text.specs.Text.{characters_of, lines_of}
 use Rattle.textarea_map.proofs.Layouts.{length-AreRowsOf}
-use Rattle.textarea_map.proofs.VisualRows.{IsFoundRow, found_row, number_there}
-use Rattle.textarea_map.proofs.screen_map.ScreenMap.row_text.Goals as goal
-use Rattle.textarea_map.proofs.screen_map.ScreenMap.row_text.Goals.{After-rows_of-ranges, After-as_str-text}
+use Rattle.textarea_map.proofs.VisualRows.{IsFoundRow, found_row, number_there, row_shown}
+use Rattle.textarea_map.proofs.screen_map.ScreenMap.row_at.Goals as goal
+use Rattle.textarea_map.proofs.screen_map.ScreenMap.row_at.Goals.{After-rows_of-ranges, After-as_str-text}
 
 minus-zero : (n : ℕ) → n - 0 ≡ n
 minus-zero n = omega arith
@@ -46,14 +46,19 @@ range-requires-2 c =
 pub overflow_add-result : goal.overflow_add-result
 overflow_add-result c = omega (arith, (found (goal.at.overflow_add-result c).After-as_str-text).there)
 
-pub returns : goal.returns
-returns c =
-    let is = (found (goal.at.returns c).After-as_str-text).text_is in
-    record {
-      line = is.line_is;
-      first = ap (λ t. length (chars t)) (c.range.ensures.value ∙ ap (λ n. take n c.as_str-text.result.now) (minus-zero _)) ∙ is.first_is;
-      text = ap chars c.range-2.ensures.value ∙ is.text_is;
-      is_last = is.last_is;
-      before = omega (arith, is.short, is.placed.start.0, c.range.ensures.len);
-      short = omega (arith, is.short, is.placed.end.0, c.range-2.ensures.len);
-    }
+pub returns-clause-shown : goal.returns-clause-shown
+returns-clause-shown c =
+    let is = (found (goal.at.returns-clause-shown c).After-as_str-text).text_is in
+    row_shown _ _ _ _ _ _ is.line_is (omega (arith, c.range.ensures.len, is.start_is))
+    (ap (λ t. length (chars t)) (c.range.ensures.value ∙ ap (λ n. take n c.as_str-text.result.now) (minus-zero _)) ∙ is.first_is)
+    (ap chars c.range-2.ensures.value ∙ is.text_is) is.last_is
+
+pub returns-clause-before : goal.returns-clause-before
+returns-clause-before c =
+    let is = (found (goal.at.returns-clause-before c).After-as_str-text).text_is in
+    omega (arith, is.short, is.placed.start.0, c.range.ensures.len)
+
+pub returns-clause-short : goal.returns-clause-short
+returns-clause-short c =
+    let is = (found (goal.at.returns-clause-short c).After-as_str-text).text_is in
+    omega (arith, is.short, is.placed.end.0, c.range-2.ensures.len)

@@ -1,0 +1,19 @@
+use Rattle.std.proofs.Common.{◌∙◌, ap, subst, sym}
+use Rattle.textarea_lines.specs.Layout.{at_width}
+use Rattle.textarea_document.specs.Rows.{with_inner_width}
+use Rattle.textarea_document.specs.Sound.{IsSound}
+use Rattle.textarea_document.specs.State.{DocumentState}
+use Rattle.textarea_document.proofs.Sounds.{resound, settings_put}
+use Rattle.textarea_document.proofs.document.Document.put_width.Goals as goal
+
+pub invariant_of-self : goal.invariant_of-self
+invariant_of-self c =
+    let inside = c.self.inside in
+    subst IsSound (sym (settings_put inside.laid c.put_width.new.self (at_width inside.laid c.args.prepared.inner_width) inside.cursor inside.anchor inside.ranges.items inside.history.log c.put_width.ensures))
+    (resound _ _ c.self.invariant)
+
+pub returns : goal.returns
+returns c =
+    let inside = c.self.inside in
+    settings_put inside.laid c.put_width.new.self (at_width inside.laid c.args.prepared.inner_width) inside.cursor inside.anchor inside.ranges.items inside.history.log c.put_width.ensures
+    ∙ ap (λ (document : DocumentState). with_inner_width document c.args.prepared.inner_width) c.self.view_is

@@ -1,0 +1,140 @@
+-- Lines that are lent with their rows, and lines at an inner width that is prepared.
+use Rattle.std.proofs.Common.{◌≡◌, ℕ, ◌+◌, ◌≤◌, ◌^◌, Bool, true, false, cond, List, Option, Some, None, length, sym, ap, ◌∙◌, refl, subst, String}
+use Rattle.std.proofs.lemmas.List.{length-map}
+use Rattle.textarea_text.specs.Text.{Symbol, characters_of, lines, lines_of}
+use Rattle.textarea_wrap.specs.RowsView.{RowsView}
+use Rattle.textarea_map.specs.declared.layout.Wrapping.{Wrapping}
+use Rattle.textarea_map.specs.Layout.{AreRowsOf, ticks_behind, ticks_of, with_tab_len}
+use Rattle.textarea_map.specs.Map.{MapView}
+use Rattle.textarea_lines.specs.declared.cut.CutAnew.{CutAnew}
+use Rattle.textarea_lines.specs.declared.settings.LayoutSettings.{LayoutSettings}
+use Rattle.textarea_lines.specs.Layout.{LaidOut, at_width, laid_out_anew, laid_out_with, stays_cut, wrapping_of}
+use Rattle.textarea_lines.specs.Stored.{HoldsRows}
+use Rattle.textarea_lines.specs.View.{IsCutFor, IsCutWhereOther, IsLent, IsViewOf, lent_rows}
+use Rattle.textarea_lines.specs.Wrappings.{is_same, is_wrapped, wrapping_for}
+use Rattle.textarea_lines.proofs.Changes.{Reviewing, holds_whole, holds_wrapped, test_is}
+use Rattle.textarea_lines.proofs.SameCuts.{kept_whole, kept_wrapped}
+use Rattle.textarea_lines.proofs.Stores.{count_held, laid_out_as, lines_held, seen, tab_len_of}
+
+-- lines are held with these rows, and that is what clauses see of them
+pub record Holds {Z : Type 0} (settings : LayoutSettings) (items : List (String Z)) (size count : ℕ) (map : MapView) (laid : LaidOut) : Type 0 where
+  pub rows : HoldsRows settings items size map
+  pub is : seen settings items count map.rows ≡ laid
+
+-- ---- lines that are lent
+
+pub is_lent : {Z : Type 0} (settings : LayoutSettings) (items lent : List (String Z)) (size count : ℕ) (map : MapView) (laid : LaidOut) → Holds settings items size count map laid → lent ≡ items → IsLent lent map
+is_lent settings items lent size count map laid h is =
+    subst (λ (t : List (String _)). IsLent t map) (sym is)
+    (record { some = h.rows.stored.some; limit = subst (λ n. n ≤ 2 ^ 48) h.rows.stored.size_is h.rows.stored.limit; right = h.rows.laid_out })
+
+pub is_view : {Z : Type 0} (settings : LayoutSettings) (items lent : List (String Z)) (size count : ℕ) (map : MapView) (laid : LaidOut) → Holds settings items size count map laid → lent ≡ items → IsViewOf laid (lent_rows lent map)
+is_view settings items lent size count map laid h lent_is =
+    let some = h.rows.stored.some in
+    record {
+      lines = ap lines_of lent_is ∙ sym (lines_held items some) ∙ ap (λ (l : LaidOut). lines l.text) h.is;
+      wrapping = h.rows.wrapping_is ∙ ap (wrapping_for settings) (sym (count_held items some)) ∙ ap wrapping_of h.is;
+      rows = laid_out_as settings items size count map laid h.rows h.is;
+    }
+
+-- ---- lines that are cut anew
+
+pub cut_for : {Z : Type 0} (old settings : LayoutSettings) (items lent : List (String Z)) (count now : ℕ) (rows : List RowsView) (map : MapView) (laid : LaidOut) (before after : Wrapping) → Reviewing old settings items count rows laid before after → is_same after before ≡ false → lent ≡ items → map.wrapping ≡ after → AreRowsOf map.wrapping (lines_of lent) map.rows → ticks_of map.rows ≡ ticks_behind count (length lent) → now ≡ count + length lent → IsCutFor laid settings (record { map = map; count = now })
+cut_for old settings items lent count now rows map laid before after h differs lent_is wrapping_is right ticks counted =
+    let same : lines laid.text ≡ lines_of lent = ap (λ (l : LaidOut). lines l.text) (sym h.is) ∙ lines_held items h.some ∙ ap lines_of (sym lent_is) in
+    let many : length lent ≡ length (lines laid.text) = sym (ap length same ∙ length-map lent characters_of) in
+    let count_is : count ≡ laid.layout.count = ap (λ (l : LaidOut). l.layout.count) h.is in
+    record {
+      differs = test_is old settings items count rows laid before after h ∙ differs;
+      wrapping = wrapping_is ∙ h.after_is ∙ ap (wrapping_for settings) (ap length (sym lent_is) ∙ many);
+      rows = subst (λ (t : List (List ℕ)). AreRowsOf map.wrapping t map.rows) (sym same) right;
+      ticks = ticks ∙ ap (λ n. ticks_behind n (length lent)) count_is ∙ ap (ticks_behind laid.layout.count) many;
+      count = counted ∙ ap (λ n. n + length lent) count_is ∙ ap (λ n. laid.layout.count + n) many;
+    }
+
+-- they are held with their new rows
+pub holds_cut : {Z : Type 0} (old settings : LayoutSettings) (items : List (String Z)) (size count : ℕ) (map : MapView) (laid : LaidOut) (cut : CutAnew) → Holds old items size count map laid → IsCutFor laid settings cut → Holds settings items size cut.count cut.map (laid_out_with laid settings)
+holds_cut old settings items size count map laid cut h k =
+    let same : lines laid.text ≡ lines_of items = ap (λ (l : LaidOut). lines l.text) (sym h.is) ∙ lines_held items h.rows.stored.some in
+    record {
+      rows = record {
+        stored = h.rows.stored;
+        wrapping_is = k.wrapping ∙ ap (wrapping_for settings) (ap length same ∙ length-map items characters_of);
+        laid_out = subst (λ (t : List (List ℕ)). AreRowsOf cut.map.wrapping t cut.map.rows) same k.rows;
+      };
+      is = ap (λ (t : List Symbol). record { text = t; layout = record { settings = settings; count = cut.count; ticks = ticks_of cut.map.rows } }) (ap (λ (l : LaidOut). l.text) h.is)
+          ∙ ap (λ (n : ℕ). record { text = laid.text; layout = record { settings = settings; count = n; ticks = ticks_of cut.map.rows } }) k.count
+          ∙ ap (λ (t : List ℕ). record { text = laid.text; layout = record { settings = settings; count = laid.layout.count + length (lines laid.text); ticks = t } }) k.ticks
+          ∙ ap (λ (b : Bool). cond b (record { text = laid.text; layout = record { settings = settings; count = laid.layout.count; ticks = laid.layout.ticks } }) (laid_out_anew settings laid.layout.count laid.text)) (sym k.differs);
+    }
+
+-- ---- lines that are cut as before
+
+-- at the same tab stops, lines that are cut in the same way are cut by one wrapping
+kept_at : (old settings : LayoutSettings) (n : ℕ) (before : Wrapping) → settings.tab_len ≡ old.tab_len → before ≡ wrapping_for old n → is_same (wrapping_for settings n) before ≡ true → before ≡ wrapping_for settings n
+kept_at old settings n before tab is same = by (is_wrapped settings) refl
+  where
+    stops : with_tab_len before settings.tab_len ≡ before
+    stops = ap (with_tab_len before) (tab ∙ sym (tab_len_of old n) ∙ ap (λ (w : Wrapping). w.tab_len) (sym is))
+
+    by : (b : Bool) → is_wrapped settings ≡ b → before ≡ wrapping_for settings n
+    by true wrapped = kept_wrapped settings n before wrapped same
+    by false whole = sym stops ∙ kept_whole old settings n before is whole same
+
+-- as they stand, and as they are kept
+stays_same : {Z : Type 0} (old settings : LayoutSettings) (items : List (String Z)) (size count : ℕ) (map : MapView) (laid : LaidOut) → Holds old items size count map laid → stays_cut laid settings ≡ true → is_same (wrapping_for settings (length items)) map.wrapping ≡ true
+stays_same old settings items size count map laid h stays =
+    ap (is_same (wrapping_for settings (length items))) h.rows.wrapping_is
+    ∙ sym (ap (λ n. is_same (wrapping_for settings n) (wrapping_for old n)) (count_held items h.rows.stored.some))
+    ∙ ap (λ (l : LaidOut). is_same (wrapping_for settings (length (lines l.text))) (wrapping_of l)) h.is
+    ∙ stays
+
+-- the same rows under the settings
+seen_kept : {Z : Type 0} (old settings : LayoutSettings) (items : List (String Z)) (size count : ℕ) (map : MapView) (rows : List RowsView) (laid : LaidOut) → Holds old items size count map laid → stays_cut laid settings ≡ true → rows ≡ map.rows → seen settings items count rows ≡ laid_out_with laid settings
+seen_kept old settings items size count map rows laid h stays rows_are =
+    ap (seen settings items count) rows_are
+    ∙ ap (λ (l : LaidOut). record { text = l.text; layout = record { settings = settings; count = l.layout.count; ticks = l.layout.ticks } }) h.is
+    ∙ ap (λ (b : Bool). cond b (record { text = laid.text; layout = record { settings = settings; count = laid.layout.count; ticks = laid.layout.ticks } }) (laid_out_anew settings laid.layout.count laid.text)) (sym stays)
+
+-- their rows stay right: at the same tab stops, where they are wrapped, and where they are not, at the new tab stops
+pub holds_kept : {Z : Type 0} (old settings : LayoutSettings) (items : List (String Z)) (size count : ℕ) (map : MapView) (laid : LaidOut) → Holds old items size count map laid → settings.tab_len ≡ old.tab_len → stays_cut laid settings ≡ true → Holds settings items size count map (laid_out_with laid settings)
+holds_kept old settings items size count map laid h tab stays =
+    record {
+      rows = record {
+        stored = h.rows.stored;
+        wrapping_is = kept_at old settings (length items) map.wrapping tab h.rows.wrapping_is (stays_same old settings items size count map laid h stays);
+        laid_out = h.rows.laid_out;
+      };
+      is = seen_kept old settings items size count map map.rows laid h stays refl;
+    }
+
+pub holds_kept_wrapped : {Z : Type 0} (old settings : LayoutSettings) (items : List (String Z)) (size count : ℕ) (map : MapView) (laid : LaidOut) → Holds old items size count map laid → is_wrapped settings ≡ true → stays_cut laid settings ≡ true → Holds settings items size count map (laid_out_with laid settings)
+holds_kept_wrapped old settings items size count map laid h wrapped stays =
+    record {
+      rows = holds_wrapped old settings items size map wrapped (stays_same old settings items size count map laid h stays) h.rows;
+      is = seen_kept old settings items size count map map.rows laid h stays refl;
+    }
+
+pub holds_kept_whole : {Z : Type 0} (old settings : LayoutSettings) (items : List (String Z)) (size count : ℕ) (map now : MapView) (laid : LaidOut) → Holds old items size count map laid → is_wrapped settings ≡ false → stays_cut laid settings ≡ true → now.rows ≡ map.rows → now.wrapping ≡ with_tab_len map.wrapping settings.tab_len → AreRowsOf now.wrapping (lines_of items) now.rows → Holds settings items size count now (laid_out_with laid settings)
+holds_kept_whole old settings items size count map now laid h whole stays rows_are wrapping_is right =
+    record {
+      rows = holds_whole old settings items size map now whole (stays_same old settings items size count map laid h stays) h.rows wrapping_is right;
+      is = seen_kept old settings items size count map now.rows laid h stays rows_are;
+    }
+
+-- ---- a width that is prepared
+
+-- the map of the rows at a width that is prepared, and the count there, where they are these now
+abbrev pub map_at : Option CutAnew → MapView → MapView
+map_at None map = map
+map_at (Some cut) map = cut.map
+
+abbrev pub count_at : Option CutAnew → ℕ → ℕ
+count_at None count = count
+count_at (Some cut) count = cut.count
+
+pub holds_at : {Z : Type 0} (settings : LayoutSettings) (items : List (String Z)) (size count : ℕ) (map : MapView) (laid : LaidOut) (inner_width : ℕ) (cut : Option CutAnew) → Holds settings items size count map laid → IsCutWhereOther laid (at_width laid inner_width) cut → Holds (at_width laid inner_width) items size (count_at cut count) (map_at cut map) (laid_out_with laid (at_width laid inner_width))
+holds_at settings items size count map laid inner_width None h k =
+    holds_kept settings (at_width laid inner_width) items size count map laid h (ap (λ (l : LaidOut). l.layout.settings.tab_len) (sym h.is)) k
+holds_at settings items size count map laid inner_width (Some cut) h k =
+    holds_cut settings (at_width laid inner_width) items size count map laid cut h k

@@ -1,0 +1,10 @@
+use Rattle.std.proofs.Common.{subst, sym}
+use Rattle.textarea_lines.specs.View.{IsViewOf, LentRows}
+use Rattle.textarea_lines.proofs.Widths.{is_view}
+use Rattle.textarea_lines.proofs.laid_out.LaidOutLines.view.Goals as goal
+
+pub returns : goal.returns
+returns c =
+    let inside = c.self.inside in
+    subst (λ (v : LentRows). IsViewOf c.args.self.now v) (sym c.new.ensures)
+    (is_view inside.settings inside.lines.items c.as_slice.result.now inside.size inside.count inside.map c.args.self.now (record { rows = c.self.invariant.held; is = c.self.view_is }) c.as_slice.ensures.value)

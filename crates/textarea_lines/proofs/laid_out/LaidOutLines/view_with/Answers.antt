@@ -1,0 +1,38 @@
+use Rattle.std.proofs.Common.{◌≡◌, ◌∙◌, ap, subst, sym}
+use Rattle.textarea_lines.specs.Layout.{at_width, laid_out_with}
+use Rattle.textarea_lines.specs.View.{IsPrepared, IsViewOf, LentRows, PreparedView}
+use Rattle.textarea_map.specs.Map.{MapView}
+use Rattle.textarea_lines.proofs.Widths.{Holds, count_at, holds_at, is_lent, is_view, map_at}
+use Rattle.textarea_lines.proofs.laid_out.LaidOutLines.view_with.Goals as goal
+use Rattle.textarea_lines.proofs.laid_out.LaidOutLines.view_with.Goals.{in-Some, in-None}
+
+-- the map that is lent is the one at the width that is prepared
+map_is : (c : goal.After-as_slice) → map_at c.prepared.inside.cut c.self.inside.map ≡ c.match-prepared.map.now
+map_is c = elim c.match-prepared.branch [
+  | in-Some w ↦ ap (λ o. map_at o c.self.inside.map) w.in-Some.is ∙ sym (ap (λ m. m.now) w.map-is)
+  | in-None w ↦ ap (λ o. map_at o c.self.inside.map) w.in-None.is ∙ sym (ap (λ m. m.now) w.map-is)
+]
+
+-- the lines are held with its rows
+held : (c : goal.After-as_slice) → Holds (at_width c.args.self.now c.prepared.inside.inner_width) c.self.inside.lines.items c.self.inside.size (count_at c.prepared.inside.cut c.self.inside.count) c.match-prepared.map.now (laid_out_with c.args.self.now (at_width c.args.self.now c.prepared.inside.inner_width))
+held c =
+    let inside = c.self.inside in
+    let laid = c.args.self.now in
+    let width = c.prepared.inside.inner_width in
+    let cut = c.prepared.inside.cut in
+    let ready : IsPrepared laid (record { inner_width = width; cut = cut }) = subst (λ (p : PreparedView). IsPrepared laid p) (sym c.prepared.view_is) c.requires in
+    subst (λ (m : MapView). Holds (at_width laid width) inside.lines.items inside.size (count_at cut inside.count) m (laid_out_with laid (at_width laid width))) (map_is c)
+    (holds_at inside.settings inside.lines.items inside.size inside.count inside.map laid width cut (record { rows = c.self.invariant.held; is = c.self.view_is }) ready.cut)
+
+pub new-requires : goal.new-requires
+new-requires c =
+    let inside = c.self.inside in
+    is_lent _ inside.lines.items c.as_slice.result.now inside.size _ c.match-prepared.map.now _ (held c) c.as_slice.ensures.value
+
+pub returns : goal.returns
+returns c =
+    let inside = c.self.inside in
+    let laid = c.args.self.now in
+    let seen = is_view _ inside.lines.items c.as_slice.result.now inside.size _ c.match-prepared.map.now _ (held c.before) c.as_slice.ensures.value in
+    subst (λ (p : PreparedView). IsViewOf (laid_out_with laid (at_width laid p.inner_width)) c.new.result) c.prepared.view_is
+    (subst (λ (v : LentRows). IsViewOf (laid_out_with laid (at_width laid c.prepared.inside.inner_width)) v) (sym c.new.ensures) seen)

@@ -1,0 +1,120 @@
+//! A change of the inner width, in two steps: what takes memory first, which leaves the lines as they are.
+ghost use Rattle.std.specs.Prelude.{◌≡◌, true, IfOk, IsOk};
+ghost use Rattle.textarea_lines.specs.Layout.{at_width, laid_out_with, stays_cut};
+ghost use Rattle.textarea_lines.specs.View.{IsCutWhereOther, IsPrepared, IsViewOf};
+
+use super::LaidOutLines;
+use crate::cut::CutAnew;
+use crate::settings::{LayoutSettings, is_same, is_wrapped, wrapping_for};
+use crate::view::LaidOutView;
+use std::alloc::AllocError;
+use std::marker::Model;
+use textarea_map::screen_map::ScreenMap;
+
+/// An inner width for which lines are ready. It fits the lines only as they stand where it was made.
+#[derive(Drop)]
+pub struct PreparedWidth {
+    inner_width: u16,
+    cut: Option<CutAnew>,
+}
+
+impl Model for PreparedWidth {
+    ghost use Rattle.textarea_lines.specs.View.{PreparedView};
+
+    ghost Value = { PreparedView };
+
+    ghost view = { λ prepared. record {
+      inner_width = prepared.inner_width;
+      cut = prepared.cut;
+    } };
+}
+
+impl LaidOutLines {
+    /// The lines with their rows, as they stand.
+    pub fn view(&self) -> LaidOutView<'_>
+        ensures { IsViewOf self.now result }
+    {
+        LaidOutView::new(self.lines.as_slice(), &self.map)
+    }
+
+    // All lines, each cut once for these settings, where they are cut in another way under them; otherwise none, and no memory
+    // is taken.
+    pub(super) fn cut_for(&self, settings: LayoutSettings) -> Result<Option<CutAnew>, AllocError>
+        ensures cut { IfOk result (IsCutWhereOther self.now settings) }
+        ensures no_memory { stays_cut self.now settings ≡ true → IsOk result }
+    {
+        let before = self.map.wrapping();
+        let after = wrapping_for(settings, self.lines.len());
+        if is_same(after, before) {
+            return Ok(None);
+        }
+        let mut count = self.count.clone()?;
+        let alloc = *self.lines.allocator();
+        let map = ScreenMap::new(alloc, self.lines.as_slice(), after, &mut count)?;
+        Ok(Some(CutAnew { map, count }))
+    }
+
+    // Sets what decides how the lines are cut and seen, with what was cut for it, without memory.
+    pub(super) fn put(&mut self, settings: LayoutSettings, cut: Option<CutAnew>)
+        requires { IsCutWhereOther self.old settings cut }
+        ensures { self.new ≡ laid_out_with self.old settings }
+    {
+        match cut {
+            Some(cut) => {
+                let CutAnew { map, count } = cut;
+                self.map = map;
+                self.count = count;
+            }
+            None => {
+                if !is_wrapped(settings) {
+                    self.map.set_tab_len(settings.tab_len);
+                }
+            }
+        }
+        self.settings = settings;
+    }
+
+    /// Makes the lines ready for an inner width, in columns. They are cut for it, each once, only where they are cut in another
+    /// way at it, and only then memory is taken. They stay as they are.
+    pub fn prepare_width(&self, inner_width: u16) -> Result<PreparedWidth, AllocError>
+        ensures prepared { IfOk result (IsPrepared self.now) }
+        ensures width { IfOk result (λ prepared. prepared.inner_width ≡ inner_width) }
+        ensures no_memory { stays_cut self.now (at_width self.now inner_width) ≡ true
+            → IsOk result }
+    {
+        let cut = self.cut_for(LayoutSettings {
+            inner_width,
+            ..self.settings
+        })?;
+        Ok(PreparedWidth { inner_width, cut })
+    }
+
+    /// The lines with their rows, as they will stand once the width is put in.
+    pub fn view_with<'a>(&'a self, prepared: &'a PreparedWidth) -> LaidOutView<'a>
+        requires { IsPrepared self.now prepared.now }
+        ensures { IsViewOf
+            (laid_out_with self.now (at_width self.now prepared.now.inner_width)) result }
+    {
+        let map = match &prepared.cut {
+            Some(cut) => &cut.map,
+            None => &self.map,
+        };
+        LaidOutView::new(self.lines.as_slice(), map)
+    }
+
+    /// Sets the inner width that is prepared, without memory; no line is cut.
+    pub fn put_width(&mut self, prepared: PreparedWidth)
+        requires { IsPrepared self.old prepared }
+        ensures { self.new
+            ≡ laid_out_with self.old (at_width self.old prepared.inner_width) }
+    {
+        let PreparedWidth { inner_width, cut } = prepared;
+        self.put(
+            LayoutSettings {
+                inner_width,
+                ..self.settings
+            },
+            cut,
+        );
+    }
+}
