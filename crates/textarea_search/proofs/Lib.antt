@@ -3,5 +3,4 @@ mod FailureLemmas
 mod ListedLemmas
 mod PatternLemmas
 mod PlaceLemmas
-mod SpanLemmas
 mod StartLemmas

@@ -22,7 +22,7 @@ use Rattle.regex.proofs.ForCallers.{spans_alike}
 use Rattle.regex.proofs.SearchLemmas.{matches_after_text}
 use Rattle.textarea_search.specs.Columns.{column_at}
 use Rattle.textarea_search.specs.Matches.{match_spans, match_columns}
-use Rattle.textarea_search.specs.Spans.{columns_in}
+use Rattle.textarea_search.specs.Spans.{columns_in, spans_after}
 use Rattle.textarea_search.specs.Starts.{starts_from}
 
 -- ---- the bytes of a text
@@ -58,16 +58,17 @@ as_read None most tree names line bytes h = absurd h
 as_read (Some found) most tree names line bytes h = spans_alike h.1 line (each_byte line bytes) true
 
 module _ (r : Regex) (by_default : regex_config r ≡ default_config) (is_read : ∥ IsReadFromSource r ∥₁) where
-  pub spans_as_written : (line : List ℕ) → AreBytes line → map span (find_all_str (regex_pattern r) line) ≡ match_spans (regex_source r) line
+  spans_as_written : (line : List ℕ) → AreBytes line → map span (find_all_str (regex_pattern r) line) ≡ match_spans (regex_source r) line
   unfolding match_spans Reads
   spans_as_written line bytes =
       ∥∥₁_elim is_read (Coded-set (coded_list (coded× coded_ℕ coded_ℕ)) _ _)
       (λ reads. as_read _ _ (regex_pattern r) _ line bytes (rw by_default at reads))
 
+  pub listed_as_written : (line : List ℕ) → AreBytes line → spans_after (regex_pattern r) line 0 ≡ match_spans (regex_source r) line
+  listed_as_written line bytes = ap (map span) (matches_after_text (regex_pattern r) line) ∙ spans_as_written line bytes
+
   columns_as_written : (line : List ℕ) → AreBytes line → columns_in (regex_pattern r) line ≡ match_columns (regex_source r) line
-  columns_as_written line bytes =
-      ap (λ ms. map (λ (s : ℕ × ℕ). column_at line s.0) (map span ms)) (matches_after_text (regex_pattern r) line)
-      ∙ ap (map (λ (s : ℕ × ℕ). column_at line s.0)) (spans_as_written line bytes)
+  columns_as_written line bytes = ap (map (λ (s : ℕ × ℕ). column_at line s.0)) (listed_as_written line bytes)
 
   starts_same : (f g : List ℕ → List ℕ) (row : ℕ) (lines : List (String Global)) → ((line : String Global) → f (string_bytes line) ≡ g (string_bytes line)) →
       starts_from f row (map string_bytes lines) ≡ starts_from g row (map string_bytes lines)

@@ -2,10 +2,11 @@ ghost use Rattle.std.specs.Prelude.{◌≡◌, ◌≢◌, [], IfOk, IfErr};
 ghost use Rattle.regex.specs.Strings.{regex_pattern, regex_source, regex_config, matcher_pattern, IsReadFromSource};
 ghost use Rattle.regex.specs.Patterns.{default_config};
 ghost use Rattle.textarea_search.specs.Failures.{IsPatternFailure, IsCarried};
-ghost use Rattle.textarea_search.specs.Matches.{match_spans};
+ghost use Rattle.textarea_search.specs.Spans.{ListsMatchesOf};
 ghost use Rattle.textarea_search.specs.Starts.{IsTreeOf};
 
 use crate::search::error::SearchError;
+use crate::search::line_matcher::LineMatcher;
 use regex::{Matcher, Regex};
 use std::alloc::{AllocError, Global};
 use std::rc::Rc;
@@ -61,20 +62,16 @@ impl Compiled {
             ≡ regex_pattern self.now.regex.value) }
         ensures starts { IfOk result (λ m. IsTreeOf (regex_source self.now.regex.value)
             (matcher_pattern m)) }
+        ensures lists { IfOk result (λ m. ListsMatchesOf (regex_source self.now.regex.value)
+            (matcher_pattern m)) }
     {
         self.regex.matcher(self.alloc)
     }
 
-    /// The matches of a line.
-    pub(crate) fn spans(&self, line: &str) -> Result<Vec<(usize, usize)>, AllocError>
-        ensures { IfOk result (λ spans. spans.items
-            ≡ match_spans (regex_source self.now.regex.value) line.now) }
+    /// What goes over line after line and lists the matches of each.
+    pub(crate) fn line_matcher(&self) -> Result<LineMatcher<'_>, AllocError>
+        ensures { IfOk result (λ m. m ≡ regex_source self.now.regex.value) }
     {
-        let mut matcher = self.matcher()?;
-        let mut spans = Vec::new(self.alloc);
-        for found in matcher.find_iter(line) {
-            spans.push((found.start(), found.end()))?;
-        }
-        Ok(spans)
+        Ok(LineMatcher::new(self.alloc, self.matcher()?, self.text()))
     }
 }

@@ -1,6 +1,6 @@
 //! The matches that `regex` lists for a line, one after another, by a matcher whose pattern stays known, so that one
 //! serves line after line.
-ghost use Rattle.std.specs.Prelude.{◌≡◌, ◌+◌, ◌≤◌, ◌<◌, [], ◌∷◌, length, take, find, reverse, slice_get, option_map, encode_utf8_all, IsCharBoundary, IfSome, MatchOption};
+ghost use Rattle.std.specs.Prelude.{◌≡◌, ◌+◌, ◌≤◌, ◌<◌, [], ◌∷◌, length, take, find, reverse, slice_get, option_map, encode_utf8_all, IsCharBoundary, IsUtf8, IfOk, IfSome, MatchOption};
 ghost use Rattle.std.specs.Str.{chars};
 ghost use Rattle.regex.specs.Strings.{matcher_pattern, match_span, match_haystack};
 ghost use Rattle.textarea_search.specs.Columns.{column_at};
@@ -8,6 +8,7 @@ ghost use Rattle.textarea_search.specs.Spans.{spans_after, columns_in};
 ghost use Rattle.textarea_search.specs.Starts.{is_ahead_in_line};
 
 use regex::{Match, Matcher};
+use std::alloc::{AllocError, Global};
 
 /// The first listed match behind the one that ended at `after - 1`, or the first of all where `after` is 0.
 fn next_listed<'h>(matcher: &mut Matcher<'_>, line: &'h str, after: usize) -> Option<Match<'h>>
@@ -24,6 +25,26 @@ fn next_listed<'h>(matcher: &mut Matcher<'_>, line: &'h str, after: usize) -> Op
         return matcher.find_at(line, after);
     }
     Some(found)
+}
+
+/// All listed matches of a line, each by the offset of its first byte and that behind its last.
+pub(crate) fn listed_spans(
+    alloc: Global,
+    matcher: &mut Matcher<'_>,
+    line: &str,
+) -> Result<Vec<(usize, usize)>, AllocError>
+    ensures found { IfOk result (λ spans. spans.items
+        ≡ spans_after (matcher_pattern matcher.old) line.now 0) }
+    ensures utf8 { IsUtf8 line.now }
+    ensures same { matcher_pattern matcher.new ≡ matcher_pattern matcher.old }
+{
+    let mut spans = Vec::new(alloc);
+    let mut after = 0;
+    while let Some(found) = next_listed(matcher, line, after) {
+        spans.push((found.start(), found.end()))?;
+        after = found.end() + 1;
+    }
+    Ok(spans)
 }
 
 /// Whether a place of a line is behind the mark or, where that counts, at it.

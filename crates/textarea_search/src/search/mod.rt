@@ -1,11 +1,13 @@
 //! A pattern to search for, the matches that `regex` lists for a line, and the way from a cursor to the next of them.
 mod compiled;
 mod error;
+mod line_matcher;
 mod lines;
 mod listed;
 mod matches;
 mod state;
 
 pub use error::SearchError;
+pub use line_matcher::LineMatcher;
 pub use matches::Matches;
 pub use state::Search;

@@ -6,6 +6,7 @@ ghost use Rattle.textarea_search.specs.Starts.{starts_of, next_start, previous_s
 
 use crate::search::compiled::Compiled;
 use crate::search::error::SearchError;
+use crate::search::line_matcher::LineMatcher;
 use crate::search::lines::{next_start, previous_start};
 use crate::search::matches::Matches;
 use std::alloc::{AllocError, Global};
@@ -65,8 +66,19 @@ impl Search {
             ≡ option_map (λ pattern. match_spans pattern line.now) self.now) }
         ensures no_pattern { IsNone self.now → IsOk result }
     {
+        match self.line_matcher()? {
+            Some(mut matcher) => Ok(Some(Matches::new(matcher.spans(line)?))),
+            None => Ok(None),
+        }
+    }
+
+    /// What lists the matches of line after line, as `matches` does; none without a pattern.
+    pub fn line_matcher(&self) -> Result<Option<LineMatcher<'_>>, AllocError>
+        ensures pattern { IfOk result (λ matcher. matcher ≡ self.now) }
+        ensures no_pattern { IsNone self.now → IsOk result }
+    {
         match &self.compiled {
-            Some(compiled) => Ok(Some(Matches::new(compiled.spans(line)?))),
+            Some(compiled) => Ok(Some(compiled.line_matcher()?)),
             None => Ok(None),
         }
     }

@@ -1,0 +1,51 @@
+ghost use Rattle.std.specs.Prelude.{◌≡◌, IfOk};
+ghost use Rattle.regex.specs.Strings.{matcher_pattern};
+ghost use Rattle.textarea_search.specs.Matches.{match_spans};
+ghost use Rattle.textarea_search.specs.Spans.{ListsMatchesOf};
+
+use crate::search::listed::listed_spans;
+use regex::Matcher;
+use std::alloc::{AllocError, Global};
+use std::marker::Model;
+
+/// Lists the matches of line after line; it takes memory and time to make once. Contracts see the text of its pattern.
+#[derive(Drop)]
+pub struct LineMatcher<'a> {
+    matcher: Matcher<'a>,
+    pattern: &'a str,
+    alloc: Global,
+}
+
+impl<'a> Model for LineMatcher<'a> {
+    ghost use Rattle.std.specs.Prelude.{ℕ, List};
+    ghost use Rattle.regex.specs.Strings.{matcher_pattern};
+    ghost use Rattle.textarea_search.specs.Spans.{ListsMatchesOf};
+
+    ghost Value = { List ℕ };
+
+    ghost view = { λ m. m.pattern.now };
+
+    ghost invariant = { λ m. ListsMatchesOf m.pattern.now (matcher_pattern m.matcher) };
+}
+
+impl<'a> LineMatcher<'a> {
+    pub(crate) fn new(alloc: Global, matcher: Matcher<'a>, pattern: &'a str) -> LineMatcher<'a>
+        requires { ListsMatchesOf pattern.now (matcher_pattern matcher) }
+        ensures { result ≡ pattern.now }
+    {
+        LineMatcher {
+            matcher,
+            pattern,
+            alloc,
+        }
+    }
+
+    /// The matches of a line as `regex` lists them: for each, from the left, the offset of its first byte and that behind
+    /// its last. None overlaps the one before.
+    pub fn spans(&mut self, line: &str) -> Result<Vec<(usize, usize)>, AllocError>
+        ensures found { IfOk result (λ spans. spans.items ≡ match_spans self.old line.now) }
+        ensures same { self.new ≡ self.old }
+    {
+        listed_spans(self.alloc, &mut self.matcher, line)
+    }
+}
