@@ -50,6 +50,13 @@ impl<'a> LaidOutView<'a> {
         self.lines
     }
 
+    /// The columns between tab stops.
+    pub fn tab_len(&self) -> u8
+        ensures { result ≡ self.now.wrapping.tab_len }
+    {
+        self.map.wrapping().tab_len
+    }
+
     /// How many visual rows there are.
     pub fn row_count(&self) -> usize
         ensures value { result ≡ row_total self.now.rows }

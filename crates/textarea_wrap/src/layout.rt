@@ -1,5 +1,5 @@
 //! The digits of a number, the columns of line numbers, and the width that is left for rows.
-ghost use Rattle.std.specs.Prelude.{◌≡◌, ◌+◌, ◌≤◌, length};
+ghost use Rattle.std.specs.Prelude.{◌≡◌, ◌+◌, ◌≤◌, ℕ, length};
 ghost use Rattle.std.specs.Fmt.{decimal};
 ghost use Rattle.textarea_wrap.specs.Layout.{line_number_columns, columns_for_rows};
 
@@ -71,10 +71,11 @@ impl LayoutMetrics {
     }
 }
 
-/// How many decimal digits the number is written with; 0 has one.
+/// How many decimal digits the number is written with; 0 has one, and no smaller number has more.
 pub fn num_digits(number: usize) -> u8
     ensures value { result ≡ length (decimal number) }
     ensures few { result ≤ 20 }
+    ensures most { (smaller : ℕ) → smaller ≤ number → length (decimal smaller) ≤ result }
 {
     match number.checked_ilog10() {
         None => 1,
