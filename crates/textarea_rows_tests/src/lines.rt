@@ -1,9 +1,11 @@
 //! Lines and their rows over some edits: numbers worked by hand from the rules, and the same rows as those of lines that are
 //! laid out anew.
-ghost use Rattle.std.specs.Prelude.{◌≡◌, false, IfOk, OnOk};
-ghost use Rattle.textarea_text.specs.Place.{IsPlace};
+ghost use Rattle.std.specs.Prelude.{◌≡◌, ◌+◌, false, length, IfOk, OnOk, if◌then◌else◌};
+ghost use Rattle.textarea_text.specs.Place.{IsPlace, IsPlaceOf};
 ghost use Rattle.textarea_text.specs.Splice.{Fits, inverse};
+ghost use Rattle.textarea_text.specs.Text.{lines};
 ghost use Rattle.textarea_edit.specs.Edit.{IsWellFormed};
+ghost use Rattle.textarea_lines.specs.Layout.{at_width, stays_cut};
 ghost use Rattle.textarea_lines.specs.Wrappings.{is_wrapped};
 
 use crate::texts::strings;
@@ -13,6 +15,7 @@ use std::test::Fail;
 use textarea_edit::edit::{Edit, EditKind};
 use textarea_lines::laid_out::LaidOutLines;
 use textarea_lines::settings::{LayoutSettings, is_wrapped};
+use textarea_lines::view::LaidOutView;
 use textarea_text::rows::column_count;
 use textarea_wrap::wrap::WrapMode;
 
@@ -294,5 +297,86 @@ fn tab_stops_cut_no_whole_line(rt: HostRuntime) -> Result<(), Fail> {
     set_tab_len(&mut laid, 2)?;
     assert!(rt; laid.visual_position(place_of(&rt, &laid, (0, 1))) == (0, 2));
     assert_eq!(rt; laid.rows_at_width(1)?, 2);
+    Ok(())
+}
+
+fn expect_rows(rt: &impl Abort, view: &LaidOutView<'_>, expected: &[&str]) {
+    assert_eq!(rt; view.row_count(), expected.len());
+    for (row, text) in expected.iter().enumerate() {
+        assert!(rt; row < view.row_count());
+        let found = view.row_at(row);
+        assert_eq!(rt; found.text, *text);
+    }
+}
+
+// A place that the test gives, once it is found in the lines that are lent.
+fn place_in(rt: &impl Abort, view: &LaidOutView<'_>, place: (usize, usize)) -> (usize, usize)
+    ensures { IsPlaceOf view.now.lines result }
+{
+    let lines = view.lines();
+    assert!(rt; place.0 < lines.len());
+    assert!(rt; place.1 <= column_count(lines[place.0].as_str()));
+    place
+}
+
+#[test]
+fn lines_are_lent_with_their_rows(rt: HostRuntime) -> Result<(), Fail> {
+    let alloc = rt.alloc();
+    let settings = LayoutSettings {
+        mode: WrapMode::Glyph,
+        tab_len: 4,
+        line_numbers: false,
+        inner_width: 5,
+    };
+    let laid = LaidOutLines::new(alloc, strings(alloc, &["abcdef", "gh"])?, settings)?;
+    let view = laid.view();
+    expect_rows(&rt, &view, &["abcd", "ef", "gh"]);
+    assert_eq!(rt; view.lines().len(), 2);
+    assert!(rt; view.row_count() == 3);
+    let row = view.row_at(1);
+    assert_eq!(rt; (row.line, row.number), (0, 1));
+    assert_eq!(rt; (row.before, row.is_last), ("abcd", true));
+    assert_eq!(rt; (view.greatest_column(0), view.greatest_column(1)), (3, 2));
+    assert!(rt; view.visual_position(place_in(&rt, &view, (0, 5))) == (1, 1));
+    assert!(rt; view.place_near((0, 9)) == (0, 3));
+    Ok(())
+}
+
+// Puts a width in. The count stays as it is where the lines are cut in the same way, and else goes on by one a line.
+fn set_width(
+    rt: &impl Abort,
+    laid: &mut LaidOutLines,
+    inner_width: u16,
+    expected: &[&str],
+) -> Result<(), AllocError>
+    ensures { OnOk result (laid.new.layout.count
+        ≡ (if stays_cut laid.old (at_width laid.old inner_width) then laid.old.layout.count
+        else laid.old.layout.count + length (lines laid.old.text))) }
+{
+    let prepared = laid.prepare_width(inner_width)?;
+    expect_rows(rt, &laid.view_with(&prepared), expected);
+    laid.put_width(prepared);
+    expect_rows(rt, &laid.view(), expected);
+    Ok(())
+}
+
+#[test]
+fn a_width_is_prepared_and_put_in(rt: HostRuntime) -> Result<(), Fail> {
+    let alloc = rt.alloc();
+    let settings = LayoutSettings {
+        mode: WrapMode::Glyph,
+        tab_len: 4,
+        line_numbers: false,
+        inner_width: 5,
+    };
+    let mut laid = LaidOutLines::new(alloc, strings(alloc, &["abcdef", "gh"])?, settings)?;
+    set_width(&rt, &mut laid, 4, &["abc", "def", "gh"])?;
+    set_width(&rt, &mut laid, 4, &["abc", "def", "gh"])?;
+    set_width(&rt, &mut laid, 0, &["abcdef", "gh"])?;
+    assert!(rt; laid.layout_settings().inner_width == 0);
+    // The lines stay as they are until the width is put in.
+    let prepared = laid.prepare_width(3)?;
+    expect_rows(&rt, &laid.view(), &["abcdef", "gh"]);
+    expect_rows(&rt, &laid.view_with(&prepared), &["ab", "cd", "ef", "gh"]);
     Ok(())
 }

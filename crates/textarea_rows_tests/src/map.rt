@@ -1,7 +1,8 @@
 //! Worked cases of the look-ups, by hand from the rules, and maps that follow hundreds of replacements.
-ghost use Rattle.std.specs.Prelude.{◌≡◌, ◌+◌, ◌<◌, ◌≤◌, length, vec_len, IsTrue, OnOk};
+ghost use Rattle.std.specs.Prelude.{◌≡◌, ◌+◌, ◌<◌, ◌≤◌, vec_len, IsTrue, OnOk};
 ghost use Rattle.textarea_text.specs.Text.{lines_of};
 ghost use Rattle.textarea_text.specs.Place.{IsPlaceOf};
+ghost use Rattle.textarea_map.specs.Layout.{AreRowsOf};
 
 use crate::texts::strings;
 use std::alloc::{AllocError, Global};
@@ -179,6 +180,52 @@ fn widths(rt: HostRuntime) -> Result<(), Fail> {
     Ok(())
 }
 
+// The visual rows: the line of each, its number there, what stands before it, its own text, and whether it is the last.
+fn expect_rows(
+    rt: &(impl Abort + AllocGlobal),
+    given: &[&str],
+    wrapping: Wrapping,
+    expected: &[(usize, usize, &str, &str, bool)],
+) -> Result<(), AllocError> {
+    let lines = strings(rt.alloc(), given)?;
+    let mut counter = WrapCount::new();
+    let map = ScreenMap::new(rt.alloc(), lines.as_slice(), wrapping, &mut counter)?;
+    assert_eq!(rt; map.row_count(), expected.len());
+    for (row, (line, number, before, text, is_last)) in expected.iter().enumerate() {
+        assert!(rt; row < map.row_count());
+        let found = map.row_at(lines.as_slice(), row);
+        assert_eq!(rt; (found.line, found.number), (*line, *number));
+        assert_eq!(rt; (found.before, found.text), (*before, *text));
+        assert_eq!(rt; found.is_last, *is_last);
+    }
+    Ok(())
+}
+
+#[test]
+fn rows(rt: HostRuntime) -> Result<(), Fail> {
+    expect_rows(
+        &rt,
+        &["abcdef ghi", ""],
+        wrapped(WrapMode::Word, 6),
+        &[
+            (0, 0, "", "abcdef ", false),
+            (0, 1, "abcdef ", "ghi", true),
+            (1, 0, "", "", true),
+        ],
+    )?;
+    expect_rows(
+        &rt,
+        &["x", "ab犬猫"],
+        wrapped(WrapMode::Glyph, 4),
+        &[
+            (0, 0, "", "x", true),
+            (1, 0, "", "ab犬", false),
+            (1, 1, "ab犬", "猫", true),
+        ],
+    )?;
+    Ok(())
+}
+
 // Which place each visual row and display column lead back to.
 fn expect_places(
     rt: &(impl Abort + AllocGlobal),
@@ -273,9 +320,10 @@ fn replace(
     wrapping: Wrapping,
     counter: &mut WrapCount,
 ) -> Result<(), AllocError>
-    requires rows { length map.old.rows ≡ vec_len lines.old }
+    requires rows { AreRowsOf wrapping (lines_of lines.old.items) map.old.rows }
     requires within { change.row + change.count ≤ vec_len lines.old }
-    ensures { OnOk result (length map.new.rows ≡ vec_len lines.new) }
+    ensures rows { OnOk result (AreRowsOf wrapping (lines_of lines.new.items) map.new.rows) }
+    ensures wrapping { OnOk result (map.new.wrapping ≡ wrapping) }
 {
     let prepared = map.prepare(
         alloc,
@@ -290,14 +338,18 @@ fn replace(
     Ok(())
 }
 
-fn expect_same(rt: &impl Abort, map: &ScreenMap, other: &ScreenMap, lines: usize)
-    requires map { length map.now.rows ≡ lines }
-    requires other { length other.now.rows ≡ lines }
+fn expect_same(rt: &impl Abort, map: &ScreenMap, other: &ScreenMap, lines: &[String])
+    requires map { AreRowsOf map.now.wrapping (lines_of lines.now) map.now.rows }
+    requires other { AreRowsOf other.now.wrapping (lines_of lines.now) other.now.rows }
 {
     assert_eq!(rt; map.row_count(), other.row_count());
-    for line in 0..lines {
-        assert_eq!(rt; map.rows_of(line), other.rows_of(line));
-        assert_eq!(rt; map.first_row(line), other.first_row(line));
+    for row in 0..map.row_count() {
+        assert!(rt; row < other.row_count());
+        let one = map.row_at(lines, row);
+        let another = other.row_at(lines, row);
+        assert_eq!(rt; (one.line, one.number), (another.line, another.number));
+        assert_eq!(rt; (one.before, one.text), (another.before, another.text));
+        assert_eq!(rt; one.is_last, another.is_last);
     }
 }
 
@@ -321,10 +373,10 @@ fn follow(
         };
         replace(alloc, &mut map, &mut lines, change, wrapping, &mut counter)?;
         let fresh = ScreenMap::new(alloc, lines.as_slice(), wrapping, &mut counter)?;
-        expect_same(rt, &map, &fresh, lines.len());
+        expect_same(rt, &map, &fresh, lines.as_slice());
     }
     let copy = map.clone()?;
-    expect_same(rt, &map, &copy, lines.len());
+    expect_same(rt, &map, &copy, lines.as_slice());
     Ok(())
 }
 
