@@ -1,0 +1,3 @@
+mod Drawing
+mod Found
+mod Holds

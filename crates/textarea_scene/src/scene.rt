@@ -1,0 +1,93 @@
+//! The visual rows of a text, drawn below one another.
+mod frame;
+mod matches;
+mod parts;
+
+ghost use Rattle.std.specs.Prelude.{◌≡◌, List, OnErr, OnOk};
+ghost use Rattle.textarea_screen.specs.Buffer.{area_of, Changes, KeepsOutside};
+ghost use Rattle.textarea_screen.specs.Rect.{contains};
+ghost use Rattle.textarea_screen.specs.Text.{ShownLine};
+ghost use Rattle.textarea_scene.specs.Drawn.{FillsArea, lines_change, rows_above_end};
+ghost use Rattle.textarea_scene.specs.Scene.{HasPlaces};
+
+use frame::Frame;
+use matches::FoundMatches;
+use std::alloc::{AllocError, Global};
+use std::marker::Model;
+use textarea_lines::view::LaidOutView;
+use textarea_look::look::{CustomHighlight, Look};
+use textarea_paint::paint::row::{RowArea, draw_row};
+use textarea_screen::screen::{Buffer, Rect};
+use textarea_search::search::Search;
+
+/// What a frame is drawn from, lent.
+#[derive(Drop)]
+pub struct Scene<'a> {
+    pub rows: LaidOutView<'a>,
+    pub cursor: (usize, usize),
+    /// From its start to its end.
+    pub selection: Option<((usize, usize), (usize, usize))>,
+    pub search: &'a Search,
+    pub look: Look,
+    /// In the order in which they were added.
+    pub highlights: &'a [CustomHighlight],
+    pub line_numbers: bool,
+}
+
+impl<'a> Model for Scene<'a> {
+    ghost use Rattle.textarea_scene.specs.Scene.{SceneState};
+
+    ghost Value = { SceneState };
+
+    ghost view = { λ scene. record {
+      rows = scene.rows;
+      cursor = scene.cursor;
+      selection = scene.selection;
+      pattern = scene.search.now;
+      look = scene.look;
+      highlights = scene.highlights.now;
+      line_numbers = scene.line_numbers;
+    } };
+}
+
+impl<'a> Scene<'a> {
+    /// Draws the visual rows from `top` on into the rows of the area, as far as there are rows of both and the buffer goes.
+    ///
+    /// A cell on which nothing stands is left as it is. Out of memory, cells of the area may be drawn already.
+    pub fn draw(
+        &self,
+        alloc: Global,
+        buffer: &mut Buffer,
+        rows: RowArea,
+        top: usize,
+    ) -> Result<(), AllocError>
+        requires { HasPlaces self.now }
+        ensures ok { OnOk result ((lines : List ShownLine)
+            × FillsArea self.now top rows.area (area_of buffer.old) lines
+            × Changes buffer.old buffer.new (lines_change rows rows.area.y lines)) }
+        ensures err { OnErr result (KeepsOutside (contains rows.area) buffer.old buffer.new) }
+    {
+        let frame = Frame::new(self);
+        let mut matches = FoundMatches::new(alloc, self.search, self.rows.lines())?;
+        let room = rows_above_end(rows.area, buffer.area());
+        let count = self
+            .rows
+            .row_count()
+            .saturating_sub(top)
+            .min(usize::from(room));
+        for i in 0..count {
+            let line = frame.line(alloc, top + i, &mut matches)?;
+            draw_row(buffer, rows, rows.area.y() + i as u16, &line)?;
+        }
+        Ok(())
+    }
+}
+
+// How many rows of the area lie above the end of the buffer's area.
+fn rows_above_end(area: Rect, buffer: Rect) -> u16
+    ensures { result ≡ rows_above_end area buffer }
+{
+    let area_end = area.y() + area.height();
+    let buffer_end = buffer.y() + buffer.height();
+    area_end.min(buffer_end).saturating_sub(area.y())
+}

@@ -1,0 +1,109 @@
+//! One visual row after another, cut into spans.
+ghost use Rattle.std.specs.Prelude.{◌≡◌, ◌<◌, chars, encode_utf8_all, IfOk};
+ghost use Rattle.textarea_highlight.specs.Highlights.{plain_row};
+ghost use Rattle.textarea_highlight.specs.Row.{ShowsRow};
+ghost use Rattle.textarea_map.specs.Map.{row_total};
+ghost use Rattle.textarea_screen.specs.Text.{shown_line};
+ghost use Rattle.textarea_scene.specs.Rows.{cell_render, cursor_cell, row_highlights, searched};
+ghost use Rattle.textarea_scene.specs.Scene.{HasPlaces};
+
+use super::Scene;
+use super::matches::FoundMatches;
+use super::parts::{Range, byte_place};
+use std::alloc::{AllocError, Global};
+use std::marker::Model;
+use textarea_highlight::highlight::{CursorCellRender, LineHighlighter};
+use textarea_look::look::CursorRenderMode;
+use textarea_map::screen_map::RowText;
+use textarea_screen::screen::{Line, Style};
+
+/// A scene, and what each of its rows needs to know: the visual row that holds the cursor, and the lines' bytes at which the
+/// selection starts and ends.
+#[derive(Drop)]
+pub(super) struct Frame<'f, 'a> {
+    pub(super) scene: &'f Scene<'a>,
+    pub(super) cursor_row: usize,
+    pub(super) selected: Option<Range>,
+}
+
+impl<'f, 'a> Model for Frame<'f, 'a> {
+    ghost use Rattle.textarea_scene.specs.Scene.{SceneState};
+    ghost use Rattle.textarea_scene.specs.Rows.{IsKnown};
+
+    ghost Value = { SceneState };
+
+    ghost view = { λ frame. frame.scene.now };
+
+    ghost invariant = { λ frame. IsKnown frame.scene.now frame.cursor_row frame.selected };
+}
+
+impl<'f, 'a> Frame<'f, 'a> {
+    pub(super) fn new(scene: &'f Scene<'a>) -> Frame<'f, 'a>
+        requires { HasPlaces scene.now }
+        ensures { result ≡ scene.now }
+    {
+        let lines = scene.rows.lines();
+        let selected = match scene.selection {
+            Some((start, end)) => Some((byte_place(lines, start), byte_place(lines, end))),
+            None => None,
+        };
+        let (cursor_row, _) = scene.rows.visual_position(scene.cursor);
+        Frame {
+            scene,
+            cursor_row,
+            selected,
+        }
+    }
+
+    /// The spans of a visual row.
+    pub(super) fn line(
+        &self,
+        alloc: Global,
+        row: usize,
+        matches: &mut FoundMatches<'_>,
+    ) -> Result<Line<'a>, AllocError>
+        requires row { row < row_total self.now.rows.rows }
+        requires matches { matches.old.searched ≡ searched self.now }
+        ensures shown { IfOk result (λ line.
+            ShowsRow (row_highlights self.now row) (shown_line line)) }
+        ensures same { matches.new.searched ≡ matches.old.searched }
+    {
+        let scene = self.scene;
+        let shown = scene.rows.row_at(row);
+        matches.turn_to(shown.line)?;
+        let mut highlighter = self.bare(alloc, shown.text);
+        self.add_number(&mut highlighter, shown)?;
+        self.add_cursor(&mut highlighter, row, shown)?;
+        self.add_matches(&mut highlighter, shown, matches.as_slice())?;
+        self.add_selection(&mut highlighter, shown)?;
+        self.add_customs(&mut highlighter, shown)?;
+        highlighter.into_spans()
+    }
+
+    // A row of this text with no highlight.
+    fn bare<'t>(&self, alloc: Global, text: &'t str) -> LineHighlighter<'t>
+        ensures { result ≡ plain_row (encode_utf8_all (chars text.now)) (cursor_cell self.now.look)
+            self.now.rows.wrapping.tab_len self.now.look.mask self.now.look.selection_style }
+    {
+        let scene = self.scene;
+        let cursor_cell = cell_render(scene.look.cursor_render_mode, scene.look.cursor_style);
+        LineHighlighter::new(
+            alloc,
+            text,
+            cursor_cell,
+            scene.rows.tab_len(),
+            scene.look.mask,
+            scene.look.selection_style,
+        )
+    }
+}
+
+// How the cursor's cell is drawn in this mode, where it has this style of its own.
+fn cell_render(mode: CursorRenderMode, style: Style) -> CursorCellRender
+    ensures { result ≡ cell_render mode style }
+{
+    match mode {
+        CursorRenderMode::Cell => CursorCellRender::Draw(style),
+        CursorRenderMode::Hidden => CursorCellRender::Hidden,
+    }
+}
