@@ -31,7 +31,7 @@ impl<'a> Job<'a> {
 
     /// The symbols of the first row, once all frames are drawn into one buffer.
     pub fn run(&self, alloc: Global) -> Result<String, AllocError> {
-        let text = repeated(alloc, self.text, usize::from(self.width))?;
+        let text = repeat(alloc, self.text, usize::from(self.width))?;
         let mut spans = Vec::new(alloc);
         spans.push(Span::raw(text.as_str()))?;
         let line = Line::from_spans(spans);
@@ -45,7 +45,7 @@ impl<'a> Job<'a> {
 }
 
 // The text, so many times.
-fn repeated(alloc: Global, text: &str, times: usize) -> Result<String, AllocError> {
+fn repeat(alloc: Global, text: &str, times: usize) -> Result<String, AllocError> {
     let mut line = String::new(alloc);
     for _ in 0..times {
         line.push_str(text)?;

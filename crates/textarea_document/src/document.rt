@@ -28,7 +28,7 @@ use textarea_edit::edit::Edit;
 use textarea_history::history::History;
 use textarea_lines::laid_out::LaidOutLines;
 use textarea_lines::settings::LayoutSettings;
-use textarea_pieces::places::clipped;
+use textarea_pieces::places::clip;
 use textarea_ranges::atomic::AtomicRange;
 
 /// Lines of text, a cursor, the place where a selection began, atomic ranges, and a history of edits.
@@ -245,7 +245,7 @@ impl Document {
             (clip (lines_of lines.items) cursor) self.old.log.maximum) }
         ensures err { OnErr result (self.new ≡ self.old) }
     {
-        let place = clipped(lines.as_slice(), cursor);
+        let place = clip(lines.as_slice(), cursor);
         let history = History::new(*lines.allocator(), self.history.max_items());
         self.laid.set_lines(lines)?;
         self.cursor = place;

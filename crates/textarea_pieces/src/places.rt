@@ -79,7 +79,7 @@ pub fn line_end(lines: &[String], row: usize) -> (usize, usize)
 }
 
 /// The nearest place of the lines: the row at most the last one, the column at most the length of that row's line.
-pub fn clipped(lines: &[String], place: (usize, usize)) -> (usize, usize)
+pub fn clip(lines: &[String], place: (usize, usize)) -> (usize, usize)
     requires { 0 < length lines.now }
     ensures value { result ≡ clip (lines_of lines.now) place }
     ensures is_place { IsPlaceOf (lines_of lines.now) result }

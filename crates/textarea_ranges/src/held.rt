@@ -27,7 +27,7 @@ fn is_inside(range: AtomicRange, place: (usize, usize)) -> bool
 /// The place, moved out of the range that strictly holds it: to its start for Backward, to its end for Forward. A place
 /// that no range strictly holds stays. Where the ranges are valid for some lines, the result is strictly inside none of
 /// them, and a place of the lines where the given one is.
-pub fn moved_out(
+pub fn move_out(
     ranges: &[AtomicRange],
     place: (usize, usize),
     bias: AtomicCursorBias,
@@ -84,7 +84,7 @@ fn is_hit(range: AtomicRange, place: (usize, usize), direction: AtomicDeleteDire
 /// The two ends of the removal, widened: the start goes to the start of the range that strictly holds it, the end to the
 /// end of the one that strictly holds it. Where the ranges are valid for some lines and the removal starts by its end,
 /// the widened one holds each range that it overlaps, takes each range whole or not at all, and no smaller one does.
-pub fn widened(
+pub fn widen(
     ranges: &[AtomicRange],
     from: (usize, usize),
     to: (usize, usize),
@@ -97,7 +97,7 @@ pub fn widened(
         IsPlaceOf rows result.0 × IsPlaceOf rows result.1 }
 {
     (
-        moved_out(ranges, from, AtomicCursorBias::Backward),
-        moved_out(ranges, to, AtomicCursorBias::Forward),
+        move_out(ranges, from, AtomicCursorBias::Backward),
+        move_out(ranges, to, AtomicCursorBias::Forward),
     )
 }

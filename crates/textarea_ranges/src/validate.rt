@@ -11,7 +11,7 @@ use textarea_text::rows::column_count;
 /// The ranges by row and start, where they are valid for the lines: each holds a character at least, its row exists, it
 /// ends by its line's end, and no two of them share a character. Else the rejected ones by row and start, each with the
 /// first reason that there is; a range overlaps the last valid one of its row where it starts before that one's end.
-pub fn validated(
+pub fn validate(
     alloc: Global,
     ranges: Vec<AtomicRange>,
     lines: &[String],

@@ -76,7 +76,7 @@ fn heights_measured(rt: HostRuntime) -> Result<(), Fail> {
         (65535, false, measure(65535, 65535, 1, 65535)),
         (70000, false, measure(65535, 65535, 1, 65535)),
     ] {
-        assert_eq!(rt; surround.measured(5, rows, is_empty), wanted);
+        assert_eq!(rt; surround.measure(5, rows, is_empty), wanted);
     }
     surround.set_styled_placeholder(lines(rt.alloc(), &["a", "b", "c"])?);
     for (rows, is_empty, wanted) in [
@@ -84,7 +84,7 @@ fn heights_measured(rt: HostRuntime) -> Result<(), Fail> {
         (5, true, measure(3, 3, 1, 65535)),
         (2, false, measure(2, 2, 1, 65535)),
     ] {
-        assert_eq!(rt; surround.measured(5, rows, is_empty), wanted);
+        assert_eq!(rt; surround.measure(5, rows, is_empty), wanted);
     }
     surround.set_min_rows(3);
     surround.set_max_rows(4);
@@ -93,7 +93,7 @@ fn heights_measured(rt: HostRuntime) -> Result<(), Fail> {
         (4, measure(4, 4, 3, 4)),
         (9, measure(9, 4, 3, 4)),
     ] {
-        assert_eq!(rt; surround.measured(5, rows, false), wanted);
+        assert_eq!(rt; surround.measure(5, rows, false), wanted);
     }
     Ok(())
 }
@@ -121,15 +121,15 @@ fn heights_measured_with_a_block(rt: HostRuntime) -> Result<(), Fail> {
         surround.set_block(block);
         assert_eq!(rt; surround.inner_width(7), inner_width);
         assert_eq!(rt; surround.chrome(7), chrome);
-        assert_eq!(rt; surround.measured(7, 2, false), wanted);
+        assert_eq!(rt; surround.measure(7, 2, false), wanted);
     }
     surround.set_block(all);
     surround.set_max_rows(2);
     assert_eq!(rt; surround.inner_width(1), 0);
-    assert_eq!(rt; surround.measured(7, 9, false), measure(9, 3, 3, 3));
+    assert_eq!(rt; surround.measure(7, 9, false), measure(9, 3, 3, 3));
     surround.remove_block();
     assert!(rt; surround.block().is_none());
-    assert_eq!(rt; surround.measured(7, 9, false), measure(9, 2, 1, 2));
+    assert_eq!(rt; surround.measure(7, 9, false), measure(9, 2, 1, 2));
     Ok(())
 }
 
@@ -228,6 +228,6 @@ fn copies_of_surrounds(rt: HostRuntime) -> Result<(), Fail> {
     );
     assert_eq!(rt; copied.placeholder_text(), "hello");
     assert_eq!(rt; (copied.min_rows(), copied.max_rows()), (2, 9));
-    assert_eq!(rt; copied.measured(7, 2, true), measure(1, 3, 3, 9));
+    assert_eq!(rt; copied.measure(7, 2, true), measure(1, 3, 3, 9));
     Ok(())
 }

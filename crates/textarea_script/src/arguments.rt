@@ -123,7 +123,7 @@ pub fn one_character(text: &str) -> Option<char> {
 }
 
 // The text that a text with escapes stands for.
-pub fn unescaped(alloc: Global, text: &str) -> Result<String, Unread> {
+pub fn unescape(alloc: Global, text: &str) -> Result<String, Unread> {
     let mut plain = String::new(alloc);
     let mut rest = text;
     while !rest.is_empty() {
@@ -170,14 +170,14 @@ fn first_character(text: &str) -> Option<(char, &str)>
 {
     let mut rest = text.chars();
     let c = match rest.next()? {
-        '\\' => return escaped(rest.as_str()),
+        '\\' => return escaped_character(rest.as_str()),
         c => c,
     };
     Some((c, rest.as_str()))
 }
 
 // The character of an escape, whose text is given behind its backslash, and the text behind it.
-fn escaped(text: &str) -> Option<(char, &str)>
+fn escaped_character(text: &str) -> Option<(char, &str)>
     ensures { IfSome result (λ x. length x.1.now < length text.now) }
 {
     let mut rest = text.chars();
@@ -186,14 +186,14 @@ fn escaped(text: &str) -> Option<(char, &str)>
         'r' => '\r',
         't' => '\t',
         '\\' => '\\',
-        'u' => return numbered(rest.as_str()),
+        'u' => return numbered_character(rest.as_str()),
         _ => return None,
     };
     Some((c, rest.as_str()))
 }
 
 // The character of a number in braces, of 1 to 6 hexadecimal digits, and the text behind it.
-fn numbered(text: &str) -> Option<(char, &str)>
+fn numbered_character(text: &str) -> Option<(char, &str)>
     ensures { IfSome result (λ x. length x.1.now < length text.now) }
 {
     let (digits, rest) = text.strip_prefix('{')?.split_once('}')?;

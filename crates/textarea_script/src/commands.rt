@@ -4,7 +4,7 @@ ghost use Rattle.textarea_script.specs.Calls.{CanBeMade};
 ghost use Rattle.textarea_script.specs.Script.{lines_of, filled_lines, AreCallsOf, IsAtLine, IsCallOf, IsReady, IsReady-prop, NamesLine};
 
 use crate::arguments::{
-    Unread, mode_named, move_named, number, one_character, ranges, truth, two_numbers, unescaped,
+    Unread, mode_named, move_named, number, one_character, ranges, truth, two_numbers, unescape,
     unescaped_lines,
 };
 use crate::call::Call;
@@ -130,16 +130,16 @@ fn content_of(alloc: Global, line: &str) -> Result<Content, Unread>
     };
     match name {
         "insert_str" => {
-            let text = unescaped(alloc, arguments.unwrap_or(""))?;
+            let text = unescape(alloc, arguments.unwrap_or(""))?;
             Ok(Content::InsertStr(text))
         }
         "set_yank_text" => {
-            let text = unescaped(alloc, arguments.unwrap_or(""))?;
+            let text = unescape(alloc, arguments.unwrap_or(""))?;
             Ok(Content::SetYankText(text))
         }
         "ranges" => Ok(Content::TrySetAtomicRanges(ranges(alloc, arguments)?)),
         "set_search_pattern" => {
-            let text = unescaped(alloc, arguments.unwrap_or(""))?;
+            let text = unescape(alloc, arguments.unwrap_or(""))?;
             Ok(Content::SetSearchPattern(text))
         }
         "set_lines" => set_lines(alloc, arguments.unwrap_or("")),

@@ -5,7 +5,7 @@ ghost use Rattle.textarea_text.specs.Place.{IsPlaceOf, line_of};
 ghost use Rattle.textarea_word.specs.Paragraphs.{is_empty_line, is_paragraph_start, next_paragraph_start, previous_paragraph_start};
 ghost use Rattle.textarea_target.specs.Target.{paragraph_back, paragraph_forward};
 
-use textarea_pieces::places::{clipped, last_row};
+use textarea_pieces::places::{clip, last_row};
 
 /// The cursor's column in the row at which the next paragraph begins, or in the last row.
 pub fn paragraph_forward(lines: &[String], cursor: (usize, usize)) -> (usize, usize)
@@ -14,7 +14,7 @@ pub fn paragraph_forward(lines: &[String], cursor: (usize, usize)) -> (usize, us
     ensures place { IsPlaceOf (lines_of lines.now) result }
 {
     let row = next_paragraph_start(lines, cursor.0).unwrap_or(last_row(lines));
-    clipped(lines, (row, cursor.1))
+    clip(lines, (row, cursor.1))
 }
 
 /// The cursor's column in the nearest row above at which a paragraph begins, or in the first row; none from the first row.
@@ -27,7 +27,7 @@ pub fn paragraph_back(lines: &[String], cursor: (usize, usize)) -> Option<(usize
         return None;
     }
     let row = previous_paragraph_start(lines, cursor.0).unwrap_or(0);
-    Some(clipped(lines, (row, cursor.1)))
+    Some(clip(lines, (row, cursor.1)))
 }
 
 // The first row below this one at which a paragraph begins.

@@ -8,7 +8,7 @@ use crate::ends::{next_place, previous_place};
 use crate::paragraphs::{paragraph_back, paragraph_forward};
 use crate::words::{word_back, word_end, word_forward};
 use textarea_data::cursor::CursorMove;
-use textarea_pieces::places::{clipped, last_row, line_end};
+use textarea_pieces::places::{clip, last_row, line_end};
 
 /// Where the move leads from the cursor, a place of the lines: row and column, both from 0, the column in characters.
 /// None where it leads nowhere: Forward from the text's end, Back from its start, ParagraphBack from the first row, and
@@ -30,15 +30,15 @@ pub fn target(
         CursorMove::Back => previous_place(lines, cursor),
         CursorMove::Head => Some((row, 0)),
         CursorMove::End => Some(line_end(lines, row)),
-        CursorMove::Top => Some(clipped(lines, (0, column))),
-        CursorMove::Bottom => Some(clipped(lines, (last_row(lines), column))),
+        CursorMove::Top => Some(clip(lines, (0, column))),
+        CursorMove::Bottom => Some(clip(lines, (last_row(lines), column))),
         CursorMove::WordForward => Some(word_forward(lines, cursor)),
         CursorMove::WordEnd => Some(word_end(lines, cursor)),
         CursorMove::WordBack => Some(word_back(lines, cursor)),
         CursorMove::ParagraphForward => Some(paragraph_forward(lines, cursor)),
         CursorMove::ParagraphBack => paragraph_back(lines, cursor),
         CursorMove::Jump(row, column) => {
-            Some(clipped(lines, (usize::from(row), usize::from(column))))
+            Some(clip(lines, (usize::from(row), usize::from(column))))
         }
         CursorMove::Up | CursorMove::Down | CursorMove::InViewport => None,
     }

@@ -2,7 +2,7 @@
 use std::test::Fail;
 use textarea_pieces::given::{copy_pieces, join_with_line_feeds, pieces_of};
 use textarea_pieces::part::between;
-use textarea_pieces::places::clipped;
+use textarea_pieces::places::clip;
 use textarea_pieces::tab::spaces_to_stop;
 use textarea_text::rows::column_count;
 
@@ -34,7 +34,7 @@ fn parts(rt: HostRuntime) -> Result<(), Fail> {
         ((2, 1), "ab\n犬\ne"),
     ];
     for (place, written) in cases {
-        let to = clipped(&lines, place);
+        let to = clip(&lines, place);
         let pieces = between(rt.alloc(), &lines, (0, 0), to)?;
         let joined = join_with_line_feeds(rt.alloc(), &pieces)?;
         assert_eq!(rt; joined.as_str(), written);

@@ -1,7 +1,7 @@
 //! A list of ranges that is accepted, and one of which each wrong range is named with its reason.
 use std::test::Fail;
 use textarea_ranges::atomic::{AtomicRange, AtomicRangeRejectReason, RejectedAtomicRange};
-use textarea_ranges::validate::validated;
+use textarea_ranges::validate::validate;
 
 fn part(row: usize, start_col: usize, end_col: usize) -> AtomicRange {
     AtomicRange {
@@ -21,7 +21,7 @@ fn accepted(rt: HostRuntime) -> Result<(), Fail> {
     let lines = vec![in rt.alloc(); line]?;
     let given = vec![in rt.alloc(); part(0, 1, 3), part(0, 0, 1)]?;
     let expected = [part(0, 0, 1), part(0, 1, 3)];
-    match validated(rt.alloc(), given, &lines)? {
+    match validate(rt.alloc(), given, &lines)? {
         Ok(held) => assert!(rt; held.as_slice() == expected.as_slice()),
         Err(_) => panic!(rt; "refused"),
     }
@@ -45,7 +45,7 @@ fn refused(rt: HostRuntime) -> Result<(), Fail> {
         rejected(part(0, 2, 4), AtomicRangeRejectReason::ColumnOutOfBounds),
         rejected(part(1, 0, 1), AtomicRangeRejectReason::RowOutOfBounds),
     ];
-    match validated(rt.alloc(), given, &lines)? {
+    match validate(rt.alloc(), given, &lines)? {
         Ok(_) => panic!(rt; "accepted"),
         Err(error) => assert!(rt; error.rejected.as_slice() == expected.as_slice()),
     }

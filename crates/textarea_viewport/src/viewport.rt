@@ -106,8 +106,8 @@ impl Viewport {
     pub fn scroll(&mut self, rows: i32, cols: i32)
         ensures { self.new ≡ scrolled_viewport self.old rows cols }
     {
-        self.row = scrolled(self.row, rows);
-        self.column = scrolled(self.column, cols);
+        self.row = scroll_from(self.row, rows);
+        self.column = scroll_from(self.column, cols);
     }
 
     /// Scrolls by rows and columns, or by a page, which is the height, or by half of it, rounded down.
@@ -156,7 +156,7 @@ impl Viewport {
     pub fn clamp_row(&self, row: usize, last_row: usize) -> usize
         ensures { result ≡ clamped self.now.row self.now.height last_row row }
     {
-        clamped(self.row, self.height, last_row, row)
+        clamp(self.row, self.height, last_row, row)
     }
 
     /// The column that is nearest to a display column among those from the first to the last that is shown, or the row's
@@ -164,7 +164,7 @@ impl Viewport {
     pub fn clamp_column(&self, column: usize, greatest_column: usize) -> usize
         ensures { result ≡ clamped self.now.column self.now.width greatest_column column }
     {
-        clamped(self.column, self.width, greatest_column, column)
+        clamp(self.column, self.width, greatest_column, column)
     }
 
     /// The visual row that a cell of the area shows, or the text's last row where the cell lies below it; none for a cell
@@ -207,7 +207,7 @@ fn last_shown(first: usize, len: usize) -> usize
 }
 
 // A first row or column that is scrolled.
-fn scrolled(first: usize, by: i32) -> usize
+fn scroll_from(first: usize, by: i32) -> usize
     ensures { result ≡ scrolled first by }
 {
     let distance = by.unsigned_abs() as usize;
@@ -244,7 +244,7 @@ fn column_to_show(line_number_width: usize, column: usize) -> usize
 }
 
 // The nearest of `len` rows or columns from the first on, or the greatest where it is less.
-fn clamped(first: usize, len: usize, greatest: usize, at: usize) -> usize
+fn clamp(first: usize, len: usize, greatest: usize, at: usize) -> usize
     ensures { result ≡ clamped first len greatest at }
 {
     at.max(first).min(last_shown(first, len)).min(greatest)

@@ -21,9 +21,15 @@ impl Model for LayoutMetrics {
 
     ghost Value = { LayoutView };
 
-    ghost view = { λ metrics. record { line_number_width = metrics.line_number_width; wrap_width = metrics.wrap_width } };
+    ghost view = { λ metrics. record {
+      line_number_width = metrics.line_number_width;
+      wrap_width = metrics.wrap_width;
+    } };
 
-    ghost inverse = { λ view. record { line_number_width = view.line_number_width; wrap_width = view.wrap_width } };
+    ghost inverse = { λ view. record {
+      line_number_width = view.line_number_width;
+      wrap_width = view.wrap_width;
+    } };
 }
 
 impl LayoutMetrics {

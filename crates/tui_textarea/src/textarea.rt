@@ -65,7 +65,14 @@ impl<'a> Model for TextArea<'a> {
 
     ghost Value = { State };
 
-    ghost view = { λ area. record { document = area.document; yank = text_of area.yank.items; settings = area.settings; moment = as_nanos area.moment; pattern = area.search; surround = area.surround } };
+    ghost view = { λ area. record {
+      document = area.document;
+      yank = text_of area.yank.items;
+      settings = area.settings;
+      moment = as_nanos area.moment;
+      pattern = area.search;
+      surround = area.surround;
+    } };
 }
 
 impl<'a> Clone for TextArea<'a> {

@@ -37,7 +37,7 @@ impl<'a> Job<'a> {
 
     /// The number of rows, the same each time.
     pub fn run(&self, alloc: Global) -> Result<usize, AllocError> {
-        let line = repeated(alloc, self.text, self.kilobytes.saturating_mul(1000))?;
+        let line = repeat(alloc, self.text, self.kilobytes.saturating_mul(1000))?;
         let mut rows = 0;
         for _ in 0..self.times {
             rows = count_rows(alloc, line.as_str(), self.mode, self.width)?;
@@ -57,7 +57,7 @@ fn mode_named(name: &str) -> Option<WrapMode> {
 }
 
 // The text, again and again, until there are so many bytes.
-fn repeated(alloc: Global, text: &str, len: usize) -> Result<String, AllocError> {
+fn repeat(alloc: Global, text: &str, len: usize) -> Result<String, AllocError> {
     let mut line = String::new(alloc);
     if text.is_empty() {
         return Ok(line);

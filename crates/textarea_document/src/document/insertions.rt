@@ -14,7 +14,7 @@ use std::time::Duration;
 use textarea_edit::edit::{Edit, EditKind};
 use textarea_pieces::places::end_of;
 use textarea_ranges::atomic::AtomicCursorBias;
-use textarea_ranges::held::moved_out;
+use textarea_ranges::held::move_out;
 use textarea_text::rows;
 
 impl Document {
@@ -26,7 +26,7 @@ impl Document {
         ensures outside { All (λ range. ¬ IsInside result range) self.now.ranges }
     {
         let _lines = self.laid.lines();
-        moved_out(
+        move_out(
             self.ranges.as_slice(),
             self.cursor,
             AtomicCursorBias::Forward,

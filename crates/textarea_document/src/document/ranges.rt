@@ -14,12 +14,12 @@ ghost use Rattle.textarea_document.specs.Ranges.{accepted, anchor_out, anchored,
 use crate::document::Document;
 use std::alloc::AllocError;
 use std::time::Duration;
-use textarea_pieces::places::clipped;
+use textarea_pieces::places::clip;
 use textarea_ranges::atomic::{
     AtomicCursorBias, AtomicDeleteDirection, AtomicRange, AtomicRangeError,
 };
 use textarea_ranges::held;
-use textarea_ranges::validate::validated;
+use textarea_ranges::validate::validate;
 
 impl Document {
     /// The atomic ranges, by row and start: each has a character at least and lies in one line, and no two share one.
@@ -46,7 +46,7 @@ impl Document {
         ensures refused { IfOk result (λ outcome. OnErr outcome (self.new ≡ self.old)) }
         ensures err { OnErr result (self.new ≡ self.old) }
     {
-        match validated(self.allocator(), ranges, self.lines())? {
+        match validate(self.allocator(), ranges, self.lines())? {
             Ok(held) => {
                 self.hold(held);
                 Ok(Ok(()))
@@ -61,7 +61,7 @@ impl Document {
         requires in_order { AreInOrder ranges.items }
         ensures { self.new ≡ holding self.old ranges.items }
     {
-        let cursor = held::moved_out(ranges.as_slice(), self.cursor, AtomicCursorBias::Forward);
+        let cursor = held::move_out(ranges.as_slice(), self.cursor, AtomicCursorBias::Forward);
         let anchor = anchor_out(ranges.as_slice(), self.anchor);
         self.cursor = cursor;
         self.anchor = unless_empty(anchor, cursor);
@@ -82,7 +82,7 @@ impl Document {
         ensures new { self.new ≡ normalized self.old bias }
     {
         let found = held::inside(self.ranges.as_slice(), self.cursor).is_some();
-        self.cursor = held::moved_out(self.ranges.as_slice(), self.cursor, bias);
+        self.cursor = held::move_out(self.ranges.as_slice(), self.cursor, bias);
         found
     }
 
@@ -127,7 +127,7 @@ impl Document {
         ensures { self.new ≡ anchored self.old anchor }
     {
         if let Some(place) = anchor {
-            self.anchor = Some(clipped(self.lines(), place));
+            self.anchor = Some(clip(self.lines(), place));
         } else {
             self.anchor = None;
         }
@@ -139,7 +139,7 @@ fn anchor_out(ranges: &[AtomicRange], anchor: Option<(usize, usize)>) -> Option<
     ensures { result ≡ anchor_out ranges.now anchor }
 {
     let place = anchor?;
-    Some(held::moved_out(ranges, place, AtomicCursorBias::Backward))
+    Some(held::move_out(ranges, place, AtomicCursorBias::Backward))
 }
 
 // Where a selection began, or none where it began at the cursor.

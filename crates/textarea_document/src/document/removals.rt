@@ -37,7 +37,7 @@ impl Document {
         ensures ok { OnOk result (self.new ≡ part_removed self.old from to (as_nanos now)) }
         ensures err { OnErr result (self.new ≡ self.old) }
     {
-        let (start, end) = self.widened(from, to);
+        let (start, end) = self.widen(from, to);
         let pieces = between(self.allocator(), self.lines(), start, end)?;
         self.remove_whole(pieces, start, end, now)
     }
@@ -59,7 +59,7 @@ impl Document {
         ensures ok { OnOk result (self.new ≡ part_removed self.old from to (as_nanos now)) }
         ensures err { OnErr result (self.new ≡ self.old) }
     {
-        let (start, end) = self.widened(from, to);
+        let (start, end) = self.widen(from, to);
         let pieces = between(self.allocator(), self.lines(), start, end)?;
         let taken = copy_pieces(self.allocator(), pieces.as_slice())?;
         self.remove_whole(pieces, start, end, now)?;
@@ -87,7 +87,7 @@ impl Document {
     }
 
     // The two ends of a removal, widened over each range that it overlaps.
-    fn widened(&self, from: (usize, usize), to: (usize, usize)) -> ((usize, usize), (usize, usize))
+    fn widen(&self, from: (usize, usize), to: (usize, usize)) -> ((usize, usize), (usize, usize))
         requires from { IsPlace self.now.text from }
         requires to { IsPlace self.now.text to }
         requires ordered { index_of self.now.text from < index_of self.now.text to }
@@ -97,7 +97,7 @@ impl Document {
         ensures ordered { index_of self.now.text result.0 < index_of self.now.text result.1 }
         ensures whole { TakesWhole self.now.ranges result.0 result.1 }
     {
-        held::widened(self.ranges(), from, to)
+        held::widen(self.ranges(), from, to)
     }
 
     /// Removes the atomic range, whose ends are places of the text, with each other range that it overlaps.

@@ -27,7 +27,7 @@ impl Document {
     }
 
     /// The two ends of what is selected, the first one first; none where no symbol is selected.
-    pub fn selected(&self) -> Option<((usize, usize), (usize, usize))>
+    pub fn filled_selection(&self) -> Option<((usize, usize), (usize, usize))>
         ensures found { MatchOption result (is_selected self.now ≡ false)
             (λ ends. is_selected self.now ≡ true) }
         ensures ends { IfSome result (λ ends.
@@ -52,7 +52,7 @@ impl Document {
         ensures err { OnErr result (self.new ≡ self.old) }
         ensures nothing { is_selected self.old ≡ false → IsOk result }
     {
-        let Some((start, end)) = self.selected() else {
+        let Some((start, end)) = self.filled_selection() else {
             return Ok(false);
         };
         self.remove(start, end, now)?;
@@ -69,7 +69,7 @@ impl Document {
         ensures err { OnErr result (self.new ≡ self.old) }
         ensures nothing { is_selected self.old ≡ false → IsOk result }
     {
-        let Some((start, end)) = self.selected() else {
+        let Some((start, end)) = self.filled_selection() else {
             return Ok(None);
         };
         let pieces = self.take(start, end, now)?;

@@ -44,8 +44,8 @@ pub fn push_highlight(
     ensures placed { ArePlaced row.now borders.old.items → ArePlaced row.now borders.new.items }
     ensures err { OnErr result (borders.new.items ≡ borders.old.items) }
 {
-    let start = rounded_down(row, from);
-    let end = rounded_down(row, to);
+    let start = round_down(row, from);
+    let end = round_down(row, to);
     if start < end {
         borders.extend_from_slice(&[
             Border {
@@ -85,7 +85,7 @@ pub fn borders_of_matches<I: Iterator<Item = (usize, usize)> + Drop>(
 }
 
 /// The last place up to an offset, and in the row, at which a character starts or the row ends.
-fn rounded_down(row: &str, offset: usize) -> usize
+fn round_down(row: &str, offset: usize) -> usize
     ensures value { result ≡ rounded_down row.now offset }
     ensures boundary { IsCharBoundary row.now result }
 {

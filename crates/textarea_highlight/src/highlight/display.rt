@@ -36,15 +36,15 @@ impl Display {
         ensures bound { OnOk result (self.new.column ≤ self.old.column + 255 * length piece.now) }
     {
         let content = match self.mask {
-            Some(mask) => SpanText::Owned(masked(self.alloc, piece, mask)?),
-            None => unmasked(self.alloc, piece, self.tab_len, self.column)?,
+            Some(mask) => SpanText::Owned(mask_text(self.alloc, piece, mask)?),
+            None => show_tabs(self.alloc, piece, self.tab_len, self.column)?,
         };
         self.column = column_behind_text(piece, self.column, self.tab_len);
         Ok(content)
     }
 }
 
-fn unmasked<'a>(
+fn show_tabs<'a>(
     alloc: Global,
     piece: &'a str,
     tab_len: u8,
@@ -82,7 +82,7 @@ fn has_tab_behind_start(piece: &str) -> bool
 }
 
 /// The mask character for each character.
-fn masked(alloc: Global, piece: &str, mask: char) -> Result<String, AllocError>
+fn mask_text(alloc: Global, piece: &str, mask: char) -> Result<String, AllocError>
     ensures { IfOk result (λ s. string_bytes s
         ≡ encode_utf8_all (map (λ _. mask) (chars piece.now))) }
 {

@@ -42,14 +42,14 @@ impl<'a> Surround<'a> {
 
     /// The height that is measured in an area of this width for a text that has so many visual rows at the inner width, and
     /// that is empty or not.
-    pub fn measured(&self, width: u16, rows: usize, is_empty: bool) -> TextAreaMeasure
+    pub fn measure(&self, width: u16, rows: usize, is_empty: bool) -> TextAreaMeasure
         ensures value { result ≡ measure_of self.now rows is_empty }
         ensures bounds { AreBounds result.min_rows result.max_rows }
         ensures within { (result.min_rows ≤ result.preferred_rows)
             × (result.preferred_rows ≤ result.max_rows) }
     {
         let chrome = self.chrome(width);
-        let content_rows = saturated(self.shown_rows(rows, is_empty));
+        let content_rows = saturate(self.shown_rows(rows, is_empty));
         let min_rows = self.min_rows.max(chrome.saturating_add(1));
         let max_rows = self.max_rows.max(min_rows);
         TextAreaMeasure {
@@ -76,7 +76,7 @@ impl<'a> Surround<'a> {
 }
 
 // The number, or 65535 where it is greater.
-fn saturated(number: usize) -> u16
+fn saturate(number: usize) -> u16
     ensures { result ≡ saturated number }
 {
     number.min(usize::from(u16::MAX)) as u16

@@ -57,7 +57,7 @@ impl TextArea<'_> {
     pub fn copy_then_paste(&self)
         ensures { is_selected self.now.document ≡ true → PastesCopy self.now }
     {
-        let _ = self.document.selected();
+        let _ = self.document.filled_selection();
     }
 
     /// The cursor, and the place where a selection began, are places of the text, of every text area.

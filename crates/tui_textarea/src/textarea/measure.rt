@@ -25,7 +25,7 @@ impl TextArea<'_> {
             .rows_at_width(self.surround.inner_width(width))?;
         Ok(
             self.surround
-                .measured(width, rows, self.document.is_empty()),
+                .measure(width, rows, self.document.is_empty()),
         )
     }
 }

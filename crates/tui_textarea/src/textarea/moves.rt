@@ -6,7 +6,7 @@ ghost use Rattle.tui_textarea.specs.Moves.{IsMoved, IsTarget, bias_of};
 use crate::textarea::TextArea;
 use textarea_data::cursor::CursorMove;
 use textarea_ranges::atomic::AtomicCursorBias;
-use textarea_ranges::held::moved_out;
+use textarea_ranges::held::move_out;
 use textarea_target::target::target;
 
 impl TextArea<'_> {
@@ -20,7 +20,7 @@ impl TextArea<'_> {
         ensures { IsMoved self.old cursor_move self.new }
     {
         if let Some(place) = self.target_of(cursor_move) {
-            let place = moved_out(self.document.ranges(), place, bias_of(cursor_move));
+            let place = move_out(self.document.ranges(), place, bias_of(cursor_move));
             let anchor = self.document.anchor();
             self.document.move_to(place, anchor);
         }

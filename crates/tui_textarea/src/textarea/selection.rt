@@ -58,7 +58,7 @@ impl TextArea<'_> {
         ensures err { OnErr result (self.new ≡ self.old) }
         ensures nothing { is_selected self.old.document ≡ false → IsOk result }
     {
-        if let Some((start, end)) = self.document.selected() {
+        if let Some((start, end)) = self.document.filled_selection() {
             self.yank = between(self.allocator(), self.document.lines(), start, end)?;
         }
         self.document.set_anchor(None);

@@ -14,13 +14,13 @@ returns-in-End-clause-value c =
 
 pub returns-in-Top-clause-value : goal.returns-in-Top-clause-value
 returns-in-Top-clause-value c =
-    λ above below _. leads above below c.args.lines.now c.args.cursor c.args.cursor_move Top (Some c.clipped.result) (λ rows. Some (clip rows (0, c.args.cursor.1))) c.requires c.in-Top.is
-    (ap Some c.clipped.ensures.value) refl
+    λ above below _. leads above below c.args.lines.now c.args.cursor c.args.cursor_move Top (Some c.clip.result) (λ rows. Some (clip rows (0, c.args.cursor.1))) c.requires c.in-Top.is
+    (ap Some c.clip.ensures.value) refl
 
 pub returns-in-Bottom-clause-value : goal.returns-in-Bottom-clause-value
 returns-in-Bottom-clause-value c =
-    λ above below _. leads above below c.args.lines.now c.args.cursor c.args.cursor_move Bottom (Some c.clipped-in-Bottom.result) (λ rows. Some (clip rows (last_row rows, c.args.cursor.1))) c.requires c.in-Bottom.is
-    (ap Some (c.clipped-in-Bottom.ensures.value ∙ ap (λ (row : ℕ). clip (lines_of c.args.lines.now) (row, c.args.cursor.1)) c.last_row.ensures.value)) refl
+    λ above below _. leads above below c.args.lines.now c.args.cursor c.args.cursor_move Bottom (Some c.clip-in-Bottom.result) (λ rows. Some (clip rows (last_row rows, c.args.cursor.1))) c.requires c.in-Bottom.is
+    (ap Some (c.clip-in-Bottom.ensures.value ∙ ap (λ (row : ℕ). clip (lines_of c.args.lines.now) (row, c.args.cursor.1)) c.last_row.ensures.value)) refl
 
 pub returns-in-WordForward-clause-value : goal.returns-in-WordForward-clause-value
 returns-in-WordForward-clause-value c =
@@ -49,9 +49,9 @@ returns-in-ParagraphBack-clause-value c =
 
 pub returns-in-Jump-clause-value : goal.returns-in-Jump-clause-value
 returns-in-Jump-clause-value c =
-    let read : c.clipped-in-Jump.result ≡ clip (lines_of c.args.lines.now) (c.in-Jump.row, c.in-Jump.column) =
-    c.clipped-in-Jump.ensures.value
+    let read : c.clip-in-Jump.result ≡ clip (lines_of c.args.lines.now) (c.in-Jump.row, c.in-Jump.column) =
+    c.clip-in-Jump.ensures.value
     ∙ ap (λ (row : ℕ). clip (lines_of c.args.lines.now) (row, c.from-in-Jump.result)) c.from.ensures
     ∙ ap (λ (column : ℕ). clip (lines_of c.args.lines.now) (c.in-Jump.row, column)) c.from-in-Jump.ensures in
-    λ above below _. leads above below c.args.lines.now c.args.cursor c.args.cursor_move (Jump c.in-Jump.row c.in-Jump.column) (Some c.clipped-in-Jump.result) (λ rows. Some (clip rows (c.in-Jump.row, c.in-Jump.column))) c.requires c.in-Jump.is
+    λ above below _. leads above below c.args.lines.now c.args.cursor c.args.cursor_move (Jump c.in-Jump.row c.in-Jump.column) (Some c.clip-in-Jump.result) (λ rows. Some (clip rows (c.in-Jump.row, c.in-Jump.column))) c.requires c.in-Jump.is
     (ap Some read) refl

@@ -16,10 +16,10 @@ invariant_of-self c =
     let first : AreValid (lines text) c.as_slice.result.now = subst (AreValid (lines text)) (sym c.as_slice.ensures.value) valid in
     let old = c.self.invariant in
     record {
-      cursor = c.moved_out-cursor.ensures.place (lines text) first old.cursor;
+      cursor = c.move_out-cursor.ensures.place (lines text) first old.cursor;
       anchor = subst (λ o. IfSome o (IsPlace text)) (sym c.unless_empty-self-inside.ensures)
-          (subst (λ o. IfSome (unless_empty o c.moved_out-cursor.result) (IsPlace text)) (sym c.anchor_out-anchor.ensures)
-          (anchor_place text c.as_slice-2.result.now c.self.inside.anchor c.moved_out-cursor.result (subst (AreValid (lines text)) (sym c.as_slice-2.ensures.value) valid) old.anchor));
+          (subst (λ o. IfSome (unless_empty o c.move_out-cursor.result) (IsPlace text)) (sym c.anchor_out-anchor.ensures)
+          (anchor_place text c.as_slice-2.result.now c.self.inside.anchor c.move_out-cursor.result (subst (AreValid (lines text)) (sym c.as_slice-2.ensures.value) valid) old.anchor));
       ranges = valid;
       in_order = c.requires.in_order;
       undo = old.undo;

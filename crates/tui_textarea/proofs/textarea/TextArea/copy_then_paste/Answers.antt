@@ -8,6 +8,6 @@ use Rattle.tui_textarea.proofs.textarea.TextArea.copy_then_paste.Goals as goal
 pub returns : goal.returns
 returns c = subst (λ (s : State). is_selected s.document ≡ true → PastesCopy s) c.self.view_is
     (λ e.
-    let found = c.selected.ensures in
-    let known = ends_known c.self.inside.document c.selected.result e found.found found.ends found.places found.ordered in
+    let found = c.filled_selection.ensures in
+    let known = ends_known c.self.inside.document c.filled_selection.result e found.found found.ends found.places found.ordered in
     pastes_copy _ e known.0 known.1)

@@ -1,6 +1,6 @@
 use Rattle.std.proofs.Common.{◌∙◌, sym}
 use Rattle.textarea_document.proofs.Orders.{index_before}
-use Rattle.textarea_document.proofs.document.Document.selected.Goals as goal
+use Rattle.textarea_document.proofs.document.Document.filled_selection.Goals as goal
 
 pub returns-then-comes_before-clause-ordered : goal.returns-then-comes_before-clause-ordered
 returns-then-comes_before-clause-ordered c =

@@ -3,7 +3,7 @@ use Rattle.textarea_text.specs.Place.{Place, IsPlaceOf}
 use Rattle.textarea_ranges.specs.declared.atomic.AtomicRange.{AtomicRange}
 use Rattle.textarea_ranges.specs.Held.{IsInside, border_or, moved_out}
 use Rattle.textarea_ranges.proofs.HeldLemmas.{IsPlaceOf-moved_out, outside-moved_out}
-use Rattle.textarea_ranges.proofs.held.moved_out.Goals as goal
+use Rattle.textarea_ranges.proofs.held.move_out.Goals as goal
 
 pub returns-in-Some-clause-outside : goal.returns-in-Some-clause-outside
 returns-in-Some-clause-outside c =

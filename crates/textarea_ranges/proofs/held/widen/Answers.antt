@@ -3,10 +3,10 @@ use Rattle.textarea_text.specs.Place.{Place}
 use Rattle.textarea_ranges.specs.declared.atomic.AtomicCursorBias.TheVariants.{Backward}
 use Rattle.textarea_ranges.specs.Held.{IsWidened, moved_out, widened}
 use Rattle.textarea_ranges.proofs.HeldLemmas.{IsWidened-widened}
-use Rattle.textarea_ranges.proofs.held.widened.Goals as goal
+use Rattle.textarea_ranges.proofs.held.widen.Goals as goal
 
 pub returns-clause-whole : goal.returns-clause-whole
 returns-clause-whole c =
-    let is : (c.moved_out.result, c.moved_out-2.result) ≡ widened c.args.ranges.now c.args.from c.args.to =
-    ap (λ (p : Place). (p, c.moved_out-2.result)) c.moved_out.ensures.value ∙ ap (λ (p : Place). (moved_out c.args.ranges.now c.args.from Backward, p)) c.moved_out-2.ensures.value in
+    let is : (c.move_out.result, c.move_out-2.result) ≡ widened c.args.ranges.now c.args.from c.args.to =
+    ap (λ (p : Place). (p, c.move_out-2.result)) c.move_out.ensures.value ∙ ap (λ (p : Place). (moved_out c.args.ranges.now c.args.from Backward, p)) c.move_out-2.ensures.value in
     λ rows valid up. subst (IsWidened c.args.ranges.now c.args.from c.args.to) (sym is) (IsWidened-widened rows c.args.ranges.now c.args.from c.args.to valid up)

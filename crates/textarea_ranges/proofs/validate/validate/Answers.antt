@@ -4,7 +4,7 @@ use Rattle.std.proofs.lemmas.List.{nil_from_length}
 use Rattle.textarea_text.specs.Text.{lines_of}
 use Rattle.textarea_ranges.specs.Rejected.{rejected_of}
 use Rattle.textarea_ranges.proofs.RejectedLemmas.{AreAccepted-in_order, AreRefused-in_order}
-use Rattle.textarea_ranges.proofs.validate.validated.Goals as goal
+use Rattle.textarea_ranges.proofs.validate.validate.Goals as goal
 
 pub returns-then-is_empty : goal.returns-then-is_empty
 returns-then-is_empty c =

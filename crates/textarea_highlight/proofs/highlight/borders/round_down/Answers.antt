@@ -1,5 +1,5 @@
 use Rattle.textarea_highlight.proofs.BorderLemmas.{rounded}
-use Rattle.textarea_highlight.proofs.highlight.borders.rounded_down.Goals as goal
+use Rattle.textarea_highlight.proofs.highlight.borders.round_down.Goals as goal
 
 pub returns-clause-value : goal.returns-clause-value
 returns-clause-value c =

@@ -1,6 +1,6 @@
 use Rattle.std.proofs.Common.{sym, ◌∙◌, arith}
 use Rattle.textarea_highlight.proofs.DisplayLemmas.{kept_at_zero, changed_at_zero, kept_at_some, changed_at_some, text_of_kept}
-use Rattle.textarea_highlight.proofs.highlight.display.unmasked.Goals as goal
+use Rattle.textarea_highlight.proofs.highlight.display.show_tabs.Goals as goal
 
 pub returns-in_ok-drop_tabs-clause-borrowed : goal.returns-in_ok-drop_tabs-clause-borrowed
 returns-in_ok-drop_tabs-clause-borrowed c = (
