@@ -23,9 +23,6 @@ impl TextArea<'_> {
         let rows = self
             .document
             .rows_at_width(self.surround.inner_width(width))?;
-        Ok(
-            self.surround
-                .measure(width, rows, self.document.is_empty()),
-        )
+        Ok(self.surround.measure(width, rows, self.document.is_empty()))
     }
 }
