@@ -1,13 +1,13 @@
 // Text areas of given lines and copies of them, and README's program.
-use crate::unprinted::make;
+use crate::unprinted::{AT_FIRST, FILLED, Unprinted, compare_read, make};
 use std::alloc::AllocError;
 use std::process::Abort;
 use std::test::Fail;
 use tui_textarea::{CursorMove, TextArea, WrapMode};
 
-fn compare_lines(rt: &impl Abort, area: &TextArea<'_>, lines: &[&str]) {
-    assert!(rt; area.lines().len() == lines.len());
-    for (line, wanted) in area.lines().iter().zip(lines) {
+fn compare_lines(rt: &impl Abort, lines: &[String], wanted: &[&str]) {
+    assert!(rt; lines.len() == wanted.len());
+    for (line, wanted) in lines.iter().zip(wanted) {
         assert!(rt; line.as_str() == *wanted);
     }
 }
@@ -20,35 +20,25 @@ fn strings(rt: &impl AllocGlobal, texts: &[&str]) -> Result<Vec<String>, AllocEr
     Ok(strings)
 }
 
-#[test]
-fn a_text_area_of_lines(rt: HostRuntime) -> Result<(), Fail> {
-    let area = TextArea::new(strings(&rt, &["a", "b"])?)?;
-    compare_lines(&rt, &area, &["a", "b"]);
+// Compares the lines, and as many as they are come out.
+fn compare_given(rt: &impl Abort, area: TextArea<'_>, wanted: &[&str]) {
+    compare_lines(rt, area.lines(), wanted);
     let lines = area.into_lines();
-    assert!(rt; lines.len() == 2);
-    Ok(())
+    assert!(rt; lines.len() == wanted.len());
 }
 
 #[test]
-fn a_text_area_of_texts(rt: HostRuntime) -> Result<(), Fail> {
-    let area = TextArea::from_strs(rt.alloc(), ["a", "b"].into_iter())?;
-    compare_lines(&rt, &area, &["a", "b"]);
-    Ok(())
-}
-
-#[test]
-fn a_text_area_of_strings(rt: HostRuntime) -> Result<(), Fail> {
+fn text_areas_of_lines(rt: HostRuntime) -> Result<(), Fail> {
+    let of_lines = TextArea::new(strings(&rt, &["a", "b"])?)?;
+    compare_given(&rt, of_lines, &["a", "b"]);
+    let of_texts = TextArea::from_strs(rt.alloc(), ["a", "b"].into_iter())?;
+    compare_given(&rt, of_texts, &["a", "b"]);
     let given = strings(&rt, &["x"])?;
-    let area = TextArea::from_strings(rt.alloc(), given.into_iter())?;
-    compare_lines(&rt, &area, &["x"]);
-    Ok(())
-}
-
-#[test]
-fn a_text_area_of_no_line(rt: HostRuntime) -> Result<(), Fail> {
+    let of_strings = TextArea::from_strings(rt.alloc(), given.into_iter())?;
+    compare_given(&rt, of_strings, &["x"]);
     let none = strings(&rt, &[])?;
-    let area = TextArea::from_strings(rt.alloc(), none.into_iter())?;
-    compare_lines(&rt, &area, &[""]);
+    let of_no_line = TextArea::from_strings(rt.alloc(), none.into_iter())?;
+    compare_given(&rt, of_no_line, &[""]);
     Ok(())
 }
 
@@ -56,15 +46,32 @@ fn a_text_area_of_no_line(rt: HostRuntime) -> Result<(), Fail> {
 #[test]
 fn a_copy_stands_alone(rt: HostRuntime) -> Result<(), Fail> {
     let mut area = TextArea::try_default(rt.alloc())?;
-    make(&rt, &mut area, "insert_char c\nset_search_pattern c")?;
+    copy_and_change(&rt, &mut area)
+}
+
+fn copy_and_change(rt: &(impl Abort + AllocGlobal), area: &mut TextArea<'_>) -> Result<(), Fail> {
+    make(rt, area, "insert_char c\nset_search_pattern c")?;
     let copy = area.clone()?;
-    make(&rt, &mut area, "undo\nset_search_pattern")?;
-    compare_lines(&rt, &area, &[""]);
-    assert!(rt; area.search_pattern() == None);
-    compare_lines(&rt, &copy, &["c"]);
-    assert!(rt; copy.search_pattern() == Some("c"));
+    change_beside(rt, area, &copy)
+}
+
+fn change_beside(
+    rt: &(impl Abort + AllocGlobal),
+    area: &mut TextArea<'_>,
+    copy: &TextArea<'_>,
+) -> Result<(), Fail> {
+    make(rt, area, "undo\nset_search_pattern")?;
+    compare_lines(rt, area.lines(), &[""]);
+    compare_read(rt, "the source", area, &AT_FIRST);
+    compare_lines(rt, copy.lines(), &["c"]);
+    compare_read(rt, "the copy", copy, &COPIED);
     Ok(())
 }
+
+static COPIED: Unprinted<'static> = Unprinted {
+    search_pattern: Some("c"),
+    ..FILLED
+};
 
 // The program of README, whose comments are asserted here.
 #[test]

@@ -1,7 +1,10 @@
 // What isn't printed of a text area: what its other calls read.
 use std::process::Abort;
+use std::string::ToString;
 use std::test::Fail;
+use textarea_script::Call;
 use textarea_script::commands::{calls, read};
+use textarea_script::printing::Report;
 use textarea_script::run::run;
 use tui_textarea::{AtomicRange, Modifier, Style, TextArea, WrapMode};
 
@@ -75,20 +78,8 @@ pub fn read_off<'a>(area: &'a TextArea<'_>) -> Unprinted<'a> {
     }
 }
 
-/// Makes the calls of a script.
-pub fn make(
-    rt: &(impl Abort + AllocGlobal),
-    area: &mut TextArea<'_>,
-    script: &str,
-) -> Result<(), Fail> {
-    let commands = read(rt.alloc(), script.as_bytes())?;
-    let calls = calls(rt.alloc(), commands.as_slice())?;
-    let end = run(area, calls.as_slice());
-    assert!(rt; end.refused == None);
-    Ok(())
-}
-
-const PLAIN: Style = Style {
+/// The empty style.
+pub const PLAIN: Style = Style {
     fg: None,
     bg: None,
     add_modifier: Modifier(0),
@@ -245,19 +236,63 @@ static READ: [(&str, Unprinted<'static>); 24] = [
 #[test]
 fn what_is_read(rt: HostRuntime) -> Result<(), Fail> {
     for (script, wanted) in &READ {
-        check_read(&rt, script, wanted)?;
+        check(&rt, script, &[], None, wanted)?;
     }
     Ok(())
 }
 
-fn check_read(
+/// Runs a script, and then calls, on a new text area: this is read then. Where a text is given, their answers and the text
+/// area are printed so.
+pub fn check(
     rt: &(impl Abort + AllocGlobal),
     script: &str,
-    wanted: &Unprinted<'_>,
+    calls: &[Call<'_>],
+    printed: Option<&str>,
+    wanted: &Unprinted<'static>,
 ) -> Result<(), Fail> {
     let mut area = TextArea::try_default(rt.alloc())?;
     make(rt, &mut area, script)?;
-    let found = read_off(&area);
-    assert!(rt; found == *wanted, "{script}\n{found:?}");
+    let found = printed_behind(rt, &mut area, calls)?;
+    if let Some(printed) = printed {
+        assert_eq!(rt; found.as_str(), printed, "{script}");
+    }
+    compare_read(rt, script, &area, wanted);
     Ok(())
+}
+
+/// What is read of the text area must be this.
+pub fn compare_read(
+    rt: &impl Abort,
+    script: &str,
+    area: &TextArea<'_>,
+    wanted: &Unprinted<'static>,
+) {
+    let found = read_off(area);
+    assert!(rt; found == *wanted, "{script}\n{found:?}");
+}
+
+/// Makes the calls of a script.
+pub fn make(
+    rt: &(impl Abort + AllocGlobal),
+    area: &mut TextArea<'_>,
+    script: &str,
+) -> Result<(), Fail> {
+    let commands = read(rt.alloc(), script.as_bytes())?;
+    let calls = calls(rt.alloc(), commands.as_slice())?;
+    let end = run(area, calls.as_slice());
+    assert!(rt; end.refused == None);
+    Ok(())
+}
+
+// Makes the calls, and prints their answers and the text area then.
+fn printed_behind(
+    rt: &(impl Abort + AllocGlobal),
+    area: &mut TextArea<'_>,
+    calls: &[Call<'_>],
+) -> Result<String, Fail> {
+    assert!(rt; calls.iter().all(|call| call.can_be_made()));
+    let end = run(area, calls);
+    assert!(rt; end.refused == None);
+    let answers = end.answers.as_slice();
+    Ok(Report { answers, area }.to_string(rt.alloc())?)
 }
