@@ -1,5 +1,5 @@
 -- What a row of cells makes of the cells of an area.
-use Rattle.std.proofs.Common.{◌≡◌, ℕ, Bool, true, false, cond, ◌&&◌, List, refl, sym, ap₂, ◌∙◌, arith}
+use Rattle.std.proofs.Common.{◌≡◌, ◌≢◌, ◌≤◌, ℕ, Bool, true, false, cond, ◌&&◌, List, refl, sym, ap, ap₂, ◌∙◌, arith}
 use Rattle.std.proofs.lemmas.Bool.{cond-false}
 use Rattle.std.proofs.lemmas.Bool.Decides.{nat_tests}
 use Rattle.textarea_screen.specs.Buffer.{Changes, KeepsOutside}
@@ -9,9 +9,11 @@ use Rattle.textarea_screen.specs.Text.{ShownLine}
 use Rattle.textarea_screen.proofs.ChangeLemmas.{Changes-as, KeepsOutside-wider}
 use Rattle.textarea_screen.specs.declared.screen.buffer.Buffer.{Buffer}
 use Rattle.textarea_screen.specs.declared.screen.rect.Rect.{Rect}
-use Rattle.textarea_paint.specs.Cells.{Placed, is_in_cells, row_change}
-use Rattle.textarea_paint.specs.Clusters.{row_clusters}
-use Rattle.textarea_paint.specs.Row.{cells_of_row, first_shown, placed_row, row_cell}
+use Rattle.textarea_screen.specs.declared.screen.alignment.Alignment.{Alignment}
+use Rattle.textarea_screen.specs.declared.screen.alignment.Alignment.TheVariants.{Left, Center, Right}
+use Rattle.textarea_paint.specs.Cells.{Placed, is_in_cells, place_from, row_change}
+use Rattle.textarea_paint.specs.Clusters.{Cluster, row_clusters}
+use Rattle.textarea_paint.specs.Row.{cells_of_row, first_shown, fitting, placed_row, row_start, row_cell}
 use Rattle.textarea_paint.specs.declared.paint.row.RowArea.{RowArea}
 use Rattle.textarea_paint.proofs.CellLemmas.{row_change-outside}
 
@@ -29,6 +31,26 @@ row_cell-outside rows row line x y cell outside = cond-false (is_in_row rows.are
 cond-within : (inside other : Bool) (f : ShownCell → ShownCell) (cell : ShownCell) → other ≡ inside → (other ≡ false → f cell ≡ cell) → f cell ≡ cond inside (f cell) cell
 cond-within true other f cell same out = refl
 cond-within false other f cell same out = out same
+
+-- ---- a row in the middle or at the right
+
+pub first_shown-fitting : (alignment : Alignment) (left : ℕ) → alignment ≢ Left → first_shown alignment left ≡ 0
+first_shown-fitting Left left not = absurd (not refl)
+first_shown-fitting Center left not = refl
+first_shown-fitting Right left not = refl
+
+pub placed_row-fitting : (alignment : Alignment) (width start : ℕ) (clusters : List Cluster) → alignment ≢ Left → start ≡ row_start alignment width clusters →
+    placed_row alignment width clusters ≡ place_from start (fitting width clusters)
+placed_row-fitting Left width start clusters not is = absurd (not refl)
+placed_row-fitting Center width start clusters not is = ap (λ n. place_from n (fitting width clusters)) (sym is)
+placed_row-fitting Right width start clusters not is = ap (λ n. place_from n (fitting width clusters)) (sym is)
+
+pub row_start-within : (alignment : Alignment) (width : ℕ) (clusters : List Cluster) → row_start alignment width clusters ≤ width
+row_start-within Left width clusters = omega arith
+row_start-within Center width clusters = omega arith
+row_start-within Right width clusters = omega arith
+
+-- ---- cells of a row
 
 -- an area and another have cells of this row together
 module _ (rows : RowArea) (other seen : Rect) (row : ℕ) (meets : Meets rows.area other seen) (here : contains seen seen.x row ≡ true) where

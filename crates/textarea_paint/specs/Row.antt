@@ -34,15 +34,22 @@ row_width clusters = sum_by (λ cluster. columns_of cluster.text) clusters
 
 -- ---- where they stand
 
+-- how many columns behind the left edge of an area of so many columns a line begins: none at the left, else as many as leave
+-- the clusters that are drawn in the middle, both halves rounded down, or at the right
+abbrev pub row_start : Alignment → ℕ → List Cluster → ℕ
+row_start Left width clusters = 0
+row_start Center width clusters = width / 2 - row_width (fitting width clusters) / 2
+row_start Right width clusters = width - row_width (fitting width clusters)
+
+-- the clusters that stand in the row
+abbrev pub taken : Alignment → ℕ → List Cluster → List Cluster
+taken Left width clusters = clusters
+taken Center width clusters = fitting width clusters
+taken Right width clusters = fitting width clusters
+
 -- the clusters of a line as they stand in a row of so many columns
 abbrev pub placed_row : Alignment → ℕ → List Cluster → List Placed
-placed_row Left width clusters = place_from 0 clusters
-placed_row Center width clusters =
-    let row = fitting width clusters in
-    place_from (width / 2 - row_width row / 2) row
-placed_row Right width clusters =
-    let row = fitting width clusters in
-    place_from (width - row_width row) row
+placed_row alignment width clusters = place_from (row_start alignment width clusters) (taken alignment width clusters)
 
 -- the first column of the row that is shown
 abbrev pub first_shown : Alignment → ℕ → ℕ

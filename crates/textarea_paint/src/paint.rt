@@ -7,4 +7,4 @@ mod columns;
 pub mod row;
 
 pub use block::draw_block;
-pub use row::{RowArea, draw_row};
+pub use row::{RowArea, draw_row, row_start};

@@ -34,7 +34,7 @@ AreShown-push scene row [] line h shows = (subst (λ n. ShowsRow (row_highlights
 AreShown-push scene row (first ∷ lines) line h shows =
     (h.0, AreShown-push scene (row + 1) lines line h.1 (subst (λ n. ShowsRow (row_highlights scene n) line) (omega arith) shows))
 
-lines_change-push : (rows : RowArea) (y : ℕ) (lines : List ShownLine) (line : ShownLine) (column row : ℕ) (cell : ShownCell) → row_cell rows (y + length lines) line column row (lines_change rows y lines column row cell) ≡ lines_change rows y (lines ++ line ∷ []) column row cell
+pub lines_change-push : (rows : RowArea) (y : ℕ) (lines : List ShownLine) (line : ShownLine) (column row : ℕ) (cell : ShownCell) → row_cell rows (y + length lines) line column row (lines_change rows y lines column row cell) ≡ lines_change rows y (lines ++ line ∷ []) column row cell
 lines_change-push rows y [] line column row cell = ap (λ n. row_cell rows n line column row cell) (omega arith)
 lines_change-push rows y (first ∷ lines) line column row cell =
     ap (λ n. row_cell rows n line column row (lines_change rows (y + 1) lines column row (row_cell rows y first column row cell))) (omega arith)
@@ -72,11 +72,17 @@ outside_stays rows y (line ∷ lines) column row cell outside =
     outside_stays rows (y + 1) lines column row (row_cell rows y line column row cell) outside
     ∙ row_cell-outside rows y line column row cell (not_in_row rows.area y column row outside)
 
-pub drawn_inside : (scene : SceneState) (top : ℕ) (rows : RowArea) (old now : Buffer) (count : ℕ) → DrawnTo scene top rows old now count → KeepsOutside (contains rows.area) old now
-drawn_inside scene top rows old now count h =
-    KeepsOutside-from_changes (contains rows.area) h.change (λ x y cell outside. outside_stays rows rows.area.y h.lines x y cell outside)
+pub lines_inside : (rows : RowArea) (lines : List ShownLine) (old now : Buffer) → Changes old now (lines_change rows rows.area.y lines) → KeepsOutside (contains rows.area) old now
+lines_inside rows lines old now change =
+    KeepsOutside-from_changes (contains rows.area) change (λ x y cell outside. outside_stays rows rows.area.y lines x y cell outside)
 
 -- also where the next row fails half way
+pub lines_failed : (rows : RowArea) (lines : List ShownLine) (old now new : Buffer) (y : ℕ) → Changes old now (lines_change rows rows.area.y lines) → KeepsOutside (is_in_row rows.area y) now new → KeepsOutside (contains rows.area) old new
+lines_failed rows lines old now new y change keeps =
+    KeepsOutside-then (lines_inside rows lines old now change) (KeepsOutside-wider (contains rows.area) keeps (λ column row outside. not_in_row rows.area y column row outside))
+
+pub drawn_inside : (scene : SceneState) (top : ℕ) (rows : RowArea) (old now : Buffer) (count : ℕ) → DrawnTo scene top rows old now count → KeepsOutside (contains rows.area) old now
+drawn_inside scene top rows old now count h = lines_inside rows h.lines old now h.change
+
 pub failed_inside : (scene : SceneState) (top : ℕ) (rows : RowArea) (old now new : Buffer) (count y : ℕ) → DrawnTo scene top rows old now count → KeepsOutside (is_in_row rows.area y) now new → KeepsOutside (contains rows.area) old new
-failed_inside scene top rows old now new count y h keeps =
-    KeepsOutside-then (drawn_inside scene top rows old now count h) (KeepsOutside-wider (contains rows.area) keeps (λ column row outside. not_in_row rows.area y column row outside))
+failed_inside scene top rows old now new count y h keeps = lines_failed rows h.lines old now new y h.change keeps

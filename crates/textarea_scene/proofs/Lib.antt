@@ -1,3 +1,4 @@
 mod Drawing
 mod Found
 mod Holds
+mod Placeholder

@@ -2,7 +2,8 @@
 use Rattle.std.specs.Prelude.{◌≡◌, ℕ, ◌+◌, ◌-◌, min, List, [], ◌∷◌, length}
 use Rattle.textarea_highlight.specs.Row.{ShowsRow}
 use Rattle.textarea_map.specs.Map.{row_total}
-use Rattle.textarea_paint.specs.Row.{row_cell}
+use Rattle.textarea_paint.specs.Clusters.{row_clusters}
+use Rattle.textarea_paint.specs.Row.{row_cell, row_start}
 use Rattle.textarea_paint.specs.declared.paint.row.RowArea.{RowArea}
 use Rattle.textarea_screen.specs.Buffer.{Change}
 use Rattle.textarea_screen.specs.Text.{ShownLine}
@@ -28,3 +29,9 @@ pub record FillsArea (scene : SceneState) (top : ℕ) (area buffer : Rect) (line
 abbrev pub lines_change : RowArea → ℕ → List ShownLine → Change
 lines_change rows y [] column row cell = cell
 lines_change rows y (line ∷ lines) column row cell = lines_change rows (y + 1) lines column row (row_cell rows y line column row cell)
+
+-- the line that shows the visual row begins so many columns behind the left edge of the area
+abbrev pub IsRowStart : SceneState → RowArea → ℕ → ℕ → Type 0
+IsRowStart scene rows row start = (line : ShownLine)
+    × ShowsRow (row_highlights scene row) line
+    × (start ≡ row_start rows.alignment rows.area.width (row_clusters rows.style line))

@@ -1,3 +1,4 @@
 pub mod Scene
 pub mod Rows
 pub mod Drawn
+pub mod Placeholder

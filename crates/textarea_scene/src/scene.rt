@@ -2,12 +2,14 @@
 mod frame;
 mod matches;
 mod parts;
+pub mod placeholder;
 
-ghost use Rattle.std.specs.Prelude.{◌≡◌, List, OnErr, OnOk};
+ghost use Rattle.std.specs.Prelude.{◌≡◌, ◌≢◌, ◌<◌, List, IfOk, OnErr, OnOk};
+ghost use Rattle.textarea_map.specs.Map.{row_total};
 ghost use Rattle.textarea_screen.specs.Buffer.{area_of, Changes, KeepsOutside};
 ghost use Rattle.textarea_screen.specs.Rect.{contains};
 ghost use Rattle.textarea_screen.specs.Text.{ShownLine};
-ghost use Rattle.textarea_scene.specs.Drawn.{FillsArea, lines_change, rows_above_end};
+ghost use Rattle.textarea_scene.specs.Drawn.{FillsArea, IsRowStart, lines_change, rows_above_end};
 ghost use Rattle.textarea_scene.specs.Scene.{HasPlaces};
 
 use frame::Frame;
@@ -16,8 +18,8 @@ use std::alloc::{AllocError, Global};
 use std::marker::Model;
 use textarea_lines::view::LaidOutView;
 use textarea_look::look::{CustomHighlight, Look};
-use textarea_paint::paint::row::{RowArea, draw_row};
-use textarea_screen::screen::{Buffer, Rect};
+use textarea_paint::paint::row::{RowArea, draw_row, row_start};
+use textarea_screen::screen::{Alignment, Buffer, Rect};
 use textarea_search::search::Search;
 
 /// What a frame is drawn from, lent.
@@ -80,6 +82,33 @@ impl<'a> Scene<'a> {
             draw_row(buffer, rows, rows.area.y() + i as u16, &line)?;
         }
         Ok(())
+    }
+
+    /// How many columns behind the left edge of the area a visual row begins that is drawn in it. At the left that is known
+    /// without the row, and takes no memory.
+    pub fn row_start(&self, alloc: Global, rows: RowArea, row: usize) -> Result<u16, AllocError>
+        requires places { HasPlaces self.now }
+        requires row { row < row_total self.now.rows.rows }
+        ensures left { rows.alignment ≡ Alignment.Left → result ≡ Ok 0 }
+        ensures other { rows.alignment ≢ Alignment.Left
+            → IfOk result (λ start. IsRowStart self.now rows row start) }
+    {
+        match rows.alignment {
+            Alignment::Left => Ok(0),
+            _ => self.shown_start(alloc, rows, row),
+        }
+    }
+
+    // The same for any alignment, by the line that shows the row.
+    fn shown_start(&self, alloc: Global, rows: RowArea, row: usize) -> Result<u16, AllocError>
+        requires places { HasPlaces self.now }
+        requires row { row < row_total self.now.rows.rows }
+        ensures { IfOk result (λ start. IsRowStart self.now rows row start) }
+    {
+        let frame = Frame::new(self);
+        let mut matches = FoundMatches::new(alloc, self.search, self.rows.lines())?;
+        let line = frame.line(alloc, row, &mut matches)?;
+        Ok(row_start(rows, &line))
     }
 }
 

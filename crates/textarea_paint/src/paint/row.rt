@@ -5,7 +5,7 @@ ghost use Rattle.textarea_screen.specs.Rect.{is_in_row};
 ghost use Rattle.textarea_screen.specs.Text.{shown_line};
 ghost use Rattle.textarea_paint.specs.Cells.{is_in_cells, place_from, row_change};
 ghost use Rattle.textarea_paint.specs.Clusters.{row_clusters, AreInline};
-ghost use Rattle.textarea_paint.specs.Row.{fitting, row_width, row_cell};
+ghost use Rattle.textarea_paint.specs.Row.{fitting, row_width, row_start, row_cell};
 
 use super::cells::{Pen, RowCells, draw_cluster};
 use super::clusters::LineClusters;
@@ -47,20 +47,24 @@ pub fn draw_row(buffer: &mut Buffer, rows: RowArea, y: u16, line: &Line) -> Resu
     };
     match rows.alignment {
         Alignment::Left => draw_left(buffer, cells, rows.left, line, rows.style),
-        Alignment::Center => {
-            let columns = fitting_columns(line, rows.style, cells.width);
-            draw_fitting(
-                buffer,
-                cells,
-                cells.width / 2 - columns / 2,
-                line,
-                rows.style,
-            )
+        _ => {
+            let start = row_start(rows, line);
+            draw_fitting(buffer, cells, start, line, rows.style)
         }
-        Alignment::Right => {
-            let columns = fitting_columns(line, rows.style, cells.width);
-            draw_fitting(buffer, cells, cells.width - columns, line, rows.style)
-        }
+    }
+}
+
+/// How many columns behind the left edge of the area a line begins that is drawn in it: 0 at the left, else as many as leave
+/// it in the middle or at the right.
+pub fn row_start(rows: RowArea, line: &Line) -> u16
+    ensures { result ≡ row_start rows.alignment rows.area.width
+        (row_clusters rows.style (shown_line line.now)) }
+{
+    let width = rows.area.width;
+    match rows.alignment {
+        Alignment::Left => 0,
+        Alignment::Center => width / 2 - fitting_columns(line, rows.style, width) / 2,
+        Alignment::Right => width - fitting_columns(line, rows.style, width),
     }
 }
 

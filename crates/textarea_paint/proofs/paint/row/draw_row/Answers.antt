@@ -1,4 +1,4 @@
-use Rattle.std.proofs.Common.{◌-◌, ◌/◌, refl, sym, ap, ◌∙◌}
+use Rattle.std.proofs.Common.{refl, sym, ap, ◌∙◌, arith}
 use Rattle.std.proofs.lemmas.Result.{on_ok_weaker, on_err_weaker}
 use Rattle.textarea_screen.specs.Rect.{contains}
 use Rattle.textarea_screen.specs.Text.{shown_line}
@@ -6,7 +6,7 @@ use Rattle.textarea_screen.proofs.ChangeLemmas.{Changes-inside, Changes-none}
 use Rattle.textarea_paint.specs.Cells.{place_from}
 use Rattle.textarea_paint.specs.Clusters.{row_clusters}
 use Rattle.textarea_paint.specs.Row.{first_shown, placed_row, fitting, row_cell}
-use Rattle.textarea_paint.proofs.RowAreaLemmas.{unseen_row, row_cell-outside, shown_row, kept_outside}
+use Rattle.textarea_paint.proofs.RowAreaLemmas.{first_shown-fitting, placed_row-fitting, row_start-within, unseen_row, row_cell-outside, shown_row, kept_outside}
 use Rattle.textarea_paint.proofs.paint.row.draw_row.Goals as goal
 
 pub returns-then-not-contains-clause-ok : goal.returns-then-not-contains-clause-ok
@@ -34,40 +34,24 @@ returns-in-Left-clause-err c =
     (kept_outside c.args.rows c.area.result c.intersection-seen.result c.args.y c.intersection-seen.ensures (sym c.contains.ensures ∙ c.if-not-contains.false))
     c.draw_left.ensures.err
 
-pub returns-in-Center-clause-ok : goal.returns-in-Center-clause-ok
-returns-in-Center-clause-ok c =
+pub draw_fitting-requires-clause-within : goal.draw_fitting-requires-clause-within
+draw_fitting-requires-clause-within c =
     let rows = c.args.rows in
-    let width = rows.area.width in
+    omega (arith, c.row_start-start.ensures, row_start-within rows.alignment rows.area.width (row_clusters rows.style (shown_line c.args.line.now)))
+
+pub returns-in_default-clause-ok : goal.returns-in_default-clause-ok
+returns-in_default-clause-ok c =
+    let rows = c.args.rows in
     let line = shown_line c.args.line.now in
-    let row = fitting width (row_clusters rows.style line) in
+    let clusters = row_clusters rows.style line in
     on_ok_weaker c.draw_fitting.result
     (shown_row c.args.rows c.area.result c.intersection-seen.result c.args.y c.intersection-seen.ensures (sym c.contains.ensures ∙ c.if-not-contains.false) line
-    0 (place_from (width / 2 - c.fitting_columns-columns.result / 2) row) (ap (λ a. first_shown a rows.left) c.in-Center.is)
-    (ap (λ a. placed_row a width (row_clusters rows.style line)) c.in-Center.is
-    ∙ ap (λ n. place_from (width / 2 - n / 2) row) (sym c.fitting_columns-columns.ensures.value)))
+    0 (place_from c.row_start-start.result (fitting rows.area.width clusters)) (first_shown-fitting rows.alignment rows.left c.in_default.not-Left)
+    (placed_row-fitting rows.alignment rows.area.width c.row_start-start.result clusters c.in_default.not-Left c.row_start-start.ensures))
     c.draw_fitting.ensures.ok
 
-pub returns-in-Center-clause-err : goal.returns-in-Center-clause-err
-returns-in-Center-clause-err c =
+pub returns-in_default-clause-err : goal.returns-in_default-clause-err
+returns-in_default-clause-err c =
     on_err_weaker c.draw_fitting.result
     (kept_outside c.args.rows c.area.result c.intersection-seen.result c.args.y c.intersection-seen.ensures (sym c.contains.ensures ∙ c.if-not-contains.false))
     c.draw_fitting.ensures.err
-
-pub returns-in-Right-clause-ok : goal.returns-in-Right-clause-ok
-returns-in-Right-clause-ok c =
-    let rows = c.args.rows in
-    let width = rows.area.width in
-    let line = shown_line c.args.line.now in
-    let row = fitting width (row_clusters rows.style line) in
-    on_ok_weaker c.draw_fitting-in-Right.result
-    (shown_row c.args.rows c.area.result c.intersection-seen.result c.args.y c.intersection-seen.ensures (sym c.contains.ensures ∙ c.if-not-contains.false) line
-    0 (place_from (width - c.fitting_columns-columns-in-Right.result) row) (ap (λ a. first_shown a rows.left) c.in-Right.is)
-    (ap (λ a. placed_row a width (row_clusters rows.style line)) c.in-Right.is
-    ∙ ap (λ n. place_from (width - n) row) (sym c.fitting_columns-columns-in-Right.ensures.value)))
-    c.draw_fitting-in-Right.ensures.ok
-
-pub returns-in-Right-clause-err : goal.returns-in-Right-clause-err
-returns-in-Right-clause-err c =
-    on_err_weaker c.draw_fitting-in-Right.result
-    (kept_outside c.args.rows c.area.result c.intersection-seen.result c.args.y c.intersection-seen.ensures (sym c.contains.ensures ∙ c.if-not-contains.false))
-    c.draw_fitting-in-Right.ensures.err

@@ -1,0 +1,48 @@
+-- A placeholder in the place of the rows.
+use Rattle.std.specs.Prelude.{ℕ, ◌==◌, List, [], ◌∷◌, map, All, codes, if◌then◌else◌}
+use Rattle.textarea_highlight.specs.declared.highlight.highlighter.CursorCellRender.{CursorCellRender}
+use Rattle.textarea_highlight.specs.declared.highlight.highlighter.CursorCellRender.TheVariants.{Draw, Hidden}
+use Rattle.textarea_paint.specs.Clusters.{AreInline, content_bytes, row_clusters}
+use Rattle.textarea_paint.specs.declared.paint.row.RowArea.{RowArea}
+use Rattle.textarea_screen.specs.Style.{patched}
+use Rattle.textarea_screen.specs.Text.{ShownLine, ShownSpan}
+use Rattle.textarea_screen.specs.Text.ShownContent.{Lent}
+use Rattle.textarea_screen.specs.declared.screen.style.Style.{Style}
+
+-- the rows, with the style of a placeholder's text over their own
+abbrev pub in_style : RowArea → Style → RowArea
+in_style rows style = record rows { style = patched rows.style style }
+
+-- ---- the cursor in front of the first line
+
+-- one blank in a style
+abbrev pub blank : Style → ShownSpan
+blank style = record { content = Lent (codes " "); style = style }
+
+-- the line; where the cursor's cell is drawn, one blank in its style stands in front of it
+abbrev pub behind_cursor : CursorCellRender → ShownLine → ShownLine
+behind_cursor (Draw style) line = record line { spans = blank style ∷ line.spans }
+behind_cursor Hidden line = line
+
+-- the lines that are drawn: the cursor stands in front of the first
+abbrev pub placeholder_lines : CursorCellRender → List ShownLine → List ShownLine
+placeholder_lines cursor_cell [] = []
+placeholder_lines cursor_cell (line ∷ lines) = behind_cursor cursor_cell line ∷ lines
+
+-- how the cursor's cell is drawn in front of the line of this number: it stands in front of the first alone
+abbrev pub cell_of_line : CursorCellRender → ℕ → CursorCellRender
+cell_of_line cursor_cell line = if line == 0 then cursor_cell else Hidden
+
+-- ---- lines whose texts are lent
+
+abbrev pub lent_span : ShownSpan → ShownSpan
+lent_span span = record { content = Lent (content_bytes span.content); style = span.style }
+
+abbrev pub lent_line : ShownLine → ShownLine
+lent_line line = record { spans = map lent_span line.spans; style = line.style }
+
+-- ---- lines that take no memory
+
+-- each cluster of each line lies in a cell that shows it
+abbrev pub AreLinesInline : Style → List ShownLine → Type 0
+AreLinesInline style lines = All (λ line. AreInline (row_clusters style line)) lines
