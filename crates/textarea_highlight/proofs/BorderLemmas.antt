@@ -62,7 +62,7 @@ rounded row offset at h = ⊎_elim
 not_before : (a b : Border) → is_lt (place_cmp (place_of b) (place_of a)) ≡ false → a.offset ≤ b.offset
 not_before a b h = grind (arith, nat_tests)
 
-order_of_borders : IsStrictWeakOrder (λ (a b : Border). is_lt (place_cmp (place_of a) (place_of b)))
+pub order_of_borders : IsStrictWeakOrder (λ (a b : Border). is_lt (place_cmp (place_of a) (place_of b)))
 order_of_borders = ranks_by (then_total (on_total (λ (p : ℕ × ℕ). p.0) nat_cmp_total) (on_total (λ (p : ℕ × ℕ). p.1) nat_cmp_total)) place_of
 
 pub ascending : (borders : List Border) → IsSortedByKey place_of place_cmp borders → IsAscending borders

@@ -4,5 +4,6 @@ pub mod CharacterLemmas
 pub mod CutLemmas
 pub mod DisplayLemmas
 pub mod SpaceLemmas
+pub mod OneRowLemmas
 pub mod WholeLemmas
 pub mod RowLemmas

@@ -1,0 +1,11 @@
+//! Laws of drawn rows, each the contract of a function that does nothing.
+ghost use Rattle.std.specs.Prelude.{◌≡◌};
+ghost use Rattle.textarea_screen.specs.Text.{ShownLine};
+ghost use Rattle.textarea_highlight.specs.Highlights.{Highlights};
+ghost use Rattle.textarea_highlight.specs.Row.{ShowsRow};
+
+/// A row is shown by one line.
+pub fn one_line_shows_a_row()
+    ensures { (h : Highlights) (line other : ShownLine) →
+        ShowsRow h line → ShowsRow h other → line ≡ other }
+{}
