@@ -1,4 +1,5 @@
 mod Drawing
 mod Found
 mod Holds
+mod OneFilling
 mod Placeholder
