@@ -16,7 +16,7 @@ use Rattle.textarea_map.specs.declared.layout.Wrapping.{Wrapping}
 use Rattle.textarea_map.specs.Layout.{AreRowsOf, ticks_behind, ticks_of, with_tab_len}
 use Rattle.textarea_map.specs.Map.{MapView}
 use Rattle.textarea_lines.specs.declared.settings.LayoutSettings.{LayoutSettings}
-use Rattle.textarea_lines.specs.Layout.{LaidOut, Layout, applied_to, laid_out_anew, after_replacement, replaced_in, wrapping_of}
+use Rattle.textarea_lines.specs.Layout.{LaidOut, applied_to, laid_out_anew, after_replacement, replaced_in, wrapping_of}
 use Rattle.textarea_lines.specs.Stored.{IsStored, HoldsRows}
 use Rattle.textarea_lines.specs.Wrappings.{is_same, is_wrapped, wrapping_for}
 use Rattle.textarea_lines.proofs.Layouts.{map-replaced}

@@ -57,9 +57,10 @@ impl<'a> LaidOutView<'a> {
         self.map.wrapping().tab_len
     }
 
-    /// How many visual rows there are.
+    /// How many visual rows there are, one at least.
     pub fn row_count(&self) -> usize
         ensures value { result ≡ row_total self.now.rows }
+        ensures some { 0 < result }
         ensures few { result ≤ 2 ^ 48 }
     {
         self.map.row_count()

@@ -115,3 +115,10 @@ size_of_items w items rows h =
 -- the first lines are no larger than all
 pub size_of_take : {Z : Type 0} (items : List (String Z)) (n : ℕ) → size_of (take n items) ≤ size_of items
 size_of_take items n = omega (arith, size_of-append (take n items) (drop n items), ap size_of (take-append-drop n items))
+
+-- where there is a line there is a row
+pub some_row : (w : Wrapping) (lines : List (List ℕ)) (rows : List RowsView) → AreRowsOf w lines rows → 0 < length lines → 0 < row_total rows
+some_row w [] rows h some = absurd (omega (arith, some))
+some_row w (line ∷ lines) [] h some = absurd h
+some_row w (line ∷ lines) (r ∷ rest) h some =
+    omega (arith, some_rows w.mode w.tab_len (max w.width 1) (encode_utf8_all line) r.ranges h.0.cut)

@@ -10,14 +10,16 @@ ghost use Rattle.textarea_screen.specs.Buffer.{area_of, Changes, KeepsOutside};
 ghost use Rattle.textarea_screen.specs.Rect.{contains};
 ghost use Rattle.textarea_screen.specs.Text.{ShownLine};
 ghost use Rattle.textarea_scene.specs.Drawn.{FillsArea, IsRowStart, lines_change, rows_above_end};
+ghost use Rattle.textarea_scene.specs.Rows.{cursor_cell};
 ghost use Rattle.textarea_scene.specs.Scene.{HasPlaces};
 
 use frame::Frame;
 use matches::FoundMatches;
 use std::alloc::{AllocError, Global};
 use std::marker::Model;
+use textarea_highlight::highlight::CursorCellRender;
 use textarea_lines::view::LaidOutView;
-use textarea_look::look::{CustomHighlight, Look};
+use textarea_look::look::{CursorRenderMode, CustomHighlight, Look};
 use textarea_paint::paint::row::{RowArea, draw_row, row_start};
 use textarea_screen::screen::{Alignment, Buffer, Rect};
 use textarea_search::search::Search;
@@ -82,6 +84,16 @@ impl<'a> Scene<'a> {
             draw_row(buffer, rows, rows.area.y() + i as u16, &line)?;
         }
         Ok(())
+    }
+
+    /// How the cell at the cursor is drawn: in the cursor's style, or as any other.
+    pub fn cursor_cell(&self) -> CursorCellRender
+        ensures { result ≡ cursor_cell self.now.look }
+    {
+        match self.look.cursor_render_mode {
+            CursorRenderMode::Cell => CursorCellRender::Draw(self.look.cursor_style),
+            CursorRenderMode::Hidden => CursorCellRender::Hidden,
+        }
     }
 
     /// How many columns behind the left edge of the area a visual row begins that is drawn in it. At the left that is known

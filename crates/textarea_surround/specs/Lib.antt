@@ -1,3 +1,4 @@
 pub mod State
 pub mod Outcomes
 pub mod Measure
+pub mod Inner

@@ -7,9 +7,9 @@ use Rattle.textarea_target.specs.Target.{target, word_end_after, word_start_befo
 use Rattle.textarea_data.specs.declared.cursor.CursorMove.{CursorMove}
 use Rattle.textarea_data.specs.declared.cursor.CursorMove.TheVariants.{Forward, Back, Up, Down, Head, End, Bottom, WordForward, WordEnd, WordBack, ParagraphForward, ParagraphBack, Jump}
 
--- in a text whose first visual row is the cursor's, and whose last one is behind it
+-- in a text whose first visual row is the cursor's, and whose last one is behind it; its start is what is shown
 abbrev pub leads : List Symbol → Place → CursorMove → Option Place
-leads text cursor cursor_move = target None (Some (1, 0)) text cursor cursor_move
+leads text cursor cursor_move = target (record { above = None; below = Some (1, 0); inside = (0, 0) }) text cursor cursor_move
 
 -- an `e` with a combining accent, and the line `x`
 abbrev pub accented : List Symbol

@@ -8,7 +8,7 @@ use Rattle.textarea_text.specs.Place.{Place, IsPlaceOf, line_of}
 use Rattle.textarea_text.proofs.Splices.{lines-joined}
 use Rattle.textarea_word.specs.Paragraphs.{is_empty_line, is_paragraph_start, is_later_paragraph_start, is_earlier_paragraph_start}
 use Rattle.textarea_word.specs.Words.{next_word_last}
-use Rattle.textarea_target.specs.Target.{is_later_word_row, target}
+use Rattle.textarea_target.specs.Target.{VisualTargets, is_later_word_row, target}
 use Rattle.textarea_data.specs.declared.cursor.CursorMove.{CursorMove}
 
 -- the lines that some `String`s hold are those of the text that they hold
@@ -16,9 +16,9 @@ pub rows_of_text : {Z : Type 0} (items : List (String Z)) (place : Place) → Is
 rows_of_text items place h = sym (lines-joined (lines_of items) (omega (arith, h.0)))
 
 -- where a move leads is told from the lines: the move is the one that is meant
-pub leads : {Z : Type 0} (above below : Option Place) (items : List (String Z)) (cursor : Place) (cursor_move meant : CursorMove) (found : Option Place) (of_rows : List (List ℕ) → Option Place) → IsPlaceOf (lines_of items) cursor → cursor_move ≡ meant → found ≡ of_rows (lines_of items) → of_rows (lines (text_of items)) ≡ target above below (text_of items) cursor meant → found ≡ target above below (text_of items) cursor cursor_move
-leads above below items cursor cursor_move meant found of_rows h is told same =
-    told ∙ ap of_rows (rows_of_text items cursor h) ∙ same ∙ ap (target above below (text_of items) cursor) (sym is)
+pub leads : {Z : Type 0} (visual : VisualTargets) (items : List (String Z)) (cursor : Place) (cursor_move meant : CursorMove) (found : Option Place) (of_rows : List (List ℕ) → Option Place) → IsPlaceOf (lines_of items) cursor → cursor_move ≡ meant → found ≡ of_rows (lines_of items) → of_rows (lines (text_of items)) ≡ target visual (text_of items) cursor meant → found ≡ target visual (text_of items) cursor cursor_move
+leads visual items cursor cursor_move meant found of_rows h is told same =
+    told ∙ ap of_rows (rows_of_text items cursor h) ∙ same ∙ ap (target visual (text_of items) cursor) (sym is)
 
 -- ---- empty lines
 

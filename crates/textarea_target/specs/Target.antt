@@ -83,30 +83,38 @@ paragraph_back rows place =
 
 -- ---- all moves
 
--- Where a move leads from a cursor, of the places one visual row above it and one below it: none where it leads nowhere. Each move
--- but Up and Down is told from the text alone. InViewport goes over what was drawn, and leads nowhere yet.
-abbrev pub target : Option Place → Option Place → List Symbol → Place → CursorMove → Option Place
-target above below text cursor Forward = next_place text cursor
-target above below text cursor Back = previous_place text cursor
-target above below text cursor Up = above
-target above below text cursor Down = below
-target above below text cursor Head = Some (cursor.0, 0)
-target above below text cursor End = Some (line_end (lines text) cursor.0)
-target above below text cursor Top = Some (clip (lines text) (0, cursor.1))
-target above below text cursor Bottom = Some (clip (lines text) (last_row (lines text), cursor.1))
-target above below text cursor WordForward = Some (word_forward (lines text) cursor)
-target above below text cursor WordEnd = Some (word_end (lines text) cursor)
-target above below text cursor WordBack = Some (word_back (lines text) cursor)
-target above below text cursor ParagraphForward = Some (paragraph_forward (lines text) cursor)
-target above below text cursor ParagraphBack = paragraph_back (lines text) cursor
-target above below text cursor (Jump row column) = Some (clip (lines text) (row, column))
-target above below text cursor InViewport = None
+-- where the moves that go over visual rows lead from a cursor: one row up and one row down, if there is such a row, and into what
+-- is shown
+pub record VisualTargets : Type 0 where
+  pub above : Option Place
+  pub below : Option Place
+  pub inside : Place
+
+-- Where a move leads from a cursor, of the targets that visual rows decide: none where it leads nowhere. Each move but Up, Down and
+-- InViewport is told from the text alone.
+abbrev pub target : VisualTargets → List Symbol → Place → CursorMove → Option Place
+target visual text cursor Forward = next_place text cursor
+target visual text cursor Back = previous_place text cursor
+target visual text cursor Up = visual.above
+target visual text cursor Down = visual.below
+target visual text cursor Head = Some (cursor.0, 0)
+target visual text cursor End = Some (line_end (lines text) cursor.0)
+target visual text cursor Top = Some (clip (lines text) (0, cursor.1))
+target visual text cursor Bottom = Some (clip (lines text) (last_row (lines text), cursor.1))
+target visual text cursor WordForward = Some (word_forward (lines text) cursor)
+target visual text cursor WordEnd = Some (word_end (lines text) cursor)
+target visual text cursor WordBack = Some (word_back (lines text) cursor)
+target visual text cursor ParagraphForward = Some (paragraph_forward (lines text) cursor)
+target visual text cursor ParagraphBack = paragraph_back (lines text) cursor
+target visual text cursor (Jump row column) = Some (clip (lines text) (row, column))
+target visual text cursor InViewport = Some visual.inside
 
 -- whether the move goes over visual rows
-abbrev pub is_vertical : CursorMove → Bool
-is_vertical Up = true
-is_vertical Down = true
-is_vertical other = false
+abbrev pub is_visual : CursorMove → Bool
+is_visual Up = true
+is_visual Down = true
+is_visual InViewport = true
+is_visual other = false
 
 -- ---- the ends of what a removal of a word takes
 

@@ -1,8 +1,8 @@
 //! Where the moves of a cursor lead.
-ghost use Rattle.std.specs.Prelude.{◌≡◌, false, true, IfSome, None, Option};
+ghost use Rattle.std.specs.Prelude.{◌≡◌, false, true, IfSome, None};
 ghost use Rattle.textarea_text.specs.Text.{lines_of, text_of};
-ghost use Rattle.textarea_text.specs.Place.{IsPlaceOf, Place};
-ghost use Rattle.textarea_target.specs.Target.{is_vertical, target};
+ghost use Rattle.textarea_text.specs.Place.{IsPlaceOf};
+ghost use Rattle.textarea_target.specs.Target.{VisualTargets, is_visual, target};
 
 use crate::ends::{next_place, previous_place};
 use crate::paragraphs::{paragraph_back, paragraph_forward};
@@ -11,17 +11,17 @@ use textarea_data::cursor::CursorMove;
 use textarea_pieces::places::{clip, last_row, line_end};
 
 /// Where the move leads from the cursor, a place of the lines: row and column, both from 0, the column in characters.
-/// None where it leads nowhere: Forward from the text's end, Back from its start, ParagraphBack from the first row, and
-/// InViewport. None for Up and Down too, which go over visual rows: whoever knows these answers for them.
+/// None where it leads nowhere: Forward from the text's end, Back from its start, and ParagraphBack from the first row.
+/// None for Up, Down and InViewport too, which go over visual rows: whoever knows these answers for them.
 pub fn target(
     lines: &[String],
     cursor: (usize, usize),
     cursor_move: CursorMove,
 ) -> Option<(usize, usize)>
     requires { IsPlaceOf (lines_of lines.now) cursor }
-    ensures value { (above below : Option Place) → is_vertical cursor_move ≡ false →
-        result ≡ target above below (text_of lines.now) cursor cursor_move }
-    ensures vertical { is_vertical cursor_move ≡ true → result ≡ None }
+    ensures value { (visual : VisualTargets) → is_visual cursor_move ≡ false →
+        result ≡ target visual (text_of lines.now) cursor cursor_move }
+    ensures visual { is_visual cursor_move ≡ true → result ≡ None }
     ensures place { IfSome result (λ place. IsPlaceOf (lines_of lines.now) place) }
 {
     let (row, column) = cursor;

@@ -1,11 +1,14 @@
 -- What the calls that decide how the text is laid out make of the state.
 use Rattle.std.specs.Prelude.{ℕ, Bool, true, false, Option, Some, None, if◌then◌else◌}
+use Rattle.textarea_screen.specs.declared.screen.alignment.Alignment.{Alignment}
+use Rattle.textarea_screen.specs.declared.screen.alignment.Alignment.TheVariants.{Left, Center, Right}
 use Rattle.textarea_screen.specs.declared.screen.style.Style.{Style}
 use Rattle.textarea_wrap.specs.declared.wrap.WrapMode.{WrapMode}
 use Rattle.textarea_lines.specs.declared.settings.LayoutSettings.{LayoutSettings}
 use Rattle.textarea_document.specs.State.{DocumentState}
 use Rattle.textarea_lines.specs.Layout as layout
 use Rattle.textarea_document.specs.Rows.{laid_out_of, with_layout_settings}
+use Rattle.tui_textarea.specs.Drawing.{with_look}
 use Rattle.tui_textarea.specs.State.{State, with_document}
 
 -- the columns between two tab stops
@@ -40,7 +43,9 @@ with_tab_length state columns = with_layout state (tab_length_set state columns)
 
 -- each line has its number beside it, in this style
 abbrev pub with_line_numbers : State → Style → State
-with_line_numbers state style = record (with_layout state (numbers_set state true)) { settings = record state.settings { line_number_style = style } }
+with_line_numbers state style =
+    with_look (with_layout state (numbers_set state true))
+    (record state.drawing.look { line_number_style = style })
 
 -- no line has its number beside it
 abbrev pub without_line_numbers : State → State
@@ -48,4 +53,16 @@ without_line_numbers state = with_layout state (numbers_set state false)
 
 -- the style of line numbers, if there are any
 abbrev pub number_style : State → Option Style
-number_style state = if state.document.layout.settings.line_numbers then Some state.settings.line_number_style else None
+number_style state = if state.document.layout.settings.line_numbers then Some state.drawing.look.line_number_style else None
+
+-- the settings of the layout where rows stand so: in the middle and at the right there are no line numbers
+abbrev pub alignment_set : State → Alignment → LayoutSettings
+alignment_set state Left = state.document.layout.settings
+alignment_set state Center = numbers_set state false
+alignment_set state Right = numbers_set state false
+
+-- rows stand so in the inner area
+abbrev pub with_alignment : State → Alignment → State
+with_alignment state alignment =
+    with_look (with_layout state (alignment_set state alignment))
+    (record state.drawing.look { alignment = alignment })

@@ -1,4 +1,5 @@
 pub mod State
+pub mod Drawing
 pub mod Edits
 pub mod Removals
 pub mod Selection

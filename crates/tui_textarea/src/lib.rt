@@ -12,6 +12,7 @@ pub use textarea_data::input::{Input, Key};
 pub use textarea_data::scroll::Scrolling;
 pub use textarea_highlight::highlight;
 pub use textarea_history::history;
+pub use textarea_look::look::CursorRenderMode;
 pub use textarea_map::screen_map;
 pub use textarea_ranges::atomic::{
     AtomicCursorBias, AtomicDeleteDirection, AtomicRange, AtomicRangeError,
@@ -23,6 +24,7 @@ pub use textarea_screen::screen::{
 };
 pub use textarea_search::search;
 pub use textarea_surround::surround::measure::TextAreaMeasure;
+pub use textarea_viewport::Viewport;
 pub use textarea_word::word;
 pub use textarea_wrap::wrap::WrapMode;
 pub use textarea_wrap::{layout, wrap};

@@ -1,13 +1,15 @@
-//! The text area: a document, what was yanked, the settings, the clock, a pattern and a surround.
+//! The text area: a document, what was yanked, the settings, the clock, a pattern, a surround, and how all is drawn.
 mod constructors;
 mod edits;
 mod laws;
 mod layout;
+mod look;
 mod measure;
 mod moves;
 mod past;
 mod ranges;
 mod removals;
+mod render;
 mod search;
 mod selection;
 pub mod settings;
@@ -20,13 +22,14 @@ ghost use Rattle.textarea_text.specs.Size.{size_of};
 ghost use Rattle.textarea_document.specs.State.{fresh_document};
 ghost use Rattle.textarea_pieces.specs.Given.{written};
 ghost use Rattle.textarea_pieces.specs.Part.{clip};
-ghost use Rattle.tui_textarea.specs.State.{new_state, with_document};
+ghost use Rattle.tui_textarea.specs.State.{new_state, with_other_lines};
 
 use crate::textarea::settings::Settings;
 use std::alloc::{AllocError, Global};
 use std::marker::Model;
 use std::time::Duration;
 use textarea_document::Document;
+use textarea_drawing::Drawing;
 use textarea_lines::settings::LayoutSettings;
 use textarea_search::search::Search;
 use textarea_surround::surround::Surround;
@@ -44,7 +47,7 @@ const DEFAULT_LAYOUT: LayoutSettings = LayoutSettings {
 };
 
 /// A multi-line text editor: lines of text, a cursor, a selection, a yanked text, settings, a pattern to search for, a
-/// history of edits, and a surround of a block, a placeholder and the least and the greatest height.
+/// history of edits, a surround of a block, a placeholder and the least and the greatest height, and how it is drawn.
 ///
 /// Rows and columns count from 0, columns in characters. A call that runs out of memory leaves the text area as it was,
 /// or, where it inserts over a selection, as it is after what was selected was removed.
@@ -56,6 +59,7 @@ pub struct TextArea<'a> {
     moment: Duration,
     search: Search,
     surround: Surround<'a>,
+    drawing: Drawing,
 }
 
 impl<'a> Model for TextArea<'a> {
@@ -72,6 +76,7 @@ impl<'a> Model for TextArea<'a> {
       moment = as_nanos area.moment;
       pattern = area.search;
       surround = area.surround;
+      drawing = area.drawing;
     } };
 }
 
@@ -87,6 +92,7 @@ impl<'a> Clone for TextArea<'a> {
             moment: self.moment,
             search: self.search.clone()?,
             surround: self.surround.clone()?,
+            drawing: self.drawing.clone()?,
         })
     }
 }
@@ -105,6 +111,7 @@ impl<'a> TextArea<'a> {
             moment: Duration::ZERO,
             search: Search::default(),
             surround: Surround::new(alloc),
+            drawing: Drawing::new(alloc),
         })
     }
 
@@ -116,8 +123,8 @@ impl<'a> TextArea<'a> {
     }
 
     /// Holds these lines in place of the old ones, the cursor at the nearest place of theirs. All edits are forgotten,
-    /// and nothing is selected; the settings, the pattern and what was yanked stay. A line feed inside a line stays a
-    /// character of that line.
+    /// nothing is selected, no custom highlight is left, and the viewport's numbers are 0; the settings, the pattern, what
+    /// was yanked, the last area and the caret stay. A line feed inside a line stays a character of that line.
     pub fn set_lines(
         &mut self,
         lines: Vec<String>,
@@ -125,13 +132,15 @@ impl<'a> TextArea<'a> {
     ) -> Result<(), AllocError>
         requires some { 0 < vec_len lines }
         ensures ok { OnOk result
-            (self.new ≡ with_document self.old
+            (self.new ≡ with_other_lines self.old
             (fresh_document (text_of lines.items) self.old.document.layout.settings
             self.old.document.layout.count
             (clip (lines_of lines.items) cursor) self.old.document.log.maximum)) }
         ensures err { OnErr result (self.new ≡ self.old) }
     {
-        self.document.set_lines(lines, cursor)
+        self.document.set_lines(lines, cursor)?;
+        self.drawing.forget_lines();
+        Ok(())
     }
 
     /// The lines, one at least. Their bytes and their number together are at most 2^48.

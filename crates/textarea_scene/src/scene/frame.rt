@@ -4,7 +4,7 @@ ghost use Rattle.textarea_highlight.specs.Highlights.{plain_row};
 ghost use Rattle.textarea_highlight.specs.Row.{ShowsRow};
 ghost use Rattle.textarea_map.specs.Map.{row_total};
 ghost use Rattle.textarea_screen.specs.Text.{shown_line};
-ghost use Rattle.textarea_scene.specs.Rows.{cell_render, cursor_cell, row_highlights, searched};
+ghost use Rattle.textarea_scene.specs.Rows.{cursor_cell, row_highlights, searched};
 ghost use Rattle.textarea_scene.specs.Scene.{HasPlaces};
 
 use super::Scene;
@@ -12,10 +12,9 @@ use super::matches::FoundMatches;
 use super::parts::{Range, byte_place};
 use std::alloc::{AllocError, Global};
 use std::marker::Model;
-use textarea_highlight::highlight::{CursorCellRender, LineHighlighter};
-use textarea_look::look::CursorRenderMode;
+use textarea_highlight::highlight::LineHighlighter;
 use textarea_map::screen_map::RowText;
-use textarea_screen::screen::{Line, Style};
+use textarea_screen::screen::Line;
 
 /// A scene, and what each of its rows needs to know: the visual row that holds the cursor, and the lines' bytes at which the
 /// selection starts and ends.
@@ -86,24 +85,13 @@ impl<'f, 'a> Frame<'f, 'a> {
             self.now.rows.wrapping.tab_len self.now.look.mask self.now.look.selection_style }
     {
         let scene = self.scene;
-        let cursor_cell = cell_render(scene.look.cursor_render_mode, scene.look.cursor_style);
         LineHighlighter::new(
             alloc,
             text,
-            cursor_cell,
+            scene.cursor_cell(),
             scene.rows.tab_len(),
             scene.look.mask,
             scene.look.selection_style,
         )
-    }
-}
-
-// How the cursor's cell is drawn in this mode, where it has this style of its own.
-fn cell_render(mode: CursorRenderMode, style: Style) -> CursorCellRender
-    ensures { result ≡ cell_render mode style }
-{
-    match mode {
-        CursorRenderMode::Cell => CursorCellRender::Draw(style),
-        CursorRenderMode::Hidden => CursorCellRender::Hidden,
     }
 }

@@ -1,5 +1,7 @@
 //! What the surround takes of an area, and the height that is measured.
-ghost use Rattle.std.specs.Prelude.{◌≡◌, ◌≤◌};
+ghost use Rattle.std.specs.Prelude.{◌≡◌, ◌≤◌, ℕ, IsTrue};
+ghost use Rattle.textarea_screen.specs.Rect.{contains};
+ghost use Rattle.textarea_surround.specs.Inner.{IsInner};
 ghost use Rattle.textarea_surround.specs.State.{AreBounds};
 ghost use Rattle.textarea_surround.specs.Measure.{chrome_of, measure_of, rows_shown, saturated, width_inside};
 
@@ -20,6 +22,17 @@ pub struct TextAreaMeasure {
 }
 
 impl<'a> Surround<'a> {
+    /// What the block leaves of an area; all of it without a block.
+    pub fn inner_area(&self, area: Rect) -> Rect
+        ensures inner { IsInner self.now.block area result }
+        ensures within { (x y : ℕ) → IsTrue (contains result x y) → IsTrue (contains area x y) }
+    {
+        match &self.block {
+            Some(block) => block.inner(area),
+            None => area,
+        }
+    }
+
     /// The columns that are left inside of the block of an area of this width; all of them without a block.
     pub fn inner_width(&self, width: u16) -> u16
         ensures { result ≡ width_inside self.now.block width }

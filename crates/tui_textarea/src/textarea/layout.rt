@@ -1,12 +1,14 @@
-//! How the text is cut into rows and seen: the wrap mode, tab stops and line numbers.
+//! How the text is cut into rows and seen: the wrap mode, tab stops, line numbers and alignment.
 ghost use Rattle.std.specs.Prelude.{◌≡◌, IsOk, OnErr, OnOk, false, true};
 ghost use Rattle.tui_textarea.specs.Layout.{
+  alignment_set,
   mode_set,
   number_style,
   numbers_set,
   stays_cut,
   tab_length,
   tab_length_set,
+  with_alignment,
   with_line_numbers,
   with_tab_length,
   with_wrap_mode,
@@ -15,7 +17,8 @@ ghost use Rattle.tui_textarea.specs.Layout.{
 
 use crate::textarea::TextArea;
 use std::alloc::AllocError;
-use textarea_screen::screen::Style;
+use textarea_look::look::Look;
+use textarea_screen::screen::{Alignment, Style};
 use textarea_wrap::wrap::WrapMode;
 
 impl TextArea<'_> {
@@ -68,7 +71,11 @@ impl TextArea<'_> {
         let mut settings = self.document.layout_settings();
         settings.line_numbers = true;
         self.document.set_layout_settings(settings)?;
-        self.settings.line_number_style = style;
+        let look = self.drawing.look();
+        self.drawing.set_look(Look {
+            line_number_style: style,
+            ..look
+        });
         Ok(())
     }
 
@@ -89,9 +96,32 @@ impl TextArea<'_> {
         ensures { result ≡ number_style self.now }
     {
         if self.document.layout_settings().line_numbers {
-            Some(self.settings.line_number_style)
+            Some(self.drawing.look().line_number_style)
         } else {
             None
         }
+    }
+
+    /// Sets where rows stand in the inner area. In the middle and at the right there are no line numbers, so these are taken
+    /// away; where that cuts lines in another way, all are cut anew, each once, and only then memory is taken.
+    pub fn set_alignment(&mut self, alignment: Alignment) -> Result<(), AllocError>
+        ensures ok { OnOk result (self.new ≡ with_alignment self.old alignment) }
+        ensures err { OnErr result (self.new ≡ self.old) }
+        ensures no_memory { stays_cut self.old (alignment_set self.old alignment) ≡ true
+            → IsOk result }
+    {
+        if alignment != Alignment::Left {
+            self.remove_line_number()?;
+        }
+        let look = self.drawing.look();
+        self.drawing.set_look(Look { alignment, ..look });
+        Ok(())
+    }
+
+    /// Where rows stand in the inner area.
+    pub fn alignment(&self) -> Alignment
+        ensures { result ≡ self.now.drawing.look.alignment }
+    {
+        self.drawing.look().alignment
     }
 }

@@ -13,9 +13,9 @@ impl TextArea<'_> {
     /// Moves the cursor; an open selection is widened or narrowed by that, and a run of typing ends. Up and Down lead
     /// to the neighbouring visual row, at the cursor's display column or, where that row's greatest cursor column is
     /// less, at that one. A target strictly inside an atomic range goes to its start for Back, Up, Head, Top, WordBack
-    /// and ParagraphBack, to its end for the others. A move without a target changes nothing: Forward from the text's
-    /// end, Back from its start, Up from the first visual row, Down from the last one, ParagraphBack from the first
-    /// row, and InViewport, which goes over what was drawn.
+    /// and ParagraphBack, to its end for the others. InViewport leads to the nearest row and column that are shown. A move
+    /// without a target changes nothing: Forward from the text's end, Back from its start, Up from the first visual row,
+    /// Down from the last one, and ParagraphBack from the first row.
     pub fn move_cursor(&mut self, cursor_move: CursorMove)
         ensures { IsMoved self.old cursor_move self.new }
     {
@@ -34,6 +34,7 @@ impl TextArea<'_> {
         match cursor_move {
             CursorMove::Up => self.document.above(),
             CursorMove::Down => self.document.below(),
+            CursorMove::InViewport => Some(self.drawing.place_inside(&self.document)),
             _ => target(self.document.lines(), self.document.cursor(), cursor_move),
         }
     }

@@ -8,7 +8,6 @@ ghost use Rattle.tui_textarea.specs.Layout.{tab_length};
 
 use crate::textarea::TextArea;
 use std::time::Duration;
-use textarea_screen::screen::Style;
 use textarea_text::util::spaces;
 
 /// What a text area is told once and keeps to.
@@ -18,19 +17,16 @@ pub struct Settings {
     pub hard_tab_indent: bool,
     /// Whether typed edits join into one that is undone at once.
     pub undo_coalescing: bool,
-    /// The style of line numbers, where there are any.
-    pub line_number_style: Style,
 }
 
 impl Default for Settings {
-    /// A tab made of spaces, no joining, and line numbers in no style of their own.
+    /// A tab made of spaces, and no joining.
     fn default() -> Settings
         ensures { result ≡ default_settings }
     {
         Settings {
             hard_tab_indent: false,
             undo_coalescing: false,
-            line_number_style: Style::new(),
         }
     }
 }

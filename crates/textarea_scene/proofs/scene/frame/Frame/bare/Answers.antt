@@ -2,4 +2,4 @@ use Rattle.std.proofs.lemmas.Str.{encodes-chars}
 use Rattle.textarea_scene.proofs.scene.frame.Frame.bare.Goals as goal
 
 pub returns : goal.returns
-returns c = rw (encodes-chars c.args.text.now c.utf8.text, ← c.self.view_is, ← c.scene.view_is) (rw (c.cell_render-cursor_cell.ensures, c.tab_len.ensures) at c.new.ensures)
+returns c = rw (encodes-chars c.args.text.now c.utf8.text, ← c.self.view_is, ← c.scene.view_is) (rw (c.cursor_cell.ensures, c.tab_len.ensures, ← c.scene.view_is) at c.new.ensures)

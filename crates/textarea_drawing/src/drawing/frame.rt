@@ -1,0 +1,134 @@
+//! What one frame is drawn from, and the cells that it makes.
+ghost use Rattle.std.specs.Prelude.{◌≡◌, ℕ, IsTrue, List, OnOk};
+ghost use Rattle.textarea_drawing.specs.Cells.{AreLinesOf, frame_change};
+ghost use Rattle.textarea_drawing.specs.Frame.{frame_of, shows_placeholder};
+ghost use Rattle.textarea_drawing.specs.Placed.{row_area};
+ghost use Rattle.textarea_scene.specs.Scene.{HasPlaces};
+ghost use Rattle.textarea_screen.specs.Buffer.{Changes, KeepsOutside, area_of};
+ghost use Rattle.textarea_screen.specs.Rect.{contains};
+ghost use Rattle.textarea_screen.specs.Text.{ShownLine};
+ghost use Rattle.textarea_text.specs.Text.{lines};
+
+use super::Drawing;
+use std::alloc::{AllocError, Global};
+use std::marker::Model;
+use textarea_document::Document;
+use textarea_lines::view::LaidOutView;
+use textarea_paint::paint::block::draw_block;
+use textarea_paint::paint::row::RowArea;
+use textarea_scene::scene::Scene;
+use textarea_scene::scene::placeholder::draw_placeholder;
+use textarea_screen::screen::{Buffer, Rect, Style};
+use textarea_search::search::Search;
+use textarea_surround::Surround;
+use textarea_viewport::Viewport;
+use textarea_wrap::wrap::WrapMode;
+
+/// The parts of a text area that one frame is drawn from, lent.
+#[derive(Drop)]
+pub(super) struct Frame<'f, 's> {
+    pub(super) scene: Scene<'f>,
+    pub(super) surround: &'f Surround<'s>,
+    pub(super) mode: WrapMode,
+    pub(super) is_empty: bool,
+}
+
+impl<'f, 's> Model for Frame<'f, 's> {
+    ghost use Rattle.textarea_drawing.specs.Frame.{FrameState};
+
+    ghost Value = { FrameState };
+
+    ghost view = { λ frame. record {
+      scene = frame.scene;
+      surround = frame.surround.now;
+      mode = frame.mode;
+      is_empty = frame.is_empty;
+    } };
+}
+
+impl Drawing {
+    // The frame of the document's lines with these rows.
+    pub(super) fn frame<'f, 's>(
+        &'f self,
+        document: &'f Document,
+        rows: LaidOutView<'f>,
+        surround: &'f Surround<'s>,
+        search: &'f Search,
+    ) -> Frame<'f, 's>
+        requires { rows.lines ≡ lines document.now.text }
+        ensures frame { result ≡ frame_of (record {
+          document = document.now;
+          pattern = search.now;
+          surround = surround.now;
+          drawing = self.now;
+        }) rows.entry }
+        ensures places { HasPlaces result.scene }
+    {
+        let settings = document.layout_settings();
+        Frame {
+            scene: Scene {
+                rows,
+                cursor: document.cursor(),
+                selection: document.selection(),
+                search,
+                look: self.look,
+                highlights: self.highlights.as_slice(),
+                line_numbers: settings.line_numbers,
+            },
+            surround,
+            mode: settings.mode,
+            is_empty: document.is_empty(),
+        }
+    }
+}
+
+impl Frame<'_, '_> {
+    // Whether the placeholder is shown in the place of the rows.
+    pub(super) fn shows_placeholder(&self) -> bool
+        ensures { result ≡ shows_placeholder self.now }
+    {
+        self.is_empty && self.surround.placeholder_rows() > 0
+    }
+
+    // The rows of the inner area, from the first column on that is shown.
+    pub(super) fn row_area(&self, viewport: Viewport, inner: Rect) -> RowArea
+        ensures { result ≡ row_area self.now.scene.look inner viewport.column }
+    {
+        let (_, left) = viewport.scroll_top();
+        RowArea {
+            area: inner,
+            alignment: self.scene.look.alignment,
+            left,
+            style: Style::new(),
+        }
+    }
+
+    // Draws the block over the area, and into the inner area the rows or the placeholder.
+    pub(super) fn draw(
+        &self,
+        alloc: Global,
+        buffer: &mut Buffer,
+        area: Rect,
+        viewport: Viewport,
+        inner: Rect,
+    ) -> Result<(), AllocError>
+        requires places { HasPlaces self.now.scene }
+        requires within { (x y : ℕ) → IsTrue (contains inner x y) → IsTrue (contains area x y) }
+        ensures ok { OnOk result ((lines : List ShownLine)
+            × AreLinesOf self.now viewport inner (area_of buffer.old) lines
+            × Changes buffer.old buffer.new (frame_change self.now viewport area inner lines)) }
+        ensures outside { KeepsOutside (contains area) buffer.old buffer.new }
+    {
+        if let Some(block) = self.surround.block() {
+            draw_block(buffer, area, block)?;
+        }
+        let rows = self.row_area(viewport, inner);
+        if self.shows_placeholder() {
+            let placeholder = self.surround.placeholder();
+            return draw_placeholder(alloc, buffer, rows, placeholder, self.scene.cursor_cell());
+        }
+        buffer.set_style(inner, self.scene.look.style);
+        let (top, _) = viewport.scroll_top();
+        self.scene.draw(alloc, buffer, rows, top)
+    }
+}
