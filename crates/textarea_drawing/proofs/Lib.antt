@@ -1,0 +1,4 @@
+mod Hits
+mod Layers
+mod Rendering
+mod Widths
