@@ -1,0 +1,29 @@
+#!/bin/sh
+# Times a key and the frame of 80 by 24 behind it, in a text of 100, 10,000 and 100,000 lines of about 300 characters each,
+# wrapped at words and not wrapped (PROGRAM is what `rt run frame_bench` builds). A key and its frame should take less than
+# 200 microseconds, and within each mode the three times lie within 1.3x of each other. Of each time that of the same text
+# without a key is taken away.
+# usage: bench/frames.sh PROGRAM
+set -e
+program=$1
+[ -x "$program" ] || { echo "usage: bench/frames.sh PROGRAM"; exit 1; }
+keys=10000
+
+nanoseconds() {
+    best=
+    for turn in 1 2 3; do
+        begin=$(date +%s%N)
+        echo "$1 $2 $3" | "$program" > /dev/null
+        end=$(date +%s%N)
+        if [ -z "$best" ] || [ $(( end - begin )) -lt "$best" ]; then best=$(( end - begin )); fi
+    done
+    echo "$best"
+}
+
+for mode in Word None; do
+    for lines in 100 10000 100000; do
+        none=$(nanoseconds $mode $lines 0)
+        all=$(nanoseconds $mode $lines $keys)
+        printf '%s, %7s lines: %6s ns a key and frame\n' "$mode" "$lines" $(( (all - none) / keys ))
+    done
+done
