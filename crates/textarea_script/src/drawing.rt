@@ -53,11 +53,7 @@ pub fn read(area: &TextArea<'_>, call: Call<'_>) -> Answer
 }
 
 // Makes a call that draws into the buffer.
-pub fn draw(
-    area: &mut TextArea<'_>,
-    call: Call<'_>,
-    buffer: &mut Buffer,
-) -> Result<(), AllocError>
+pub fn draw(area: &mut TextArea<'_>, call: Call<'_>, buffer: &mut Buffer) -> Result<(), AllocError>
     requires { kind_of call ≡ Draws }
     ensures answer { OnOk result (IsAnswer area.old call.entry Done) }
     ensures ok { OnOk result (IsBehind area.old call.entry Done area.new) }
