@@ -9,6 +9,7 @@ use Rattle.textarea_lines.specs.View.{IsViewOf, LentRows}
 use Rattle.textarea_map.specs.Map.{row_total}
 use Rattle.textarea_map.specs.Rows.{greatest_column, row_at}
 use Rattle.textarea_map.specs.Seen.{IsPlaceNear, IsVisualPosition}
+use Rattle.textarea_scene.specs.Scene.{SceneState}
 use Rattle.textarea_screen.specs.Rect.{contains}
 use Rattle.textarea_screen.specs.declared.screen.rect.Rect.{Rect}
 use Rattle.textarea_text.specs.Place.{Place, is_same_place}
@@ -27,17 +28,17 @@ IsNear rows seen place = IsPlaceNear rows.wrapping.tab_len rows.lines rows.rows 
 -- ---- hits
 
 -- the cell lies in the inner area: it shows a visual row, the last one where it lies below that, and a display column of it
-pub record IsHitInRows (frame : FrameState) (viewport : ViewportState) (inner : Rect) (x y : ℕ) (place : Place) : Type 0 where
+pub record IsHitInRows (scene : SceneState) (viewport : ViewportState) (inner : Rect) (x y : ℕ) (place : Place) : Type 0 where
   pub row : ℕ
-  pub row_is : hit_row viewport.row inner (row_total frame.scene.rows.rows - 1) x y ≡ Some row
+  pub row_is : hit_row viewport.row inner (row_total scene.rows.rows - 1) x y ≡ Some row
   pub view : RowView
-  pub view_is : LiesAs frame.scene viewport inner row view
-  pub near : IsNear frame.scene.rows (row, hit_column view (greatest_at frame.scene.rows row) x) place
+  pub view_is : LiesAs scene viewport inner row view
+  pub near : IsNear scene.rows (row, hit_column view (greatest_at scene.rows row) x) place
 
 -- with a placeholder each cell shows the start
 abbrev pub IsHitWith : Bool → FrameState → ViewportState → Rect → ℕ → ℕ → Place → Type 0
 IsHitWith true frame viewport inner x y place = place ≡ (0, 0)
-IsHitWith false frame viewport inner x y place = IsHitInRows frame viewport inner x y place
+IsHitWith false frame viewport inner x y place = IsHitInRows frame.scene viewport inner x y place
 
 -- a cell outside of the inner area shows no place
 abbrev pub IsHitBy : Bool → FrameState → ViewportState → Rect → ℕ → ℕ → Option Place → Type 0

@@ -16,7 +16,7 @@ use Rattle.textarea_viewport.specs.Shown.{at_start, showing_row, showing_row_and
 use Rattle.textarea_viewport.specs.Viewport.{ViewportState}
 use Rattle.textarea_viewport.specs.declared.row_view.RowView.{RowView}
 use Rattle.textarea_wrap.specs.declared.wrap.WrapMode.{WrapMode}
-use Rattle.textarea_wrap.specs.declared.wrap.WrapMode.TheVariants as mode
+use Rattle.textarea_wrap.specs.declared.wrap.WrapMode.TheVariants as wrap
 
 -- what is shown, and the cell of the caret by its column and its row, if it is shown
 pub record Placing : Type 0 where
@@ -53,17 +53,17 @@ pub record LiesAs (scene : SceneState) (viewport : ViewportState) (inner : Rect)
 -- the part that is shown once the cursor is seen in this visual row at this display column: the first row follows the cursor, and
 -- where lines aren't wrapped so does the first column
 abbrev pub viewport_at : WrapMode → ViewportState → Rect → ℕ → Place → ViewportState
-viewport_at mode.None viewport inner columns seen =
+viewport_at wrap.None viewport inner columns seen =
     showing_row_and_column viewport inner seen.0 seen.1 columns
 viewport_at other viewport inner columns seen = showing_row viewport inner seen.0
 
 -- the cell of the caret is that of the cursor's visual row and display column in what is shown then
-pub record IsPlacedInRows (frame : FrameState) (viewport : ViewportState) (inner : Rect) (placing : Placing) : Type 0 where
+pub record IsPlacedInRows (scene : SceneState) (mode : WrapMode) (viewport : ViewportState) (inner : Rect) (placing : Placing) : Type 0 where
   pub seen : Place
-  pub seen_is : IsVisualPosition frame.scene.rows.wrapping.tab_len frame.scene.rows.lines frame.scene.rows.rows frame.scene.cursor seen
-  pub viewport_is : placing.viewport ≡ viewport_at frame.mode viewport inner (number_width frame.scene) seen
+  pub seen_is : IsVisualPosition scene.rows.wrapping.tab_len scene.rows.lines scene.rows.rows scene.cursor seen
+  pub viewport_is : placing.viewport ≡ viewport_at mode viewport inner (number_width scene) seen
   pub view : RowView
-  pub view_is : LiesAs frame.scene placing.viewport inner seen.0 view
+  pub view_is : LiesAs scene placing.viewport inner seen.0 view
   pub caret_is : placing.caret ≡ caret_at view seen.0 seen.1
 
 -- the corner of an area that has a cell
@@ -77,7 +77,8 @@ placed_at_corner inner = record { viewport = at_start inner; caret = corner_care
 
 abbrev pub IsPlacedWith : Bool → FrameState → ViewportState → Rect → Placing → Type 0
 IsPlacedWith true frame viewport inner placing = placing ≡ placed_at_corner inner
-IsPlacedWith false frame viewport inner placing = IsPlacedInRows frame viewport inner placing
+IsPlacedWith false frame viewport inner placing =
+    IsPlacedInRows frame.scene frame.mode viewport inner placing
 
 -- what is shown of the frame once it is drawn into the inner area, where this part was shown before, and where the caret is
 abbrev pub IsPlaced : FrameState → ViewportState → Rect → Placing → Type 0

@@ -2,5 +2,6 @@
 #![tactic(auto)]
 
 pub mod drawing;
+pub mod laws;
 
 pub use drawing::Drawing;

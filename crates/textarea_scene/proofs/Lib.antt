@@ -1,4 +1,4 @@
-mod Drawing
+pub mod Drawing
 mod Found
 mod Holds
 mod OneFilling

@@ -1,5 +1,5 @@
 -- Where a move leads, and that it leads to one place, or nowhere, where up and down do.
-use Rattle.std.proofs.Common.{◌≡◌, false, List, Option, None, Some, ap, refl, sym, ◌∙◌}
+use Rattle.std.proofs.Common.{◌≡◌, false, List, Option, None, Some, ap, refl, subst, sym, ◌∙◌}
 use Rattle.textarea_text.specs.Text.{Symbol}
 use Rattle.textarea_text.specs.Place.{Place}
 use Rattle.textarea_data.specs.declared.cursor.CursorMove.{CursorMove}
@@ -61,3 +61,31 @@ level_target state cursor_move found text cursor not_up not_down not_inside valu
       ∙ ap (λ t. target nowhere t cursor cursor_move) text_is
       ∙ ap (λ p. target nowhere state.document.text p cursor_move) cursor_is;
 }
+
+-- a move over visual rows leads to the place that is found for it
+pub up_target : (state : State) (cursor_move : CursorMove) (found : Option Place) → cursor_move ≡ move.Up → IsAboveCursor state.document found → IsTarget state cursor_move found
+up_target state cursor_move found is above = subst (λ (m : CursorMove). IsTarget state m found) (sym is) (record {
+  visual = record { above = found; below = None; inside = (0, 0) };
+  above_is = λ e. above;
+  below_is = λ e. cc e;
+  inside_is = λ e. cc e;
+  found_is = refl;
+})
+
+pub down_target : (state : State) (cursor_move : CursorMove) (found : Option Place) → cursor_move ≡ move.Down → IsBelowCursor state.document found → IsTarget state cursor_move found
+down_target state cursor_move found is below = subst (λ (m : CursorMove). IsTarget state m found) (sym is) (record {
+  visual = record { above = None; below = found; inside = (0, 0) };
+  above_is = λ e. cc e;
+  below_is = λ e. below;
+  inside_is = λ e. cc e;
+  found_is = refl;
+})
+
+pub inside_target : (state : State) (cursor_move : CursorMove) (place : Place) → cursor_move ≡ move.InViewport → IsInside state.document state.drawing.viewport place → IsTarget state cursor_move (Some place)
+inside_target state cursor_move place is inside = subst (λ (m : CursorMove). IsTarget state m (Some place)) (sym is) (record {
+  visual = record { above = None; below = None; inside = place };
+  above_is = λ e. cc e;
+  below_is = λ e. cc e;
+  inside_is = λ e. inside;
+  found_is = refl;
+})

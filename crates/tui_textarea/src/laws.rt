@@ -7,6 +7,7 @@ ghost use Rattle.tui_textarea.specs.Moves.{IsMoved};
 ghost use Rattle.tui_textarea.specs.State.{State};
 
 use textarea_document::laws::{one_place_up_and_down, one_row_count};
+use textarea_drawing::laws::one_place_inside;
 
 /// A move leads from a state to one state.
 pub fn one_move()
@@ -14,6 +15,7 @@ pub fn one_move()
         IsMoved old cursor_move first → IsMoved old cursor_move second → first ≡ second }
 {
     one_place_up_and_down();
+    one_place_inside();
 }
 
 /// An area of a width, in columns, has one measure.

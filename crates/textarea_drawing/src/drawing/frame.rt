@@ -1,8 +1,8 @@
 //! What one frame is drawn from, and the cells that it makes.
 ghost use Rattle.std.specs.Prelude.{◌≡◌, ℕ, IsTrue, List, OnOk};
-ghost use Rattle.textarea_drawing.specs.Cells.{AreLinesOf, frame_change};
+ghost use Rattle.textarea_drawing.specs.Cells.{AreLinesOf, block_change, frame_change, lines_shown, placeholder_change, rows_change};
 ghost use Rattle.textarea_drawing.specs.Frame.{frame_of, shows_placeholder};
-ghost use Rattle.textarea_drawing.specs.Placed.{row_area};
+ghost use Rattle.textarea_scene.specs.Drawn.{FillsArea};
 ghost use Rattle.textarea_scene.specs.Scene.{HasPlaces};
 ghost use Rattle.textarea_screen.specs.Buffer.{Changes, KeepsOutside, area_of};
 ghost use Rattle.textarea_screen.specs.Rect.{contains};
@@ -10,15 +10,15 @@ ghost use Rattle.textarea_screen.specs.Text.{ShownLine};
 ghost use Rattle.textarea_text.specs.Text.{lines};
 
 use super::Drawing;
+use super::placing::row_area;
 use std::alloc::{AllocError, Global};
 use std::marker::Model;
 use textarea_document::Document;
 use textarea_lines::view::LaidOutView;
 use textarea_paint::paint::block::draw_block;
-use textarea_paint::paint::row::RowArea;
 use textarea_scene::scene::Scene;
 use textarea_scene::scene::placeholder::draw_placeholder;
-use textarea_screen::screen::{Buffer, Rect, Style};
+use textarea_screen::screen::{Buffer, Rect};
 use textarea_search::search::Search;
 use textarea_surround::Surround;
 use textarea_viewport::Viewport;
@@ -90,19 +90,6 @@ impl Frame<'_, '_> {
         self.is_empty && self.surround.placeholder_rows() > 0
     }
 
-    // The rows of the inner area, from the first column on that is shown.
-    pub(super) fn row_area(&self, viewport: Viewport, inner: Rect) -> RowArea
-        ensures { result ≡ row_area self.now.scene.look inner viewport.column }
-    {
-        let (_, left) = viewport.scroll_top();
-        RowArea {
-            area: inner,
-            alignment: self.scene.look.alignment,
-            left,
-            style: Style::new(),
-        }
-    }
-
     // Draws the block over the area, and into the inner area the rows or the placeholder.
     pub(super) fn draw(
         &self,
@@ -119,16 +106,67 @@ impl Frame<'_, '_> {
             × Changes buffer.old buffer.new (frame_change self.now viewport area inner lines)) }
         ensures outside { KeepsOutside (contains area) buffer.old buffer.new }
     {
-        if let Some(block) = self.surround.block() {
-            draw_block(buffer, area, block)?;
-        }
-        let rows = self.row_area(viewport, inner);
+        self.draw_around(buffer, area)?;
         if self.shows_placeholder() {
-            let placeholder = self.surround.placeholder();
-            return draw_placeholder(alloc, buffer, rows, placeholder, self.scene.cursor_cell());
+            draw_placeholder_of(alloc, buffer, self.surround, &self.scene, viewport, inner)
+        } else {
+            draw_rows(alloc, buffer, &self.scene, viewport, inner)
         }
-        buffer.set_style(inner, self.scene.look.style);
-        let (top, _) = viewport.scroll_top();
-        self.scene.draw(alloc, buffer, rows, top)
     }
+
+    // Draws the block, if there is one.
+    fn draw_around(&self, buffer: &mut Buffer, area: Rect) -> Result<(), AllocError>
+        ensures ok { OnOk result
+            (Changes buffer.old buffer.new (block_change self.now.surround.block area)) }
+        ensures outside { KeepsOutside (contains area) buffer.old buffer.new }
+    {
+        match self.surround.block() {
+            Some(block) => draw_block(buffer, area, block),
+            None => Ok(()),
+        }
+    }
+}
+
+// Draws the placeholder into the inner area.
+fn draw_placeholder_of(
+    alloc: Global,
+    buffer: &mut Buffer,
+    surround: &Surround<'_>,
+    scene: &Scene<'_>,
+    viewport: Viewport,
+    inner: Rect,
+) -> Result<(), AllocError>
+    ensures ok { OnOk result (Changes buffer.old buffer.new
+        (placeholder_change scene.now.look surround.now.placeholder.style viewport inner
+        (lines_shown scene.now.look surround.now.placeholder.lines inner (area_of buffer.old)))) }
+    ensures outside { KeepsOutside (contains inner) buffer.old buffer.new }
+{
+    let rows = row_area(scene.look, viewport, inner);
+    draw_placeholder(
+        alloc,
+        buffer,
+        rows,
+        surround.placeholder(),
+        scene.cursor_cell(),
+    )
+}
+
+// Draws the visual rows over the style of the text area.
+fn draw_rows(
+    alloc: Global,
+    buffer: &mut Buffer,
+    scene: &Scene<'_>,
+    viewport: Viewport,
+    inner: Rect,
+) -> Result<(), AllocError>
+    requires { HasPlaces scene.now }
+    ensures ok { OnOk result ((lines : List ShownLine)
+        × FillsArea scene.now viewport.row inner (area_of buffer.old) lines
+        × Changes buffer.old buffer.new (rows_change scene.now.look viewport inner lines)) }
+    ensures outside { KeepsOutside (contains inner) buffer.old buffer.new }
+{
+    let rows = row_area(scene.look, viewport, inner);
+    let (top, _) = viewport.scroll_top();
+    buffer.set_style(inner, scene.look.style);
+    scene.draw(alloc, buffer, rows, top)
 }

@@ -2,7 +2,7 @@
 ghost use Rattle.std.specs.Prelude.{◌≡◌, ◌<◌, IfOk, IsOk};
 ghost use Rattle.std.specs.Option.{option_map};
 ghost use Rattle.textarea_drawing.specs.Frame.{number_width};
-ghost use Rattle.textarea_drawing.specs.Placed.{IsPlaced, IsPlacedInRows, LiesAs, corner_caret, placed_at_corner, viewport_at};
+ghost use Rattle.textarea_drawing.specs.Placed.{IsPlaced, IsPlacedInRows, LiesAs, corner_caret, placed_at_corner, row_area, viewport_at};
 ghost use Rattle.textarea_drawing.specs.State.{cell_of_position};
 ghost use Rattle.textarea_map.specs.Map.{row_total};
 ghost use Rattle.textarea_scene.specs.Scene.{HasPlaces};
@@ -11,7 +11,10 @@ ghost use Rattle.textarea_screen.specs.declared.screen.alignment.Alignment.TheVa
 use super::frame::Frame;
 use std::alloc::{AllocError, Global};
 use std::marker::Model;
-use textarea_screen::screen::{Alignment, Position, Rect};
+use textarea_look::look::Look;
+use textarea_paint::paint::row::RowArea;
+use textarea_scene::scene::Scene;
+use textarea_screen::screen::{Alignment, Position, Rect, Style};
 use textarea_viewport::{RowView, Viewport};
 use textarea_wrap::layout::LayoutMetrics;
 use textarea_wrap::wrap::WrapMode;
@@ -48,64 +51,74 @@ impl Frame<'_, '_> {
         ensures { IfOk result (λ placing. IsPlaced self.now viewport inner placing) }
     {
         if self.shows_placeholder() {
-            return Ok(placing_at_corner(inner));
+            Ok(placing_at_corner(inner))
+        } else {
+            placing_in_rows(alloc, &self.scene, self.mode, viewport, inner)
         }
-        self.placing_in_rows(alloc, viewport, inner)
     }
+}
 
-    fn placing_in_rows(
-        &self,
-        alloc: Global,
-        viewport: Viewport,
-        inner: Rect,
-    ) -> Result<Placing, AllocError>
-        requires { HasPlaces self.now.scene }
-        ensures { IfOk result (λ placing. IsPlacedInRows self.now viewport inner placing) }
-    {
-        let (row, column) = self.scene.rows.visual_position(self.scene.cursor);
-        let viewport = viewport_at(
-            self.mode,
-            viewport,
-            inner,
-            self.number_width(),
-            (row, column),
-        );
-        let view = self.row_view(alloc, viewport, inner, row)?;
-        Ok(Placing {
-            viewport,
-            caret: view.caret(row, column),
-        })
-    }
+// The same where the rows are shown.
+fn placing_in_rows(
+    alloc: Global,
+    scene: &Scene<'_>,
+    mode: WrapMode,
+    viewport: Viewport,
+    inner: Rect,
+) -> Result<Placing, AllocError>
+    requires { HasPlaces scene.now }
+    ensures { IfOk result (λ placing. IsPlacedInRows scene.now mode viewport inner placing) }
+{
+    let seen = scene.rows.visual_position(scene.cursor);
+    let viewport = viewport_at(mode, viewport, inner, number_width(scene), seen);
+    let view = row_view(alloc, scene, viewport, inner, seen.0)?;
+    Ok(Placing {
+        viewport,
+        caret: view.caret(seen.0, seen.1),
+    })
+}
 
-    // How a visual row lies in the inner area. At the left that is known without the row, and takes no memory.
-    pub(super) fn row_view(
-        &self,
-        alloc: Global,
-        viewport: Viewport,
-        inner: Rect,
-        row: usize,
-    ) -> Result<RowView, AllocError>
-        requires places { HasPlaces self.now.scene }
-        requires row { row < row_total self.now.scene.rows.rows }
-        ensures view { IfOk result (λ view. LiesAs self.now.scene viewport inner row view) }
-        ensures left { self.now.scene.look.alignment ≡ Left → IsOk result }
-    {
-        let columns = self.number_width();
-        let rows = self.row_area(viewport, inner);
-        let start = self.scene.row_start(alloc, rows, row)?;
-        Ok(match rows.alignment {
-            Alignment::Left => RowView::at_left(viewport, inner, columns),
-            _ => RowView::at_offset(viewport, inner, start, columns),
-        })
-    }
+// How a visual row lies in the inner area. At the left that is known without the row, and takes no memory.
+pub(super) fn row_view(
+    alloc: Global,
+    scene: &Scene<'_>,
+    viewport: Viewport,
+    inner: Rect,
+    row: usize,
+) -> Result<RowView, AllocError>
+    requires places { HasPlaces scene.now }
+    requires row { row < row_total scene.now.rows.rows }
+    ensures view { IfOk result (λ view. LiesAs scene.now viewport inner row view) }
+    ensures left { scene.now.look.alignment ≡ Left → IsOk result }
+{
+    let columns = number_width(scene);
+    let rows = row_area(scene.look, viewport, inner);
+    let start = scene.row_start(alloc, rows, row)?;
+    Ok(match rows.alignment {
+        Alignment::Left => RowView::at_left(viewport, inner, columns),
+        _ => RowView::at_offset(viewport, inner, start, columns),
+    })
+}
 
-    // The columns of line numbers, 0 without them.
-    fn number_width(&self) -> usize
-        ensures { result ≡ number_width self.now.scene }
-    {
-        let line_count = self.scene.rows.lines().len();
-        LayoutMetrics::new(0, line_count, self.scene.line_numbers, self.mode).line_number_width()
+// The rows of the inner area, from the first column on that is shown.
+pub(super) fn row_area(look: Look, viewport: Viewport, inner: Rect) -> RowArea
+    ensures { result ≡ row_area look inner viewport.column }
+{
+    let (_, left) = viewport.scroll_top();
+    RowArea {
+        area: inner,
+        alignment: look.alignment,
+        left,
+        style: Style::new(),
     }
+}
+
+// The columns of line numbers, 0 without them.
+fn number_width(scene: &Scene<'_>) -> usize
+    ensures { result ≡ number_width scene.now }
+{
+    let line_count = scene.rows.lines().len();
+    LayoutMetrics::new(0, line_count, scene.line_numbers, WrapMode::None).line_number_width()
 }
 
 // The part that is shown once the cursor is seen in this visual row at this display column.

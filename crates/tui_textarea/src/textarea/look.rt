@@ -14,10 +14,7 @@ impl TextArea<'_> {
             ≡ with_look self.old (record self.old.drawing.look { style = style }) }
     {
         let look = self.drawing.look();
-        self.drawing.set_look(Look {
-            style,
-            ..look
-        });
+        self.drawing.set_look(Look { style, ..look });
     }
 
     /// The style of each cell of the inner area, under all others.

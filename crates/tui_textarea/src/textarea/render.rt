@@ -31,8 +31,13 @@ impl TextArea<'_> {
         ensures outside { KeepsOutside (contains area) buffer.old buffer.new }
         ensures err { OnErr result (self.new ≡ self.old) }
     {
-        self.drawing
-            .render(&mut self.document, &self.surround, &self.search, area, buffer)
+        self.drawing.render(
+            &mut self.document,
+            &self.surround,
+            &self.search,
+            area,
+            buffer,
+        )
     }
 
     /// The cell of the cursor at the last `render`, where a terminal's own cursor may stand; none where it wasn't in the part

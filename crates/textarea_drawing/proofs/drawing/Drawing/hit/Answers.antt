@@ -1,17 +1,19 @@
-use Rattle.std.proofs.Common.{rules, ◌≡◌, IfOk, IfSome, IsOk, ℕ, ◌+◌, ◌-◌, ◌*◌, ◌<◌, ◌≤◌, length, ◌/◌, ◌%◌, Bool, true, false, nat_eq, nat_lt, List, [], ◌∷◌, ◌++◌, slice_index_or, slice_set, bit_and, bit_or, Fits, w8, w32, w64, Bor, MutBor}
-use Rattle.textarea_drawing.specs.Hit.{IsHit, IsInside, IsLastArea}
-use Rattle.textarea_screen.specs.declared.screen.alignment.Alignment.TheVariants.{Left}
-use Rattle.textarea_text.specs.Place.{IsPlace}
+use Rattle.std.proofs.Common.{ap, subst}
+use Rattle.textarea_drawing.specs.Frame.{FrameState, Parts, frame_of}
+use Rattle.textarea_drawing.specs.Hit.{IsHitOf}
+use Rattle.textarea_drawing.specs.State.{DrawingState}
+use Rattle.textarea_viewport.specs.Viewport.{ViewportState}
+use Rattle.textarea_drawing.proofs.Layers.{if_ok}
 use Rattle.textarea_drawing.proofs.drawing.Drawing.hit.Goals as goal
 
--- src/drawing/hit.rt:38:13
-pub returns-in_default-clause-hit : goal.returns-in_default-clause-hit
-returns-in_default-clause-hit c = ?
-
--- src/drawing/hit.rt:41:13
-pub returns-then-shows_placeholder-clause-hit : goal.returns-then-shows_placeholder-clause-hit
-returns-then-shows_placeholder-clause-hit c = ?
-
--- src/drawing/hit.rt:18:5
 pub returns-clause-hit : goal.returns-clause-hit
-returns-clause-hit c = ?
+returns-clause-hit c =
+    let parts : Parts = record { document = c.args.document.now; pattern = c.args.search.now; surround = c.args.surround.now; drawing = c.args.self.now } in
+    if_ok c.hit.result c.hit.ensures.hit (λ found h. record {
+      inner = c.last_area-inner.result;
+      inner_is = c.last_area-inner.ensures;
+      rows = c.view.result;
+      rows_are = c.view.ensures;
+      found_is = subst (λ (v : ViewportState). IsHitOf (frame_of parts c.view.result) v c.last_area-inner.result c.args.position.x c.args.position.y found) (ap (λ (d : DrawingState). d.viewport) c.self.view_is)
+          (subst (λ (f : FrameState). IsHitOf f c.self.inside.viewport c.last_area-inner.result c.args.position.x c.args.position.y found) c.frame-frame.ensures.frame h);
+    })

@@ -1,13 +1,31 @@
-use Rattle.std.proofs.Common.{rules, ◌≡◌, OnErr, OnOk, ℕ, ◌+◌, ◌-◌, ◌*◌, ◌<◌, ◌≤◌, length, ◌/◌, ◌%◌, Bool, true, false, nat_eq, nat_lt, List, [], ◌∷◌, ◌++◌, slice_index_or, slice_set, bit_and, bit_or, Fits, w8, w32, w64, Bor, MutBor}
-use Rattle.textarea_drawing.specs.Rendered.{IsDrawn, IsRendered, drawn_into}
-use Rattle.textarea_screen.specs.Buffer.{KeepsOutside}
-use Rattle.textarea_screen.specs.Rect.{contains}
+use Rattle.std.proofs.Common.{ap, subst, ◌∙◌}
+use Rattle.textarea_drawing.specs.Frame.{Parts}
+use Rattle.textarea_drawing.specs.Placed.{IsPlaced, Placing}
+use Rattle.textarea_drawing.specs.State.{DrawingState}
+use Rattle.textarea_viewport.specs.Viewport.{ViewportState}
+use Rattle.textarea_drawing.proofs.Rendering.{IsFramed, IsStepped, drawn, rendered}
 use Rattle.textarea_drawing.proofs.drawing.Drawing.render.Goals as goal
 
--- src/drawing/render.rt:21:5
-pub returns-clause-ok : goal.returns-clause-ok
-returns-clause-ok c = ?
+parts_of : goal.After-put → Parts
+parts_of c = record { document = c.args.document.now; pattern = c.args.search.now; surround = c.args.surround.now; drawing = c.args.self.now }
 
--- src/drawing/render.rt:21:5
+steps : (c : goal.After-put) → IsStepped (parts_of c) c.args.area c.inner_area-inner.result c.in_ok-prepared.prepared.inner_width c.view_with.result c.frame-frame.result c.in_ok-placing.placing c.put_width.new.self c.put.new.self
+unfolding parts_of
+steps c = record {
+  inner_is = c.inner_area-inner.ensures.inner;
+  width_is = c.in_ok-prepared.ensures.width ∙ c.width.ensures;
+  rows_are = c.view_with.ensures;
+  frame_is = c.frame-frame.ensures.frame;
+  placing_is = subst (λ (v : ViewportState). IsPlaced c.frame-frame.result v c.inner_area-inner.result c.in_ok-placing.placing) (ap (λ (d : DrawingState). d.viewport) c.self.view_is) c.in_ok-placing.ensures;
+  document_is = c.put_width.ensures;
+  drawing_is = c.put.ensures;
+}
+
+pub returns-clause-ok : goal.returns-clause-ok
+unfolding parts_of
+returns-clause-ok c = rendered (parts_of c) c.args.area c.inner_area-inner.result c.in_ok-prepared.prepared.inner_width c.view_with.result c.frame-frame.result c.in_ok-placing.placing c.put_width.new.self c.put.new.self (steps c)
+
 pub returns-clause-cells : goal.returns-clause-cells
-returns-clause-cells c = ?
+unfolding parts_of
+returns-clause-cells c = drawn (parts_of c) c.args.area c.inner_area-inner.result c.in_ok-prepared.prepared.inner_width c.view_with.result c.frame-frame.result c.in_ok-placing.placing c.put_width.new.self c.put.new.self c.args.buffer.now c.draw.new.buffer (steps c)
+    (subst (λ (p : Placing). IsFramed c.frame-frame.result p.viewport c.args.area c.inner_area-inner.result c.args.buffer.now c.draw.new.buffer) c.placing-2.view_is c.in_ok-draw.ensures.ok)

@@ -1,0 +1,73 @@
+-- One place is the nearest that is shown.
+use Rattle.std.proofs.Common.{◌≡◌, ℕ, ◌-◌, Bool, true, false, List, sym, subst, ap, ap₂, ◌∙◌}
+use Rattle.textarea_document.specs.Rows.{laid_out_of}
+use Rattle.textarea_document.specs.State.{DocumentState}
+use Rattle.textarea_drawing.specs.Hit.{IsInside, IsNear, IsReached, greatest_at}
+use Rattle.textarea_lines.specs.Layout.{LaidOut, wrapping_of}
+use Rattle.textarea_lines.specs.View.{IsViewOf, LentRows}
+use Rattle.textarea_map.specs.Layout.{AreRowsOf}
+use Rattle.textarea_map.specs.Map.{row_total}
+use Rattle.textarea_map.specs.Seen.{IsPlaceAt, IsVisualPosition}
+use Rattle.textarea_map.specs.declared.layout.Wrapping.{Wrapping}
+use Rattle.textarea_text.specs.Place.{Place, is_same_place}
+use Rattle.textarea_viewport.specs.Viewport.{ViewportState, clamped}
+use Rattle.textarea_wrap.specs.RowsView.{RowsView}
+
+-- a text as it is laid out is lent in one way
+abbrev pub IsViewedOnce : Type 0
+IsViewedOnce = (laid : LaidOut) (view other : LentRows) → IsViewOf laid view → IsViewOf laid other → view ≡ other
+
+-- a place is seen in one visual row at one column
+abbrev pub IsSeenOnce : Type 0
+IsSeenOnce = (wrapping : Wrapping) (lines : List (List ℕ)) (rows : List RowsView) (place seen other : Place) → AreRowsOf wrapping lines rows → IsVisualPosition wrapping.tab_len lines rows place seen → IsVisualPosition wrapping.tab_len lines rows place other → seen ≡ other
+
+-- a visual row and a display column lead back to one place
+abbrev pub IsPlacedOnce : Type 0
+IsPlacedOnce = (tab_len : ℕ) (lines : List (List ℕ)) (rows : List RowsView) (seen place other : Place) → IsPlaceAt tab_len lines rows seen place → IsPlaceAt tab_len lines rows seen other → place ≡ other
+
+-- rows that are lent are right rows of the lines, cut as it is said
+pub lent_right : (laid : LaidOut) (rows : LentRows) → IsViewOf laid rows → AreRowsOf rows.wrapping rows.lines rows.rows
+lent_right laid rows h =
+    subst (λ (w : Wrapping). AreRowsOf w rows.lines rows.rows) (sym h.wrapping)
+    (subst (λ (l : List (List ℕ)). AreRowsOf (wrapping_of laid) l rows.rows) (sym h.lines) h.rows.laid_out)
+
+-- where the cursor is seen in rows that are lent
+pub seen_in : (once : IsSeenOnce) (laid : LaidOut) (rows : LentRows) (place seen other : Place) → IsViewOf laid rows → IsVisualPosition rows.wrapping.tab_len rows.lines rows.rows place seen → IsVisualPosition rows.wrapping.tab_len rows.lines rows.rows place other → seen ≡ other
+seen_in once laid rows place seen other h = once rows.wrapping rows.lines rows.rows place seen other (lent_right laid rows h)
+
+pub near_once : (once : IsPlacedOnce) (rows : LentRows) (wanted place other : Place) → IsNear rows wanted place → IsNear rows wanted other → place ≡ other
+near_once once rows wanted place other = once rows.wrapping.tab_len rows.lines rows.rows _ place other
+
+reached_once : (once : IsPlacedOnce) (b : Bool) (rows : LentRows) (wanted cursor place other : Place) → IsReached b rows wanted cursor place → IsReached b rows wanted cursor other → place ≡ other
+reached_once once true rows wanted cursor place other e f = e ∙ sym f
+reached_once once false rows wanted cursor place other h k = near_once once rows wanted place other h k
+
+-- the row and the column that the cursor goes to, seen at this place of these rows
+abbrev row_to : LentRows → ViewportState → Place → ℕ
+row_to rows viewport seen = clamped viewport.row viewport.height (row_total rows.rows - 1) seen.0
+
+abbrev column_to : LentRows → ViewportState → Place → ℕ
+column_to rows viewport seen = clamped viewport.column viewport.width (greatest_at rows (row_to rows viewport seen)) seen.1
+
+-- the place that the cursor goes to in these rows
+abbrev GoesTo : LentRows → ViewportState → Place → Place → Type 0
+GoesTo rows viewport cursor place = (seen : Place) × IsVisualPosition rows.wrapping.tab_len rows.lines rows.rows cursor seen
+    × IsReached (is_same_place (row_to rows viewport seen, column_to rows viewport seen) seen) rows (row_to rows viewport seen, column_to rows viewport seen) cursor place
+
+goes_to : (document : DocumentState) (viewport : ViewportState) (place : Place) (h : IsInside document viewport place) → GoesTo h.rows viewport document.cursor place
+goes_to document viewport place h =
+    let same : (h.row, h.column) ≡ (row_to h.rows viewport h.seen, column_to h.rows viewport h.seen) =
+    ap₂ (λ (r c : ℕ). (r, c)) h.row_is (h.column_is ∙ ap (λ (r : ℕ). clamped viewport.column viewport.width (greatest_at h.rows r) h.seen.1) h.row_is) in
+    (h.seen, h.seen_is, subst (λ (p : Place). IsReached (is_same_place p h.seen) h.rows p document.cursor place) same h.place_is)
+
+goes_once : (seen_once : IsSeenOnce) (placed_once : IsPlacedOnce) (laid : LaidOut) (rows : LentRows) (viewport : ViewportState) (cursor place other : Place) → IsViewOf laid rows → GoesTo rows viewport cursor place → GoesTo rows viewport cursor other → place ≡ other
+goes_once seen_once placed_once laid rows viewport cursor place other lent h k =
+    let same = seen_in seen_once laid rows cursor k.0 h.0 lent k.1 h.1 in
+    let wanted : Place = (row_to rows viewport h.0, column_to rows viewport h.0) in
+    reached_once placed_once (is_same_place wanted h.0) rows wanted cursor place other h.2
+    (subst (λ (s : Place). IsReached (is_same_place (row_to rows viewport s, column_to rows viewport s) s) rows (row_to rows viewport s, column_to rows viewport s) cursor other) same k.2)
+
+pub inside_once : (viewed_once : IsViewedOnce) (seen_once : IsSeenOnce) (placed_once : IsPlacedOnce) (document : DocumentState) (viewport : ViewportState) (place other : Place) → IsInside document viewport place → IsInside document viewport other → place ≡ other
+inside_once viewed_once seen_once placed_once document viewport place other h k =
+    goes_once seen_once placed_once (laid_out_of document) h.rows viewport document.cursor place other h.rows_are (goes_to document viewport place h)
+    (subst (λ (rows : LentRows). GoesTo rows viewport document.cursor other) (viewed_once (laid_out_of document) k.rows h.rows k.rows_are h.rows_are) (goes_to document viewport other k))

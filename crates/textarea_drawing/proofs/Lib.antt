@@ -1,0 +1,5 @@
+mod Hits
+mod Inside
+mod Layers
+mod Rendering
+mod Widths

@@ -1,0 +1,10 @@
+use Rattle.textarea_drawing.proofs.drawing.hit.hit_in_row.Goals as goal
+
+pub returns-clause-hit : goal.returns-clause-hit
+returns-clause-hit c = rw (← c.scene.view_is) (record {
+  row = c.args.row;
+  row_is = rw (← c.scene.view_is) at c.requires.hit;
+  view = c.in_ok-view.view;
+  view_is = rw (← c.scene.view_is) at c.in_ok-view.ensures.view;
+  near = rw (c.hit_column-column.ensures, c.greatest_column.ensures) at c.place_near.ensures.near;
+})
