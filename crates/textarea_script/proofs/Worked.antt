@@ -1,5 +1,5 @@
 -- Worked runs on an empty text, computed.
-use Rattle.std.proofs.Common.{◌≡◌, List, [], ◌∷◌, Option, None, true, false, refl, subst}
+use Rattle.std.proofs.Common.{◌≡◌, List, [], ◌∷◌, Option, None, Some, true, false, refl, subst}
 use Rattle.textarea_text.specs.Text.{Character, Break}
 use Rattle.textarea_text.specs.Place.{Place}
 use Rattle.textarea_document.specs.Edits.{removed_before, removed_behind, part_removed}
@@ -13,9 +13,10 @@ use Rattle.textarea_data.specs.declared.cursor.CursorMove.TheVariants.{Back, Dow
 use Rattle.textarea_script.specs.Calls.{answer_of, state_after}
 use Rattle.textarea_script.specs.Outcomes.{IsAnswer, IsBehind, IsShown}
 use Rattle.textarea_script.specs.Run.{Leads, Makes}
+use Rattle.textarea_script.specs.Said as told
 use Rattle.textarea_script.specs.Said.{Said, Done, Flag, Text}
 use Rattle.textarea_script.specs.declared.call.Call.{Call}
-use Rattle.textarea_script.specs.declared.call.Call.TheVariants.{InsertChar, InsertNewline, DeleteChar, DeleteStr, Cut, Paste, Undo, Redo, StartSelection, SelectAll, YankText, Measure, Move, SetSearchPattern, Render, CursorAtPosition, Scroll}
+use Rattle.textarea_script.specs.declared.call.Call.TheVariants.{InsertChar, InsertNewline, DeleteChar, DeleteStr, Cut, Paste, Undo, Redo, StartSelection, SelectAll, YankText, Measure, Move, SetSearchPattern, Render, CursorAtPosition, Scroll, SetMaskChar, ClearMaskChar, MaskChar, RenderedCursorPosition}
 
 abbrev empty : State
 empty = new_state []
@@ -199,3 +200,13 @@ removed_count = InsertNewline ∷ InsertChar 97 ∷ Move Head ∷ Move Back ∷ 
 removed_count-yank : (reached removed_count).yank ≡ Break ∷ Character 97 ∷ []
 unfolding removed_before removed_behind part_removed yanked
 removed_count-yank = refl
+
+-- a mask is read until it is taken away; before the first drawing there is no caret
+abbrev masked : List Call
+masked = SetMaskChar 42 ∷ MaskChar ∷ ClearMaskChar ∷ MaskChar ∷ RenderedCursorPosition ∷ []
+
+masked-answers : answers_of empty masked ≡ Done ∷ told.Character (Some 42) ∷ Done ∷ told.Character None ∷ told.Position None ∷ []
+masked-answers = refl
+
+masked-state : reached masked ≡ empty
+masked-state = refl
