@@ -1,5 +1,10 @@
 mod Hits
-mod Inside
 mod Layers
+mod Lent
+mod OneDrawing
+mod OneHit
+mod OneInside
+mod OneRendering
+mod Rects
 mod Rendering
 mod Widths

@@ -1,5 +1,6 @@
 pub mod Ahead
 pub mod Copying
+mod Filled
 pub mod Given
 pub mod Searches
 mod Cases

@@ -1,4 +1,4 @@
-use Rattle.textarea_drawing.proofs.Inside.{inside_once}
+use Rattle.textarea_drawing.proofs.OneInside.{inside_once}
 use Rattle.textarea_drawing.proofs.laws.one_place_inside.Goals as goal
 
 pub returns : goal.returns
