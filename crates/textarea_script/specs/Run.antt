@@ -1,5 +1,6 @@
 -- A run of calls: the outcomes one after another, up to the first call that runs out of memory.
 use Rattle.std.specs.Prelude.{◌≡◌, ◌<◌, ◌⊎◌, ℕ, List, [], ◌∷◌, length, map, take, slice_get, Option, Some, None}
+use Rattle.textarea_screen.specs.Buffer.{area_of, cell_at}
 use Rattle.textarea_screen.specs.declared.screen.buffer.Buffer.{Buffer}
 use Rattle.tui_textarea.specs.State.{State}
 use Rattle.textarea_script.specs.declared.call.Call.{Call}
@@ -48,3 +49,8 @@ pub record NeverBegins (old : State) (buffer : Buffer) (calls : List Call) (answ
 abbrev pub Run : State → Buffer → List Call → List Answer → Option ℕ → State → Buffer → Type 0
 Run old buffer calls answers None new shown = Completes old buffer calls answers new shown
 Run old buffer calls answers (Some index) new shown = NeverBegins old buffer calls answers index new shown ⊎ StopsAt old buffer calls answers index new shown
+
+-- the buffers have the same cells: the area is the same, and so is what is seen of each cell
+pub record ShowsSame (buffer other : Buffer) : Type 0 where
+  pub area : area_of buffer ≡ area_of other
+  pub cells : (x y : ℕ) → cell_at buffer x y ≡ cell_at other x y

@@ -1,4 +1,5 @@
-use Rattle.std.proofs.Common.{◌≡◌, ◌+◌, ◌<◌, ◌∷◌, [], ◌++◌, ◌∙◌, ap, cond, map, sym, subst, take, List, arith, is_ok, true, vec_len, vec_capacity}
+use Rattle.std.proofs.Common.{◌≡◌, ◌+◌, ◌<◌, ◌∷◌, [], ◌++◌, ◌∙◌, ap, cond, inr, length, map, refl, sym, subst, take, List, arith, is_ok, true, vec_len, vec_capacity}
+use Rattle.std.proofs.lemmas.Option.{slice_get_read}
 use Rattle.textarea_script.specs.Run.{Leads}
 use Rattle.textarea_script.specs.Said.{said}
 use Rattle.textarea_script.specs.declared.answer.Answer.{Answer}
@@ -20,3 +21,15 @@ loop-index-preserved c =
       counted = c.push.ensures.len ∙ ap (λ b. cond b (vec_len c.loop-index.answers + 1) (vec_len c.loop-index.answers)) pushed ∙ ap (λ n. n + 1) before.counted;
       room = omega (arith, before.room, c.push.ensures.capacity);
     }
+
+pub returns-in-Err : goal.returns-in-Err
+returns-in-Err c =
+    inr (record {
+      call = c.index-calls-index.result;
+      here = slice_get_read c.args.calls.now (length c.args.calls.now) c.loop-index.index c.index-calls-index.result refl c.loop-index-test.true c.index-calls-index.is;
+      before = c.loop-index.area;
+      screen = c.loop-index.buffer;
+      led = c.loop-index.invariant.led;
+      refused = c.in-Err.ensures.err;
+      spared = c.in-Err.ensures.spared;
+    })
