@@ -1,81 +1,14 @@
 // Calls that no script makes.
-use crate::unprinted::{AT_FIRST, FILLED, PLAIN, Unprinted, check};
-use std::alloc::{AllocError, Global};
+use crate::asked::{Asked, calls_of, titled, two_lines};
+use crate::styles::{GRAY, PLAIN, RED};
+use crate::unprinted::{AT_FIRST, FILLED, Unprinted, check};
 use std::process::Abort;
 use std::test::Fail;
 use textarea_script::Call;
-use tui_textarea::{
-    AtomicCursorBias, AtomicDeleteDirection, Block, Borders, Color, Line, Style, Text, WrapMode,
-};
-
-const RED: Style = Style {
-    fg: Some(Color::Red),
-    ..PLAIN
-};
-
-// A call, as plain data: the block and the placeholder are lent where it is made.
-#[derive(Clone, Copy)]
-enum Asked {
-    InsertChar(char),
-    DeleteChar,
-    Undo,
-    Clear,
-    Measure(u16),
-    RangeAtCursor(AtomicDeleteDirection),
-    DeleteRangeAtCursor(AtomicDeleteDirection),
-    NormalizeCursor(AtomicCursorBias),
-    ClearRanges,
-    SetPlaceholderText(&'static str),
-    SetPlaceholderStyle(Style),
-    SetStyledPlaceholder,
-    SetMinRows(u16),
-    SetMaxRows(u16),
-    SetLineNumberStyle(Style),
-    SetBlock,
-    RemoveBlock,
-}
-
-fn call_of<'a>(
-    asked: Asked,
-    block: &'a Block<'static>,
-    placeholder: &'a Text<'static>,
-) -> Call<'a> {
-    match asked {
-        Asked::InsertChar(character) => Call::InsertChar(character),
-        Asked::DeleteChar => Call::DeleteChar,
-        Asked::Undo => Call::Undo,
-        Asked::Clear => Call::Clear,
-        Asked::Measure(width) => Call::Measure(width),
-        Asked::RangeAtCursor(direction) => Call::AtomicRangeAtCursor(direction),
-        Asked::DeleteRangeAtCursor(direction) => Call::DeleteAtomicRangeAtCursor(direction),
-        Asked::NormalizeCursor(bias) => Call::NormalizeCursorAroundAtomicRanges(bias),
-        Asked::ClearRanges => Call::ClearAtomicRanges,
-        Asked::SetPlaceholderText(text) => Call::SetPlaceholderText(text),
-        Asked::SetPlaceholderStyle(style) => Call::SetPlaceholderStyle(style),
-        Asked::SetStyledPlaceholder => Call::SetStyledPlaceholder(placeholder),
-        Asked::SetMinRows(rows) => Call::SetMinRows(rows),
-        Asked::SetMaxRows(rows) => Call::SetMaxRows(rows),
-        Asked::SetLineNumberStyle(style) => Call::SetLineNumberStyle(style),
-        Asked::SetBlock => Call::SetBlock(block),
-        Asked::RemoveBlock => Call::RemoveBlock,
-    }
-}
-
-fn calls_of<'a>(
-    alloc: Global,
-    asked: &[Asked],
-    block: &'a Block<'static>,
-    placeholder: &'a Text<'static>,
-) -> Result<Vec<Call<'a>>, AllocError> {
-    let mut calls = Vec::new(alloc);
-    for asked in asked {
-        calls.push(call_of(*asked, block, placeholder))?;
-    }
-    Ok(calls)
-}
+use tui_textarea::{Alignment, AtomicCursorBias, AtomicDeleteDirection, Block, Text, WrapMode};
 
 // Scripts, calls behind them, what is printed then, and what is read.
-static CALLS: [(&str, &[Asked], &str, Unprinted<'static>); 13] = [
+static CALLS: [(&str, &[Asked], &str, Unprinted<'static>); 16] = [
     // An undone removal.
     (
         "",
@@ -133,10 +66,7 @@ static CALLS: [(&str, &[Asked], &str, Unprinted<'static>); 13] = [
         Unprinted {
             placeholder_lines: 1,
             placeholder_text: "line\nfeed",
-            placeholder_style: Some(Style {
-                fg: Some(Color::DarkGray),
-                ..PLAIN
-            }),
+            placeholder_style: Some(GRAY),
             ..AT_FIRST
         },
     ),
@@ -239,24 +169,73 @@ static CALLS: [(&str, &[Asked], &str, Unprinted<'static>); 13] = [
             ..AT_FIRST
         },
     ),
+    // The caret is that of the last drawing, and a hit one of the text as it stands now: here in the middle, and then at the right.
+    (
+        "insert_str ab\nmove Head\nline_numbers true",
+        &[
+            Asked::Caret,
+            Asked::SetAlignment(Alignment::Center),
+            Asked::Caret,
+            Asked::Render(2, 1, 6, 1),
+            Asked::Caret,
+            Asked::Hit(5, 1),
+            Asked::Hit(2, 1),
+            Asked::Hit(7, 1),
+            Asked::Hit(1, 1),
+            Asked::SetAlignment(Alignment::Right),
+            Asked::Caret,
+            Asked::Hit(5, 1),
+            Asked::Hit(7, 1),
+        ],
+        "1 none\n2 ok\n3 none\n4 ok\n5 4 1\n6 0 1\n7 0 0\n8 0 2\n9 none\n10 ok\n11 4 1\n12 0 0\n13 0 1\n\
+        lines 1\n|ab\ncursor 0 0\nselection none\n",
+        FILLED,
+    ),
+    // Inside of a block; its sides show no place.
+    (
+        "insert_str ab\\nc",
+        &[
+            Asked::SetBlock,
+            Asked::Render(0, 0, 5, 4),
+            Asked::Caret,
+            Asked::Hit(1, 1),
+            Asked::Hit(3, 2),
+            Asked::Hit(0, 1),
+            Asked::Hit(1, 0),
+            Asked::Hit(4, 1),
+            Asked::Hit(1, 3),
+            Asked::RemoveBlock,
+            Asked::Hit(2, 1),
+        ],
+        "1 ok\n2 ok\n3 2 2\n4 0 0\n5 1 1\n6 none\n7 none\n8 none\n9 none\n10 ok\n11 0 1\n\
+        lines 2\n|ab\n|c\ncursor 1 1\nselection none\n",
+        FILLED,
+    ),
+    // Each cell of a placeholder shows the start.
+    (
+        "render 0 0 9 3",
+        &[
+            Asked::SetStyledPlaceholder,
+            Asked::Hit(3, 1),
+            Asked::Hit(9, 1),
+            Asked::InsertChar('a'),
+            Asked::Hit(3, 1),
+        ],
+        "1 ok\n2 0 0\n3 none\n4 ok\n5 0 1\nlines 1\n|a\ncursor 0 1\nselection none\n",
+        Unprinted {
+            placeholder_lines: 2,
+            placeholder_text: "type",
+            placeholder_style: Some(PLAIN),
+            ..FILLED
+        },
+    ),
 ];
 
 #[test]
 fn calls_behind_scripts(rt: HostRuntime) -> Result<(), Fail> {
     let placeholder = two_lines(rt.alloc())?;
-    let block = Block::new().borders(Borders::ALL);
+    let block = titled(rt.alloc())?;
     check_calls(&rt, &block, &placeholder)
-}
-
-fn two_lines(alloc: Global) -> Result<Text<'static>, AllocError> {
-    let mut lines = Vec::new(alloc);
-    for text in ["type", "here"] {
-        lines.push(Line::raw(String::from_str(alloc, text)?)?)?;
-    }
-    Ok(Text {
-        lines,
-        style: Style::new(),
-    })
 }
 
 fn check_calls<'a>(

@@ -2,8 +2,16 @@
 #![tactic(auto)]
 
 #[cfg(test)]
+mod asked;
+#[cfg(test)]
 mod calls;
 #[cfg(test)]
+mod drawn;
+#[cfg(test)]
 mod given;
+#[cfg(test)]
+mod looks;
+#[cfg(test)]
+mod styles;
 #[cfg(test)]
 mod unprinted;

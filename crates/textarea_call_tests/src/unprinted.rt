@@ -1,4 +1,5 @@
 // What isn't printed of a text area: what its other calls read.
+use crate::styles::PLAIN;
 use std::process::Abort;
 use std::string::ToString;
 use std::test::Fail;
@@ -6,7 +7,7 @@ use textarea_script::Call;
 use textarea_script::commands::{calls, read};
 use textarea_script::printing::Report;
 use textarea_script::run::run;
-use tui_textarea::{AtomicRange, Modifier, Style, TextArea, WrapMode};
+use tui_textarea::{AtomicRange, Buffer, Rect, Style, TextArea, WrapMode};
 
 #[derive(Clone, Copy, Debug, PartialEq, Eq)]
 pub struct Unprinted<'a> {
@@ -77,14 +78,6 @@ pub fn read_off<'a>(area: &'a TextArea<'_>) -> Unprinted<'a> {
         placeholder_style: area.placeholder_style(),
     }
 }
-
-/// The empty style.
-pub const PLAIN: Style = Style {
-    fg: None,
-    bg: None,
-    add_modifier: Modifier(0),
-    sub_modifier: Modifier(0),
-};
 
 // Scripts, and what is read behind them.
 static READ: [(&str, Unprinted<'static>); 24] = [
@@ -271,7 +264,7 @@ pub fn compare_read(
     assert!(rt; found == *wanted, "{script}\n{found:?}");
 }
 
-/// Makes the calls of a script.
+/// Makes the calls of a script, with a buffer that has no cell.
 pub fn make(
     rt: &(impl Abort + AllocGlobal),
     area: &mut TextArea<'_>,
@@ -279,7 +272,8 @@ pub fn make(
 ) -> Result<(), Fail> {
     let commands = read(rt.alloc(), script.as_bytes())?;
     let calls = calls(rt.alloc(), commands.as_slice())?;
-    let end = run(area, calls.as_slice());
+    let mut buffer = Buffer::empty(rt.alloc(), Rect::default())?;
+    let end = run(area, calls.as_slice(), &mut buffer);
     assert!(rt; end.refused == None);
     Ok(())
 }
@@ -291,8 +285,13 @@ fn printed_behind(
     calls: &[Call<'_>],
 ) -> Result<String, Fail> {
     assert!(rt; calls.iter().all(|call| call.can_be_made()));
-    let end = run(area, calls);
+    let mut buffer = Buffer::empty(rt.alloc(), Rect::default())?;
+    let end = run(area, calls, &mut buffer);
     assert!(rt; end.refused == None);
-    let answers = end.answers.as_slice();
-    Ok(Report { answers, area }.to_string(rt.alloc())?)
+    let report = Report {
+        answers: end.answers.as_slice(),
+        area,
+        screen: None,
+    };
+    Ok(report.to_string(rt.alloc())?)
 }

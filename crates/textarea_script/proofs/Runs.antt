@@ -1,49 +1,135 @@
 -- A run goes on by one call, and leads to one state.
-use Rattle.std.proofs.Common.{◌≡◌, ℕ, ◌+◌, ◌<◌, List, [], ◌∷◌, ◌++◌, map, take, length, get_or, ap, refl, sym, subst, ◌∙◌}
+use Rattle.std.proofs.Common.{◌≡◌, ◌≢◌, ℕ, ◌+◌, ◌<◌, List, [], ◌∷◌, ◌++◌, map, take, length, get_or, ap, refl, sym, subst, ◌∙◌}
 use Rattle.std.proofs.lemmas.List.{map-append, take_more}
 use Rattle.textarea_data.specs.declared.cursor.CursorMove.{CursorMove}
+use Rattle.std.specs.Option.{option_map}
+use Rattle.textarea_drawing.specs.Cells.{AreLinesOf, frame_change}
+use Rattle.textarea_drawing.specs.Frame.{Parts, frame_of}
+use Rattle.textarea_drawing.specs.Rendered as rendered
+use Rattle.textarea_drawing.specs.Rendered.{IsDrawn}
+use Rattle.textarea_screen.specs.Buffer.{cell_at}
+use Rattle.textarea_screen.specs.declared.screen.buffer.Buffer.{Buffer}
+use Rattle.textarea_screen.specs.declared.screen.rect.Rect.{Rect}
+use Rattle.tui_textarea.specs.Drawing.{IsRendered, parts_of, viewport_scrolled}
 use Rattle.tui_textarea.specs.State.{State}
 use Rattle.tui_textarea.specs.Moves.{IsMoved}
-use Rattle.textarea_script.specs.Outcomes.{IsAnswer, IsBehind}
-use Rattle.textarea_script.specs.Run.{Leads}
+use Rattle.textarea_data.specs.declared.cursor.CursorMove.TheVariants.{InViewport}
+use Rattle.textarea_script.specs.Kinds.{kind_of}
+use Rattle.textarea_script.specs.Outcomes.{IsAnswer, IsBehind, IsShown, IsSpared}
+use Rattle.textarea_script.specs.Run.{Leads, Makes, ShowsSame}
 use Rattle.textarea_script.specs.Said.{Said, said}
 use Rattle.textarea_script.specs.declared.call.Call.{Call}
-use Rattle.textarea_script.specs.declared.call.Call.TheVariants.{Move, SetSearchPattern}
-use Rattle.textarea_script.specs.declared.call.Answer.{Answer}
+use Rattle.textarea_script.specs.declared.call.Call.TheVariants.{Move, Render, Scroll, SetSearchPattern}
+use Rattle.textarea_script.specs.declared.kind.Kind.TheVariants.{Draws}
+use Rattle.textarea_script.specs.declared.answer.Answer.{Answer}
 
-Leads-append : (old mid new : State) (calls : List Call) (answers : List Said) (call : Call) (answer : Said) → Leads old calls answers mid → IsAnswer mid call answer → IsBehind mid call answer new → Leads old (calls ++ call ∷ []) (answers ++ answer ∷ []) new
-Leads-append old mid new [] [] call answer so_far answered behind =
-    (new, subst (λ (s : State). IsAnswer s call answer) so_far answered, subst (λ (s : State). IsBehind s call answer new) so_far behind, refl)
-Leads-append old mid new [] (a ∷ answers) call answer so_far answered behind = absurd so_far
-Leads-append old mid new (first ∷ calls) [] call answer so_far answered behind = absurd so_far
-Leads-append old mid new (first ∷ calls) (a ∷ answers) call answer so_far answered behind =
-    (so_far.0, so_far.1, so_far.2, Leads-append so_far.0 mid new calls answers call answer so_far.3 answered behind)
+-- ---- the buffer
+
+-- a call that doesn't draw leaves the buffer
+pub stays_shown : (call : Call) (state : State) (buffer : Buffer) → kind_of call ≢ Draws → IsShown call state buffer buffer
+stays_shown (Render area) state buffer other = absurd (other refl)
+stays_shown call state buffer other = refl
+
+pub stays_spared : (call : Call) (buffer : Buffer) → kind_of call ≢ Draws → IsSpared call buffer buffer
+stays_spared (Render area) buffer other = absurd (other refl)
+stays_spared call buffer other = refl
+
+-- ---- one call more
+
+Leads-append : (old mid new : State) (buffer screen shown : Buffer) (calls : List Call) (answers : List Said) (call : Call) (answer : Said) → Leads old buffer calls answers mid screen → Makes mid screen call answer new shown → Leads old buffer (calls ++ call ∷ []) (answers ++ answer ∷ []) new shown
+Leads-append old mid new buffer screen shown [] [] call answer so_far made =
+    (new, shown, subst (λ (b : Buffer). Makes old b call answer new shown) so_far.1 (subst (λ (s : State). Makes s screen call answer new shown) so_far.0 made), (refl, refl))
+Leads-append old mid new buffer screen shown [] (a ∷ answers) call answer so_far made = absurd so_far
+Leads-append old mid new buffer screen shown (first ∷ calls) [] call answer so_far made = absurd so_far
+Leads-append old mid new buffer screen shown (first ∷ calls) (a ∷ answers) call answer so_far made =
+    (so_far.0, so_far.1, so_far.2, Leads-append so_far.0 mid new so_far.1 screen shown calls answers call answer so_far.3 made)
 
 -- the calls up to the one at the index
 one_more : (calls : List Call) (index : ℕ) (call : Call) → index < length calls → call ≡ get_or calls index call → take index calls ++ call ∷ [] ≡ take (index + 1) calls
 one_more calls index call within is_call =
     ap (λ (this : Call). take index calls ++ this ∷ []) is_call ∙ sym (take_more calls index call within)
 
--- the calls up to the one at the index lead to the state behind that one
-pub leads_more : (old mid new : State) (calls : List Call) (answers : List Answer) (index : ℕ) (call : Call) (answer : Answer) → index < length calls → call ≡ get_or calls index call → Leads old (take index calls) (map said answers) mid → IsAnswer mid call (said answer) → IsBehind mid call (said answer) new → Leads old (take (index + 1) calls) (map said (answers ++ answer ∷ [])) new
-leads_more old mid new calls answers index call answer within is_call so_far answered behind =
-    subst (λ (a : List Said). Leads old (take (index + 1) calls) a new) (sym (map-append said answers (answer ∷ [])))
-    (subst (λ (made : List Call). Leads old made (map said answers ++ said answer ∷ []) new) (one_more calls index call within is_call)
-    (Leads-append old mid new (take index calls) (map said answers) call (said answer) so_far answered behind))
+-- the calls up to the one at the index lead to the state and the buffer behind that one
+pub leads_more : (old mid new : State) (buffer screen shown : Buffer) (calls : List Call) (answers : List Answer) (index : ℕ) (call : Call) (answer : Answer) → index < length calls → call ≡ get_or calls index call → Leads old buffer (take index calls) (map said answers) mid screen → Makes mid screen call (said answer) new shown → Leads old buffer (take (index + 1) calls) (map said (answers ++ answer ∷ [])) new shown
+leads_more old mid new buffer screen shown calls answers index call answer within is_call so_far made =
+    subst (λ (a : List Said). Leads old buffer (take (index + 1) calls) a new shown) (sym (map-append said answers (answer ∷ [])))
+    (subst (λ (done : List Call). Leads old buffer done (map said answers ++ said answer ∷ []) new shown) (one_more calls index call within is_call)
+    (Leads-append old mid new buffer screen shown (take index calls) (map said answers) call (said answer) so_far made))
+
+-- ---- one end
 
 -- each move leads to one state
 abbrev pub OneMove : Type 0
 OneMove = (old first second : State) (cursor_move : CursorMove) → IsMoved old cursor_move first → IsMoved old cursor_move second → first ≡ second
 
-IsBehind-one : OneMove → (old : State) (call : Call) (answer : Said) (first second : State) → IsBehind old call answer first → IsBehind old call answer second → first ≡ second
-IsBehind-one one old (SetSearchPattern text) answer first second e f = e ∙ sym f
-IsBehind-one one old (Move cursor_move) answer first second e f = one old first second cursor_move e f
-IsBehind-one one old call answer first second e f = e ∙ sym f
+-- and so does each drawing, of the parts that are drawn
+abbrev pub OneRendering : Type 0
+OneRendering = (old first second : Parts) (area : Rect) → rendered.IsRendered old area first → rendered.IsRendered old area second → first ≡ second
 
-pub one_end : OneMove → (calls : List Call) (answers : List Said) (old first second : State) → Leads old calls answers first → Leads old calls answers second → first ≡ second
-one_end one [] [] old first second e f = e ∙ sym f
-one_end one [] (a ∷ answers) old first second e f = absurd e
-one_end one (call ∷ calls) [] old first second e f = absurd e
-one_end one (call ∷ calls) (answer ∷ answers) old first second e f =
-    let same = IsBehind-one one old call answer f.0 e.0 f.2 e.2 in
-    one_end one calls answers e.0 first second e.3 (subst (λ (s : State). Leads s calls answers second) same f.3)
+one_rendered : OneRendering → (old first second : State) (area : Rect) → IsRendered old area first → IsRendered old area second → first ≡ second
+one_rendered renderings old first second area e f =
+    let same : parts_of first ≡ parts_of second = renderings (parts_of old) (parts_of first) (parts_of second) area e.parts f.parts in
+    e.rest ∙ ap (λ (parts : Parts). record old { document = parts.document; drawing = parts.drawing }) same ∙ sym f.rest
+
+one_behind : OneMove → OneRendering → (old : State) (call : Call) (answer : Said) (first second : State) → IsBehind old call answer first → IsBehind old call answer second → first ≡ second
+one_behind moves renderings old (SetSearchPattern text) answer first second e f = e ∙ sym f
+one_behind moves renderings old (Move cursor_move) answer first second e f = moves old first second cursor_move e f
+one_behind moves renderings old (Scroll scrolling) answer first second e f = moves (viewport_scrolled old scrolling) first second InViewport e f
+one_behind moves renderings old (Render area) answer first second e f = one_rendered renderings old first second area e f
+one_behind moves renderings old call answer first second e f = e ∙ sym f
+
+pub one_end : OneMove → OneRendering → (calls : List Call) (answers : List Said) (old first second : State) (buffer other shown drawn : Buffer) → Leads old buffer calls answers first shown → Leads old other calls answers second drawn → first ≡ second
+one_end moves renderings [] [] old first second buffer other shown drawn e f = e.0 ∙ sym f.0
+one_end moves renderings [] (a ∷ answers) old first second buffer other shown drawn e f = absurd e
+one_end moves renderings (call ∷ calls) [] old first second buffer other shown drawn e f = absurd e
+one_end moves renderings (call ∷ calls) (answer ∷ answers) old first second buffer other shown drawn e f =
+    let same = one_behind moves renderings old call answer f.0 e.0 f.2.behind e.2.behind in
+    one_end moves renderings calls answers e.0 first second e.1 f.1 shown drawn e.3 (subst (λ (s : State). Leads s f.1 calls answers second drawn) same f.3)
+
+-- ---- one screen
+
+-- the cells after a drawing are settled
+abbrev pub OneDrawing : Type 0
+OneDrawing = (parts : Parts) (area : Rect) (old first second : Buffer) → IsDrawn parts area old first → IsDrawn parts area old second → (x y : ℕ) → cell_at first x y ≡ cell_at second x y
+
+-- what is drawn over a buffer is drawn over any of the same cells
+drawn_over : (parts : Parts) (area : Rect) (old other new : Buffer) → ShowsSame old other → IsDrawn parts area old new → IsDrawn parts area other new
+drawn_over parts area old other new same drawn = record {
+  inner = drawn.inner;
+  inner_is = drawn.inner_is;
+  rows = drawn.rows;
+  rows_are = drawn.rows_are;
+  lines = drawn.lines;
+  lines_are = subst (λ (whole : Rect). AreLinesOf (frame_of parts drawn.rows) parts.drawing.viewport drawn.inner whole drawn.lines) same.area drawn.lines_are;
+  cells = record {
+    area = drawn.cells.area ∙ same.area;
+    cells = λ x y. drawn.cells.cells x y ∙ ap (option_map (frame_change (frame_of parts drawn.rows) parts.drawing.viewport area drawn.inner drawn.lines x y)) (same.cells x y);
+  };
+}
+
+drawn_same : OneDrawing → (parts : Parts) (area : Rect) (old other first second : Buffer) → IsDrawn parts area old first → IsDrawn parts area other second → ShowsSame old other → ShowsSame first second
+drawn_same drawings parts area old other first second e f same =
+    let over = drawn_over parts area old other first same e in
+    record {
+      area = over.cells.area ∙ sym f.cells.area;
+      cells = drawings parts area other first second over f;
+    }
+
+-- the buffer stays where the call doesn't draw
+still_same : (old other first second : Buffer) → first ≡ old → second ≡ other → ShowsSame old other → ShowsSame first second
+still_same old other first second e f same =
+    subst (λ (b : Buffer). ShowsSame b second) (sym e) (subst (ShowsSame old) (sym f) same)
+
+one_shown : OneDrawing → (call : Call) (state : State) (old other first second : Buffer) → IsShown call state old first → IsShown call state other second → ShowsSame old other → ShowsSame first second
+one_shown drawings (Render area) state old other first second e f same = drawn_same drawings (parts_of state) area old other first second e f same
+one_shown drawings call state old other first second e f same = still_same old other first second e f same
+
+pub one_screen : OneMove → OneRendering → OneDrawing → (calls : List Call) (answers : List Said) (old first second : State) (buffer other shown drawn : Buffer) → Leads old buffer calls answers first shown → Leads old other calls answers second drawn → ShowsSame buffer other → ShowsSame shown drawn
+one_screen moves renderings drawings [] [] old first second buffer other shown drawn e f same = still_same buffer other shown drawn e.1 f.1 same
+one_screen moves renderings drawings [] (a ∷ answers) old first second buffer other shown drawn e f same = absurd e
+one_screen moves renderings drawings (call ∷ calls) [] old first second buffer other shown drawn e f same = absurd e
+one_screen moves renderings drawings (call ∷ calls) (answer ∷ answers) old first second buffer other shown drawn e f same =
+    let here : f.0 ≡ e.0 = one_behind moves renderings old call answer f.0 e.0 f.2.behind e.2.behind in
+    let made : Makes old other call answer e.0 f.1 = subst (λ (s : State). Makes old other call answer s f.1) here f.2 in
+    let later : Leads e.0 f.1 calls answers second drawn = subst (λ (s : State). Leads s f.1 calls answers second drawn) here f.3 in
+    one_screen moves renderings drawings calls answers e.0 first second e.1 f.1 shown drawn e.3 later (one_shown drawings call e.0 buffer other e.1 f.1 e.2.drawn made.drawn same)

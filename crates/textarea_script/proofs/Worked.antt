@@ -1,20 +1,22 @@
 -- Worked runs on an empty text, computed.
-use Rattle.std.proofs.Common.{◌≡◌, List, [], ◌∷◌, Option, None, true, false, refl, subst}
+use Rattle.std.proofs.Common.{◌≡◌, List, [], ◌∷◌, Option, None, Some, true, false, refl, subst}
 use Rattle.textarea_text.specs.Text.{Character, Break}
 use Rattle.textarea_text.specs.Place.{Place}
 use Rattle.textarea_document.specs.Edits.{removed_before, removed_behind, part_removed}
 use Rattle.tui_textarea.specs.Removals.{yanked}
-use Rattle.textarea_target.specs.Target.{target}
+use Rattle.textarea_screen.specs.declared.screen.buffer.Buffer.{Buffer}
+use Rattle.textarea_target.specs.Target.{VisualTargets, target}
 use Rattle.tui_textarea.specs.Moves.{IsMoved, IsTarget, moved_by, pushed}
 use Rattle.tui_textarea.specs.State.{State, new_state}
 use Rattle.textarea_data.specs.declared.cursor.CursorMove.{CursorMove}
-use Rattle.textarea_data.specs.declared.cursor.CursorMove.TheVariants.{Back, Down, Head, Up}
+use Rattle.textarea_data.specs.declared.cursor.CursorMove.TheVariants.{Back, Down, Head, InViewport, Up}
 use Rattle.textarea_script.specs.Calls.{answer_of, state_after}
-use Rattle.textarea_script.specs.Outcomes.{IsAnswer, IsBehind}
-use Rattle.textarea_script.specs.Run.{Leads}
+use Rattle.textarea_script.specs.Outcomes.{IsAnswer, IsBehind, IsShown}
+use Rattle.textarea_script.specs.Run.{Leads, Makes}
+use Rattle.textarea_script.specs.Said as told
 use Rattle.textarea_script.specs.Said.{Said, Done, Flag, Text}
 use Rattle.textarea_script.specs.declared.call.Call.{Call}
-use Rattle.textarea_script.specs.declared.call.Call.TheVariants.{InsertChar, InsertNewline, DeleteChar, DeleteStr, Cut, Paste, Undo, Redo, StartSelection, SelectAll, YankText, Measure, Move, SetSearchPattern}
+use Rattle.textarea_script.specs.declared.call.Call.TheVariants.{InsertChar, InsertNewline, DeleteChar, DeleteStr, Cut, Paste, Undo, Redo, StartSelection, SelectAll, YankText, Measure, Move, SetSearchPattern, Render, CursorAtPosition, Scroll, SetMaskChar, ClearMaskChar, MaskChar, RenderedCursorPosition}
 
 abbrev empty : State
 empty = new_state []
@@ -23,12 +25,17 @@ empty = new_state []
 abbrev IsPlain : CursorMove → Type 0
 IsPlain Up = ⊥
 IsPlain Down = ⊥
+IsPlain InViewport = ⊥
 IsPlain cursor_move = Unit {0}
 
--- the call sets no pattern, measures nothing and goes over no visual rows, so its answer and the state behind it are computed
+-- the call sets no pattern, measures, draws and hits nothing and goes over no visual rows, so its answer and the state behind it are
+-- computed
 abbrev IsSettled : Call → Type 0
 IsSettled (SetSearchPattern text) = ⊥
 IsSettled (Measure width) = ⊥
+IsSettled (Render area) = ⊥
+IsSettled (CursorAtPosition cell) = ⊥
+IsSettled (Scroll scrolling) = ⊥
 IsSettled (Move cursor_move) = IsPlain cursor_move
 IsSettled call = Unit {0}
 
@@ -36,9 +43,13 @@ abbrev AreSettled : List Call → Type 0
 AreSettled [] = Unit {0}
 AreSettled (call ∷ calls) = IsSettled call × AreSettled calls
 
+-- no visual row is gone over
+abbrev nowhere : VisualTargets
+nowhere = record { above = None; below = None; inside = (0, 0) }
+
 -- where such a move leads
 abbrev plain_target : State → CursorMove → Option Place
-plain_target state cursor_move = target None None state.document.text state.document.cursor cursor_move
+plain_target state cursor_move = target nowhere state.document.text state.document.cursor cursor_move
 
 -- the state behind a move that goes over no visual rows
 abbrev after_move : State → CursorMove → State
@@ -61,14 +72,17 @@ end_of state (call ∷ calls) = end_of (behind state call) calls
 settled-answer : (state : State) (call : Call) → IsSettled call → IsAnswer state call (answer_of state call)
 settled-answer state (SetSearchPattern text) settled = absurd settled
 settled-answer state (Measure width) settled = absurd settled
+settled-answer state (Render area) settled = absurd settled
+settled-answer state (CursorAtPosition cell) settled = absurd settled
+settled-answer state (Scroll scrolling) settled = absurd settled
 settled-answer state call settled = refl
 
 plain-target : (state : State) (cursor_move : CursorMove) → IsPlain cursor_move → IsTarget state cursor_move (plain_target state cursor_move)
 plain-target state cursor_move plain = record {
-  above = None;
-  below = None;
+  visual = nowhere;
   above_is = λ up. absurd (subst IsPlain up plain);
   below_is = λ down. absurd (subst IsPlain down plain);
+  inside_is = λ inside. absurd (subst IsPlain inside plain);
   found_is = refl;
 }
 
@@ -82,13 +96,27 @@ plain-moved state cursor_move plain = record {
 settled-behind : (state : State) (call : Call) → IsSettled call → IsBehind state call (answer_of state call) (behind state call)
 settled-behind state (SetSearchPattern text) settled = absurd settled
 settled-behind state (Measure width) settled = absurd settled
+settled-behind state (Render area) settled = absurd settled
+settled-behind state (CursorAtPosition cell) settled = absurd settled
+settled-behind state (Scroll scrolling) settled = absurd settled
 settled-behind state (Move cursor_move) settled = plain-moved state cursor_move settled
 settled-behind state call settled = refl
 
-settled-leads : (state : State) (calls : List Call) → AreSettled calls → Leads state calls (answers_of state calls) (end_of state calls)
-settled-leads state [] settled = refl
-settled-leads state (call ∷ calls) settled =
-    (behind state call, settled-answer state call settled.0, settled-behind state call settled.0, settled-leads (behind state call) calls settled.1)
+settled-shown : (state : State) (buffer : Buffer) (call : Call) → IsSettled call → IsShown call state buffer buffer
+settled-shown state buffer (Render area) settled = absurd settled
+settled-shown state buffer call settled = refl
+
+settled-made : (state : State) (buffer : Buffer) (call : Call) → IsSettled call → Makes state buffer call (answer_of state call) (behind state call) buffer
+settled-made state buffer call settled = record {
+  answered = settled-answer state call settled;
+  behind = settled-behind state call settled;
+  drawn = settled-shown (behind state call) buffer call settled;
+}
+
+settled-leads : (state : State) (buffer : Buffer) (calls : List Call) → AreSettled calls → Leads state buffer calls (answers_of state calls) (end_of state calls) buffer
+settled-leads state buffer [] settled = (refl, refl)
+settled-leads state buffer (call ∷ calls) settled =
+    (behind state call, buffer, settled-made state buffer call settled.0, settled-leads (behind state call) buffer calls settled.1)
 
 abbrev reached : List Call → State
 reached calls = end_of empty calls
@@ -102,8 +130,8 @@ unfolding removed_before removed_behind part_removed yanked
 two_lines-answers = refl
 
 -- so a run leads there
-two_lines-leads : Leads empty two_lines (answers_of empty two_lines) (reached two_lines)
-two_lines-leads = settled-leads empty two_lines (tt, (tt, (tt, (tt, (tt, tt)))))
+two_lines-leads : (buffer : Buffer) → Leads empty buffer two_lines (answers_of empty two_lines) (reached two_lines) buffer
+two_lines-leads buffer = settled-leads empty buffer two_lines (tt, (tt, (tt, (tt, (tt, tt)))))
 
 two_lines-text : (reached two_lines).document.text ≡ Character 97 ∷ Break ∷ Character 98 ∷ []
 unfolding removed_before removed_behind part_removed yanked
@@ -172,3 +200,13 @@ removed_count = InsertNewline ∷ InsertChar 97 ∷ Move Head ∷ Move Back ∷ 
 removed_count-yank : (reached removed_count).yank ≡ Break ∷ Character 97 ∷ []
 unfolding removed_before removed_behind part_removed yanked
 removed_count-yank = refl
+
+-- a mask is read until it is taken away; before the first drawing there is no caret
+abbrev masked : List Call
+masked = SetMaskChar 42 ∷ MaskChar ∷ ClearMaskChar ∷ MaskChar ∷ RenderedCursorPosition ∷ []
+
+masked-answers : answers_of empty masked ≡ Done ∷ told.Character (Some 42) ∷ Done ∷ told.Character None ∷ told.Position None ∷ []
+masked-answers = refl
+
+masked-state : reached masked ≡ empty
+masked-state = refl

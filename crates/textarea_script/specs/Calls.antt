@@ -17,7 +17,7 @@ use Rattle.textarea_document.specs.State.{fresh_document}
 use Rattle.textarea_document.specs.Edits.{hit_at_cursor, is_filled}
 use Rattle.textarea_document.specs.Outcomes.{redone, run_ended, undone}
 use Rattle.textarea_document.specs.Selection.{is_selected}
-use Rattle.tui_textarea.specs.State.{State, with_document}
+use Rattle.tui_textarea.specs.State.{State, with_document, with_other_lines}
 use Rattle.tui_textarea.specs.Edits.{inserts_tab, inserts_text, char_inserted, newline_inserted, tab_inserted, str_inserted}
 use Rattle.tui_textarea.specs.Removals.{break_before_removed, text_cleared, has_ahead, has_before, has_behind, has_break_before, has_line_before, has_line_behind, has_word_before, has_word_behind, line_end_removed, line_head_removed, removes_or, symbol_before_removed, symbol_behind_removed, symbols_ahead_removed, unselected_or, word_before_removed, word_behind_removed}
 use Rattle.tui_textarea.specs.Selection.{all_selected, selection_copied, selection_cut, selection_cancelled, selection_started, unselected}
@@ -25,14 +25,17 @@ use Rattle.tui_textarea.specs.Selection as selection
 use Rattle.textarea_screen.specs.Block.{shown_block}
 use Rattle.textarea_screen.specs.Text.{shown_text}
 use Rattle.textarea_surround.specs.Outcomes.{with_max_rows, with_min_rows, with_placeholder_style, with_placeholder_text}
-use Rattle.tui_textarea.specs.Layout.{mode_set, numbers_set, stays_cut, tab_length_set, with_line_numbers, with_tab_length, with_wrap_mode, without_line_numbers}
+use Rattle.textarea_screen.specs.declared.screen.alignment.Alignment.TheVariants.{Left}
+use Rattle.tui_textarea.specs.Drawing.{highlighted, unhighlighted, with_look}
+use Rattle.tui_textarea.specs.Layout.{alignment_set, mode_set, numbers_set, stays_cut, tab_length_set, with_alignment, with_line_numbers, with_tab_length, with_wrap_mode, without_line_numbers}
 use Rattle.tui_textarea.specs.Measure.{reads_rows, with_surround}
 use Rattle.tui_textarea.specs.Search.{next_match, previous_match, searched, with_pattern}
 use Rattle.textarea_script.specs.Patterns.{IsNewPattern}
 use Rattle.tui_textarea.specs.Ranges.{cursor_normalized, hit_range_removed, ranges_accepted, ranges_cleared}
+use Rattle.textarea_script.specs.Said as told
 use Rattle.textarea_script.specs.Said.{Said, Done, Flag, Range, Rejected, Text}
 use Rattle.textarea_script.specs.declared.call.Call.{Call}
-use Rattle.textarea_script.specs.declared.call.Call.TheVariants.{InsertChar, InsertStr, InsertTab, InsertNewline, DeleteStr, DeleteNewline, DeleteChar, DeleteNextChar, DeleteLineByEnd, DeleteLineByHead, DeleteWord, DeleteNextWord, Clear, Cut, Copy, Paste, Undo, Redo, StartSelection, CancelSelection, SelectAll, SetYankText, YankText, SetTabLength, SetHardTabIndent, SetMaxHistories, SetUndoCoalescing, SetNow, SetLines, TrySetAtomicRanges, ClearAtomicRanges, NormalizeCursorAroundAtomicRanges, AtomicRangeAtCursor, DeleteAtomicRangeAtCursor, SetSearchPattern, SearchForward, SearchBack, SetWrapMode, SetLineNumberStyle, RemoveLineNumber, Measure, SetBlock, RemoveBlock, SetPlaceholderText, SetStyledPlaceholder, SetPlaceholderStyle, SetMinRows, SetMaxRows}
+use Rattle.textarea_script.specs.declared.call.Call.TheVariants.{InsertChar, InsertStr, InsertTab, InsertNewline, DeleteStr, DeleteNewline, DeleteChar, DeleteNextChar, DeleteLineByEnd, DeleteLineByHead, DeleteWord, DeleteNextWord, Clear, Cut, Copy, Paste, Undo, Redo, StartSelection, CancelSelection, SelectAll, SetYankText, YankText, SetTabLength, SetHardTabIndent, SetMaxHistories, SetUndoCoalescing, SetNow, SetLines, TrySetAtomicRanges, ClearAtomicRanges, NormalizeCursorAroundAtomicRanges, AtomicRangeAtCursor, DeleteAtomicRangeAtCursor, SetSearchPattern, SearchForward, SearchBack, SetWrapMode, SetLineNumberStyle, RemoveLineNumber, Measure, SetBlock, RemoveBlock, SetPlaceholderText, SetStyledPlaceholder, SetPlaceholderStyle, SetMinRows, SetMaxRows, SetStyle, Style, SetCursorStyle, CursorStyle, SetCursorLineStyle, CursorLineStyle, SetSelectionStyle, SelectionStyle, SetSearchStyle, SearchStyle, SetMaskChar, ClearMaskChar, MaskChar, SetCursorRenderMode, CursorRenderMode, SetAlignment, Alignment, CustomHighlight, ClearCustomHighlight, Render, RenderedCursorPosition, CursorAtPosition}
 
 -- the given ranges that are rejected, in their order, each with its reason
 abbrev pub rejected_ranges : State → List AtomicRange → List RejectedAtomicRange
@@ -48,7 +51,7 @@ abbrev pub with_ranges_if : List RejectedAtomicRange → State → List AtomicRa
 with_ranges_if [] state ranges = ranges_accepted state ranges
 with_ranges_if (range ∷ rejected) state ranges = state
 
--- what the call answers; a pattern that is set, where it isn't refused
+-- what the call answers; a pattern that is set, where it isn't refused. What is measured or hit isn't said here
 abbrev pub answer_of : State → Call → Said
 answer_of state (InsertStr text) = Flag (inserts_text state (given (chars text.now)))
 answer_of state InsertTab = Flag (inserts_tab state)
@@ -72,15 +75,25 @@ answer_of state (AtomicRangeAtCursor direction) = Range (hit_at_cursor state.doc
 answer_of state (DeleteAtomicRangeAtCursor direction) = Range (hit_at_cursor state.document direction)
 answer_of state (SearchForward at_cursor) = Flag (is_some (next_match state at_cursor))
 answer_of state (SearchBack at_cursor) = Flag (is_some (previous_match state at_cursor))
+answer_of state Style = told.Style state.drawing.look.style
+answer_of state CursorStyle = told.Style state.drawing.look.cursor_style
+answer_of state CursorLineStyle = told.Style state.drawing.look.cursor_line_style
+answer_of state SelectionStyle = told.Style state.drawing.look.selection_style
+answer_of state SearchStyle = told.Style state.drawing.look.search_style
+answer_of state MaskChar = told.Character state.drawing.look.mask
+answer_of state CursorRenderMode = told.CursorRenderMode state.drawing.look.cursor_render_mode
+answer_of state Alignment = told.Alignment state.drawing.look.alignment
+answer_of state RenderedCursorPosition = told.Position state.drawing.caret
 answer_of state call = Done
 
--- the lines take the place of the old ones, and all edits are forgotten: the cursor goes to the nearest place of theirs,
--- and nothing is selected
+-- the lines take the place of the old ones, and all edits and highlights of the caller's own are forgotten: the cursor goes to the
+-- nearest place of theirs, nothing is selected, and nothing is scrolled
 abbrev pub with_lines : {Z : Type 0} → State → List (String Z) → Place → State
 with_lines state lines cursor =
-    with_document state (fresh_document (text_of lines) state.document.layout.settings state.document.layout.count (clip (lines_of lines) cursor) state.document.log.maximum)
+    with_other_lines state (fresh_document (text_of lines) state.document.layout.settings state.document.layout.count (clip (lines_of lines) cursor) state.document.log.maximum)
 
--- the state after the call; after a pattern that is set, where it isn't refused. Where a move leads isn't said here
+-- the state after the call; after a pattern that is set, where it isn't refused. Where a move or a scroll leads, and what a drawing
+-- leaves, isn't said here
 abbrev pub state_after : State → Call → State
 state_after state (InsertChar c) = char_inserted state c
 state_after state (InsertStr text) = str_inserted state (given (chars text.now))
@@ -131,11 +144,22 @@ state_after state (SetUndoCoalescing joins) =
     record state { document = record state.document { log = run_ended state.document.log }; settings = record state.settings { undo_coalescing = joins } }
 state_after state (SetNow moment) = record state { moment = as_nanos moment }
 state_after state ClearAtomicRanges = ranges_cleared state
+state_after state (SetStyle style) = with_look state (record state.drawing.look { style = style })
+state_after state (SetCursorStyle style) = with_look state (record state.drawing.look { cursor_style = style })
+state_after state (SetCursorLineStyle style) = with_look state (record state.drawing.look { cursor_line_style = style })
+state_after state (SetSelectionStyle style) = with_look state (record state.drawing.look { selection_style = style })
+state_after state (SetSearchStyle style) = with_look state (record state.drawing.look { search_style = style })
+state_after state (SetMaskChar mask) = with_look state (record state.drawing.look { mask = Some mask })
+state_after state ClearMaskChar = with_look state (record state.drawing.look { mask = None })
+state_after state (SetCursorRenderMode mode) = with_look state (record state.drawing.look { cursor_render_mode = mode })
+state_after state (SetAlignment alignment) = with_alignment state alignment
+state_after state (CustomHighlight range style priority) = highlighted state range style priority
+state_after state ClearCustomHighlight = unhighlighted state
 state_after state call = state
 
--- the call may answer out of memory: not where it has nothing to do, where a setting cuts no line and where a measure reads the
--- rows that are kept; and a move, any other setting, a begun, dropped or whole selection, and ranges that are forgotten or looked
--- up never
+-- the call may answer out of memory: not where it has nothing to do, where a setting cuts no line, where a measure reads the rows
+-- that are kept, and where a hit is in rows at the left; and a move, a scroll, any other setting and what reads one, a begun, dropped
+-- or whole selection, ranges that are forgotten or looked up, and highlights that are forgotten never
 abbrev pub MayRefuse : State → Call → Type 0
 MayRefuse state (InsertChar c) = Unit {0}
 MayRefuse state (InsertStr text) = inserts_text state (given (chars text.now)) ≢ false
@@ -171,6 +195,10 @@ MayRefuse state (Measure width) = reads_rows state width ≢ true
 MayRefuse state (SetBlock block) = Unit {0}
 MayRefuse state (SetPlaceholderText text) = text.now ≢ []
 MayRefuse state (SetStyledPlaceholder text) = Unit {0}
+MayRefuse state (SetAlignment alignment) = stays_cut state (alignment_set state alignment) ≢ true
+MayRefuse state (CustomHighlight range style priority) = Unit {0}
+MayRefuse state (Render area) = Unit {0}
+MayRefuse state (CursorAtPosition position) = state.drawing.look.alignment ≢ Left
 MayRefuse state call = ⊥
 
 -- what a call that answered out of memory leaves: the state as it was, or, of an insertion, the one without what was selected

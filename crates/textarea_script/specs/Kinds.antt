@@ -1,12 +1,47 @@
 -- The kinds of calls, by how they answer.
 use Rattle.textarea_script.specs.declared.call.Call.{Call}
-use Rattle.textarea_script.specs.declared.call.Call.TheVariants.{InsertChar, InsertStr, InsertTab, InsertNewline, DeleteStr, DeleteNewline, DeleteChar, DeleteNextChar, DeleteLineByEnd, DeleteLineByHead, DeleteWord, DeleteNextWord, Clear, Cut, Copy, Paste, Undo, Redo, StartSelection, CancelSelection, SelectAll, SetYankText, SetTabLength, SetHardTabIndent, SetMaxHistories, SetUndoCoalescing, SetNow, SetLines, ClearAtomicRanges, SearchForward, SearchBack, SetWrapMode, SetLineNumberStyle, RemoveLineNumber, SetBlock, RemoveBlock, SetPlaceholderText, SetStyledPlaceholder, SetPlaceholderStyle, SetMinRows, SetMaxRows}
+use Rattle.textarea_script.specs.declared.call.Call.TheVariants.{InsertChar, InsertStr, InsertTab, InsertNewline, DeleteStr, DeleteNewline, DeleteChar, DeleteNextChar, DeleteLineByEnd, DeleteLineByHead, DeleteWord, DeleteNextWord, Clear, Cut, Copy, Paste, Undo, Redo, StartSelection, CancelSelection, SelectAll, SetYankText, SetTabLength, SetHardTabIndent, SetMaxHistories, SetUndoCoalescing, SetNow, SetLines, ClearAtomicRanges, SearchForward, SearchBack, SetWrapMode, SetLineNumberStyle, RemoveLineNumber, SetBlock, RemoveBlock, SetPlaceholderText, SetStyledPlaceholder, SetPlaceholderStyle, SetMinRows, SetMaxRows, SetStyle, Style, SetCursorStyle, CursorStyle, SetCursorLineStyle, CursorLineStyle, SetSelectionStyle, SelectionStyle, SetSearchStyle, SearchStyle, SetMaskChar, ClearMaskChar, MaskChar, SetCursorRenderMode, CursorRenderMode, SetAlignment, Alignment, CustomHighlight, ClearCustomHighlight, Render, RenderedCursorPosition}
 use Rattle.textarea_script.specs.declared.kind.Kind.{Kind}
-use Rattle.textarea_script.specs.declared.kind.Kind.TheVariants.{Deletes, Edits, Searches, Writes, Shows, Sets, Tells}
+use Rattle.textarea_script.specs.declared.kind.Kind.TheVariants.{Deletes, Edits, Searches, Writes, Shows, Sets, Looks, Reads, Draws, Tells}
 
--- the kind of the call: it answers whether it removed something, whether it made another edit, or whether it found a match; it
--- has nothing to say and may run out of memory, and writes text or yank, or sets how the text is laid out and what is around it;
--- it has nothing to say and never runs out of memory; or it is none of these
+-- the kind of a call that takes no memory in any state: it has nothing to say, and may set how the text looks; or it reads how that
+-- is or where the caret is. Any other call is of no kind that is told here
+abbrev pub kind_without_memory_of : Call → Kind
+kind_without_memory_of StartSelection = Sets
+kind_without_memory_of CancelSelection = Sets
+kind_without_memory_of SelectAll = Sets
+kind_without_memory_of (SetHardTabIndent hard) = Sets
+kind_without_memory_of (SetMaxHistories maximum) = Sets
+kind_without_memory_of (SetUndoCoalescing joins) = Sets
+kind_without_memory_of (SetNow moment) = Sets
+kind_without_memory_of ClearAtomicRanges = Sets
+kind_without_memory_of RemoveBlock = Sets
+kind_without_memory_of (SetPlaceholderStyle style) = Sets
+kind_without_memory_of (SetMinRows rows) = Sets
+kind_without_memory_of (SetMaxRows rows) = Sets
+kind_without_memory_of (SetStyle style) = Looks
+kind_without_memory_of (SetCursorStyle style) = Looks
+kind_without_memory_of (SetCursorLineStyle style) = Looks
+kind_without_memory_of (SetSelectionStyle style) = Looks
+kind_without_memory_of (SetSearchStyle style) = Looks
+kind_without_memory_of (SetMaskChar mask) = Looks
+kind_without_memory_of ClearMaskChar = Looks
+kind_without_memory_of (SetCursorRenderMode mode) = Looks
+kind_without_memory_of ClearCustomHighlight = Looks
+kind_without_memory_of Style = Reads
+kind_without_memory_of CursorStyle = Reads
+kind_without_memory_of CursorLineStyle = Reads
+kind_without_memory_of SelectionStyle = Reads
+kind_without_memory_of SearchStyle = Reads
+kind_without_memory_of MaskChar = Reads
+kind_without_memory_of CursorRenderMode = Reads
+kind_without_memory_of Alignment = Reads
+kind_without_memory_of RenderedCursorPosition = Reads
+kind_without_memory_of call = Tells
+
+-- the kind of the call: it answers whether it removed something, whether it made another edit, or whether it found a match; it has
+-- nothing to say and may run out of memory, and writes text or yank, sets how the text is laid out, what is around it or what is
+-- highlighted of it, or draws; it takes no memory in any state; or it is none of these
 abbrev pub kind_of : Call → Kind
 kind_of (DeleteStr count) = Deletes
 kind_of DeleteNewline = Deletes
@@ -37,16 +72,7 @@ kind_of RemoveLineNumber = Shows
 kind_of (SetBlock block) = Shows
 kind_of (SetPlaceholderText text) = Shows
 kind_of (SetStyledPlaceholder text) = Shows
-kind_of StartSelection = Sets
-kind_of CancelSelection = Sets
-kind_of SelectAll = Sets
-kind_of (SetHardTabIndent hard) = Sets
-kind_of (SetMaxHistories maximum) = Sets
-kind_of (SetUndoCoalescing joins) = Sets
-kind_of (SetNow moment) = Sets
-kind_of ClearAtomicRanges = Sets
-kind_of RemoveBlock = Sets
-kind_of (SetPlaceholderStyle style) = Sets
-kind_of (SetMinRows rows) = Sets
-kind_of (SetMaxRows rows) = Sets
-kind_of call = Tells
+kind_of (SetAlignment alignment) = Shows
+kind_of (CustomHighlight range style priority) = Shows
+kind_of (Render area) = Draws
+kind_of call = kind_without_memory_of call

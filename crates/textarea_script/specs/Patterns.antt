@@ -5,7 +5,7 @@ use Rattle.textarea_search.specs.Failures.{IsCarried, IsPatternFailure}
 use Rattle.textarea_search.specs.declared.search.error.SearchError.{SearchError}
 use Rattle.textarea_search.specs.declared.search.error.SearchError.TheVariants.{Memory, Pattern}
 use Rattle.textarea_script.specs.Said.{said, Done, PatternRefused}
-use Rattle.textarea_script.specs.declared.call.Answer.{Answer}
+use Rattle.textarea_script.specs.declared.answer.Answer.{Answer}
 use Rattle.tui_textarea.specs.State.{State}
 
 -- the text is neither empty nor the present pattern, so that a pattern has to be built

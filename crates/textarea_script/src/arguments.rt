@@ -1,9 +1,11 @@
-// The arguments of commands: numbers, truth values, names of moves, and texts with escapes.
+// The arguments of commands: numbers, truth values, names of moves and of scrolls, and texts with escapes.
 ghost use Rattle.std.specs.Prelude.{◌<◌, ◌≤◌, length, vec_len, IfOk, IfSome};
 
 use std::alloc::{AllocError, AllocFailed, Global};
 use textarea_data::cursor::CursorMove;
+use textarea_data::scroll::Scrolling;
 use textarea_ranges::atomic::AtomicRange;
+use textarea_screen::screen::Rect;
 use tui_textarea::WrapMode;
 
 // Why a command was not read.
@@ -35,10 +37,53 @@ pub fn number(text: &str) -> Option<u64> {
     text.parse().ok()
 }
 
-// Two numbers with one space between them.
-pub fn two_numbers(text: &str) -> Option<(u64, u64)> {
+// A number of 16 bits.
+pub fn short_number(text: &str) -> Option<u16> {
+    u16::try_from(number(text)?).ok()
+}
+
+// Two of them with one space between them.
+pub fn two_short_numbers(text: &str) -> Option<(u16, u16)> {
     let (first, second) = text.split_once(' ')?;
-    Some((number(first)?, number(second)?))
+    Some((short_number(first)?, short_number(second)?))
+}
+
+// The area that the text names by its first column, its first row, its columns and its rows, with one space between each two
+// numbers.
+pub fn area(text: &str) -> Option<Rect> {
+    let (x, rest) = text.split_once(' ')?;
+    let (y, size) = rest.split_once(' ')?;
+    let (width, height) = two_short_numbers(size)?;
+    Some(Rect::new(short_number(x)?, short_number(y)?, width, height))
+}
+
+// A number of 16 bits that may be negative: it then has a `-` before its digits.
+fn signed_number(text: &str) -> Option<i16> {
+    let digits = text.strip_prefix('-').unwrap_or(text);
+    if !digits.bytes().all(|byte| byte.is_ascii_digit()) {
+        return None;
+    }
+    text.parse().ok()
+}
+
+// The scroll by the rows and the columns that the text names, with one space between them.
+pub fn scroll_by(text: &str) -> Option<Scrolling> {
+    let (rows, cols) = text.split_once(' ')?;
+    Some(Scrolling::Delta {
+        rows: signed_number(rows)?,
+        cols: signed_number(cols)?,
+    })
+}
+
+// The scroll by pages that the text names.
+pub fn page_named(name: &str) -> Option<Scrolling> {
+    Some(match name {
+        "PageDown" => Scrolling::PageDown,
+        "PageUp" => Scrolling::PageUp,
+        "HalfPageDown" => Scrolling::HalfPageDown,
+        "HalfPageUp" => Scrolling::HalfPageUp,
+        _ => return None,
+    })
 }
 
 // The atomic ranges that the text names, each by its row, its first column and the column behind its last one, with one
@@ -82,8 +127,8 @@ pub fn truth(text: &str) -> Option<bool> {
     }
 }
 
-// The moves by their names. `Jump` has a command of its own, and `InViewport` has none yet.
-const MOVES: [(&str, CursorMove); 13] = [
+// The moves by their names. `Jump` has a command of its own.
+const MOVES: [(&str, CursorMove); 14] = [
     ("Forward", CursorMove::Forward),
     ("Back", CursorMove::Back),
     ("Up", CursorMove::Up),
@@ -97,6 +142,7 @@ const MOVES: [(&str, CursorMove); 13] = [
     ("WordBack", CursorMove::WordBack),
     ("ParagraphForward", CursorMove::ParagraphForward),
     ("ParagraphBack", CursorMove::ParagraphBack),
+    ("InViewport", CursorMove::InViewport),
 ];
 
 // The move that the text names.

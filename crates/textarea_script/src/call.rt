@@ -1,14 +1,13 @@
-// The calls that a script may make, and what they answer.
+// The calls that a script may make.
 ghost use Rattle.std.specs.Prelude.{◌↔◌, IsTrue};
 ghost use Rattle.textarea_script.specs.Calls.{CanBeMade};
 
 use std::time::Duration;
 use textarea_data::cursor::CursorMove;
-use textarea_ranges::atomic::{
-    AtomicCursorBias, AtomicDeleteDirection, AtomicRange, RejectedAtomicRange,
-};
-use textarea_screen::screen::{Block, Style, Text};
-use tui_textarea::{TextAreaMeasure, WrapMode};
+use textarea_data::scroll::Scrolling;
+use textarea_ranges::atomic::{AtomicCursorBias, AtomicDeleteDirection, AtomicRange};
+use textarea_screen::screen::{Alignment, Block, Position, Rect, Style, Text};
+use tui_textarea::{CursorRenderMode, WrapMode};
 
 /// One call on a text area, with its arguments.
 #[derive(Clone, Copy)]
@@ -116,6 +115,59 @@ pub enum Call<'a> {
     SetMinRows(u16),
     /// `TextArea::set_max_rows`
     SetMaxRows(u16),
+    /// `TextArea::set_style`
+    SetStyle(Style),
+    /// `TextArea::style`
+    Style,
+    /// `TextArea::set_cursor_style`
+    SetCursorStyle(Style),
+    /// `TextArea::cursor_style`
+    CursorStyle,
+    /// `TextArea::set_cursor_line_style`
+    SetCursorLineStyle(Style),
+    /// `TextArea::cursor_line_style`
+    CursorLineStyle,
+    /// `TextArea::set_selection_style`
+    SetSelectionStyle(Style),
+    /// `TextArea::selection_style`
+    SelectionStyle,
+    /// `TextArea::set_search_style`
+    SetSearchStyle(Style),
+    /// `TextArea::search_style`
+    SearchStyle,
+    /// `TextArea::set_mask_char`
+    SetMaskChar(char),
+    /// `TextArea::clear_mask_char`
+    ClearMaskChar,
+    /// `TextArea::mask_char`
+    MaskChar,
+    /// `TextArea::set_cursor_render_mode`
+    SetCursorRenderMode(CursorRenderMode),
+    /// `TextArea::cursor_render_mode`
+    CursorRenderMode,
+    /// `TextArea::set_alignment`
+    SetAlignment(Alignment),
+    /// `TextArea::alignment`
+    Alignment,
+    /// `TextArea::custom_highlight`
+    CustomHighlight {
+        /// Where it starts and where it ends: a row and a byte of it each.
+        range: ((usize, usize), (usize, usize)),
+        /// How it is shown.
+        style: Style,
+        /// Which of the highlights that start at one place is seen: the one of the highest priority.
+        priority: u8,
+    },
+    /// `TextArea::clear_custom_highlight`
+    ClearCustomHighlight,
+    /// `TextArea::render`, into the buffer of the run
+    Render(Rect),
+    /// `TextArea::rendered_cursor_position`
+    RenderedCursorPosition,
+    /// `TextArea::cursor_at_position`
+    CursorAtPosition(Position),
+    /// `TextArea::scroll`
+    Scroll(Scrolling),
 }
 
 impl Call<'_> {
@@ -128,23 +180,4 @@ impl Call<'_> {
             _ => true,
         }
     }
-}
-
-/// What a call answered.
-#[derive(Debug, PartialEq, Eq, Drop)]
-pub enum Answer {
-    /// The call has nothing to say but that it was made.
-    Done,
-    /// Whether the call found something to do.
-    Flag(bool),
-    /// What was yanked last.
-    Text(String),
-    /// The range that was hit or removed, if there was one.
-    Range(Option<AtomicRange>),
-    /// The ranges that were rejected, so that none was set.
-    Rejected(Vec<RejectedAtomicRange>),
-    /// The heights that were measured.
-    Measured(TextAreaMeasure),
-    /// The pattern isn't taken, and nothing changed.
-    PatternRefused,
 }

@@ -4,8 +4,8 @@ ghost use Rattle.textarea_script.specs.Calls.{CanBeMade};
 ghost use Rattle.textarea_script.specs.Script.{lines_of, filled_lines, AreCallsOf, IsAtLine, IsCallOf, IsReady, IsReady-prop, NamesLine};
 
 use crate::arguments::{
-    Unread, mode_named, move_named, number, one_character, ranges, truth, two_numbers, unescape,
-    unescaped_lines,
+    Unread, area, mode_named, move_named, number, one_character, page_named, ranges, scroll_by,
+    short_number, truth, two_short_numbers, unescape, unescaped_lines,
 };
 use crate::call::Call;
 use std::alloc::{AllocError, AllocFailed, Global};
@@ -13,7 +13,7 @@ use std::str::from_utf8;
 use std::time::Duration;
 use textarea_data::cursor::CursorMove;
 use textarea_ranges::atomic::AtomicRange;
-use textarea_screen::screen::Style;
+use textarea_screen::screen::{Position, Style};
 
 /// Why a script was not read.
 #[derive(Clone, Copy, Debug, PartialEq, Eq)]
@@ -191,6 +191,7 @@ fn call_alone(name: &str) -> Option<Call<'static>>
         "cancel_selection" => Call::CancelSelection,
         "select_all" => Call::SelectAll,
         "yank_text" => Call::YankText,
+        "clear_mask_char" => Call::ClearMaskChar,
         _ => return None,
     })
 }
@@ -213,7 +214,12 @@ fn call_with(name: &str, arguments: &str) -> Option<Call<'static>>
         "search_back" => Call::SearchBack(truth(arguments)?),
         "set_wrap_mode" => Call::SetWrapMode(mode_named(arguments)?),
         "line_numbers" => line_numbers(truth(arguments)?),
-        "measure" => Call::Measure(u16::try_from(number(arguments)?).ok()?),
+        "measure" => Call::Measure(short_number(arguments)?),
+        "set_mask_char" => Call::SetMaskChar(one_character(arguments)?),
+        "render" => Call::Render(area(arguments)?),
+        "hit" => Call::CursorAtPosition(position(arguments)?),
+        "scroll" => Call::Scroll(scroll_by(arguments)?),
+        "page" => Call::Scroll(page_named(arguments)?),
         _ => return None,
     })
 }
@@ -231,6 +237,12 @@ fn line_numbers(shown: bool) -> Call<'static>
 
 // The jump to a row and a column.
 fn jump(arguments: &str) -> Option<CursorMove> {
-    let (row, column) = two_numbers(arguments)?;
-    Some(CursorMove::Jump(u16::try_from(row).ok()?, u16::try_from(column).ok()?))
+    let (row, column) = two_short_numbers(arguments)?;
+    Some(CursorMove::Jump(row, column))
+}
+
+// The cell in a column and a row.
+fn position(arguments: &str) -> Option<Position> {
+    let (x, y) = two_short_numbers(arguments)?;
+    Some(Position { x, y })
 }

@@ -1,6 +1,6 @@
 // The kinds of calls, by how they answer.
 ghost use Rattle.std.specs.Prelude.{◌≡◌};
-ghost use Rattle.textarea_script.specs.Kinds.{kind_of};
+ghost use Rattle.textarea_script.specs.Kinds.{kind_of, kind_without_memory_of};
 
 use crate::call::Call;
 
@@ -15,10 +15,17 @@ pub enum Kind {
     Searches,
     // It sets a character, a break, all lines or what was yanked, has nothing to say, and may run out of memory.
     Writes,
-    // It sets how the text is laid out or what is around it, has nothing to say, and may run out of memory.
+    // It sets how the text is laid out, what is around it or what is highlighted of it, has nothing to say, and may run out of
+    // memory.
     Shows,
     // It has nothing to say, and takes no memory in any state.
     Sets,
+    // It sets how the text looks, has nothing to say, and takes no memory in any state.
+    Looks,
+    // It reads how the text looks or where the caret is, changes nothing, and takes no memory in any state.
+    Reads,
+    // It draws into the buffer, has nothing to say, and may run out of memory.
+    Draws,
     // Its answer, or the state behind it, has a form of its own.
     Tells,
 }
@@ -54,9 +61,21 @@ impl Call<'_> {
             | Call::SetWrapMode(_)
             | Call::SetLineNumberStyle(_)
             | Call::RemoveLineNumber
+            | Call::SetAlignment(_)
             | Call::SetBlock(_)
             | Call::SetPlaceholderText(_)
-            | Call::SetStyledPlaceholder(_) => Kind::Shows,
+            | Call::SetStyledPlaceholder(_)
+            | Call::CustomHighlight { .. } => Kind::Shows,
+            Call::Render(_) => Kind::Draws,
+            _ => self.kind_without_memory(),
+        }
+    }
+
+    // The kind of a call that takes no memory in any state, and of any other that is of no kind above.
+    fn kind_without_memory(&self) -> Kind
+        ensures { result ≡ kind_without_memory_of self.now }
+    {
+        match self {
             Call::StartSelection
             | Call::CancelSelection
             | Call::SelectAll
@@ -69,6 +88,24 @@ impl Call<'_> {
             | Call::SetPlaceholderStyle(_)
             | Call::SetMinRows(_)
             | Call::SetMaxRows(_) => Kind::Sets,
+            Call::SetStyle(_)
+            | Call::SetCursorStyle(_)
+            | Call::SetCursorLineStyle(_)
+            | Call::SetSelectionStyle(_)
+            | Call::SetSearchStyle(_)
+            | Call::SetMaskChar(_)
+            | Call::ClearMaskChar
+            | Call::SetCursorRenderMode(_)
+            | Call::ClearCustomHighlight => Kind::Looks,
+            Call::Style
+            | Call::CursorStyle
+            | Call::CursorLineStyle
+            | Call::SelectionStyle
+            | Call::SearchStyle
+            | Call::MaskChar
+            | Call::CursorRenderMode
+            | Call::Alignment
+            | Call::RenderedCursorPosition => Kind::Reads,
             _ => Kind::Tells,
         }
     }

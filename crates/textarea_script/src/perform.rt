@@ -5,30 +5,39 @@ ghost use Rattle.textarea_screen.specs.Text.{shown_text};
 ghost use Rattle.tui_textarea.specs.Measure.{with_surround};
 ghost use Rattle.textarea_script.specs.Calls.{ranges_answer, rejected_ranges, with_lines, with_ranges_if, CanBeMade, Refused};
 ghost use Rattle.textarea_script.specs.Kinds.{kind_of};
-ghost use Rattle.textarea_script.specs.Outcomes.{behind_pattern, IsAnswer, IsBehind, IsPatternAnswer};
+ghost use Rattle.textarea_script.specs.Outcomes.{behind_pattern, IsAnswer, IsBehind, IsPatternAnswer, IsShown, IsSpared};
 ghost use Rattle.textarea_script.specs.Patterns.{IsNewPattern, IsToldAs};
 ghost use Rattle.textarea_script.specs.Said.{said, Done, Flag};
 ghost use Rattle.textarea_script.specs.declared.kind.Kind.TheVariants.{Deletes, Edits, Searches, Writes, Shows, Sets, Tells};
 
-use crate::call::{Answer, Call};
+use crate::answer::Answer;
+use crate::call::Call;
+use crate::drawing::{draw, look, read};
 use crate::kind::Kind;
 use std::alloc::{AllocError, Global};
 use textarea_pieces::given::copy_pieces;
 use textarea_ranges::atomic::AtomicRange;
-use textarea_screen::screen::{Block, Text};
+use textarea_screen::screen::{Block, Buffer, Text};
 use textarea_search::search::SearchError;
 use tui_textarea::TextArea;
 
 /// Makes one call, and hands out its answer; that a pattern is refused is an answer. It answers out of
 /// memory only where the call may take memory in the state that the text area has, and the text area
-/// is then as a refusal of that call leaves it.
+/// is then as a refusal of that call leaves it. A call that draws does so into the buffer, which any
+/// other call leaves as it is.
 ///
 /// Each kind of calls has a function of its own, small enough to be proved by itself.
-pub fn perform(area: &mut TextArea<'_>, call: Call<'_>) -> Result<Answer, AllocError>
+pub fn perform(
+    area: &mut TextArea<'_>,
+    call: Call<'_>,
+    buffer: &mut Buffer,
+) -> Result<Answer, AllocError>
     requires { CanBeMade call }
     ensures answer { IfOk result (λ answer. IsAnswer area.old call.entry (said answer)) }
     ensures ok { IfOk result (λ answer. IsBehind area.old call.entry (said answer) area.new) }
     ensures err { OnErr result (Refused area.old call.entry area.new) }
+    ensures shown { OnOk result (IsShown call.entry area.new buffer.old buffer.new) }
+    ensures spared { OnErr result (IsSpared call.entry buffer.old buffer.new) }
 {
     match call.kind() {
         Kind::Deletes => delete(area, call).map(Answer::Flag),
@@ -40,6 +49,12 @@ pub fn perform(area: &mut TextArea<'_>, call: Call<'_>) -> Result<Answer, AllocE
             set(area, call);
             Ok(Answer::Done)
         }
+        Kind::Looks => {
+            look(area, call);
+            Ok(Answer::Done)
+        }
+        Kind::Reads => Ok(read(area, call)),
+        Kind::Draws => draw(area, call, buffer).map(|()| Answer::Done),
         Kind::Tells => tell(area, call),
     }
 }
@@ -115,7 +130,8 @@ fn write(area: &mut TextArea<'_>, call: Call<'_>) -> Result<(), AllocError>
     }
 }
 
-// Makes a call that sets how the text is laid out or what is around it, and may run out of memory.
+// Makes a call that sets how the text is laid out, what is around it or what is highlighted of it, has nothing to say, and may run
+// out of memory.
 fn show(area: &mut TextArea<'_>, call: Call<'_>) -> Result<(), AllocError>
     requires { kind_of call ≡ Shows }
     ensures answer { OnOk result (IsAnswer area.old call.entry Done) }
@@ -127,9 +143,15 @@ fn show(area: &mut TextArea<'_>, call: Call<'_>) -> Result<(), AllocError>
         Call::SetWrapMode(mode) => area.set_wrap_mode(mode),
         Call::SetLineNumberStyle(style) => area.set_line_number_style(style),
         Call::RemoveLineNumber => area.remove_line_number(),
+        Call::SetAlignment(alignment) => area.set_alignment(alignment),
         Call::SetBlock(block) => set_block(area, block),
         Call::SetPlaceholderText(text) => area.set_placeholder_text(text),
         Call::SetStyledPlaceholder(text) => set_styled_placeholder(area, text),
+        Call::CustomHighlight {
+            range,
+            style,
+            priority,
+        } => area.custom_highlight(range, style, priority),
         _ => unreachable!(),
     }
 }
@@ -169,6 +191,11 @@ fn tell(area: &mut TextArea<'_>, call: Call<'_>) -> Result<Answer, AllocError>
             area.move_cursor(cursor_move);
             Ok(Answer::Done)
         }
+        Call::Scroll(scrolling) => {
+            area.scroll(scrolling);
+            Ok(Answer::Done)
+        }
+        Call::CursorAtPosition(position) => area.cursor_at_position(position).map(Answer::Place),
         Call::Measure(width) => area.measure(width).map(Answer::Measured),
         Call::YankText => area.yank_text().map(Answer::Text),
         Call::TrySetAtomicRanges(ranges) => {

@@ -1,15 +1,24 @@
 // The text that `tascript` prints of a run that came to its end.
-use crate::call::Answer;
+use crate::answer::Answer;
 use std::fmt;
 use textarea_ranges::atomic::{AtomicRange, AtomicRangeRejectReason};
+use textarea_screen::screen::{Buffer, Rect};
 use tui_textarea::TextArea;
 
-/// The end of a run, printed as a line for each answer, counted from 1, and then the text area: its
-/// lines, its cursor and its selection.
+/// The end of a run, printed as a line for each answer, counted from 1, then the text area, by its
+/// lines, its cursor and its selection, and then what was drawn, if anything was.
 #[derive(Clone, Copy)]
 pub struct Report<'a, 'b> {
     pub answers: &'a [Answer],
     pub area: &'a TextArea<'b>,
+    pub screen: Option<Screen<'a>>,
+}
+
+/// The cells of a buffer that an area has, printed row after row.
+#[derive(Clone, Copy)]
+pub struct Screen<'a> {
+    pub buffer: &'a Buffer,
+    pub area: Rect,
 }
 
 impl fmt::Display for Report<'_, '_> {
@@ -29,9 +38,35 @@ impl fmt::Display for Report<'_, '_> {
                 f,
                 "selection {} {} {} {}",
                 start.0, start.1, end.0, end.1
-            ),
-            None => writeln!(f, "selection none"),
+            )?,
+            None => writeln!(f, "selection none")?,
         }
+        match self.screen {
+            Some(screen) => write!(f, "{screen}"),
+            None => Ok(()),
+        }
+    }
+}
+
+impl fmt::Display for Screen<'_> {
+    fn fmt<W: fmt::Write>(&self, f: &mut fmt::Formatter<W>) -> fmt::Result {
+        let Screen { buffer, area } = *self;
+        let whole = buffer.area();
+        let top = area.y.max(whole.y);
+        let bottom = (area.y + area.height).min(whole.y + whole.height);
+        let left = area.x.max(whole.x);
+        let right = (area.x + area.width).min(whole.x + whole.width);
+        writeln!(f, "screen {}", bottom.saturating_sub(top))?;
+        for y in top..bottom {
+            write!(f, "|")?;
+            for x in left..right {
+                if let Some(cell) = buffer.cell(x, y) {
+                    write!(f, "{}", Escaped(cell.symbol()))?;
+                }
+            }
+            writeln!(f, "|")?;
+        }
+        Ok(())
     }
 }
 
@@ -56,6 +91,13 @@ impl fmt::Display for Answer {
                 measure.content_rows, measure.preferred_rows, measure.min_rows, measure.max_rows
             ),
             Answer::PatternRefused => write!(f, "pattern"),
+            Answer::Place(None) | Answer::Position(None) => write!(f, "none"),
+            Answer::Place(Some((row, column))) => write!(f, "{row} {column}"),
+            Answer::Position(Some(position)) => write!(f, "{} {}", position.x, position.y),
+            Answer::Style(style) => write!(f, "{style:?}"),
+            Answer::Character(character) => write!(f, "{character:?}"),
+            Answer::CursorRenderMode(mode) => write!(f, "{mode:?}"),
+            Answer::Alignment(alignment) => write!(f, "{alignment:?}"),
         }
     }
 }

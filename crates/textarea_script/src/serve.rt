@@ -1,13 +1,15 @@
 // The whole work of `tascript`, over any reader and two writers.
 ghost use Rattle.std.specs.Prelude.{◌≡◌, ◌≤◌, ◌<◌, ◌≢◌, IfErr};
 
+use crate::call::Call;
 use crate::commands;
 use crate::commands::ReadError;
-use crate::printing::Report;
+use crate::printing::{Report, Screen};
 use crate::run::run;
 use std::alloc::{AllocError, Global};
 use std::io::{Read, Write};
 use std::string::ToString;
+use textarea_screen::screen::{Buffer, Rect};
 use tui_textarea::TextArea;
 
 /// The script was read and run, and its end was printed.
@@ -21,6 +23,12 @@ pub const LINE_NOT_READ: u8 = 2;
 
 /// Out of memory.
 pub const OUT_OF_MEMORY: u8 = 3;
+
+/// The columns of the buffer that is drawn into.
+pub const COLUMNS: u16 = 80;
+
+/// The rows of the buffer that is drawn into.
+pub const ROWS: u16 = 24;
 
 #[derive(Drop)]
 enum Failure {
@@ -44,9 +52,10 @@ impl From<ReadError> for Failure {
     }
 }
 
-/// Reads a script, runs its calls on an empty text area, and prints the answers and the text area at
-/// the end to `output`. The result is the exit status: `DONE`, `STREAM_FAILED`, `LINE_NOT_READ` or
-/// `OUT_OF_MEMORY`.
+/// Reads a script, runs its calls on an empty text area and a buffer of `COLUMNS` by `ROWS` cells, and
+/// prints to `output` the answers, the text area at the end and, if anything was drawn, the cells of
+/// the area that was drawn last. The result is the exit status: `DONE`, `STREAM_FAILED`,
+/// `LINE_NOT_READ` or `OUT_OF_MEMORY`.
 ///
 /// Where a line isn't read or memory is refused, `output` gets nothing, and one line says so on
 /// `errors`; else `errors` gets nothing. That `errors` fails changes no status. Where `output` fails,
@@ -91,17 +100,30 @@ fn run_script<R: Read, W: Write>(
     let commands = commands::read(alloc, script.as_slice())?;
     let calls = commands::calls(alloc, commands.as_slice())?;
     let mut area = TextArea::try_default(alloc)?;
-    let end = run(&mut area, calls.as_slice());
+    let mut buffer = Buffer::empty(alloc, Rect::new(0, 0, COLUMNS, ROWS))?;
+    let end = run(&mut area, calls.as_slice(), &mut buffer);
     if end.refused.is_some() {
         return Err(Failure::Memory);
     }
     let report = Report {
         answers: end.answers.as_slice(),
         area: &area,
+        screen: last_drawn(calls.as_slice()).map(|area| Screen {
+            buffer: &buffer,
+            area,
+        }),
     };
     let text = report.to_string(alloc)?;
     if output.write_all(text.as_bytes()).is_err() || output.flush().is_err() {
         return Err(Failure::Stream);
     }
     Ok(())
+}
+
+// The area that the last of the calls that draw drew into, if one of them does.
+fn last_drawn(calls: &[Call<'_>]) -> Option<Rect> {
+    calls.iter().rev().find_map(|call| match call {
+        Call::Render(area) => Some(*area),
+        _ => None,
+    })
 }

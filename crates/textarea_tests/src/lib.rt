@@ -2,6 +2,8 @@
 #![tactic(auto)]
 
 #[cfg(test)]
+mod drawing;
+#[cfg(test)]
 mod edits;
 #[cfg(test)]
 mod heights;
@@ -11,6 +13,8 @@ mod moves;
 mod ranges;
 #[cfg(test)]
 mod reading;
+#[cfg(test)]
+mod scrolling;
 #[cfg(test)]
 mod searches;
 #[cfg(test)]

@@ -143,7 +143,7 @@ static COMMANDS: [&str; 2] = [
         cursor 1 0
         selection 0 0 1 0
     ",
-    // Settings, and the greatest numbers.
+    // Settings, and the least and the greatest numbers.
     r"
         set_tab_length 2 => ok
         insert_tab => true
@@ -161,6 +161,13 @@ static COMMANDS: [&str; 2] = [
         set_max_histories 18446744073709551615 => ok
         now 18446744073709551615 => ok
         delete_str 18446744073709551615 => false
+        scroll -32768 -32768 => ok
+        scroll 32767 32767 => ok
+        scroll -0 00 => ok
+        hit 65535 65535 => none
+        set_mask_char \u{1f43B} => ok
+        set_mask_char   => ok
+        clear_mask_char => ok
         lines 1
         |  \t
         cursor 0 3
@@ -173,7 +180,7 @@ fn commands(rt: HostRuntime) -> Result<(), Fail> {
 }
 
 // Lines that are no command.
-static NO_COMMANDS: [&str; 76] = [
+static NO_COMMANDS: [&str; 107] = [
     // One space separates, and nothing may follow.
     "undo ",
     " undo",
@@ -229,12 +236,12 @@ static NO_COMMANDS: [&str; 76] = [
     "jump 1 2 3",
     "jump 65536 0",
     "jump 0 65536",
-    // Moves by their names; a jump has its own command, and the move into what was drawn has none.
+    // Moves by their names; a jump has its own command.
     "move",
     "move Jump",
-    "move InViewport",
     "move forward",
     "move Forward ",
+    "move Viewport",
     "set_hard_tab_indent",
     "set_hard_tab_indent True",
     "set_undo_coalescing 1",
@@ -258,6 +265,39 @@ static NO_COMMANDS: [&str; 76] = [
     "set_lines 1 b x",
     r"set_lines 0 0 \x",
     r"set_lines 0 0 a\n\x",
+    // An area is four numbers, and a cell two.
+    "render",
+    "render 1 2 3",
+    "render 1 2 3 ",
+    "render 1 2  3 4",
+    "render 1 2 3 4 5",
+    "render -1 0 4 4",
+    "render 0 0 65536 1",
+    "render 0 65536 1 1",
+    "hit",
+    "hit 1",
+    "hit 1 2 3",
+    "hit -1 0",
+    "hit 0 65536",
+    // Numbers of a scroll may be negative; pages by their names.
+    "scroll",
+    "scroll 1",
+    "scroll 1 ",
+    "scroll 1 2 3",
+    "scroll +1 0",
+    "scroll - 0",
+    "scroll 0 --1",
+    "scroll 0 1-",
+    "scroll 32768 0",
+    "scroll 0 -32769",
+    "page",
+    "page Delta",
+    "page Down",
+    "page PageDown ",
+    "set_mask_char",
+    "set_mask_char ",
+    "set_mask_char ab",
+    "clear_mask_char x",
 ];
 
 #[test]

@@ -14,6 +14,7 @@ measure 2
 ranges 0 0 2
 set_yank_text b
 yank_text
+render 0 0 3 2
 undo
 ";
 
@@ -26,11 +27,15 @@ const PRINTED: &str = "1 ok
 7 rejected 0:0..2 ColumnOutOfBounds
 8 ok
 9 text b
-10 true
+10 ok
+11 true
 lines 1
 |a
 cursor 0 1
 selection none
+screen 2
+|a  |
+|   |
 ";
 
 // Gives its text in pieces, and then fails.

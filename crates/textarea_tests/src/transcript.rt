@@ -18,7 +18,8 @@ pub fn check(rt: &(impl Abort + AllocGlobal), transcripts: &[&str]) -> Result<()
 /// the text area, and to its end.
 ///
 /// A line `COMMAND => ANSWER` is a line of the script, and what it answers. Any other line is as `tascript` prints it of the
-/// text area at that place: its lines, its cursor, its selection; what isn't shown is as it was shown last.
+/// text area at that place: its lines, its cursor, its selection, its screen; what isn't shown is as it was shown last, and
+/// before that there is no screen.
 pub fn check_transcript(rt: &(impl Abort + AllocGlobal), transcript: &str) -> Result<(), Fail> {
     let mut so_far = SoFar {
         script: String::new(rt.alloc()),
@@ -26,6 +27,8 @@ pub fn check_transcript(rt: &(impl Abort + AllocGlobal), transcript: &str) -> Re
         lines: String::from_str(rt.alloc(), EMPTY)?,
         cursor: "cursor 0 0",
         selection: "selection none",
+        screen: String::new(rt.alloc()),
+        is_screen: false,
     };
     let mut shown = false;
     for line in transcript.lines() {
@@ -52,6 +55,9 @@ struct SoFar<'a> {
     lines: String,
     cursor: &'a str,
     selection: &'a str,
+    screen: String,
+    // Whether a row that is shown next is one of the screen, and not a line.
+    is_screen: bool,
 }
 
 impl<'a> SoFar<'a> {
@@ -67,13 +73,26 @@ impl<'a> SoFar<'a> {
             self.cursor = line;
         } else if line.starts_with("selection ") {
             self.selection = line;
-        } else {
-            if line.starts_with("lines ") {
-                self.lines.clear();
-            } else {
-                assert!(rt; line.starts_with('|'), "no line of a transcript: {line}");
-            }
+        } else if line.starts_with("lines ") {
+            self.is_screen = false;
+            self.lines.clear();
             writeln!(self.lines, "{line}")?;
+        } else if line.starts_with("screen ") {
+            self.is_screen = true;
+            self.screen.clear();
+            writeln!(self.screen, "{line}")?;
+        } else {
+            assert!(rt; line.starts_with('|'), "no line of a transcript: {line}");
+            self.show_row(line)?;
+        }
+        Ok(())
+    }
+
+    fn show_row(&mut self, row: &str) -> Result<(), AllocError> {
+        if self.is_screen {
+            writeln!(self.screen, "{row}")?;
+        } else {
+            writeln!(self.lines, "{row}")?;
         }
         Ok(())
     }
@@ -86,8 +105,10 @@ fn compare(rt: &(impl Abort + AllocGlobal), so_far: &SoFar<'_>) -> Result<(), Fa
         lines,
         cursor,
         selection,
+        screen,
+        ..
     } = so_far;
-    let printed = format!(in rt.alloc(); "{answers}{lines}{cursor}\n{selection}\n")?;
+    let printed = format!(in rt.alloc(); "{answers}{lines}{cursor}\n{selection}\n{screen}")?;
     check_script(rt, script.as_str(), printed.as_str())
 }
 

@@ -1,7 +1,8 @@
-use Rattle.std.proofs.Common.{◌≡◌, ◌+◌, ◌<◌, ◌∷◌, [], ◌++◌, ◌∙◌, ap, cond, map, sym, subst, take, List, arith, is_ok, true, vec_len, vec_capacity}
+use Rattle.std.proofs.Common.{◌≡◌, ◌+◌, ◌<◌, ◌∷◌, [], ◌++◌, ◌∙◌, ap, cond, inr, length, map, refl, sym, subst, take, List, arith, is_ok, true, vec_len, vec_capacity}
+use Rattle.std.proofs.lemmas.Option.{slice_get_read}
 use Rattle.textarea_script.specs.Run.{Leads}
 use Rattle.textarea_script.specs.Said.{said}
-use Rattle.textarea_script.specs.declared.call.Answer.{Answer}
+use Rattle.textarea_script.specs.declared.answer.Answer.{Answer}
 use Rattle.textarea_script.proofs.Runs.{leads_more}
 use Rattle.textarea_script.proofs.run.run.Goals as goal
 
@@ -15,8 +16,20 @@ loop-index-preserved c =
     let items : c.push.new.self.items ≡ c.loop-index.answers.items ++ (c.in-Ok.answer ∷ []) =
     c.push.ensures.items ∙ ap (λ b. cond b (c.loop-index.answers.items ++ c.in-Ok.answer ∷ []) c.loop-index.answers.items) pushed in
     record {
-      led = subst (λ (all : List Answer). Leads c.args.area.now (take (c.loop-index.index + 1) c.args.calls.now) (map said all) c.perform.new.area) (sym items)
-          (leads_more c.args.area.now c.loop-index.area c.perform.new.area c.args.calls.now c.loop-index.answers.items c.loop-index.index c.index-calls-index.result c.in-Ok.answer within c.index-calls-index.is before.led did.answer did.ok);
+      led = subst (λ (all : List Answer). Leads c.args.area.now c.args.buffer.now (take (c.loop-index.index + 1) c.args.calls.now) (map said all) c.perform.new.area c.perform.new.buffer) (sym items)
+          (leads_more c.args.area.now c.loop-index.area c.perform.new.area c.args.buffer.now c.loop-index.buffer c.perform.new.buffer c.args.calls.now c.loop-index.answers.items c.loop-index.index c.index-calls-index.result c.in-Ok.answer within c.index-calls-index.is before.led (record { answered = did.answer; behind = did.ok; drawn = did.shown }));
       counted = c.push.ensures.len ∙ ap (λ b. cond b (vec_len c.loop-index.answers + 1) (vec_len c.loop-index.answers)) pushed ∙ ap (λ n. n + 1) before.counted;
       room = omega (arith, before.room, c.push.ensures.capacity);
     }
+
+pub returns-in-Err : goal.returns-in-Err
+returns-in-Err c =
+    inr (record {
+      call = c.index-calls-index.result;
+      here = slice_get_read c.args.calls.now (length c.args.calls.now) c.loop-index.index c.index-calls-index.result refl c.loop-index-test.true c.index-calls-index.is;
+      before = c.loop-index.area;
+      screen = c.loop-index.buffer;
+      led = c.loop-index.invariant.led;
+      refused = c.in-Err.ensures.err;
+      spared = c.in-Err.ensures.spared;
+    })

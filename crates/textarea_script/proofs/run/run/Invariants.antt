@@ -5,7 +5,7 @@ use Rattle.textarea_script.proofs.run.run.Given as goal
 
 abbrev pub invariant-loop-index : goal.invariant-loop-index
 invariant-loop-index l = record {
-  led : Leads l.initial.area (take l.index l.calls) (map said l.answers.items) l.area;
+  led : Leads l.initial.area l.initial.buffer (take l.index l.calls) (map said l.answers.items) l.area l.buffer;
   counted : vec_len l.answers ≡ l.index;
   room : length l.calls ≤ vec_capacity l.answers;
 }

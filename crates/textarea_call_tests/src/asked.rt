@@ -1,0 +1,128 @@
+// Calls for tables.
+use crate::styles::{GREEN, ON_YELLOW};
+use std::alloc::{AllocError, Global};
+use textarea_script::Call;
+use tui_textarea::{
+    Alignment, AtomicCursorBias, AtomicDeleteDirection, Block, Borders, CursorRenderMode, Line,
+    Position, Rect, Style, Text,
+};
+
+/// A call, as plain data: the block and the placeholder are lent where it is made.
+#[derive(Clone, Copy)]
+pub enum Asked {
+    InsertChar(char),
+    DeleteChar,
+    Undo,
+    Clear,
+    Measure(u16),
+    RangeAtCursor(AtomicDeleteDirection),
+    DeleteRangeAtCursor(AtomicDeleteDirection),
+    NormalizeCursor(AtomicCursorBias),
+    ClearRanges,
+    SetPlaceholderText(&'static str),
+    SetPlaceholderStyle(Style),
+    SetStyledPlaceholder,
+    SetMinRows(u16),
+    SetMaxRows(u16),
+    SetLineNumberStyle(Style),
+    SetBlock,
+    RemoveBlock,
+    SetStyle(Style),
+    SetCursorStyle(Style),
+    SetCursorLineStyle(Style),
+    SetSelectionStyle(Style),
+    SetSearchStyle(Style),
+    SetCursorRenderMode(CursorRenderMode),
+    SetAlignment(Alignment),
+    Highlight(((usize, usize), (usize, usize)), Style, u8),
+    ClearHighlights,
+    Render(u16, u16, u16, u16),
+    Caret,
+    Hit(u16, u16),
+}
+
+fn call_of<'a>(
+    asked: Asked,
+    block: &'a Block<'static>,
+    placeholder: &'a Text<'static>,
+) -> Call<'a> {
+    match asked {
+        Asked::InsertChar(character) => Call::InsertChar(character),
+        Asked::DeleteChar => Call::DeleteChar,
+        Asked::Undo => Call::Undo,
+        Asked::Clear => Call::Clear,
+        Asked::Measure(width) => Call::Measure(width),
+        Asked::RangeAtCursor(direction) => Call::AtomicRangeAtCursor(direction),
+        Asked::DeleteRangeAtCursor(direction) => Call::DeleteAtomicRangeAtCursor(direction),
+        Asked::NormalizeCursor(bias) => Call::NormalizeCursorAroundAtomicRanges(bias),
+        Asked::ClearRanges => Call::ClearAtomicRanges,
+        Asked::SetPlaceholderText(text) => Call::SetPlaceholderText(text),
+        Asked::SetPlaceholderStyle(style) => Call::SetPlaceholderStyle(style),
+        Asked::SetStyledPlaceholder => Call::SetStyledPlaceholder(placeholder),
+        Asked::SetMinRows(rows) => Call::SetMinRows(rows),
+        Asked::SetMaxRows(rows) => Call::SetMaxRows(rows),
+        Asked::SetLineNumberStyle(style) => Call::SetLineNumberStyle(style),
+        Asked::SetBlock => Call::SetBlock(block),
+        Asked::RemoveBlock => Call::RemoveBlock,
+        _ => drawing_call_of(asked),
+    }
+}
+
+// A call that draws, or one for how it is drawn.
+fn drawing_call_of(asked: Asked) -> Call<'static> {
+    match asked {
+        Asked::SetStyle(style) => Call::SetStyle(style),
+        Asked::SetCursorStyle(style) => Call::SetCursorStyle(style),
+        Asked::SetCursorLineStyle(style) => Call::SetCursorLineStyle(style),
+        Asked::SetSelectionStyle(style) => Call::SetSelectionStyle(style),
+        Asked::SetSearchStyle(style) => Call::SetSearchStyle(style),
+        Asked::SetCursorRenderMode(mode) => Call::SetCursorRenderMode(mode),
+        Asked::SetAlignment(alignment) => Call::SetAlignment(alignment),
+        Asked::Highlight(range, style, priority) => Call::CustomHighlight {
+            range,
+            style,
+            priority,
+        },
+        Asked::ClearHighlights => Call::ClearCustomHighlight,
+        Asked::Render(x, y, width, height) => Call::Render(Rect::new(x, y, width, height)),
+        Asked::Hit(x, y) => Call::CursorAtPosition(Position { x, y }),
+        _ => Call::RenderedCursorPosition,
+    }
+}
+
+pub fn calls_of<'a>(
+    alloc: Global,
+    asked: &[Asked],
+    block: &'a Block<'static>,
+    placeholder: &'a Text<'static>,
+) -> Result<Vec<Call<'a>>, AllocError> {
+    let mut calls = Vec::new(alloc);
+    for asked in asked {
+        calls.push(call_of(*asked, block, placeholder))?;
+    }
+    Ok(calls)
+}
+
+/// The placeholder that is lent.
+pub fn two_lines(alloc: Global) -> Result<Text<'static>, AllocError> {
+    let mut lines = Vec::new(alloc);
+    for text in ["type", "here"] {
+        lines.push(Line::raw(String::from_str(alloc, text)?)?)?;
+    }
+    Ok(Text {
+        lines,
+        style: Style::new(),
+    })
+}
+
+/// The block that is lent.
+pub fn titled(alloc: Global) -> Result<Block<'static>, AllocError> {
+    let title = Line::raw(String::from_str(alloc, "hi")?)?;
+    Ok(
+        Block::new()
+            .borders(Borders::ALL)
+            .title(title)
+            .style(ON_YELLOW)
+            .border_style(GREEN),
+    )
+}

@@ -1,0 +1,114 @@
+// How a text area looks, at first and as it was set, and which part of it is shown.
+use crate::styles::{CURSOR, CURSOR_LINE, CYAN, GREEN, MATCHED, ON_YELLOW, PLAIN, RED, SELECTED};
+use crate::unprinted::make;
+use std::process::Abort;
+use std::test::Fail;
+use textarea_script::run::run;
+use textarea_script::{Answer, Call};
+use tui_textarea::{Alignment, Buffer, CursorRenderMode, Rect, TextArea};
+
+const READERS: [Call<'static>; 9] = [
+    Call::Style,
+    Call::CursorStyle,
+    Call::CursorLineStyle,
+    Call::SelectionStyle,
+    Call::SearchStyle,
+    Call::MaskChar,
+    Call::CursorRenderMode,
+    Call::Alignment,
+    Call::RenderedCursorPosition,
+];
+
+const SETTERS: [Call<'static>; 8] = [
+    Call::SetStyle(ON_YELLOW),
+    Call::SetCursorStyle(RED),
+    Call::SetCursorLineStyle(GREEN),
+    Call::SetSelectionStyle(CYAN),
+    Call::SetSearchStyle(PLAIN),
+    Call::SetMaskChar('*'),
+    Call::SetCursorRenderMode(CursorRenderMode::Hidden),
+    Call::SetAlignment(Alignment::Right),
+];
+
+#[test]
+fn looks(rt: HostRuntime) -> Result<(), Fail> {
+    let mut area = TextArea::try_default(rt.alloc())?;
+    let mut buffer = Buffer::empty(rt.alloc(), Rect::default())?;
+    let at_first = [
+        Answer::Style(PLAIN),
+        Answer::Style(CURSOR),
+        Answer::Style(CURSOR_LINE),
+        Answer::Style(SELECTED),
+        Answer::Style(MATCHED),
+        Answer::Character(None),
+        Answer::CursorRenderMode(CursorRenderMode::Cell),
+        Answer::Alignment(Alignment::Left),
+        Answer::Position(None),
+    ];
+    check_answers(&rt, &mut area, &mut buffer, &READERS, &at_first);
+    let made = [const { Answer::Done }; 8];
+    check_answers(&rt, &mut area, &mut buffer, &SETTERS, &made);
+    let set = [
+        Answer::Style(ON_YELLOW),
+        Answer::Style(RED),
+        Answer::Style(GREEN),
+        Answer::Style(CYAN),
+        Answer::Style(PLAIN),
+        Answer::Character(Some('*')),
+        Answer::CursorRenderMode(CursorRenderMode::Hidden),
+        Answer::Alignment(Alignment::Right),
+        Answer::Position(None),
+    ];
+    check_answers(&rt, &mut area, &mut buffer, &READERS, &set);
+    check_answers(
+        &rt,
+        &mut area,
+        &mut buffer,
+        &[Call::ClearMaskChar, Call::MaskChar],
+        &[Answer::Done, Answer::Character(None)],
+    );
+    Ok(())
+}
+
+fn check_answers(
+    rt: &impl Abort,
+    area: &mut TextArea<'_>,
+    buffer: &mut Buffer,
+    calls: &[Call<'_>],
+    wanted: &[Answer],
+) {
+    assert!(rt; calls.iter().all(|call| call.can_be_made()));
+    let end = run(area, calls, buffer);
+    assert!(rt; end.refused == None);
+    assert_eq!(rt; end.answers.as_slice(), wanted);
+}
+
+// Which rows and columns are shown, where the cursor was drawn last and where something scrolled since.
+#[test]
+fn viewports(rt: HostRuntime) -> Result<(), Fail> {
+    let mut area = TextArea::try_default(rt.alloc())?;
+    for (script, top, rect, position) in VIEWPORTS {
+        make(&rt, &mut area, script)?;
+        let viewport = area.viewport();
+        assert_eq!(rt; viewport.scroll_top(), top, "{script}");
+        assert_eq!(rt; viewport.rect(), rect, "{script}");
+        assert_eq!(rt; viewport.position(), position, "{script}");
+    }
+    Ok(())
+}
+
+type Numbers = (usize, usize, usize, usize);
+
+// Scripts one behind another, and the first row and column that are shown, the same with the sizes, and with the last ones.
+const VIEWPORTS: [(&str, (usize, usize), Numbers, Numbers); 5] = [
+    ("insert_str abcdef\\ng", (0, 0), (0, 0, 0, 0), (0, 0, 0, 0)),
+    ("render 0 0 4 1", (1, 0), (1, 0, 4, 1), (1, 0, 1, 3)),
+    (
+        "move Top\nmove End\nrender 2 3 4 2",
+        (0, 3),
+        (0, 3, 4, 2),
+        (0, 3, 1, 6),
+    ),
+    ("scroll 1 -2", (1, 1), (1, 1, 4, 2), (1, 1, 2, 4)),
+    ("set_lines 0 0 a", (0, 0), (0, 0, 0, 0), (0, 0, 0, 0)),
+];
