@@ -1,0 +1,8 @@
+use Rattle.textarea_lines.proofs.PutSettings.{put_again, settings_put}
+use Rattle.textarea_lines.proofs.laws.settings_stay.Goals as goal
+
+pub returns-clause-put : goal.returns-clause-put
+returns-clause-put c = settings_put
+
+pub returns-clause-again : goal.returns-clause-again
+returns-clause-again c = put_again
