@@ -22,6 +22,9 @@ put_if_settings : (b : Bool) (laid : LaidOut) (settings : LayoutSettings) → (p
 put_if_settings true laid settings = refl
 put_if_settings false laid settings = refl
 
+pub text_stays : (laid : LaidOut) (settings : LayoutSettings) → (laid_out_with laid settings).text ≡ laid.text
+text_stays laid settings = put_if_text (stays_cut laid settings) laid settings
+
 pub settings_put : (laid : LaidOut) (settings : LayoutSettings) → (laid_out_with laid settings).layout.settings ≡ settings
 settings_put laid settings = put_if_settings (stays_cut laid settings) laid settings
 
@@ -52,7 +55,7 @@ pub measured_cut : (laid : LaidOut) (inner_width : ℕ) → 0 < inner_width → 
 measured_cut laid inner_width some =
     let settings = at_width laid inner_width in
     let new : LaidOut = laid_out_with laid settings in
-    let text : new.text ≡ laid.text = put_if_text (stays_cut laid settings) laid settings in
+    let text : new.text ≡ laid.text = text_stays laid settings in
     ap (λ (s : LayoutSettings). wrapping_for s (length (lines new.text))) (settings_put laid settings)
     ∙ ap (λ t. wrapping_for settings (length (lines t))) text
     ∙ cut_by_mode settings.mode inner_width settings.tab_len settings.line_numbers (length (lines laid.text)) (some_width inner_width some)

@@ -45,9 +45,11 @@ pub fn cut_as_measured()
         ≡ wrapping_at laid inner_width }
 {}
 
-/// A text that is laid out with settings has these then, and laid out with the settings that it has, it stays as it is: nothing
-/// is cut.
+/// A text that is laid out with settings stays the same text and has these settings then, and laid out with the settings that it
+/// has, it stays as it is: nothing is cut.
 pub fn settings_stay()
+    ensures text { (laid : LaidOut) (settings : LayoutSettings) →
+        (laid_out_with laid settings).text ≡ laid.text }
     ensures put { (laid : LaidOut) (settings : LayoutSettings) →
         (laid_out_with laid settings).layout.settings ≡ settings }
     ensures again { (laid : LaidOut) → laid_out_with laid laid.layout.settings ≡ laid }
