@@ -8,3 +8,4 @@ mod WholeLines
 mod OneList
 mod Steps
 mod Widths
+mod PutSettings

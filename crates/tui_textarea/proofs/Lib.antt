@@ -5,3 +5,4 @@ pub mod Given
 pub mod Searches
 mod Cases
 mod OneTarget
+mod Frames

@@ -9,3 +9,4 @@ pub mod Search
 pub mod Layout
 pub mod Measure
 pub mod Law
+pub mod Frames

@@ -1,0 +1,139 @@
+-- What a drawing, a move and a scroll leave of how the text is laid out, and what is measured of it.
+use Rattle.std.proofs.Common.{◌≡◌, ℕ, ◌<◌, ◌&&◌, Bool, true, false, not, List, [], ◌∷◌, Option, None, Some, length, ap, refl, subst, sym, ◌∙◌}
+use Rattle.textarea_text.specs.Place.{Place}
+use Rattle.textarea_text.specs.Text.{Symbol, lines}
+use Rattle.textarea_data.specs.declared.cursor.CursorMove.{CursorMove}
+use Rattle.textarea_document.specs.Edits.{is_filled}
+use Rattle.textarea_document.specs.Rows.{HasRowsAt, laid_out_of, with_inner_width}
+use Rattle.textarea_document.specs.State.{DocumentState}
+use Rattle.textarea_drawing.specs.Frame.{Parts, frame_of, has_lines, shows_placeholder}
+use Rattle.textarea_lines.specs.Layout.{LaidOut, Layout, at_width, laid_out_with, wrapping_at, wrapping_of}
+use Rattle.textarea_lines.specs.View.{IsViewOf, LentRows}
+use Rattle.textarea_lines.specs.declared.settings.LayoutSettings.{LayoutSettings}
+use Rattle.textarea_map.specs.Layout.{AreRowsOf}
+use Rattle.textarea_map.specs.Map.{row_total}
+use Rattle.textarea_map.specs.declared.layout.Wrapping.{Wrapping}
+use Rattle.textarea_screen.specs.Text.{ShownLine}
+use Rattle.textarea_screen.specs.declared.screen.rect.Rect.{Rect}
+use Rattle.textarea_surround.specs.Measure.{rows_shown, saturated, width_inside}
+use Rattle.textarea_surround.specs.State.{SurroundState}
+use Rattle.textarea_surround.specs.declared.surround.measure.TextAreaMeasure.{TextAreaMeasure}
+use Rattle.tui_textarea.specs.Drawing.{IsRendered, parts_of}
+use Rattle.tui_textarea.specs.Frames.{IsLaidOutFor}
+use Rattle.tui_textarea.specs.Measure.{IsMeasured}
+use Rattle.tui_textarea.specs.Moves.{IsMoved, moved_by, pushed}
+use Rattle.tui_textarea.specs.State.{State}
+
+-- ---- what the lines' laws say
+
+abbrev pub KeepsText : Type 0
+KeepsText = (laid : LaidOut) (settings : LayoutSettings) → (laid_out_with laid settings).text ≡ laid.text
+
+abbrev pub PutsSettings : Type 0
+PutsSettings = (laid : LaidOut) (settings : LayoutSettings) → (laid_out_with laid settings).layout.settings ≡ settings
+
+abbrev pub KeepsItsOwn : Type 0
+KeepsItsOwn = (laid : LaidOut) → laid_out_with laid laid.layout.settings ≡ laid
+
+abbrev pub CutsAsMeasured : Type 0
+CutsAsMeasured = (laid : LaidOut) (inner_width : ℕ) → 0 < inner_width → wrapping_of (laid_out_with laid (at_width laid inner_width)) ≡ wrapping_at laid inner_width
+
+abbrev pub HasOneRowCount : Type 0
+HasOneRowCount = (document : DocumentState) (inner_width count other : ℕ) → HasRowsAt document inner_width count → HasRowsAt document inner_width other → count ≡ other
+
+-- ---- after a drawing
+
+drawn_document : (old new : State) (area : Rect) → IsRendered old area new → new.document ≡ with_inner_width old.document (width_inside old.surround.block area.width)
+drawn_document old new area h = ap (λ (p : Parts). p.document) h.parts.new_is ∙ ap (with_inner_width old.document) h.parts.inner_is.width
+
+drawn_surround : (old new : State) (area : Rect) → IsRendered old area new → new.surround ≡ old.surround
+drawn_surround old new area h = ap (λ (s : State). s.surround) h.rest
+
+pub width_put : (puts : PutsSettings) (old new : State) (area : Rect) → IsRendered old area new → IsLaidOutFor new area.width
+width_put puts old new area h =
+    let laid = laid_out_of old.document in
+    let width = width_inside old.surround.block area.width in
+    ap (λ (d : DocumentState). d.layout.settings.inner_width) (drawn_document old new area h)
+    ∙ ap (λ (s : LayoutSettings). s.inner_width) (puts laid (at_width laid width))
+    ∙ ap (λ (s : SurroundState). width_inside s.block area.width) (sym (drawn_surround old new area h))
+
+pub document_stays : (keeps : KeepsItsOwn) (old new : State) (area : Rect) → IsLaidOutFor old area.width → IsRendered old area new → new.document ≡ old.document
+document_stays keeps old new area same h =
+    drawn_document old new area h
+    ∙ ap (with_inner_width old.document) (sym same)
+    ∙ ap (λ (l : LaidOut). record old.document { layout = l.layout }) (keeps (laid_out_of old.document))
+
+-- ---- after a move or a scroll
+
+moved_layout : (state : State) (found : Option Place) → (moved_by state found).document.layout ≡ state.document.layout
+moved_layout state None = refl
+moved_layout state (Some place) = refl
+
+moved_surround : (state : State) (found : Option Place) → (moved_by state found).surround ≡ state.surround
+moved_surround state None = refl
+moved_surround state (Some place) = refl
+
+pub layout_moved : (old new : State) (cursor_move : CursorMove) → IsMoved old cursor_move new → new.document.layout ≡ old.document.layout
+layout_moved old new cursor_move h =
+    ap (λ (s : State). s.document.layout) h.new_is ∙ moved_layout old (pushed old.document.ranges cursor_move h.found)
+
+surround_moved : (old new : State) (cursor_move : CursorMove) → IsMoved old cursor_move new → new.surround ≡ old.surround
+surround_moved old new cursor_move h =
+    ap (λ (s : State). s.surround) h.new_is ∙ moved_surround old (pushed old.document.ranges cursor_move h.found)
+
+pub width_moved : (old new : State) (cursor_move : CursorMove) (width : ℕ) → IsMoved old cursor_move new → IsLaidOutFor old width → IsLaidOutFor new width
+width_moved old new cursor_move width h put =
+    ap (λ (l : Layout). l.settings.inner_width) (layout_moved old new cursor_move h)
+    ∙ put
+    ∙ ap (λ (s : SurroundState). width_inside s.block width) (sym (surround_moved old new cursor_move h))
+
+-- and for the width of an area that is as wide
+pub as_wide : (state : State) (area other : Rect) → other.width ≡ area.width → IsLaidOutFor state area.width → IsLaidOutFor state other.width
+as_wide state area other wide put = put ∙ ap (width_inside state.surround.block) (sym wide)
+
+-- ---- what is measured
+
+rows_without : (shown : List ShownLine) (rows : ℕ) (is_empty : Bool) → (is_empty && has_lines shown) ≡ false → rows_shown shown rows is_empty ≡ rows
+rows_without [] rows is_empty e = refl
+rows_without (line ∷ shown) rows true e = absurd cc
+rows_without (line ∷ shown) rows false e = refl
+
+rows_with : (shown : List ShownLine) (rows : ℕ) (is_empty : Bool) → (is_empty && has_lines shown) ≡ true → rows_shown shown rows is_empty ≡ length shown
+rows_with [] rows true e = absurd cc
+rows_with [] rows false e = absurd cc
+rows_with (line ∷ shown) rows true e = refl
+rows_with (line ∷ shown) rows false e = absurd cc
+
+-- the placeholder is shown before a drawing as it is after it
+shown_before : (old new : State) (area : Rect) (rows : LentRows) (b : Bool) → IsRendered old area new → shows_placeholder (frame_of (parts_of new) rows) ≡ b → (not (is_filled old.document.text) && has_lines old.surround.placeholder.lines) ≡ b
+shown_before old new area rows b h e =
+    ap (λ (t : List Symbol). not (is_filled t) && has_lines old.surround.placeholder.lines) (ap (λ (d : DocumentState). d.text) (sym (drawn_document old new area h)))
+    ∙ ap (λ (s : SurroundState). not (is_filled new.document.text) && has_lines s.placeholder.lines) (sym (drawn_surround old new area h))
+    ∙ e
+
+content : (state : State) (width : ℕ) (measure : TextAreaMeasure) → (h : IsMeasured state width measure) → measure.content_rows ≡ saturated (rows_shown state.surround.placeholder.lines h.rows (not (is_filled state.document.text)))
+content state width measure h = ap (λ (m : TextAreaMeasure). m.content_rows) h.measure_is
+
+rows_drawn : (texts : KeepsText) (cuts : CutsAsMeasured) (document : DocumentState) (inner_width : ℕ) (rows : LentRows) → 0 < inner_width → IsViewOf (laid_out_of (with_inner_width document inner_width)) rows → HasRowsAt document inner_width (row_total rows.rows)
+unfolding HasRowsAt
+rows_drawn texts cuts document inner_width rows some k =
+    let laid = laid_out_of document in
+    let settings = at_width laid inner_width in
+    let new : LaidOut = laid_out_with laid settings in
+    let cut : wrapping_of (laid_out_of (with_inner_width document inner_width)) ≡ wrapping_at laid inner_width =
+    ap (λ (t : List Symbol). wrapping_of (record { text = t; layout = new.layout })) (sym (texts laid settings)) ∙ cuts laid inner_width some in
+    (rows.rows, subst (λ (w : Wrapping). AreRowsOf w (lines document.text) rows.rows) cut k.rows.laid_out, refl)
+
+pub measured_rows : (texts : KeepsText) (cuts : CutsAsMeasured) (counts : HasOneRowCount) (old new : State) (area : Rect) (measure : TextAreaMeasure) (rows : LentRows) → IsMeasured old area.width measure → IsRendered old area new → 0 < width_inside old.surround.block area.width → IsViewOf (laid_out_of new.document) rows → shows_placeholder (frame_of (parts_of new) rows) ≡ false → measure.content_rows ≡ saturated (row_total rows.rows)
+measured_rows texts cuts counts old new area measure rows m h some k e =
+    let width = width_inside old.surround.block area.width in
+    let drawn : IsViewOf (laid_out_of (with_inner_width old.document width)) rows = subst (λ (d : DocumentState). IsViewOf (laid_out_of d) rows) (drawn_document old new area h) k in
+    content old area.width measure m
+    ∙ ap saturated (rows_without old.surround.placeholder.lines m.rows (not (is_filled old.document.text)) (shown_before old new area rows false h e))
+    ∙ ap saturated (counts old.document width m.rows (row_total rows.rows) m.rows_are (rows_drawn texts cuts old.document width rows some drawn))
+
+pub measured_placeholder : (old new : State) (area : Rect) (measure : TextAreaMeasure) (rows : LentRows) → IsMeasured old area.width measure → IsRendered old area new → shows_placeholder (frame_of (parts_of new) rows) ≡ true → measure.content_rows ≡ saturated (length new.surround.placeholder.lines)
+measured_placeholder old new area measure rows m h e =
+    content old area.width measure m
+    ∙ ap saturated (rows_with old.surround.placeholder.lines m.rows (not (is_filled old.document.text)) (shown_before old new area rows true h e))
+    ∙ ap (λ (s : SurroundState). saturated (length s.placeholder.lines)) (sym (drawn_surround old new area h))
