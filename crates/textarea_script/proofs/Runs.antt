@@ -1,5 +1,5 @@
--- A run goes on by one call, and leads to one state.
-use Rattle.std.proofs.Common.{◌≡◌, ◌≢◌, ℕ, ◌+◌, ◌<◌, List, [], ◌∷◌, ◌++◌, map, take, length, get_or, ap, refl, sym, subst, ◌∙◌}
+-- A run goes on by one call, and leads to one state and to one screen.
+use Rattle.std.proofs.Common.{◌≡◌, ℕ, ◌+◌, ◌<◌, List, [], ◌∷◌, ◌++◌, map, take, length, get_or, ap, refl, sym, subst, ◌∙◌}
 use Rattle.std.proofs.lemmas.List.{map-append, take_more}
 use Rattle.textarea_data.specs.declared.cursor.CursorMove.{CursorMove}
 use Rattle.std.specs.Option.{option_map}
@@ -14,25 +14,12 @@ use Rattle.tui_textarea.specs.Drawing.{IsRendered, parts_of, viewport_scrolled}
 use Rattle.tui_textarea.specs.State.{State}
 use Rattle.tui_textarea.specs.Moves.{IsMoved}
 use Rattle.textarea_data.specs.declared.cursor.CursorMove.TheVariants.{InViewport}
-use Rattle.textarea_script.specs.Kinds.{kind_of}
-use Rattle.textarea_script.specs.Outcomes.{IsAnswer, IsBehind, IsShown, IsSpared}
+use Rattle.textarea_script.specs.Outcomes.{IsBehind, IsShown}
 use Rattle.textarea_script.specs.Run.{Leads, Makes, ShowsSame}
 use Rattle.textarea_script.specs.Said.{Said, said}
 use Rattle.textarea_script.specs.declared.call.Call.{Call}
 use Rattle.textarea_script.specs.declared.call.Call.TheVariants.{Move, Render, Scroll, SetSearchPattern}
-use Rattle.textarea_script.specs.declared.kind.Kind.TheVariants.{Draws}
 use Rattle.textarea_script.specs.declared.answer.Answer.{Answer}
-
--- ---- the buffer
-
--- a call that doesn't draw leaves the buffer
-pub stays_shown : (call : Call) (state : State) (buffer : Buffer) → kind_of call ≢ Draws → IsShown call state buffer buffer
-stays_shown (Render area) state buffer other = absurd (other refl)
-stays_shown call state buffer other = refl
-
-pub stays_spared : (call : Call) (buffer : Buffer) → kind_of call ≢ Draws → IsSpared call buffer buffer
-stays_spared (Render area) buffer other = absurd (other refl)
-stays_spared call buffer other = refl
 
 -- ---- one call more
 

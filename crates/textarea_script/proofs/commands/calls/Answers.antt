@@ -11,7 +11,7 @@ use Rattle.textarea_script.proofs.commands.calls.Goals as goal
 pub loop-command-preserved : goal.loop-command-preserved
 loop-command-preserved c =
     let before = c.loop-command.invariant in
-    let items = sym c.in_ok-push.ensures.items in
+    let items = sym {A = List Call} c.in_ok-push.ensures.items in
     record {
       ready = subst (All CanBeMade) items (All-push CanBeMade c.loop-command.calls.items c.call.result before.ready c.call.ensures.ready);
       each = subst (λ (made : List Call). AreCallsOf (map (λ (command : Command). command.content) (take (c.loop-command.command-index + 1) c.args.commands.now)) made) items
