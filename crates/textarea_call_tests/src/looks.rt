@@ -46,7 +46,16 @@ fn looks(rt: HostRuntime) -> Result<(), Fail> {
         Answer::Position(None),
     ];
     check_answers(&rt, &mut area, &mut buffer, &READERS, &at_first);
-    let made = [const { Answer::Done }; 8];
+    let made = [
+        Answer::Done,
+        Answer::Done,
+        Answer::Done,
+        Answer::Done,
+        Answer::Done,
+        Answer::Done,
+        Answer::Done,
+        Answer::Done,
+    ];
     check_answers(&rt, &mut area, &mut buffer, &SETTERS, &made);
     let set = [
         Answer::Style(ON_YELLOW),

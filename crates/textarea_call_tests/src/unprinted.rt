@@ -229,9 +229,17 @@ static READ: [(&str, Unprinted<'static>); 24] = [
 #[test]
 fn what_is_read(rt: HostRuntime) -> Result<(), Fail> {
     for (script, wanted) in &READ {
-        check(&rt, script, &[], None, wanted)?;
+        check_read(&rt, script, wanted)?;
     }
     Ok(())
+}
+
+fn check_read(
+    rt: &(impl Abort + AllocGlobal),
+    script: &str,
+    wanted: &Unprinted<'static>,
+) -> Result<(), Fail> {
+    check(rt, script, &[], None, wanted)
 }
 
 /// Runs a script, and then calls, on a new text area: this is read then. Where a text is given, their answers and the text
