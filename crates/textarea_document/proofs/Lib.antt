@@ -7,3 +7,4 @@ pub mod Parts
 pub mod Ranges
 pub mod Sounds
 pub mod StepLaw
+pub mod Cuts

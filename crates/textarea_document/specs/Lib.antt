@@ -4,5 +4,6 @@ pub mod Edits
 pub mod Selection
 pub mod Ranges
 pub mod Rows
+pub mod Cuts
 pub mod Law
 pub mod Sound

@@ -1,8 +1,18 @@
 //! Laws of documents and their visual rows, each the contract of a function that does nothing.
-ghost use Rattle.std.specs.Prelude.{◌≡◌, ℕ, Option};
+ghost use Rattle.std.specs.Prelude.{◌≡◌, ℕ, Bool, List, Option, Some};
+ghost use Rattle.textarea_history.specs.Log.{newest, next};
+ghost use Rattle.textarea_lines.specs.declared.settings.LayoutSettings.{LayoutSettings};
 ghost use Rattle.textarea_text.specs.Place.{Place};
-ghost use Rattle.textarea_document.specs.Rows.{HasRowsAt, IsAboveCursor, IsBelowCursor};
-ghost use Rattle.textarea_document.specs.State.{DocumentState};
+ghost use Rattle.textarea_text.specs.Splice.{Fits, Splice, inverse};
+ghost use Rattle.textarea_text.specs.Text.{Symbol};
+ghost use Rattle.textarea_document.specs.Cuts.{CutsAll, CutsBySettings, CutsByWidth, SplicesBy};
+ghost use Rattle.textarea_document.specs.Edits.{IsMade, Step, splice_of, stepped};
+ghost use Rattle.textarea_document.specs.Outcomes.{edited, redone, undone};
+ghost use Rattle.textarea_document.specs.Rows.{HasRowsAt, IsAboveCursor, IsBelowCursor, with_inner_width, with_layout_settings};
+ghost use Rattle.textarea_document.specs.Sound.{IsSound};
+ghost use Rattle.textarea_document.specs.State.{DocumentState, fresh_document};
+
+use textarea_lines::laws::{settings_cut, splices_cut};
 
 /// From a document's cursor one place, or none, is found one visual row up, and one place, or none, one visual row down.
 pub fn one_place_up_and_down()
@@ -21,4 +31,38 @@ pub fn one_row_count()
         count ≡ other }
 {
     textarea_map::laws::one_row_count();
+}
+
+/// What each edit of a document cuts, one that is made, taken back or made again: the lines that its splice touches where it leaves
+/// the width of the map, and all lines where it changes that width. The count grows by just as many.
+pub fn edits_cut()
+    ensures edited { (document : DocumentState) (splice : Splice) (typed : Bool) (now : ℕ) →
+        Fits document.text splice →
+        SplicesBy document splice (edited document splice typed now) }
+    ensures stepped { (document : DocumentState) (step : Step) (typed : Bool) (now : ℕ) →
+        IsSound document → IsMade document step →
+        SplicesBy document (splice_of document step) (stepped document step typed now) }
+    ensures undone { (document : DocumentState) (splice : Splice) →
+        IsSound document → newest document.log ≡ Some splice →
+        SplicesBy document (inverse splice) (undone document) }
+    ensures redone { (document : DocumentState) (splice : Splice) →
+        IsSound document → next document.log ≡ Some splice →
+        SplicesBy document splice (redone document) }
+{
+    splices_cut();
+}
+
+/// What else cuts lines of a document: another inner width cuts all lines where it changes the width of the map, other settings
+/// where they cut lines in another way, and other lines that take the place of all always.
+pub fn layouts_cut()
+    ensures width { (document : DocumentState) (inner_width : ℕ) →
+        CutsByWidth document (with_inner_width document inner_width) }
+    ensures settings { (document : DocumentState) (settings : LayoutSettings) →
+        CutsBySettings document settings (with_layout_settings document settings) }
+    ensures lines { (document : DocumentState) (text : List Symbol) (cursor : Place)
+        (maximum : ℕ) →
+        CutsAll document
+        (fresh_document text document.layout.settings document.layout.count cursor maximum) }
+{
+    settings_cut();
 }

@@ -1,3 +1,5 @@
+mod CaretBack
+mod CaretShown
 mod Hits
 mod Layers
 mod Lent

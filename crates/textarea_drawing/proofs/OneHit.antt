@@ -39,10 +39,10 @@ lies_once begins_once scene viewport inner row view other h k =
 
 -- ---- a hit
 
-some_same : (row other : ℕ) (found : Option ℕ) → found ≡ Some row → found ≡ Some other → other ≡ row
+pub some_same : (row other : ℕ) (found : Option ℕ) → found ≡ Some row → found ≡ Some other → other ≡ row
 some_same row other found e f = cc (e, f)
 
-abbrev wanted_at : LentRows → ℕ → ℕ → RowView → Place
+abbrev pub wanted_at : LentRows → ℕ → ℕ → RowView → Place
 wanted_at rows x row view = (row, hit_column view (greatest_at rows row) x)
 
 in_rows_once : (placed_once : IsPlacedOnce) (begins_once : BeginsOnce) (scene : SceneState) (viewport : ViewportState) (inner : Rect) (x y : ℕ) (place other : Place) → IsHitInRows scene viewport inner x y place → IsHitInRows scene viewport inner x y other → place ≡ other

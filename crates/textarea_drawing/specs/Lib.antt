@@ -4,3 +4,5 @@ pub mod Placed
 pub mod Cells
 pub mod Hit
 pub mod Rendered
+pub mod Back
+pub mod Shown

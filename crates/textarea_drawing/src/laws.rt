@@ -1,19 +1,27 @@
 //! Laws of what is drawn, each the contract of a function that does nothing.
-ghost use Rattle.std.specs.Prelude.{◌≡◌, ℕ, Option, is_some};
+ghost use Rattle.std.specs.Prelude.{◌≡◌, ◌<◌, ◌^◌, ℕ, Option, is_some};
 ghost use Rattle.textarea_document.specs.State.{DocumentState};
+ghost use Rattle.textarea_drawing.specs.Back.{IsHitBack};
 ghost use Rattle.textarea_drawing.specs.Frame.{Parts};
 ghost use Rattle.textarea_drawing.specs.Hit.{IsHit, IsInside, IsLastArea};
 ghost use Rattle.textarea_drawing.specs.Rendered.{IsDrawn, IsRendered};
+ghost use Rattle.textarea_drawing.specs.Shown.{IsCaretShown};
 ghost use Rattle.textarea_screen.specs.Buffer.{cell_at};
 ghost use Rattle.textarea_screen.specs.Rect.{contains};
 ghost use Rattle.textarea_screen.specs.declared.screen.buffer.Buffer.{Buffer};
 ghost use Rattle.textarea_screen.specs.declared.screen.rect.Rect.{Rect};
-ghost use Rattle.textarea_text.specs.Place.{Place};
+ghost use Rattle.textarea_text.specs.Place.{IsPlace, Place};
+ghost use Rattle.textarea_text.specs.Size.{weight};
 ghost use Rattle.textarea_viewport.specs.Viewport.{ViewportState};
 
-use textarea_lines::laws::one_view;
-use textarea_map::laws::{one_place, seen_once};
+use textarea_lines::laws::{one_view, settings_stay};
+use textarea_map::laws::{
+    cursors_within_width, few_columns, few_rows, found_again, one_place, seen_once, seen_within,
+};
 use textarea_scene::laws::{one_filling, one_row_start};
+use textarea_viewport::laws::{
+    placeholder_has_its_caret_in_the_corner, shown_caret_is_hit_back, wrapped_caret_is_shown,
+};
 
 /// One place is the nearest to a document's cursor in the part that a viewport shows.
 pub fn one_place_inside()
@@ -60,4 +68,37 @@ pub fn one_drawing()
 {
     one_view();
     one_filling();
+}
+
+/// Right after a drawing a caret that is shown is hit back: its cell shows the cursor's place, where no character of the cursor's
+/// visual row has display width 0.
+pub fn caret_is_hit_back()
+    ensures { (old new : Parts) (area : Rect) → IsRendered old area new →
+        IsPlace new.document.text new.document.cursor → IsHitBack new }
+{
+    one_view();
+    one_row_start();
+    found_again();
+    seen_within();
+    settings_stay();
+    shown_caret_is_hit_back();
+    placeholder_has_its_caret_in_the_corner();
+}
+
+/// Right after a drawing the caret is shown where rows begin at the left and the inner area has a row and is wide enough. Without
+/// wrapping it is to be wider than the line numbers twice. With wrapping it is to be wider than the line numbers by two columns,
+/// tab stops are to be a column apart at least, what the line numbers and one column for the caret leave is to fit each cluster, a
+/// tab at its full length, and each whitespace cluster that has a width is to be one character. With a placeholder too.
+pub fn caret_is_shown()
+    ensures { (old new : Parts) (area : Rect) → IsRendered old area new →
+        weight new.document.text < 2 ^ 48 → new.document.layout.settings.tab_len < 2 ^ 8 →
+        IsCaretShown new }
+{
+    seen_within();
+    cursors_within_width();
+    few_columns();
+    few_rows();
+    settings_stay();
+    textarea_viewport::laws::caret_is_shown();
+    wrapped_caret_is_shown();
 }

@@ -9,3 +9,7 @@ mod OneList
 mod Steps
 mod Widths
 mod PutSettings
+mod MapWidths
+mod Splicing
+mod SplicedRows
+mod Cutting

@@ -74,7 +74,7 @@ all_true true false true d ea ec ed = ed
 all_true true false false d ea ec ed = ec
 all_true false b c d ea ec ed = ea
 
-same_cut : (w : Wrapping) → is_same w w ≡ true
+pub same_cut : (w : Wrapping) → is_same w w ≡ true
 same_cut w = all_true (is_same_mode w.mode w.mode) (not (wraps w.mode)) (w.width == w.width) (w.tab_len == w.tab_len) (same_mode w.mode) (eq-eqb w.width w.width refl) (eq-eqb w.tab_len w.tab_len refl)
 
 pub put_again : (laid : LaidOut) → laid_out_with laid laid.layout.settings ≡ laid

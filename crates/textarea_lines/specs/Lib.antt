@@ -3,3 +3,4 @@ pub mod Layout
 pub mod Stored
 pub mod Rows
 pub mod View
+pub mod Cuts

@@ -1,9 +1,12 @@
 //! Laws of lines with their rows, each the contract of a function that does nothing.
-ghost use Rattle.std.specs.Prelude.{◌≡◌, ◌<◌, ℕ, List, Option};
+ghost use Rattle.std.specs.Prelude.{◌≡◌, ◌<◌, ◌≤◌, ℕ, List, Option};
 ghost use Rattle.textarea_text.specs.Place.{Place};
+ghost use Rattle.textarea_text.specs.Splice.{Fits, Splice};
+ghost use Rattle.textarea_text.specs.Text.{Symbol};
 ghost use Rattle.textarea_wrap.specs.RowsView.{RowsView};
 ghost use Rattle.textarea_lines.specs.Rows.{IsFoundAbove, IsFoundBelow, IsLaidOutAs};
-ghost use Rattle.textarea_lines.specs.Layout.{LaidOut, at_width, laid_out_with, wrapping_at, wrapping_of};
+ghost use Rattle.textarea_lines.specs.Cuts.{AreSpliced, CutsAllLines, IsSetTo, IsSpliced, IsWidened};
+ghost use Rattle.textarea_lines.specs.Layout.{LaidOut, applied_to, at_width, laid_out_anew, laid_out_with, wrapping_at, wrapping_of};
 ghost use Rattle.textarea_lines.specs.View.{IsViewOf, LentRows};
 ghost use Rattle.textarea_lines.specs.declared.settings.LayoutSettings.{LayoutSettings};
 
@@ -53,4 +56,38 @@ pub fn settings_stay()
     ensures put { (laid : LaidOut) (settings : LayoutSettings) →
         (laid_out_with laid settings).layout.settings ≡ settings }
     ensures again { (laid : LaidOut) → laid_out_with laid laid.layout.settings ≡ laid }
+{}
+
+/// What a splice of a text cuts. Where it leaves the width of the map, the count grows by its breaks and one if it inserts, and by
+/// one if it removes; the rows of the lines that it touches have ticks above the old count, and every other line keeps its rows,
+/// tick included. Where it changes that width, each line is cut, and the count grows by the number of lines then.
+pub fn splices_cut()
+    ensures { (laid : LaidOut) (splice : Splice) → Fits laid.text splice →
+        IsSpliced laid splice (applied_to laid splice) }
+{
+    one_map();
+}
+
+/// What else cuts lines. Another inner width cuts each line where it changes the width of the map, other settings where they cut
+/// lines in another way, and other lines that take the place of all always: the count grows by the number of lines then. Where
+/// lines are cut as before, count and ticks stay.
+pub fn settings_cut()
+    ensures width { (laid : LaidOut) (inner_width : ℕ) →
+        IsWidened laid (laid_out_with laid (at_width laid inner_width)) }
+    ensures settings { (laid : LaidOut) (settings : LayoutSettings) →
+        IsSetTo laid settings (laid_out_with laid settings) }
+    ensures lines { (laid : LaidOut) (text : List Symbol) →
+        CutsAllLines laid (laid_out_anew laid.layout.settings laid.layout.count text) }
+{}
+
+/// Whatever is cut, the count never falls.
+pub fn count_never_falls()
+    ensures splices { (old new : LaidOut) (splices : List Splice) → AreSpliced old splices new →
+        old.layout.count ≤ new.layout.count }
+    ensures width { (old new : LaidOut) → IsWidened old new →
+        old.layout.count ≤ new.layout.count }
+    ensures settings { (old new : LaidOut) (settings : LayoutSettings) →
+        IsSetTo old settings new → old.layout.count ≤ new.layout.count }
+    ensures lines { (old new : LaidOut) → CutsAllLines old new →
+        old.layout.count ≤ new.layout.count }
 {}

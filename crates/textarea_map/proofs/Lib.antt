@@ -7,3 +7,4 @@ pub mod VisualRows
 pub mod ThereAndBack
 pub mod Once
 pub mod RowSizes
+pub mod FittingRows

@@ -1,6 +1,7 @@
 -- From a place to its visual row and column, and back.
-use Rattle.std.proofs.Common.{ap₂, ◌≡◌, ℕ, ◌+◌, ◌-◌, ◌<◌, ◌≤◌, ◌^◌, inl, inr, min, false, Bool, cond, List, [], length, get_or, sym, ap, refl, subst, ◌∙◌, arith}
+use Rattle.std.proofs.Common.{ap₂, ◌≡◌, ℕ, ◌+◌, ◌-◌, ◌<◌, ◌≤◌, ◌^◌, inl, inr, min, false, true, Bool, cond, List, [], length, get_or, sym, ap, refl, subst, ◌∙◌, arith}
 use Rattle.std.proofs.lemmas.Bool.{cases_lt}
+use Rattle.std.proofs.Math.Seq.{take-length}
 use Rattle.textarea_text.specs.Place.{Place, IsPlaceOf}
 use Rattle.textarea_wrap.specs.Columns.{display_end_column}
 use Rattle.textarea_wrap.specs.RowsView.{RowsView}
@@ -118,3 +119,23 @@ place_found w lines rows seen line first index text h below line_is first_is tex
         leads = subst (λ (n : ℕ). LeadsTo w.tab_len row.text seen.1 n) same (subst (λ (t : List ℕ). LeadsTo w.tab_len t seen.1 index) text_is leads);
       },
     )
+
+-- ---- where a place is seen
+
+pub seen_row : (w : Wrapping) (lines : List (List ℕ)) (rows : List RowsView) (place seen : Place) → AreRowsOf w lines rows → IsVisualPosition w.tab_len lines rows place seen → seen.0 < row_total rows
+seen_row w lines rows place seen h s = omega (arith, s.row, row_count w lines rows h)
+
+abbrev greatest_by : Bool → ℕ → VisualRow → ℕ
+greatest_by b t row = cond b (display_end_column t 0 row.text) (column_at t row.text (length row.text - 1))
+
+-- in a row that is its line's last a place stands at its end or before it, in another before its last character or at it
+column_within : (t : ℕ) (row : VisualRow) (index : ℕ) (b : Bool) → row.is_last ≡ b → index ≤ length row.text → (row.is_last ≡ false → index < length row.text) → column_at t row.text index ≤ greatest_by b t row
+column_within t row index true e within before =
+    subst (λ (text : List ℕ). column_at t row.text index ≤ display_end_column t 0 text) (take-length row.text) (column_at-le t row.text index (length row.text) within)
+column_within t row index false e within before = column_at-le t row.text index (length row.text - 1) (omega (arith, before e))
+
+pub seen_column : (t : ℕ) (lines : List (List ℕ)) (rows : List RowsView) (place seen : Place) → IsVisualPosition t lines rows place seen → seen.1 ≤ greatest_column t (row_at lines rows seen.0)
+seen_column t lines rows place seen s =
+    let row = row_at lines rows seen.0 in
+    let index = place.1 - row.first in
+    rw s.column (column_within t row index row.is_last refl (omega (arith, s.holds.to)) (λ e. omega (arith, s.holds.from, s.holds.before_next e)))

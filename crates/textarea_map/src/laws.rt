@@ -1,9 +1,11 @@
 //! Laws of the map, each the contract of a function that does nothing.
-ghost use Rattle.std.specs.Prelude.{◌≡◌, ◌≤◌, ℕ, List, map};
+ghost use Rattle.std.specs.Prelude.{◌≡◌, ◌≢◌, ◌<◌, ◌≤◌, ◌^◌, ℕ, List, map, max};
 ghost use Rattle.textarea_text.specs.Place.{IsPlaceOf, Place};
 ghost use Rattle.textarea_text.specs.Size.{weight};
 ghost use Rattle.textarea_text.specs.Text.{following};
+ghost use Rattle.textarea_wrap.specs.Fitting.{HaveFittingClusters};
 ghost use Rattle.textarea_wrap.specs.RowsView.{RowsView};
+ghost use Rattle.textarea_wrap.specs.declared.wrap.WrapMode.TheVariants as mode;
 ghost use Rattle.textarea_map.specs.declared.layout.Wrapping.{Wrapping};
 ghost use Rattle.textarea_map.specs.Layout.{AreRowsOf};
 ghost use Rattle.textarea_map.specs.Map.{IsRowCount, row_total, size_total};
@@ -37,6 +39,18 @@ pub fn seen_where_looked_up()
         (seen place : Place) →
         AreRowsOf wrapping lines rows → IsPlaceNear wrapping.tab_len lines rows seen place →
         IsSeenUpTo wrapping.tab_len lines rows seen place }
+{}
+
+/// A place is seen in one of the visual rows of the lines, of which there are as many as the lines have together, and there at a
+/// column at which a cursor can stand: at most the row's greatest cursor column.
+pub fn seen_within()
+    ensures row { (wrapping : Wrapping) (lines : List (List ℕ)) (rows : List RowsView)
+        (place seen : Place) →
+        AreRowsOf wrapping lines rows → IsVisualPosition wrapping.tab_len lines rows place seen →
+        seen.0 < row_total rows }
+    ensures column { (tab_len : ℕ) (lines : List (List ℕ)) (rows : List RowsView)
+        (place seen : Place) → IsVisualPosition tab_len lines rows place seen →
+        seen.1 ≤ greatest_column tab_len (row_at lines rows seen.0) }
 {}
 
 /// A visual row and a display column lead back to one place.
@@ -87,4 +101,22 @@ pub fn few_rows()
         AreRowsOf wrapping lines rows → size_total rows ≡ weight (following lines) }
     ensures few { (wrapping : Wrapping) (lines : List (List ℕ)) (rows : List RowsView) →
         AreRowsOf wrapping lines rows → row_total rows ≤ size_total rows }
+{}
+
+/// Where lines are wrapped and tab stops are at least one column apart, no cursor stands behind the width: the greatest cursor
+/// column of every visual row is at most the width, where each cluster of a line or of a unit fits the width, a tab at its full
+/// length, and each whitespace cluster that has a width is one character.
+pub fn cursors_within_width()
+    ensures { (wrapping : Wrapping) (lines : List (List ℕ)) (rows : List RowsView) (row : ℕ) →
+        AreRowsOf wrapping lines rows → wrapping.mode ≢ mode.None → 0 < wrapping.tab_len →
+        HaveFittingClusters wrapping.tab_len (max wrapping.width 1) lines → row < row_total rows →
+        greatest_column wrapping.tab_len (row_at lines rows row) ≤ max wrapping.width 1 }
+{}
+
+/// Whatever the lines hold, and wrapped or not, a cursor's column is no large number: a line has fewer than 2^48 characters, and
+/// each takes fewer than 2^8 columns.
+pub fn few_columns()
+    ensures { (wrapping : Wrapping) (lines : List (List ℕ)) (rows : List RowsView) (row : ℕ) →
+        AreRowsOf wrapping lines rows → wrapping.tab_len < 2 ^ 8 → row < row_total rows →
+        greatest_column wrapping.tab_len (row_at lines rows row) < 2 ^ 56 }
 {}

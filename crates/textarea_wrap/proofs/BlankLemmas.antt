@@ -17,7 +17,7 @@ use Rattle.unicode_segmentation.proofs.Computing.{unicode_segmentation}
 use Rattle.textarea_wrap.specs.Units.{is_blank, units_of_piece, line_units}
 use Rattle.textarea_wrap.specs.Cutting.{Stretch}
 use Rattle.textarea_wrap.proofs.Alls.{all_append}
-use Rattle.textarea_wrap.proofs.FewestWordLemmas.{AreBlanksClusters, IsBlankCluster}
+use Rattle.textarea_wrap.proofs.FewestWordLemmas.{AreBlanksClusters, BlankIsCluster}
 
 -- the character joins nothing by the rules that read further back
 pub record IsPlain (c : ℕ) : Type 0 where
@@ -184,7 +184,7 @@ blanks_of_piece piece = cond_both (is_blank piece) (graphemes true piece) (piece
 
 blanks_of_pieces : (pieces : Stretch) → AreBlanksClusters (flat_map units_of_piece pieces)
 blanks_of_pieces [] = tt
-blanks_of_pieces (piece ∷ pieces) = all_append IsBlankCluster (units_of_piece piece) (flat_map units_of_piece pieces) (blanks_of_piece piece) (blanks_of_pieces pieces)
+blanks_of_pieces (piece ∷ pieces) = all_append BlankIsCluster (units_of_piece piece) (flat_map units_of_piece pieces) (blanks_of_piece piece) (blanks_of_pieces pieces)
 
 pub AreBlanksClusters-line_units : (line : List ℕ) → AreBlanksClusters (line_units line)
 AreBlanksClusters-line_units line = blanks_of_pieces (word_bounds line)

@@ -12,11 +12,11 @@ use Rattle.textarea_wrap.proofs.ColumnLemmas.{stretch_width-front, stretch_width
 use Rattle.textarea_wrap.proofs.FewestLemmas.{fronts, greedy_ahead}
 
 -- a whitespace unit, taken by itself, is one cluster
-abbrev pub IsBlankCluster : List ℕ → Type 0
-IsBlankCluster unit = is_blank unit ≡ true → length (graphemes true unit) ≡ 1
+abbrev pub BlankIsCluster : List ℕ → Type 0
+BlankIsCluster unit = is_blank unit ≡ true → length (graphemes true unit) ≡ 1
 
 abbrev pub AreBlanksClusters : Stretch → Type 0
-AreBlanksClusters units = AllByRecursion IsBlankCluster units
+AreBlanksClusters units = AllByRecursion BlankIsCluster units
 
 push-injective : (a b : Stretch) (x y : List ℕ) → a ++ x ∷ [] ≡ b ++ y ∷ [] → (a ≡ b) × (x ≡ y)
 push-injective [] [] x y h = let e : x ≡ y = cc in (refl, e)
@@ -59,7 +59,7 @@ module _ (t w : ℕ) (row later : Stretch) (fit : IsFittingStretch t w row later
       absurd (omega arith)
 
   -- what begins later in the row fits too
-  later_fits : (front stretch : Stretch) (next : List ℕ) (back : Stretch) → row ≡ front ++ (stretch ++ next ∷ back) → 0 < length stretch → FitsBehind t w stretch next (back ++ later)
+  pub later_fits : (front stretch : Stretch) (next : List ℕ) (back : Stretch) → row ≡ front ++ (stretch ++ next ∷ back) → 0 < length stretch → FitsBehind t w stretch next (back ++ later)
   later_fits front stretch next [] row_is some =
       let same = push-injective fit.front (front ++ stretch) fit.last next (sym fit.stretch_is ∙ row_is ∙ sym (append_assoc front stretch (next ∷ []))) in
       let wider = stretch_width-back t front (stretch ++ next ∷ []) in
@@ -169,7 +169,7 @@ words_ahead t w [] (block ∷ greedy) front blanks cut same fit =
     let some = block_some t w block (flat_map units_of greedy ++ []) cut.0 in
     absurd (omega (arith, ap length same, length-append front (units_of block ++ flat_map units_of greedy), length-append (units_of block) (flat_map units_of greedy)))
 words_ahead t w (other ∷ others) (block ∷ greedy) front blanks cut same fit =
-    let parts = all_parts IsBlankCluster (units_of block) (flat_map units_of greedy) blanks in
+    let parts = all_parts BlankIsCluster (units_of block) (flat_map units_of greedy) blanks in
     let greedy_rows = length-append (rows_of block) (flat_map rows_of greedy) in
     let other_rows = length-append (rows_of other) (flat_map rows_of others) in
     ⊎_elim

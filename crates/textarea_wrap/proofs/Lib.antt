@@ -5,9 +5,11 @@ pub mod DigitLemmas
 pub mod FewestLemmas
 pub mod FewestRowLemmas
 pub mod FewestWordLemmas
+pub mod FittingLemmas
 pub mod GlyphLemmas
 pub mod OneCuttingLemmas
 pub mod OneRowLemmas
+pub mod RestLemmas
 pub mod RowLemmas
 pub mod TallyWalks
 pub mod WordLemmas

@@ -14,12 +14,12 @@ use Rattle.textarea_wrap.specs.Wrapped.{IsWrapped, TakesOneRow}
 use Rattle.textarea_wrap.proofs.GlyphLemmas.{nonempty_from_bytes}
 use Rattle.textarea_wrap.proofs.RowLemmas.{ArePieces, ArePieces-segments, ArePieces-line_units, concat-line_units, IsWrapped-empty, IsWrapped-whole, IsWrapped-glyphs, IsWrapped-units}
 
-chars-pieces : (xs : Stretch) → ArePieces xs → flat_map chars xs ≡ chars (concat xs)
+pub chars-pieces : (xs : Stretch) → ArePieces xs → flat_map chars xs ≡ chars (concat xs)
 chars-pieces [] p = sym chars-nil
 chars-pieces (x ∷ xs) p = ap (λ t. chars x ++ t) (chars-pieces xs p.1) ∙ sym (chars-append x (concat xs) p.0.utf8)
 
 -- pieces that make up a text are together as wide as the text
-stretch_width-whole : (t : ℕ) (text : List ℕ) (pieces : Stretch) → ArePieces pieces → concat pieces ≡ text → stretch_width t pieces ≡ end_column t 0 (chars text)
+pub stretch_width-whole : (t : ℕ) (text : List ℕ) (pieces : Stretch) → ArePieces pieces → concat pieces ≡ text → stretch_width t pieces ≡ end_column t 0 (chars text)
 stretch_width-whole t text pieces p joined = ap (end_column t 0) (chars-pieces pieces p ∙ ap chars joined)
 
 last_piece : (piece : List ℕ) (stretch : Stretch) → (front : Stretch) × (last : List ℕ) × (piece ∷ stretch ≡ front ++ last ∷ [])

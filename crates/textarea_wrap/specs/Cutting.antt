@@ -104,9 +104,17 @@ pub record IsWordCutting (tab_len width : ℕ) (line : List ℕ) (rows : List (L
 
 -- ---- fewest rows
 
--- each row fits the width or is one cluster, whether or not it has room for more
+-- the row fits the width or is one cluster, whether or not it has room for more
+abbrev pub IsFittingRow : ℕ → ℕ → Stretch → Type 0
+IsFittingRow tab_len width stretch = (stretch_width tab_len stretch ≤ width) ⊎ (length stretch ≡ 1)
+
+-- and so is each of these
 abbrev pub AreFittingRows : ℕ → ℕ → List Stretch → Type 0
-AreFittingRows tab_len width stretches = AllByRecursion (λ stretch. (stretch_width tab_len stretch ≤ width) ⊎ (length stretch ≡ 1)) stretches
+AreFittingRows tab_len width stretches = AllByRecursion (IsFittingRow tab_len width) stretches
+
+-- the units are one, which is whitespace and one cluster
+abbrev pub IsBlankCluster : Stretch → Type 0
+IsBlankCluster units = (unit : List ℕ) × (units ≡ unit ∷ []) × (is_blank unit ≡ true) × (length (graphemes true unit) ≡ 1)
 
 -- no cutting of the text at cluster ends whose rows each fit or are one cluster has fewer rows
 abbrev pub HasFewestGlyphRows : ℕ → ℕ → List ℕ → ℕ → Type 0

@@ -1,5 +1,6 @@
 pub mod Columns
 pub mod Cutting
+pub mod Fitting
 pub mod Layout
 pub mod RowsView
 pub mod Units

@@ -1,6 +1,10 @@
 //! Laws of wrapping, each the contract of a function without a body.
-ghost use Rattle.std.specs.Prelude.{◌≡◌, ℕ, List};
+ghost use Rattle.std.specs.Prelude.{◌≡◌, ◌<◌, ◌≤◌, ◌⊎◌, ◌++◌, ℕ, List, length};
 ghost use Rattle.textarea_wrap.specs.declared.wrap.WrapMode.{WrapMode};
+ghost use Rattle.textarea_wrap.specs.declared.wrap.WrapMode.TheVariants as mode;
+ghost use Rattle.textarea_wrap.specs.Columns.{end_column, stretch_width};
+ghost use Rattle.textarea_wrap.specs.Cutting.{HasFewestGlyphRows, HasFewestWordRows, IsBlankCluster, IsFittingRow, IsFittingStretch, Stretch};
+ghost use Rattle.textarea_wrap.specs.Units.{line_units};
 ghost use Rattle.textarea_wrap.specs.Wrapped.{IsWrapped};
 
 /// A line has one right cutting in each mode, at each width and tab length.
@@ -8,4 +12,41 @@ pub fn one_cutting()
     ensures { (mode : WrapMode) (tab_len width : ℕ) (line : List ℕ) (ranges others : List (ℕ × ℕ)) →
         IsWrapped mode tab_len width line ranges → IsWrapped mode tab_len width line others → ranges
         ≡ others }
+{}
+
+/// The rows of a line that isn't empty are the fewest. In the mode `Glyph` no cutting of the line at the ends of its clusters whose
+/// rows each fit or are one cluster has fewer. In the word modes no cutting of its units into runs that fit and single units that
+/// are wider than the width, each of these cut at the ends of its clusters in that same way, has fewer.
+pub fn fewest_rows()
+    ensures glyphs { (tab_len width : ℕ) (line : List ℕ) (ranges : List (ℕ × ℕ)) →
+        0 < length line → IsWrapped mode.Glyph tab_len width line ranges →
+        HasFewestGlyphRows tab_len width line (length ranges) }
+    ensures words { (tab_len width : ℕ) (line : List ℕ) (ranges : List (ℕ × ℕ)) →
+        0 < length line → IsWrapped mode.Word tab_len width line ranges →
+        HasFewestWordRows tab_len width line (length ranges) }
+    ensures words_or_glyphs { (tab_len width : ℕ) (line : List ℕ) (ranges : List (ℕ × ℕ)) →
+        0 < length line → IsWrapped mode.WordOrGlyph tab_len width line ranges →
+        HasFewestWordRows tab_len width line (length ranges) }
+{}
+
+/// A run that begins later is never wider, tabs included: characters that begin at a later column end at no earlier one, so pieces
+/// without those in front of them are no wider than with them. Nor are they without those behind them.
+pub fn never_wider_later()
+    ensures columns { (tab_len column later : ℕ) (characters : List ℕ) → column ≤ later →
+        end_column tab_len column characters ≤ end_column tab_len later characters }
+    ensures back { (tab_len : ℕ) (front back : Stretch) →
+        stretch_width tab_len back ≤ stretch_width tab_len (front ++ back) }
+    ensures front { (tab_len : ℕ) (front back : Stretch) →
+        stretch_width tab_len front ≤ stretch_width tab_len (front ++ back) }
+{}
+
+/// What is left when the front of a run that fits is cut off fits too: of clusters, that fit or are one, and of the units of a
+/// line, unless one whitespace cluster is left, which is one row anyhow.
+pub fn rest_fits()
+    ensures clusters { (tab_len width : ℕ) (front back : Stretch) → 0 < length back →
+        IsFittingRow tab_len width (front ++ back) → IsFittingRow tab_len width back }
+    ensures units { (tab_len width : ℕ) (line : List ℕ) (above front back later : Stretch) →
+        above ++ ((front ++ back) ++ later) ≡ line_units line → 0 < length back →
+        IsFittingStretch tab_len width (front ++ back) later →
+        IsFittingStretch tab_len width back later ⊎ IsBlankCluster back }
 {}

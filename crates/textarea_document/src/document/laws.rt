@@ -5,6 +5,7 @@ ghost use Rattle.textarea_document.specs.Edits.{IsMade, Step, splice_of};
 ghost use Rattle.textarea_document.specs.Law.{GivesAllBack, GivesBack, ListsFit};
 ghost use Rattle.textarea_document.specs.Outcomes.{edited};
 ghost use Rattle.textarea_document.specs.Ranges.{CutsNone};
+ghost use Rattle.textarea_document.specs.Sound.{IsSound};
 
 use crate::document::Document;
 
@@ -34,6 +35,14 @@ impl Document {
         ensures { ListsFit self.now }
     {
         let _ = &self.history; // of which the invariant says that each edit can be taken back
+    }
+
+    /// Of every document the cursor and the anchor are places of the text, the ranges valid for it and in order, the done edits can
+    /// be taken back and the undone ones made again, and both lists together are at most the maximum.
+    pub fn is_sound(&self)
+        ensures { IsSound self.now }
+    {
+        let _ = &self.history; // the invariant says it
     }
 
     /// The law of atomic ranges, for every document: whatever a call that inserts or removes does to the text, it fits the

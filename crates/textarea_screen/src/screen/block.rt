@@ -67,7 +67,7 @@ impl Flags for Borders {
 }
 
 /// A frame: sides, a title in the top row, and free rows and columns inside.
-#[derive(Drop)]
+#[derive(Debug, Drop)]
 pub struct Block<'a> {
     pub borders: Borders,
     pub padding: Padding,

@@ -4,7 +4,7 @@ use super::style::Style;
 use std::alloc::{AllocError, Global};
 
 /// A text that is lent or owned.
-#[derive(Drop)]
+#[derive(Debug, Drop)]
 pub enum SpanText<'a> {
     Borrowed(&'a str),
     Owned(String),
@@ -37,7 +37,7 @@ impl<'a> SpanText<'a> {
 }
 
 /// A text in one style.
-#[derive(Drop)]
+#[derive(Debug, Drop)]
 pub struct Span<'a> {
     pub content: SpanText<'a>,
     pub style: Style,
@@ -78,7 +78,7 @@ impl<'a> Span<'a> {
 }
 
 /// Spans one after another, and a style under theirs.
-#[derive(Drop)]
+#[derive(Debug, Drop)]
 pub struct Line<'a> {
     pub spans: Vec<Span<'a>>,
     pub style: Style,
@@ -139,7 +139,7 @@ impl<'a> Line<'a> {
 }
 
 /// Lines one below another, and a style under theirs.
-#[derive(Drop)]
+#[derive(Debug, Drop)]
 pub struct Text<'a> {
     pub lines: Vec<Line<'a>>,
     pub style: Style,

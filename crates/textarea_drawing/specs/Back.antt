@@ -1,0 +1,20 @@
+-- What the cell of the caret shows once a drawing is made.
+use Rattle.std.specs.Prelude.{◌≡◌, ℕ, Option, Some}
+use Rattle.textarea_document.specs.Rows.{laid_out_of}
+use Rattle.textarea_drawing.specs.Frame.{Parts}
+use Rattle.textarea_drawing.specs.Hit.{IsHit}
+use Rattle.textarea_lines.specs.View.{IsViewOf, LentRows}
+use Rattle.textarea_map.specs.Rows.{row_at}
+use Rattle.textarea_map.specs.Seen.{HasNoZeroWidth, IsVisualPosition}
+use Rattle.textarea_text.specs.Place.{Place}
+
+-- no character of the visual row in which the cursor is seen has display width 0
+abbrev pub HasWideCursorRow : Parts → Type 0
+HasWideCursorRow parts = (rows : LentRows) (seen : Place) → IsViewOf (laid_out_of parts.document) rows
+    → IsVisualPosition rows.wrapping.tab_len rows.lines rows.rows parts.document.cursor seen
+    → HasNoZeroWidth (row_at rows.lines rows.rows seen.0).text
+
+-- where the caret is shown, and no character of the cursor's visual row has display width 0, the caret's cell shows the cursor's place
+abbrev pub IsHitBack : Parts → Type 0
+IsHitBack parts = (x y : ℕ) (found : Option Place) → parts.drawing.caret ≡ Some (x, y)
+    → HasWideCursorRow parts → IsHit parts x y found → found ≡ Some parts.document.cursor

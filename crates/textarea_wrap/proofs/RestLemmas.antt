@@ -1,0 +1,55 @@
+-- What is left of a row that fits, when its front is cut off.
+use Rattle.std.proofs.Common.{◌≡◌, ℕ, ◌<◌, ◌⊎◌, inl, inr, List, [], ◌∷◌, ◌++◌, length, refl, sym, ap, subst, ⊎_elim, length-append, arith}
+use Rattle.std.proofs.lemmas.Bool.{cases_lt}
+use Rattle.textarea_wrap.specs.Columns.{stretch_width}
+use Rattle.textarea_wrap.specs.Cutting.{Stretch, IsBlankCluster, IsFittingRow, IsFittingStretch}
+use Rattle.textarea_wrap.specs.Units.{line_units}
+use Rattle.textarea_wrap.proofs.Alls.{all_parts}
+use Rattle.textarea_wrap.proofs.BlankLemmas.{AreBlanksClusters-line_units}
+use Rattle.textarea_wrap.proofs.ColumnLemmas.{stretch_width-back}
+use Rattle.textarea_wrap.proofs.FewestWordLemmas.{BlankIsCluster, AreBlanksClusters, later_fits, wide_ends}
+
+pub clusters_fit : (t w : ℕ) (front back : Stretch) → 0 < length back → IsFittingRow t w (front ++ back) → IsFittingRow t w back
+clusters_fit t w front back some fit =
+    ⊎_elim
+    (λ within. let less = stretch_width-back t front back in inl (omega arith))
+    (λ one. inr (omega (arith, length-append front back)))
+    fit
+
+-- one unit is left: it fits, or it is whitespace that hung over
+one_left : (t w : ℕ) (front later : Stretch) (unit : List ℕ) → AreBlanksClusters (unit ∷ []) → IsFittingStretch t w (front ++ unit ∷ []) later → IsFittingStretch t w (unit ∷ []) later ⊎ IsBlankCluster (unit ∷ [])
+one_left t w front later unit blanks fit =
+    ⊎_elim
+    (λ (wide : w < stretch_width t (unit ∷ [])).
+    let ends = wide_ends t w (front ++ unit ∷ []) later fit front unit [] refl wide in
+    inr (unit, refl, ends.2, blanks.0 ends.2))
+    (λ within. inl (record { front = []; last = unit; stretch_is = refl; fits = inl within }))
+    (cases_lt w (stretch_width t (unit ∷ [])))
+
+-- several are left, of which the last is that of the run
+several_left : (t w : ℕ) (front part later : Stretch) (last : List ℕ) → 0 < length part → IsFittingStretch t w (front ++ (part ++ last ∷ [])) later → IsFittingStretch t w (part ++ last ∷ []) later
+several_left t w front part later last some fit =
+    record { front = part; last = last; stretch_is = refl; fits = later_fits t w (front ++ (part ++ last ∷ [])) later fit front part last [] refl some }
+
+left : (t w : ℕ) (front part later : Stretch) (last : List ℕ) → AreBlanksClusters (part ++ last ∷ []) → IsFittingStretch t w (front ++ (part ++ last ∷ [])) later → IsFittingStretch t w (part ++ last ∷ []) later ⊎ IsBlankCluster (part ++ last ∷ [])
+left t w front [] later last blanks fit = one_left t w front later last blanks fit
+left t w front (unit ∷ part) later last blanks fit = inl (several_left t w front (unit ∷ part) later last (omega arith) fit)
+
+-- the last of some units
+last_of : (units : Stretch) → 0 < length units → (part : Stretch) × (last : List ℕ) × (units ≡ part ++ last ∷ [])
+last_of [] some = absurd (omega arith)
+last_of (unit ∷ []) some = ([], unit, refl)
+last_of (unit ∷ next ∷ units) some =
+    let rest = last_of (next ∷ units) (omega arith) in (unit ∷ rest.0, rest.1, ap (λ (t : Stretch). unit ∷ t) rest.2)
+
+rest_left : (t w : ℕ) (front back later : Stretch) → 0 < length back → AreBlanksClusters back → IsFittingStretch t w (front ++ back) later → IsFittingStretch t w back later ⊎ IsBlankCluster back
+rest_left t w front back later some blanks fit =
+    let end = last_of back some in
+    subst (λ (b : Stretch). IsFittingStretch t w b later ⊎ IsBlankCluster b) (sym end.2)
+    (left t w front end.0 later end.1 (subst AreBlanksClusters end.2 blanks) (subst (λ (b : Stretch). IsFittingStretch t w (front ++ b) later) end.2 fit))
+
+pub units_fit : (t w : ℕ) (line : List ℕ) (above front back later : Stretch) → above ++ ((front ++ back) ++ later) ≡ line_units line → 0 < length back → IsFittingStretch t w (front ++ back) later → IsFittingStretch t w back later ⊎ IsBlankCluster back
+units_fit t w line above front back later is some fit =
+    let all : AreBlanksClusters (above ++ ((front ++ back) ++ later)) = subst AreBlanksClusters (sym is) (AreBlanksClusters-line_units line) in
+    let row = (all_parts BlankIsCluster (front ++ back) later (all_parts BlankIsCluster above ((front ++ back) ++ later) all).1).0 in
+    rest_left t w front back later some (all_parts BlankIsCluster front back row).1 fit
