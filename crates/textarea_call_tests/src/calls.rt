@@ -7,8 +7,15 @@ use std::test::Fail;
 use textarea_script::Call;
 use tui_textarea::{Alignment, AtomicCursorBias, AtomicDeleteDirection, Block, Text, WrapMode};
 
-// Scripts, calls behind them, what is printed then, and what is read.
-static CALLS: [(&str, &[Asked], &str, Unprinted<'static>); 16] = [
+/// A script, calls behind it, what is printed then, and what is read.
+pub type Case = (
+    &'static str,
+    &'static [Asked],
+    &'static str,
+    Unprinted<'static>,
+);
+
+static CALLS: [Case; 16] = [
     // An undone removal.
     (
         "",
@@ -235,15 +242,17 @@ static CALLS: [(&str, &[Asked], &str, Unprinted<'static>); 16] = [
 fn calls_behind_scripts(rt: HostRuntime) -> Result<(), Fail> {
     let placeholder = two_lines(rt.alloc())?;
     let block = titled(rt.alloc())?;
-    check_calls(&rt, &block, &placeholder)
+    check_cases(&rt, &CALLS, &block, &placeholder)
 }
 
-fn check_calls<'a>(
+/// Each case must be so, with this block and this placeholder lent.
+pub fn check_cases<'a>(
     rt: &(impl Abort + AllocGlobal),
+    cases: &[Case],
     block: &'a Block<'static>,
     placeholder: &'a Text<'static>,
 ) -> Result<(), Fail> {
-    for (script, asked, printed, wanted) in &CALLS {
+    for (script, asked, printed, wanted) in cases {
         let calls = calls_of(rt.alloc(), asked, block, placeholder)?;
         check(rt, script, calls.as_slice(), Some(printed), wanted)?;
     }

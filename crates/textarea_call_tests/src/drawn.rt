@@ -17,19 +17,21 @@ use tui_textarea::{
     TextArea,
 };
 
-// A drawing of what a script and calls behind it leave.
-struct Drawn {
-    script: &'static str,
-    asked: &'static [Asked],
-    // Where it is drawn: the first column, the first row, the columns and the rows.
-    area: (u16, u16, u16, u16),
-    // The cells then, as they are printed, and their styles, each of so many cells, row after row.
-    screen: &'static str,
-    styles: &'static [(usize, Style)],
-    caret: Option<Position>,
+/// A drawing of what a script and calls behind it leave.
+pub struct Drawn {
+    pub script: &'static str,
+    pub asked: &'static [Asked],
+    /// Where it is drawn: the first column, the first row, the columns and the rows.
+    pub area: (u16, u16, u16, u16),
+    /// The cells then, as they are printed.
+    pub screen: &'static str,
+    /// Their styles, each of so many cells, row after row.
+    pub styles: &'static [(usize, Style)],
+    pub caret: Option<Position>,
 }
 
-fn check(rt: &(impl Abort + AllocGlobal), drawings: &[Drawn]) -> Result<(), Fail> {
+/// Each drawing must be so.
+pub fn check(rt: &(impl Abort + AllocGlobal), drawings: &[Drawn]) -> Result<(), Fail> {
     let block = titled(rt.alloc())?;
     let placeholder = two_lines(rt.alloc())?;
     for drawn in drawings {

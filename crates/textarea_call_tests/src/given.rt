@@ -1,11 +1,12 @@
-// Text areas of given lines and copies of them, and README's program.
+// Text areas of given lines, and copies of them.
 use crate::unprinted::{AT_FIRST, FILLED, Unprinted, compare_read, make};
 use std::alloc::AllocError;
 use std::process::Abort;
 use std::test::Fail;
-use tui_textarea::{CursorMove, TextArea, WrapMode};
+use tui_textarea::TextArea;
 
-fn compare_lines(rt: &impl Abort, lines: &[String], wanted: &[&str]) {
+/// These must be the lines.
+pub fn compare_lines(rt: &impl Abort, lines: &[String], wanted: &[&str]) {
     assert!(rt; lines.len() == wanted.len());
     for (line, wanted) in lines.iter().zip(wanted) {
         assert!(rt; line.as_str() == *wanted);
@@ -72,27 +73,3 @@ static COPIED: Unprinted<'static> = Unprinted {
     search_pattern: Some("c"),
     ..FILLED
 };
-
-// The program of README, whose comments are asserted here.
-#[test]
-fn quick_start(rt: HostRuntime) -> Result<(), Fail> {
-    let mut area = TextArea::try_default(rt.alloc())?;
-    quick_start_on(&rt, &mut area)?;
-    Ok(())
-}
-
-fn quick_start_on(rt: &impl Abort, area: &mut TextArea<'_>) -> Result<(), AllocError> {
-    area.insert_str("one two\nthree")?;
-    assert!(rt; area.delete_word()?);
-    assert!(rt; area.yank_text()?.as_str() == "three");
-    assert!(rt; area.undo()?);
-    assert!(rt; area.cursor() == (1, 5));
-    area.move_cursor(CursorMove::WordBack);
-    area.start_selection();
-    area.move_cursor(CursorMove::End);
-    assert!(rt; area.cut()?);
-    assert!(rt; area.yank_text()?.as_str() == "three");
-    area.set_wrap_mode(WrapMode::Word)?;
-    assert!(rt; area.measure(5)?.content_rows == 3);
-    Ok(())
-}

@@ -10,7 +10,15 @@ mod drawn;
 #[cfg(test)]
 mod given;
 #[cfg(test)]
+mod hostile;
+#[cfg(test)]
+mod keys;
+#[cfg(test)]
 mod looks;
+#[cfg(test)]
+mod quick_start;
+#[cfg(test)]
+mod settings;
 #[cfg(test)]
 mod styles;
 #[cfg(test)]

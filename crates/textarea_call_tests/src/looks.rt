@@ -7,7 +7,8 @@ use textarea_script::run::run;
 use textarea_script::{Answer, Call};
 use tui_textarea::{Alignment, Buffer, CursorRenderMode, Rect, TextArea};
 
-const READERS: [Call<'static>; 9] = [
+/// What reads the looks.
+pub const READERS: [Call<'static>; 9] = [
     Call::Style,
     Call::CursorStyle,
     Call::CursorLineStyle,
@@ -79,7 +80,8 @@ fn looks(rt: HostRuntime) -> Result<(), Fail> {
     Ok(())
 }
 
-fn check_answers(
+/// Makes the calls, which must give these answers.
+pub fn check_answers(
     rt: &impl Abort,
     area: &mut TextArea<'_>,
     buffer: &mut Buffer,

@@ -1,5 +1,15 @@
-//! Tests of the text area's plain data: defaults, conversions, and the forms in which serde writes it.
+//! Tests of the text area's plain data: defaults and conversions, the forms in which serde writes it, inputs as keys of maps.
 #![tactic(auto)]
 
 #[cfg(test)]
-mod tests;
+mod hashed;
+#[cfg(test)]
+mod keys;
+#[cfg(test)]
+mod moves;
+#[cfg(test)]
+mod plain;
+#[cfg(test)]
+mod ranges;
+#[cfg(test)]
+mod written;

@@ -1,4 +1,11 @@
+mod Worked
+pub mod Cuts
+pub mod Escapes
+pub mod Lines
+pub mod Numbers
+pub mod Ranges
 pub mod Refusals
 pub mod Runs
 pub mod Scripts
-mod Worked
+pub mod Tables
+pub mod Tokens

@@ -1,6 +1,7 @@
 -- A run goes on by one call, and leads to one state and to one screen.
-use Rattle.std.proofs.Common.{◌≡◌, ℕ, ◌+◌, ◌<◌, List, [], ◌∷◌, ◌++◌, map, take, length, get_or, ap, refl, sym, subst, ◌∙◌}
+use Rattle.std.proofs.Common.{◌≡◌, ℕ, ◌+◌, ◌<◌, Bool, is_some, List, [], ◌∷◌, ◌++◌, map, take, length, get_or, ap, refl, sym, subst, ◌∙◌}
 use Rattle.std.proofs.lemmas.List.{map-append, take_more}
+use Rattle.textarea_keys.specs.declared.action.Action.{Action}
 use Rattle.textarea_data.specs.declared.cursor.CursorMove.{CursorMove}
 use Rattle.std.specs.Option.{option_map}
 use Rattle.textarea_drawing.specs.Cells.{AreLinesOf, frame_change}
@@ -12,13 +13,14 @@ use Rattle.textarea_screen.specs.declared.screen.buffer.Buffer.{Buffer}
 use Rattle.textarea_screen.specs.declared.screen.rect.Rect.{Rect}
 use Rattle.tui_textarea.specs.Drawing.{IsRendered, parts_of, viewport_scrolled}
 use Rattle.tui_textarea.specs.State.{State}
-use Rattle.tui_textarea.specs.Moves.{IsMoved}
+use Rattle.tui_textarea.specs.Input.{IsActed, asked_by, asked_without_shortcuts}
+use Rattle.tui_textarea.specs.Moves.{IsMovedWith}
 use Rattle.textarea_data.specs.declared.cursor.CursorMove.TheVariants.{InViewport}
 use Rattle.textarea_script.specs.Outcomes.{IsBehind, IsShown}
 use Rattle.textarea_script.specs.Run.{Leads, Makes, ShowsSame}
 use Rattle.textarea_script.specs.Said.{Said, said}
 use Rattle.textarea_script.specs.declared.call.Call.{Call}
-use Rattle.textarea_script.specs.declared.call.Call.TheVariants.{Move, Render, Scroll, SetSearchPattern}
+use Rattle.textarea_script.specs.declared.call.Call.TheVariants.{Input, InputWithoutShortcuts, Move, Render, Scroll, SetSearchPattern}
 use Rattle.textarea_script.specs.declared.answer.Answer.{Answer}
 
 -- ---- one call more
@@ -47,7 +49,11 @@ leads_more old mid new buffer screen shown calls answers index call answer withi
 
 -- each move leads to one state
 abbrev pub OneMove : Type 0
-OneMove = (old first second : State) (cursor_move : CursorMove) → IsMoved old cursor_move first → IsMoved old cursor_move second → first ≡ second
+OneMove = (old first second : State) (shift : Bool) (cursor_move : CursorMove) → IsMovedWith old shift cursor_move first → IsMovedWith old shift cursor_move second → first ≡ second
+
+-- what an input asks for leads to one state
+abbrev pub OneInput : Type 0
+OneInput = (old first second : State) (action : Action) → IsActed old action first → IsActed old action second → first ≡ second
 
 -- and so does each drawing, of the parts that are drawn
 abbrev pub OneRendering : Type 0
@@ -58,20 +64,22 @@ one_rendered renderings old first second area e f =
     let same : parts_of first ≡ parts_of second = renderings (parts_of old) (parts_of first) (parts_of second) area e.parts f.parts in
     e.rest ∙ ap (λ (parts : Parts). record old { document = parts.document; drawing = parts.drawing }) same ∙ sym f.rest
 
-one_behind : OneMove → OneRendering → (old : State) (call : Call) (answer : Said) (first second : State) → IsBehind old call answer first → IsBehind old call answer second → first ≡ second
-one_behind moves renderings old (SetSearchPattern text) answer first second e f = e ∙ sym f
-one_behind moves renderings old (Move cursor_move) answer first second e f = moves old first second cursor_move e f
-one_behind moves renderings old (Scroll scrolling) answer first second e f = moves (viewport_scrolled old scrolling) first second InViewport e f
-one_behind moves renderings old (Render area) answer first second e f = one_rendered renderings old first second area e f
-one_behind moves renderings old call answer first second e f = e ∙ sym f
+one_behind : OneMove → OneInput → OneRendering → (old : State) (call : Call) (answer : Said) (first second : State) → IsBehind old call answer first → IsBehind old call answer second → first ≡ second
+one_behind moves inputs renderings old (SetSearchPattern text) answer first second e f = e ∙ sym f
+one_behind moves inputs renderings old (Move cursor_move) answer first second e f = moves old first second (is_some old.document.anchor) cursor_move e f
+one_behind moves inputs renderings old (Scroll scrolling) answer first second e f = moves (viewport_scrolled old scrolling) first second (is_some old.document.anchor) InViewport e f
+one_behind moves inputs renderings old (Input input) answer first second e f = inputs old first second (asked_by input.now) e f
+one_behind moves inputs renderings old (InputWithoutShortcuts input) answer first second e f = inputs old first second (asked_without_shortcuts input.now) e f
+one_behind moves inputs renderings old (Render area) answer first second e f = one_rendered renderings old first second area e f
+one_behind moves inputs renderings old call answer first second e f = e ∙ sym f
 
-pub one_end : OneMove → OneRendering → (calls : List Call) (answers : List Said) (old first second : State) (buffer other shown drawn : Buffer) → Leads old buffer calls answers first shown → Leads old other calls answers second drawn → first ≡ second
-one_end moves renderings [] [] old first second buffer other shown drawn e f = e.0 ∙ sym f.0
-one_end moves renderings [] (a ∷ answers) old first second buffer other shown drawn e f = absurd e
-one_end moves renderings (call ∷ calls) [] old first second buffer other shown drawn e f = absurd e
-one_end moves renderings (call ∷ calls) (answer ∷ answers) old first second buffer other shown drawn e f =
-    let same = one_behind moves renderings old call answer f.0 e.0 f.2.behind e.2.behind in
-    one_end moves renderings calls answers e.0 first second e.1 f.1 shown drawn e.3 (subst (λ (s : State). Leads s f.1 calls answers second drawn) same f.3)
+pub one_end : OneMove → OneInput → OneRendering → (calls : List Call) (answers : List Said) (old first second : State) (buffer other shown drawn : Buffer) → Leads old buffer calls answers first shown → Leads old other calls answers second drawn → first ≡ second
+one_end moves inputs renderings [] [] old first second buffer other shown drawn e f = e.0 ∙ sym f.0
+one_end moves inputs renderings [] (a ∷ answers) old first second buffer other shown drawn e f = absurd e
+one_end moves inputs renderings (call ∷ calls) [] old first second buffer other shown drawn e f = absurd e
+one_end moves inputs renderings (call ∷ calls) (answer ∷ answers) old first second buffer other shown drawn e f =
+    let same = one_behind moves inputs renderings old call answer f.0 e.0 f.2.behind e.2.behind in
+    one_end moves inputs renderings calls answers e.0 first second e.1 f.1 shown drawn e.3 (subst (λ (s : State). Leads s f.1 calls answers second drawn) same f.3)
 
 -- ---- one screen
 
@@ -111,12 +119,12 @@ one_shown : OneDrawing → (call : Call) (state : State) (old other first second
 one_shown drawings (Render area) state old other first second e f same = drawn_same drawings (parts_of state) area old other first second e f same
 one_shown drawings call state old other first second e f same = still_same old other first second e f same
 
-pub one_screen : OneMove → OneRendering → OneDrawing → (calls : List Call) (answers : List Said) (old first second : State) (buffer other shown drawn : Buffer) → Leads old buffer calls answers first shown → Leads old other calls answers second drawn → ShowsSame buffer other → ShowsSame shown drawn
-one_screen moves renderings drawings [] [] old first second buffer other shown drawn e f same = still_same buffer other shown drawn e.1 f.1 same
-one_screen moves renderings drawings [] (a ∷ answers) old first second buffer other shown drawn e f same = absurd e
-one_screen moves renderings drawings (call ∷ calls) [] old first second buffer other shown drawn e f same = absurd e
-one_screen moves renderings drawings (call ∷ calls) (answer ∷ answers) old first second buffer other shown drawn e f same =
-    let here : f.0 ≡ e.0 = one_behind moves renderings old call answer f.0 e.0 f.2.behind e.2.behind in
+pub one_screen : OneMove → OneInput → OneRendering → OneDrawing → (calls : List Call) (answers : List Said) (old first second : State) (buffer other shown drawn : Buffer) → Leads old buffer calls answers first shown → Leads old other calls answers second drawn → ShowsSame buffer other → ShowsSame shown drawn
+one_screen moves inputs renderings drawings [] [] old first second buffer other shown drawn e f same = still_same buffer other shown drawn e.1 f.1 same
+one_screen moves inputs renderings drawings [] (a ∷ answers) old first second buffer other shown drawn e f same = absurd e
+one_screen moves inputs renderings drawings (call ∷ calls) [] old first second buffer other shown drawn e f same = absurd e
+one_screen moves inputs renderings drawings (call ∷ calls) (answer ∷ answers) old first second buffer other shown drawn e f same =
+    let here : f.0 ≡ e.0 = one_behind moves inputs renderings old call answer f.0 e.0 f.2.behind e.2.behind in
     let made : Makes old other call answer e.0 f.1 = subst (λ (s : State). Makes old other call answer s f.1) here f.2 in
     let later : Leads e.0 f.1 calls answers second drawn = subst (λ (s : State). Leads s f.1 calls answers second drawn) here f.3 in
-    one_screen moves renderings drawings calls answers e.0 first second e.1 f.1 shown drawn e.3 later (one_shown drawings call e.0 buffer other e.1 f.1 e.2.drawn made.drawn same)
+    one_screen moves inputs renderings drawings calls answers e.0 first second e.1 f.1 shown drawn e.3 later (one_shown drawings call e.0 buffer other e.1 f.1 e.2.drawn made.drawn same)

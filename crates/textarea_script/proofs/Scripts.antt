@@ -1,11 +1,11 @@
 -- The lines of a script, taken one after another with their index.
-use Rattle.std.proofs.Common.{◌≡◌, ℕ, ◌+◌, ◌<◌, List, [], ◌∷◌, ◌++◌, length, map, take, get_or, nat_lt, true, ap, subst, sym, ◌∙◌, arith, zero-add}
+use Rattle.std.proofs.Common.{◌≡◌, ℕ, ◌+◌, ◌<◌, List, [], ◌∷◌, ◌++◌, length, map, take, get_or, nat_lt, true, ap, subst, sym, ◌∙◌, arith, zero-add, ◌-◌, slice_index_or, is_some}
 use Rattle.std.proofs.lemmas.List.{map-append, take_more}
-use Rattle.std.specs.List.{enumerate_from}
+use Rattle.std.specs.List.{enumerate_from, list_all}
 use Rattle.std.proofs.lemmas.List.FromFn.{length-enumerate_from, get_or-enumerate_from}
 use Rattle.std.proofs.lemmas.List.Sums.{count_by_more_no, count_by_more_yes}
 use Rattle.std.proofs.lemmas.Bool.Decides.{nat_tests}
-use Rattle.textarea_script.specs.Script.{AreCallsOf, IsCallOf, filled_lines, IsAtLine, IsFilledLine, NamesLine}
+use Rattle.textarea_script.specs.Script.{AreCallsOf, IsCallOf, filled_lines, IsAtLine, IsFilledLine, IsFirstUnread, IsUnreadLine, NamesLine, lines_of, meant_line, meant_lines}
 use Rattle.textarea_script.specs.declared.call.Call.{Call}
 use Rattle.textarea_script.specs.declared.commands.Command.{Command}
 use Rattle.textarea_script.specs.declared.commands.Content.{Content}
@@ -35,10 +35,13 @@ filled_lines-filled lines count index line turn some =
     let test : nat_lt 0 (length line) ≡ true = grind (arith, nat_tests) in
     count_by_more_yes (λ l. nat_lt 0 (length l)) lines count line turn.within (ap (λ (l : List ℕ). nat_lt 0 (length l)) turn.line_is ∙ test)
 
--- an error that says of which line it is names a line that holds something, where that line does
-pub names_line : (script : List ℕ) (number : ℕ) (error : ReadError) → IsFilledLine script number → IsAtLine number error → NamesLine script error
-names_line script number (Line named) filled is_there = subst (IsFilledLine script) (sym is_there) filled
-names_line script number Memory filled is_there = tt
+-- an error that says of which line it is names the first line that is not read, where that line is
+pub names_line : (script : List ℕ) (number : ℕ) (error : ReadError) → IsFilledLine script number
+    → list_all (λ meant. is_some meant) (meant_lines (take (number - 1) (lines_of script))) ≡ true
+    → IsAtLine number error → IsUnreadLine (meant_line (slice_index_or (lines_of script) (number - 1) [])) error → NamesLine script error
+names_line script number (Line named) filled first is_there unread =
+    subst (λ (n : ℕ). IsFilledLine script n × IsFirstUnread script n) (sym is_there) (filled, record { unread = unread; first = first })
+names_line script number Memory filled first is_there unread = tt
 
 -- ---- the calls of commands
 

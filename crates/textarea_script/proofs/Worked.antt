@@ -1,5 +1,5 @@
 -- Worked runs on an empty text, computed.
-use Rattle.std.proofs.Common.{◌≡◌, List, [], ◌∷◌, Option, None, Some, true, false, refl, subst}
+use Rattle.std.proofs.Common.{◌≡◌, List, [], ◌∷◌, Option, None, Some, is_some, true, false, refl, subst}
 use Rattle.textarea_text.specs.Text.{Character, Break}
 use Rattle.textarea_text.specs.Place.{Place}
 use Rattle.textarea_document.specs.Edits.{removed_before, removed_behind, part_removed}
@@ -16,7 +16,7 @@ use Rattle.textarea_script.specs.Run.{Leads, Makes}
 use Rattle.textarea_script.specs.Said as told
 use Rattle.textarea_script.specs.Said.{Said, Done, Flag, Text}
 use Rattle.textarea_script.specs.declared.call.Call.{Call}
-use Rattle.textarea_script.specs.declared.call.Call.TheVariants.{InsertChar, InsertNewline, DeleteChar, DeleteStr, Cut, Paste, Undo, Redo, StartSelection, SelectAll, YankText, Measure, Move, SetSearchPattern, Render, CursorAtPosition, Scroll, SetMaskChar, ClearMaskChar, MaskChar, RenderedCursorPosition}
+use Rattle.textarea_script.specs.declared.call.Call.TheVariants.{InsertChar, InsertNewline, DeleteChar, DeleteStr, Cut, Paste, Undo, Redo, StartSelection, SelectAll, YankText, Measure, Move, SetSearchPattern, Render, CursorAtPosition, Scroll, Input, InputWithoutShortcuts, SetMaskChar, ClearMaskChar, MaskChar, RenderedCursorPosition}
 
 abbrev empty : State
 empty = new_state []
@@ -28,7 +28,7 @@ IsPlain Down = ⊥
 IsPlain InViewport = ⊥
 IsPlain cursor_move = Unit {0}
 
--- the call sets no pattern, measures, draws and hits nothing and goes over no visual rows, so its answer and the state behind it are
+-- the call sets no pattern, takes no input, measures, draws and hits nothing and goes over no visual rows, so its answer and the state behind it are
 -- computed
 abbrev IsSettled : Call → Type 0
 IsSettled (SetSearchPattern text) = ⊥
@@ -36,6 +36,8 @@ IsSettled (Measure width) = ⊥
 IsSettled (Render area) = ⊥
 IsSettled (CursorAtPosition cell) = ⊥
 IsSettled (Scroll scrolling) = ⊥
+IsSettled (Input input) = ⊥
+IsSettled (InputWithoutShortcuts input) = ⊥
 IsSettled (Move cursor_move) = IsPlain cursor_move
 IsSettled call = Unit {0}
 
@@ -53,7 +55,7 @@ plain_target state cursor_move = target nowhere state.document.text state.docume
 
 -- the state behind a move that goes over no visual rows
 abbrev after_move : State → CursorMove → State
-after_move state cursor_move = moved_by state (pushed state.document.ranges cursor_move (plain_target state cursor_move))
+after_move state cursor_move = moved_by state (is_some state.document.anchor) (pushed state.document.ranges cursor_move (plain_target state cursor_move))
 
 -- the state behind a settled call
 abbrev behind : State → Call → State
@@ -75,6 +77,8 @@ settled-answer state (Measure width) settled = absurd settled
 settled-answer state (Render area) settled = absurd settled
 settled-answer state (CursorAtPosition cell) settled = absurd settled
 settled-answer state (Scroll scrolling) settled = absurd settled
+settled-answer state (Input input) settled = absurd settled
+settled-answer state (InputWithoutShortcuts input) settled = absurd settled
 settled-answer state call settled = refl
 
 plain-target : (state : State) (cursor_move : CursorMove) → IsPlain cursor_move → IsTarget state cursor_move (plain_target state cursor_move)
@@ -99,6 +103,8 @@ settled-behind state (Measure width) settled = absurd settled
 settled-behind state (Render area) settled = absurd settled
 settled-behind state (CursorAtPosition cell) settled = absurd settled
 settled-behind state (Scroll scrolling) settled = absurd settled
+settled-behind state (Input input) settled = absurd settled
+settled-behind state (InputWithoutShortcuts input) settled = absurd settled
 settled-behind state (Move cursor_move) settled = plain-moved state cursor_move settled
 settled-behind state call settled = refl
 

@@ -1,5 +1,5 @@
 -- What each call answers and makes of the state of a text area, and where it may answer out of memory.
-use Rattle.std.specs.Prelude.{◌≡◌, ◌≢◌, ◌<◌, true, false, List, [], ◌∷◌, length, is_some, None, Some, String}
+use Rattle.std.specs.Prelude.{◌≡◌, ◌≢◌, ◌<◌, true, false, List, [], ◌∷◌, length, is_some, not, None, Some, String}
 use Rattle.std.specs.Coded.{le_prop, Unit-prop}
 use Rattle.std.specs.Duration.{as_nanos}
 use Rattle.std.specs.Str.{chars}
@@ -17,6 +17,7 @@ use Rattle.textarea_document.specs.State.{fresh_document}
 use Rattle.textarea_document.specs.Edits.{hit_at_cursor, is_filled}
 use Rattle.textarea_document.specs.Outcomes.{redone, run_ended, undone}
 use Rattle.textarea_document.specs.Selection.{is_selected}
+use Rattle.textarea_document.specs.Selection as document_selection
 use Rattle.tui_textarea.specs.State.{State, with_document, with_other_lines}
 use Rattle.tui_textarea.specs.Edits.{inserts_tab, inserts_text, char_inserted, newline_inserted, tab_inserted, str_inserted}
 use Rattle.tui_textarea.specs.Removals.{break_before_removed, text_cleared, has_ahead, has_before, has_behind, has_break_before, has_line_before, has_line_behind, has_word_before, has_word_behind, line_end_removed, line_head_removed, removes_or, symbol_before_removed, symbol_behind_removed, symbols_ahead_removed, unselected_or, word_before_removed, word_behind_removed}
@@ -24,10 +25,12 @@ use Rattle.tui_textarea.specs.Selection.{all_selected, selection_copied, selecti
 use Rattle.tui_textarea.specs.Selection as selection
 use Rattle.textarea_screen.specs.Block.{shown_block}
 use Rattle.textarea_screen.specs.Text.{shown_text}
+use Rattle.textarea_surround.specs.State.{style_with_lines}
 use Rattle.textarea_surround.specs.Outcomes.{with_max_rows, with_min_rows, with_placeholder_style, with_placeholder_text}
 use Rattle.textarea_screen.specs.declared.screen.alignment.Alignment.TheVariants.{Left}
 use Rattle.tui_textarea.specs.Drawing.{highlighted, unhighlighted, with_look}
-use Rattle.tui_textarea.specs.Layout.{alignment_set, mode_set, numbers_set, stays_cut, tab_length_set, with_alignment, with_line_numbers, with_tab_length, with_wrap_mode, without_line_numbers}
+use Rattle.tui_textarea.specs.Input.{IsLeftBy, MayRefuseAct, acts, asked_by, asked_without_shortcuts}
+use Rattle.tui_textarea.specs.Layout.{alignment_set, mode_set, number_style, numbers_set, stays_cut, tab_length, tab_length_set, with_alignment, with_line_numbers, with_tab_length, with_wrap_mode, without_line_numbers}
 use Rattle.tui_textarea.specs.Measure.{reads_rows, with_surround}
 use Rattle.tui_textarea.specs.Search.{next_match, previous_match, searched, with_pattern}
 use Rattle.textarea_script.specs.Patterns.{IsNewPattern}
@@ -35,7 +38,7 @@ use Rattle.tui_textarea.specs.Ranges.{cursor_normalized, hit_range_removed, rang
 use Rattle.textarea_script.specs.Said as told
 use Rattle.textarea_script.specs.Said.{Said, Done, Flag, Range, Rejected, Text}
 use Rattle.textarea_script.specs.declared.call.Call.{Call}
-use Rattle.textarea_script.specs.declared.call.Call.TheVariants.{InsertChar, InsertStr, InsertTab, InsertNewline, DeleteStr, DeleteNewline, DeleteChar, DeleteNextChar, DeleteLineByEnd, DeleteLineByHead, DeleteWord, DeleteNextWord, Clear, Cut, Copy, Paste, Undo, Redo, StartSelection, CancelSelection, SelectAll, SetYankText, YankText, SetTabLength, SetHardTabIndent, SetMaxHistories, SetUndoCoalescing, SetNow, SetLines, TrySetAtomicRanges, ClearAtomicRanges, NormalizeCursorAroundAtomicRanges, AtomicRangeAtCursor, DeleteAtomicRangeAtCursor, SetSearchPattern, SearchForward, SearchBack, SetWrapMode, SetLineNumberStyle, RemoveLineNumber, Measure, SetBlock, RemoveBlock, SetPlaceholderText, SetStyledPlaceholder, SetPlaceholderStyle, SetMinRows, SetMaxRows, SetStyle, Style, SetCursorStyle, CursorStyle, SetCursorLineStyle, CursorLineStyle, SetSelectionStyle, SelectionStyle, SetSearchStyle, SearchStyle, SetMaskChar, ClearMaskChar, MaskChar, SetCursorRenderMode, CursorRenderMode, SetAlignment, Alignment, CustomHighlight, ClearCustomHighlight, Render, RenderedCursorPosition, CursorAtPosition}
+use Rattle.textarea_script.specs.declared.call.Call.TheVariants.{InsertChar, InsertStr, InsertTab, InsertNewline, DeleteStr, DeleteNewline, DeleteChar, DeleteNextChar, DeleteLineByEnd, DeleteLineByHead, DeleteWord, DeleteNextWord, Clear, Cut, Copy, Paste, Undo, Redo, StartSelection, CancelSelection, SelectAll, SetYankText, YankText, SetTabLength, SetHardTabIndent, SetMaxHistories, SetUndoCoalescing, SetNow, SetLines, TrySetAtomicRanges, ClearAtomicRanges, NormalizeCursorAroundAtomicRanges, AtomicRangeAtCursor, DeleteAtomicRangeAtCursor, SetSearchPattern, SearchForward, SearchBack, SetWrapMode, SetLineNumberStyle, RemoveLineNumber, Measure, SetBlock, RemoveBlock, SetPlaceholderText, SetStyledPlaceholder, SetPlaceholderStyle, SetMinRows, SetMaxRows, SetStyle, Style, SetCursorStyle, CursorStyle, SetCursorLineStyle, CursorLineStyle, SetSelectionStyle, SelectionStyle, SetSearchStyle, SearchStyle, SetMaskChar, ClearMaskChar, MaskChar, SetCursorRenderMode, CursorRenderMode, SetAlignment, Alignment, CustomHighlight, ClearCustomHighlight, Render, RenderedCursorPosition, CursorAtPosition, Input, InputWithoutShortcuts, Cursor, IsEmpty, IsSelecting, SelectionRange, TabLength, HardTabIndent, MaxHistories, UndoCoalescing, WrapMode, LineNumberStyle, PlaceholderStyle, MinRows, MaxRows}
 
 -- the given ranges that are rejected, in their order, each with its reason
 abbrev pub rejected_ranges : State → List AtomicRange → List RejectedAtomicRange
@@ -84,6 +87,21 @@ answer_of state MaskChar = told.Character state.drawing.look.mask
 answer_of state CursorRenderMode = told.CursorRenderMode state.drawing.look.cursor_render_mode
 answer_of state Alignment = told.Alignment state.drawing.look.alignment
 answer_of state RenderedCursorPosition = told.Position state.drawing.caret
+answer_of state (Input input) = Flag (acts state (asked_by input.now))
+answer_of state (InputWithoutShortcuts input) = Flag (acts state (asked_without_shortcuts input.now))
+answer_of state Cursor = told.Cursor state.document.cursor
+answer_of state IsEmpty = Flag (not (is_filled state.document.text))
+answer_of state IsSelecting = Flag (is_some state.document.anchor)
+answer_of state SelectionRange = told.Selection (document_selection.selection state.document)
+answer_of state TabLength = told.Number (tab_length state.document)
+answer_of state HardTabIndent = Flag state.settings.hard_tab_indent
+answer_of state MaxHistories = told.Number state.document.log.maximum
+answer_of state UndoCoalescing = Flag state.settings.undo_coalescing
+answer_of state WrapMode = told.WrapMode state.document.layout.settings.mode
+answer_of state LineNumberStyle = told.StyleIfShown (number_style state)
+answer_of state PlaceholderStyle = told.StyleIfShown (style_with_lines state.surround.placeholder.lines state.surround.placeholder.style)
+answer_of state MinRows = told.Number state.surround.min_rows
+answer_of state MaxRows = told.Number state.surround.max_rows
 answer_of state call = Done
 
 -- the lines take the place of the old ones, and all edits and highlights of the caller's own are forgotten: the cursor goes to the
@@ -92,8 +110,8 @@ abbrev pub with_lines : {Z : Type 0} → State → List (String Z) → Place →
 with_lines state lines cursor =
     with_other_lines state (fresh_document (text_of lines) state.document.layout.settings state.document.layout.count (clip (lines_of lines) cursor) state.document.log.maximum)
 
--- the state after the call; after a pattern that is set, where it isn't refused. Where a move or a scroll leads, and what a drawing
--- leaves, isn't said here
+-- the state after the call; after a pattern that is set, where it isn't refused. Where a move, a scroll or an input leads, and what a
+-- drawing leaves, isn't said here
 abbrev pub state_after : State → Call → State
 state_after state (InsertChar c) = char_inserted state c
 state_after state (InsertStr text) = str_inserted state (given (chars text.now))
@@ -199,15 +217,20 @@ MayRefuse state (SetAlignment alignment) = stays_cut state (alignment_set state 
 MayRefuse state (CustomHighlight range style priority) = Unit {0}
 MayRefuse state (Render area) = Unit {0}
 MayRefuse state (CursorAtPosition position) = state.drawing.look.alignment ≢ Left
+MayRefuse state (Input input) = MayRefuseAct state (asked_by input.now)
+MayRefuse state (InputWithoutShortcuts input) = MayRefuseAct state (asked_without_shortcuts input.now)
 MayRefuse state call = ⊥
 
--- what a call that answered out of memory leaves: the state as it was, or, of an insertion, the one without what was selected
+-- what a call that answered out of memory leaves: the state as it was, or, of an insertion, also one that an input asks for, the one
+-- without what was selected
 abbrev pub IsLeft : State → Call → State → Type 0
 IsLeft old (InsertChar c) new = selection.IsLeft old new
 IsLeft old (InsertStr text) new = selection.IsLeft old new
 IsLeft old InsertTab new = selection.IsLeft old new
 IsLeft old InsertNewline new = selection.IsLeft old new
 IsLeft old Paste new = selection.IsLeft old new
+IsLeft old (Input input) new = IsLeftBy old (asked_by input.now) new
+IsLeft old (InputWithoutShortcuts input) new = IsLeftBy old (asked_without_shortcuts input.now) new
 IsLeft old call new = new ≡ old
 
 -- the call answered out of memory, which it may, and this is the state that it left

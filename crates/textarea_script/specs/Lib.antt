@@ -1,7 +1,14 @@
+pub mod Arguments
 pub mod Calls
+pub mod Commands
+pub mod Cuts
+pub mod Escapes
+pub mod FirstLine
+pub mod Inputs
 pub mod Kinds
 pub mod Outcomes
 pub mod Patterns
+pub mod Ranges
 pub mod Run
 pub mod Said
 pub mod Script

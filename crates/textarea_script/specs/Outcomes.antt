@@ -1,6 +1,6 @@
 -- What a call may answer, and what it then leaves, of the state and of the buffer. Most calls have one answer and one state behind
--- them. A pattern may be refused: that is an answer, and the state stays. Where a move or a scroll leads, what is measured or hit,
--- and what is drawn, is said by the text area.
+-- them. A pattern may be refused: that is an answer, and the state stays. Where a move, a scroll or an input leads, what is measured or
+-- hit, and what is drawn, is said by the text area.
 use Rattle.std.specs.Prelude.{◌≡◌, ℕ, List}
 use Rattle.textarea_drawing.specs.Hit.{IsHit}
 use Rattle.textarea_drawing.specs.Rendered.{IsDrawn}
@@ -9,6 +9,7 @@ use Rattle.textarea_screen.specs.Rect.{contains}
 use Rattle.textarea_screen.specs.declared.screen.buffer.Buffer.{Buffer}
 use Rattle.textarea_screen.specs.declared.screen.rect.Position.{Position}
 use Rattle.tui_textarea.specs.Drawing.{IsRendered, parts_of}
+use Rattle.tui_textarea.specs.Input.{IsActed, asked_by, asked_without_shortcuts}
 use Rattle.tui_textarea.specs.Measure.{IsMeasured}
 use Rattle.tui_textarea.specs.Moves.{IsMoved, IsScrolled}
 use Rattle.tui_textarea.specs.State.{State}
@@ -17,7 +18,7 @@ use Rattle.textarea_script.specs.Calls.{answer_of, state_after}
 use Rattle.textarea_script.specs.Patterns.{MayRefusePattern}
 use Rattle.textarea_script.specs.Said.{Said, Done, Measured, PatternRefused, Place}
 use Rattle.textarea_script.specs.declared.call.Call.{Call}
-use Rattle.textarea_script.specs.declared.call.Call.TheVariants.{CursorAtPosition, Measure, Move, Render, Scroll, SetSearchPattern}
+use Rattle.textarea_script.specs.declared.call.Call.TheVariants.{CursorAtPosition, Input, InputWithoutShortcuts, Measure, Move, Render, Scroll, SetSearchPattern}
 
 -- the call that sets this pattern may answer so
 abbrev pub IsPatternAnswer : State → List ℕ → Said → Type 0
@@ -52,6 +53,8 @@ IsBehind old (SetSearchPattern text) answer new = new ≡ behind_pattern old tex
 IsBehind old (Move cursor_move) answer new = IsMoved old cursor_move new
 IsBehind old (Scroll scrolling) answer new = IsScrolled old scrolling new
 IsBehind old (Render area) answer new = IsRendered old area new
+IsBehind old (Input input) answer new = IsActed old (asked_by input.now) new
+IsBehind old (InputWithoutShortcuts input) answer new = IsActed old (asked_without_shortcuts input.now) new
 IsBehind old call answer new = new ≡ state_after old call
 
 -- this is what the call leaves of the buffer, where it leaves this state: a drawing, what is drawn of that state in the area, and

@@ -1,7 +1,7 @@
 // What the calls of a script answer.
 use textarea_ranges::atomic::{AtomicRange, RejectedAtomicRange};
 use textarea_screen::screen::{Alignment, Position, Style};
-use tui_textarea::{CursorRenderMode, TextAreaMeasure};
+use tui_textarea::{CursorRenderMode, TextAreaMeasure, WrapMode};
 
 /// What a call answered.
 #[derive(Debug, PartialEq, Eq, Drop)]
@@ -32,4 +32,14 @@ pub enum Answer {
     CursorRenderMode(CursorRenderMode),
     /// Where rows stand in the inner area.
     Alignment(Alignment),
+    /// The number that is set.
+    Number(usize),
+    /// The cursor's (row, column).
+    Cursor((usize, usize)),
+    /// The two ends of the selection, the first one first, if one is open.
+    Selection(Option<((usize, usize), (usize, usize))>),
+    /// A style, where what it is for is shown.
+    StyleIfShown(Option<Style>),
+    /// How lines are wrapped.
+    WrapMode(WrapMode),
 }

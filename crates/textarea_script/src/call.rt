@@ -4,13 +4,14 @@ ghost use Rattle.textarea_script.specs.Calls.{CanBeMade};
 
 use std::time::Duration;
 use textarea_data::cursor::CursorMove;
+use textarea_data::input::Input;
 use textarea_data::scroll::Scrolling;
 use textarea_ranges::atomic::{AtomicCursorBias, AtomicDeleteDirection, AtomicRange};
 use textarea_screen::screen::{Alignment, Block, Position, Rect, Style, Text};
 use tui_textarea::{CursorRenderMode, WrapMode};
 
 /// One call on a text area, with its arguments.
-#[derive(Clone, Copy)]
+#[derive(Clone, Copy, Debug)]
 pub enum Call<'a> {
     /// `TextArea::insert_char`
     InsertChar(char),
@@ -168,6 +169,36 @@ pub enum Call<'a> {
     CursorAtPosition(Position),
     /// `TextArea::scroll`
     Scroll(Scrolling),
+    /// `TextArea::input`, of an input like this one
+    Input(&'a Input),
+    /// `TextArea::input_without_shortcuts`, of an input like this one
+    InputWithoutShortcuts(&'a Input),
+    /// `TextArea::cursor`
+    Cursor,
+    /// `TextArea::is_empty`
+    IsEmpty,
+    /// `TextArea::is_selecting`
+    IsSelecting,
+    /// `TextArea::selection_range`
+    SelectionRange,
+    /// `TextArea::tab_length`
+    TabLength,
+    /// `TextArea::hard_tab_indent`
+    HardTabIndent,
+    /// `TextArea::max_histories`
+    MaxHistories,
+    /// `TextArea::undo_coalescing`
+    UndoCoalescing,
+    /// `TextArea::wrap_mode`
+    WrapMode,
+    /// `TextArea::line_number_style`
+    LineNumberStyle,
+    /// `TextArea::placeholder_style`
+    PlaceholderStyle,
+    /// `TextArea::min_rows`
+    MinRows,
+    /// `TextArea::max_rows`
+    MaxRows,
 }
 
 impl Call<'_> {

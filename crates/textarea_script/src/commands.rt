@@ -1,17 +1,25 @@
 // Reading a script: each line is a command, and stands for one call.
-ghost use Rattle.std.specs.Prelude.{◌≡◌, ◌+◌, All, IfOk, IfErr, IfSome, length, map, vec_len};
+ghost use Rattle.std.specs.Prelude.{◌≡◌, ◌+◌, All, IfOk, IfErr, IfSome, length, map, option_and_then, option_copied, option_map, string_bytes, vec_len};
+ghost use Rattle.textarea_data.specs.declared.cursor.CursorMove.TheVariants as move;
+ghost use Rattle.textarea_script.specs.Arguments.{IsReadAs, two_short_numbers};
 ghost use Rattle.textarea_script.specs.Calls.{CanBeMade};
-ghost use Rattle.textarea_script.specs.Script.{lines_of, filled_lines, AreCallsOf, IsAtLine, IsCallOf, IsReady, IsReady-prop, NamesLine};
+ghost use Rattle.textarea_script.specs.Commands.{given_text, line_meant, line_numbers, meant, plain_meant, set_lines_meant};
+ghost use Rattle.textarea_script.specs.Inputs.{input_named};
+ghost use Rattle.textarea_script.specs.Ranges.{ranges_behind};
+ghost use Rattle.textarea_script.specs.Script.{lines_of, filled_lines, meaning_of, meant_line, meant_lines, AreCallsOf, IsAtLine, IsCallOf, IsCommandOf, IsReady, IsReady-prop, NamesLine};
+ghost use Rattle.textarea_script.specs.declared.commands.Content.TheVariants.{Plain};
 
 use crate::arguments::{
-    Unread, area, mode_named, move_named, number, one_character, page_named, ranges, scroll_by,
-    short_number, truth, two_short_numbers, unescape, unescaped_lines,
+    Unread, area, byte_number, input_named, mode_named, move_named, number, one_character,
+    page_named, parts, ranges, scroll_by, short_number, truth, two_short_numbers, unescape,
+    unescaped_lines,
 };
 use crate::call::Call;
 use std::alloc::{AllocError, AllocFailed, Global};
 use std::str::from_utf8;
 use std::time::Duration;
 use textarea_data::cursor::CursorMove;
+use textarea_data::input::Input;
 use textarea_ranges::atomic::AtomicRange;
 use textarea_screen::screen::{Position, Style};
 
@@ -54,6 +62,7 @@ enum Content {
         lines: Vec<String>,
         cursor: (usize, usize),
     },
+    Input(Input),
 }
 
 impl Command {
@@ -72,6 +81,7 @@ impl Command {
                 lines: lines.as_slice(),
                 cursor: *cursor,
             },
+            Content::Input(input) => Call::Input(input),
         }
     }
 }
@@ -81,6 +91,9 @@ impl Command {
 /// isn't UTF-8.
 pub fn read(alloc: Global, script: &[u8]) -> Result<Vec<Command>, ReadError>
     ensures ok { IfOk result (λ commands. vec_len commands ≡ filled_lines (lines_of script.now)) }
+    ensures means { IfOk result (λ commands.
+        map (λ command. Some (meaning_of command.content)) commands.items
+        ≡ meant_lines (lines_of script.now)) }
     ensures err { IfErr result (NamesLine script.now) }
 {
     let mut commands = Vec::new(alloc);
@@ -108,7 +121,8 @@ pub fn calls(alloc: Global, commands: &[Command]) -> Result<Vec<Call<'_>>, Alloc
 
 // Reads the line of this number.
 fn read_line(alloc: Global, line: &[u8], number: usize) -> Result<Command, ReadError>
-    ensures { IfErr result (IsAtLine number) }
+    ensures line { IfErr result (IsAtLine number) }
+    ensures means { IsCommandOf (λ command. command.content) (meant_line line.now) result }
 {
     let Ok(text) = from_utf8(line) else {
         return Err(ReadError::Line(number));
@@ -122,43 +136,67 @@ fn read_line(alloc: Global, line: &[u8], number: usize) -> Result<Command, ReadE
 
 // What a line commands: a call's name and, after one space, its arguments.
 fn content_of(alloc: Global, line: &str) -> Result<Content, Unread>
-    ensures { IfOk result IsReady }
+    ensures ready { IfOk result IsReady }
+    ensures means { IsReadAs meaning_of (line_meant line.now) result }
 {
-    let (name, arguments) = match line.split_once(' ') {
-        Some((name, arguments)) => (name, Some(arguments)),
-        None => (line, None),
-    };
-    match name {
-        "insert_str" => {
-            let text = unescape(alloc, arguments.unwrap_or(""))?;
-            Ok(Content::InsertStr(text))
-        }
-        "set_yank_text" => {
-            let text = unescape(alloc, arguments.unwrap_or(""))?;
-            Ok(Content::SetYankText(text))
-        }
-        "ranges" => Ok(Content::TrySetAtomicRanges(ranges(alloc, arguments)?)),
-        "set_search_pattern" => {
-            let text = unescape(alloc, arguments.unwrap_or(""))?;
-            Ok(Content::SetSearchPattern(text))
-        }
-        "set_lines" => set_lines(alloc, arguments.unwrap_or("")),
-        _ => {
-            let call = match arguments {
-                Some(arguments) => call_with(name, arguments),
-                None => call_alone(name),
-            };
-            call.map(Content::Plain).ok_or(Unread::NoCommand)
-        }
+    match parts(line) {
+        Some((name, arguments)) => content_named(alloc, name, Some(arguments)),
+        None => content_named(alloc, line, None),
     }
 }
 
-// A `set_lines` of these arguments: a row, a column, and a text that may be left out.
-fn set_lines(alloc: Global, arguments: &str) -> Result<Content, Unread>
-    ensures { IfOk result IsReady }
+// What a call's name and its arguments command, if there are any.
+#[tactic(auto, unfolding(crate::specs::Commands::meant))]
+fn content_named(alloc: Global, name: &str, arguments: Option<&str>) -> Result<Content, Unread>
+    ensures ready { IfOk result IsReady }
+    ensures means { IsReadAs meaning_of (meant name.now (option_copied arguments.entry)) result }
 {
-    let (row, rest) = arguments.split_once(' ').ok_or(Unread::NoCommand)?;
-    let (column, text) = rest.split_once(' ').unwrap_or((rest, ""));
+    match name {
+        "insert_str" => text(alloc, arguments).map(Content::InsertStr),
+        "set_yank_text" => text(alloc, arguments).map(Content::SetYankText),
+        "set_search_pattern" => text(alloc, arguments).map(Content::SetSearchPattern),
+        "ranges" => some_ranges(alloc, arguments).map(Content::TrySetAtomicRanges),
+        "set_lines" => set_lines(alloc, arguments),
+        "input" => input(arguments)
+            .map(Content::Input)
+            .ok_or(Unread::NoCommand),
+        _ => plain(name, arguments)
+            .map(Content::Plain)
+            .ok_or(Unread::NoCommand),
+    }
+}
+
+// The text that the arguments stand for: the empty one where there are none.
+fn text(alloc: Global, arguments: Option<&str>) -> Result<String, Unread>
+    ensures { IsReadAs string_bytes (given_text (option_copied arguments.entry)) result }
+{
+    unescape(alloc, arguments.unwrap_or(""))
+}
+
+// The ranges that the arguments name: none where there are no arguments.
+fn some_ranges(alloc: Global, arguments: Option<&str>) -> Result<Vec<AtomicRange>, Unread>
+    ensures { IsReadAs (λ read. read.items) (ranges_behind (option_copied arguments.entry)) result }
+{
+    match arguments {
+        Some(arguments) => ranges(alloc, arguments),
+        None => Ok(Vec::new(alloc)),
+    }
+}
+
+// The input that the arguments name.
+fn input(arguments: Option<&str>) -> Option<Input>
+    ensures { result ≡ option_and_then input_named (option_copied arguments.entry) }
+{
+    input_named(arguments?)
+}
+
+// A `set_lines` of these arguments: a row, a column, and a text that may be left out.
+fn set_lines(alloc: Global, arguments: Option<&str>) -> Result<Content, Unread>
+    ensures ready { IfOk result IsReady }
+    ensures means { IsReadAs meaning_of (set_lines_meant (option_copied arguments.entry)) result }
+{
+    let (row, rest) = parts(arguments.unwrap_or("")).ok_or(Unread::NoCommand)?;
+    let (column, text) = parts(rest).unwrap_or((rest, ""));
     let row = number(row).ok_or(Unread::NoCommand)?;
     let column = number(column).ok_or(Unread::NoCommand)?;
     Ok(Content::SetLines {
@@ -167,9 +205,24 @@ fn set_lines(alloc: Global, arguments: &str) -> Result<Content, Unread>
     })
 }
 
+// The call of this name and its arguments, if there are any, none of which is a text.
+fn plain(name: &str, arguments: Option<&str>) -> Option<Call<'static>>
+    ensures ready { IfSome result CanBeMade }
+    ensures means { option_map (λ call. meaning_of (Plain call)) result
+        ≡ plain_meant name.now (option_copied arguments.entry) }
+{
+    match arguments {
+        Some(arguments) => call_with(name, arguments),
+        None => call_alone(name),
+    }
+}
+
 // The call of this name, without arguments.
+#[tactic(auto, unfolding(crate::specs::Commands::plain_meant))]
 fn call_alone(name: &str) -> Option<Call<'static>>
-    ensures { IfSome result CanBeMade }
+    ensures ready { IfSome result CanBeMade }
+    ensures means { option_map (λ call. meaning_of (Plain call)) result
+        ≡ plain_meant name.now None }
 {
     Some(match name {
         "insert_tab" => Call::InsertTab,
@@ -197,13 +250,16 @@ fn call_alone(name: &str) -> Option<Call<'static>>
 }
 
 // The call of this name and these arguments, none of which is a text.
+#[tactic(auto, unfolding(crate::specs::Commands::plain_meant))]
 fn call_with(name: &str, arguments: &str) -> Option<Call<'static>>
-    ensures { IfSome result CanBeMade }
+    ensures ready { IfSome result CanBeMade }
+    ensures means { option_map (λ call. meaning_of (Plain call)) result
+        ≡ plain_meant name.now (Some arguments.now) }
 {
     Some(match name {
         "insert_char" => Call::InsertChar(one_character(arguments)?),
         "delete_str" => Call::DeleteStr(number(arguments)? as usize),
-        "set_tab_length" => Call::SetTabLength(u8::try_from(number(arguments)?).ok()?),
+        "set_tab_length" => Call::SetTabLength(byte_number(arguments)?),
         "set_hard_tab_indent" => Call::SetHardTabIndent(truth(arguments)?),
         "set_max_histories" => Call::SetMaxHistories(number(arguments)? as usize),
         "set_undo_coalescing" => Call::SetUndoCoalescing(truth(arguments)?),
@@ -226,7 +282,7 @@ fn call_with(name: &str, arguments: &str) -> Option<Call<'static>>
 
 // Line numbers in the empty style, or none.
 fn line_numbers(shown: bool) -> Call<'static>
-    ensures { CanBeMade result }
+    ensures { result ≡ line_numbers shown }
 {
     if shown {
         Call::SetLineNumberStyle(Style::new())
@@ -236,13 +292,18 @@ fn line_numbers(shown: bool) -> Call<'static>
 }
 
 // The jump to a row and a column.
-fn jump(arguments: &str) -> Option<CursorMove> {
+fn jump(arguments: &str) -> Option<CursorMove>
+    ensures { result ≡ option_map (λ p. move.Jump p.0 p.1) (two_short_numbers arguments.now) }
+{
     let (row, column) = two_short_numbers(arguments)?;
     Some(CursorMove::Jump(row, column))
 }
 
 // The cell in a column and a row.
-fn position(arguments: &str) -> Option<Position> {
+fn position(arguments: &str) -> Option<Position>
+    ensures { result
+        ≡ option_map (λ p. record { x = p.0; y = p.1 }) (two_short_numbers arguments.now) }
+{
     let (x, y) = two_short_numbers(arguments)?;
     Some(Position { x, y })
 }

@@ -1,6 +1,6 @@
 // The kinds of calls, by how they answer.
 ghost use Rattle.std.specs.Prelude.{◌≡◌};
-ghost use Rattle.textarea_script.specs.Kinds.{kind_of, kind_without_memory_of};
+ghost use Rattle.textarea_script.specs.Kinds.{kind_of, kind_of_asking, kind_without_memory_of};
 
 use crate::call::Call;
 
@@ -24,6 +24,10 @@ pub enum Kind {
     Looks,
     // It reads how the text looks or where the caret is, changes nothing, and takes no memory in any state.
     Reads,
+    // It reads the cursor, the selection or a setting, changes nothing, and takes no memory in any state.
+    Asks,
+    // It makes the call that an input asks for, and says whether the text was changed; it may run out of memory.
+    Presses,
     // It draws into the buffer, has nothing to say, and may run out of memory.
     Draws,
     // Its answer, or the state behind it, has a form of its own.
@@ -66,6 +70,7 @@ impl Call<'_> {
             | Call::SetPlaceholderText(_)
             | Call::SetStyledPlaceholder(_)
             | Call::CustomHighlight { .. } => Kind::Shows,
+            Call::Input(_) | Call::InputWithoutShortcuts(_) => Kind::Presses,
             Call::Render(_) => Kind::Draws,
             _ => self.kind_without_memory(),
         }
@@ -106,6 +111,28 @@ impl Call<'_> {
             | Call::CursorRenderMode
             | Call::Alignment
             | Call::RenderedCursorPosition => Kind::Reads,
+            _ => self.kind_of_asking(),
+        }
+    }
+
+    // The kind of a call that reads the cursor, the selection or a setting, and of any other that is of no kind above.
+    fn kind_of_asking(&self) -> Kind
+        ensures { result ≡ kind_of_asking self.now }
+    {
+        match self {
+            Call::Cursor
+            | Call::IsEmpty
+            | Call::IsSelecting
+            | Call::SelectionRange
+            | Call::TabLength
+            | Call::HardTabIndent
+            | Call::MaxHistories
+            | Call::UndoCoalescing
+            | Call::WrapMode
+            | Call::LineNumberStyle
+            | Call::PlaceholderStyle
+            | Call::MinRows
+            | Call::MaxRows => Kind::Asks,
             _ => Kind::Tells,
         }
     }

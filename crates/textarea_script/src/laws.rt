@@ -1,13 +1,18 @@
 //! Laws of runs, each the contract of a function that does nothing.
-ghost use Rattle.std.specs.Prelude.{◌≡◌, List};
+ghost use Rattle.std.specs.Prelude.{◌≡◌, ◌≤◌, List};
+ghost use Rattle.textarea_document.specs.Cuts.{SplicesUpTo};
+ghost use Rattle.textarea_document.specs.Sound.{IsSound};
 ghost use Rattle.textarea_screen.specs.declared.screen.buffer.Buffer.{Buffer};
 ghost use Rattle.tui_textarea.specs.State.{State};
+ghost use Rattle.textarea_script.specs.Calls.{IsLeft};
+ghost use Rattle.textarea_script.specs.Cuts.{CutsByCall};
 ghost use Rattle.textarea_script.specs.declared.call.Call.{Call};
+ghost use Rattle.textarea_script.specs.Outcomes.{IsBehind};
 ghost use Rattle.textarea_script.specs.Run.{Leads, ShowsSame};
 ghost use Rattle.textarea_script.specs.Said.{Said};
 
 use textarea_drawing::laws::{one_drawing, one_rendering};
-use tui_textarea::laws::one_move;
+use tui_textarea::laws::{calls_cut, inputs_cut, layouts_are_cut, one_input, one_move};
 
 /// Calls that answer so lead to one state, whatever the buffers: the answers settle all that a run leaves of a text area.
 pub fn one_end()
@@ -17,6 +22,7 @@ pub fn one_end()
         first ≡ second }
 {
     one_move();
+    one_input();
     one_rendering();
 }
 
@@ -28,6 +34,34 @@ pub fn one_screen()
         ShowsSame buffer other → ShowsSame shown drawn }
 {
     one_move();
+    one_input();
     one_rendering();
     one_drawing();
+}
+
+/// What each call cuts, of every state that a text area has: the edits, undos and redos the lines that their splices touch, or all
+/// lines where a splice changes the width of the map; lines that are set, a setting that cuts them in another way and a drawing that
+/// changes the width of the map all lines; and every other call none, so that it leaves count and ticks. A call that runs out of
+/// memory has at most made the splice that removes what was selected.
+pub fn each_call_cuts()
+    ensures made { (old new : State) (call : Call) (answer : Said) → IsSound old.document →
+        IsBehind old call answer new → CutsByCall old call new }
+    ensures refused { (old new : State) (call : Call) → IsSound old.document →
+        IsLeft old call new → SplicesUpTo 1 old.document new.document }
+{
+    inputs_cut();
+    calls_cut();
+    layouts_are_cut();
+}
+
+/// No call sets the count back, also none that runs out of memory.
+pub fn count_never_falls()
+    ensures made { (old new : State) (call : Call) (answer : Said) → IsSound old.document →
+        IsBehind old call answer new →
+        old.document.layout.count ≤ new.document.layout.count }
+    ensures refused { (old new : State) (call : Call) → IsSound old.document →
+        IsLeft old call new → old.document.layout.count ≤ new.document.layout.count }
+{
+    each_call_cuts();
+    textarea_lines::laws::count_never_falls();
 }

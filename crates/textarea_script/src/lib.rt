@@ -4,12 +4,14 @@
 
 pub mod answer;
 mod arguments;
+mod asking;
 pub mod call;
 pub mod commands;
 mod drawing;
 mod kind;
 pub mod laws;
 pub mod perform;
+mod pressing;
 pub mod printing;
 pub mod run;
 pub mod serve;

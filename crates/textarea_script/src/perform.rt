@@ -11,9 +11,11 @@ ghost use Rattle.textarea_script.specs.Said.{said, Done, Flag};
 ghost use Rattle.textarea_script.specs.declared.kind.Kind.TheVariants.{Deletes, Edits, Searches, Writes, Shows, Sets, Tells};
 
 use crate::answer::Answer;
+use crate::asking::ask;
 use crate::call::Call;
 use crate::drawing::{draw, look, read};
 use crate::kind::Kind;
+use crate::pressing::press;
 use std::alloc::{AllocError, Global};
 use textarea_pieces::given::copy_pieces;
 use textarea_ranges::atomic::AtomicRange;
@@ -54,6 +56,8 @@ pub fn perform(
             Ok(Answer::Done)
         }
         Kind::Reads => Ok(read(area, call)),
+        Kind::Asks => Ok(ask(area, call)),
+        Kind::Presses => press(area, call).map(Answer::Flag),
         Kind::Draws => draw(area, call, buffer).map(|()| Answer::Done),
         Kind::Tells => tell(area, call),
     }

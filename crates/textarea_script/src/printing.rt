@@ -98,6 +98,11 @@ impl fmt::Display for Answer {
             Answer::Character(character) => write!(f, "{character:?}"),
             Answer::CursorRenderMode(mode) => write!(f, "{mode:?}"),
             Answer::Alignment(alignment) => write!(f, "{alignment:?}"),
+            Answer::Number(number) => write!(f, "{number}"),
+            Answer::Cursor((row, column)) => write!(f, "{row} {column}"),
+            Answer::Selection(ends) => write!(f, "{ends:?}"),
+            Answer::StyleIfShown(style) => write!(f, "{style:?}"),
+            Answer::WrapMode(mode) => write!(f, "{mode:?}"),
         }
     }
 }

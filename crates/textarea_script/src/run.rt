@@ -18,7 +18,7 @@ pub struct RunEnd {
     pub refused: Option<usize>,
 }
 
-/// Makes the calls one after another, up to the first that runs out of memory. What they draw is drawn
+/// Makes the calls one after another, up to the first that runs out of memory; a call may be an input. What they draw is drawn
 /// into the buffer, which the other calls leave as it is. The calls and their answers settle the state
 /// that they lead to (`laws::one_end`).
 ///
@@ -26,9 +26,6 @@ pub struct RunEnd {
 /// lists are those of one flat list of characters and breaks changed by nonempty splices, and the
 /// visual rows, measured height, drawn cells, caret and hit tests are those of a layout computed
 /// anew from text, cursor, highlights, settings, viewport and last area.
-///
-/// For the calls so far, which are all but those that take keys, this holds, of both history lists edit by
-/// edit, and of what is drawn cell by cell.
 ///
 /// It asks that each `Call::SetLines` holds a line. Room for the answers is reserved first. Where that
 /// is refused, no call is made and the refused index is 0.

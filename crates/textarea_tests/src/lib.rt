@@ -8,7 +8,13 @@ mod edits;
 #[cfg(test)]
 mod heights;
 #[cfg(test)]
+mod hostile;
+#[cfg(test)]
+mod keys;
+#[cfg(test)]
 mod moves;
+#[cfg(test)]
+mod over;
 #[cfg(test)]
 mod ranges;
 #[cfg(test)]

@@ -3,7 +3,7 @@ use crate::transcript::{check, check_end, check_script};
 use std::test::Fail;
 use textarea_script::serve::LINE_NOT_READ;
 
-static SCRIPTS: [(&str, &str); 6] = [
+static SCRIPTS: [(&str, &str); 8] = [
     // No command at all, and empty lines between, before and behind commands.
     ("", "lines 1\n|\ncursor 0 0\nselection none\n"),
     ("\n", "lines 1\n|\ncursor 0 0\nselection none\n"),
@@ -19,6 +19,15 @@ static SCRIPTS: [(&str, &str); 6] = [
     (
         "insert_char \\r",
         "1 ok\nlines 2\n|\n|\ncursor 1 0\nselection none\n",
+    ),
+    // Inputs: what is held, and a key.
+    (
+        "insert_str ab\ninput - Home\ninput s Right\ninput c Char x",
+        "1 true\n2 false\n3 false\n4 true\nlines 1\n|b\ncursor 0 0\nselection none\n",
+    ),
+    (
+        "input - F 12\ninput cas Null\ninput as Esc\ninput - Char  \ninput - Char \\u{e9}",
+        "1 false\n2 false\n3 false\n4 true\n5 true\nlines 1\n| é\ncursor 0 2\nselection none\n",
     ),
     // The script of README.
     (
@@ -180,7 +189,7 @@ fn commands(rt: HostRuntime) -> Result<(), Fail> {
 }
 
 // Lines that are no command.
-static NO_COMMANDS: [&str; 107] = [
+static NO_COMMANDS: [&str; 124] = [
     // One space separates, and nothing may follow.
     "undo ",
     " undo",
@@ -211,6 +220,24 @@ static NO_COMMANDS: [&str; 107] = [
     "ranges 0 0 1 ",
     "ranges 0 0 1 0",
     "ranges 0 0 -1",
+    // What is held, in this order, and a key, with what belongs to it.
+    "input",
+    "input -",
+    "input - ",
+    "input Enter",
+    "input x Enter",
+    "input sc Enter",
+    "input -c Enter",
+    "input  Enter",
+    "input - enter",
+    "input - Enter ",
+    "input - Nokey",
+    "input - Char",
+    "input - Char ",
+    "input - Char ab",
+    "input - F",
+    "input - F 256",
+    "input - F x",
     // Nothing follows a command without arguments, not even a space.
     "insert_tab ",
     "copy x",

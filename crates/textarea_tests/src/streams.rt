@@ -1,9 +1,9 @@
-// `serve` over streams that fail, and with memory refused.
+// `serve` over streams that fail.
 use std::alloc::Global;
 use std::io;
 use std::io::{ErrorKind, Read, Write};
 use std::test::Fail;
-use textarea_script::serve::{DONE, LINE_NOT_READ, OUT_OF_MEMORY, STREAM_FAILED, serve};
+use textarea_script::serve::{DONE, LINE_NOT_READ, STREAM_FAILED, serve};
 
 const SCRIPT: &str = "insert_char a
 insert_newline
@@ -38,18 +38,43 @@ screen 2
 |   |
 ";
 
-// Gives its text in pieces, and then fails.
+// Gives its text in pieces, each behind an interruption where it is interrupted, until its reads are used up; then each read
+// fails.
 #[derive(Drop)]
 struct BrokenReader<'a> {
     text: &'a [u8],
     piece: usize,
+    reads: usize,
+    is_interrupted: bool,
+    is_next_interrupted: bool,
+    has_failed: bool,
+}
+
+impl<'a> BrokenReader<'a> {
+    fn new(text: &'a str, piece: usize, is_interrupted: bool, reads: usize) -> BrokenReader<'a> {
+        BrokenReader {
+            text: text.as_bytes(),
+            piece,
+            reads,
+            is_interrupted,
+            is_next_interrupted: is_interrupted,
+            has_failed: false,
+        }
+    }
 }
 
 impl Read for BrokenReader<'_> {
     fn read(&mut self, buf: &mut [u8]) -> io::Result<usize> {
-        if self.text.is_empty() {
-            return Err(io::Error::from(ErrorKind::BrokenPipe));
+        if self.is_next_interrupted {
+            self.is_next_interrupted = false;
+            return Err(io::Error::from(ErrorKind::Interrupted));
         }
+        self.is_next_interrupted = self.is_interrupted;
+        let Some(left) = self.reads.checked_sub(1) else {
+            self.has_failed = true;
+            return Err(io::Error::from(ErrorKind::BrokenPipe));
+        };
+        self.reads = left;
         let count = self.piece.min(self.text.len()).min(buf.len());
         let (piece, rest) = self.text.split_at(count);
         buf[..count].copy_from_slice(piece);
@@ -99,19 +124,29 @@ impl Write for BrokenWriter {
     }
 }
 
+// At each read in turn, and at none.
 #[test]
 fn readers_that_fail(rt: HostRuntime) -> Result<(), Fail> {
-    for (text, piece) in [("", 1), ("undo\n", 1), (SCRIPT, 7), ("nothing\n", 100)] {
-        let mut reader = BrokenReader {
-            text: text.as_bytes(),
-            piece,
-        };
-        let mut output = Vec::new(rt.alloc());
-        let mut errors = Vec::new(rt.alloc());
-        let status = serve(rt.alloc(), &mut reader, &mut output, &mut errors);
-        assert!(rt; status == STREAM_FAILED);
-        assert!(rt; output.is_empty());
-        assert!(rt; errors.is_empty());
+    for (piece, is_interrupted) in [(1, false), (1, true), (7, false), (64, true)] {
+        for reads in 0..SCRIPT.len() + 2 {
+            let mut reader = BrokenReader::new(SCRIPT, piece, is_interrupted, reads);
+            let mut output = Vec::new(rt.alloc());
+            let mut errors = Vec::new(rt.alloc());
+            let status = serve(rt.alloc(), &mut reader, &mut output, &mut errors);
+            let printed = if reader.has_failed { "" } else { PRINTED };
+            assert!(rt;
+                status
+                    == if reader.has_failed {
+                        STREAM_FAILED
+                    } else {
+                        DONE
+                    }
+            );
+            assert!(rt; output.as_slice() == printed.as_bytes());
+            assert!(rt; errors.is_empty());
+            // As many reads as bytes, and one that tells the end.
+            assert!(rt; piece != 1 || reader.has_failed == (reads <= SCRIPT.len()));
+        }
     }
     Ok(())
 }
@@ -150,64 +185,4 @@ fn failing_errors_change_no_status(rt: HostRuntime) -> Result<(), Fail> {
         assert!(rt; b"line 1: not read\n".starts_with(errors.text()));
     }
     Ok(())
-}
-
-// Gives its text, and notes that it was read to its end.
-#[derive(Drop)]
-struct WholeReader<'a> {
-    text: &'a [u8],
-    ended: bool,
-}
-
-impl Read for WholeReader<'_> {
-    fn read(&mut self, buf: &mut [u8]) -> io::Result<usize> {
-        let count = self.text.len().min(buf.len());
-        let (piece, rest) = self.text.split_at(count);
-        buf[..count].copy_from_slice(piece);
-        self.text = rest;
-        self.ended = count == 0;
-        Ok(count)
-    }
-}
-
-// Takes the text that it waits for, and no other, without memory of its own.
-#[derive(Drop)]
-struct WaitingWriter<'a> {
-    text: &'a [u8],
-}
-
-impl Write for WaitingWriter<'_> {
-    fn write(&mut self, buf: &[u8]) -> io::Result<usize> {
-        let Some(rest) = self.text.strip_prefix(buf) else {
-            return Err(io::Error::from(ErrorKind::InvalidData));
-        };
-        self.text = rest;
-        Ok(buf.len())
-    }
-
-    fn flush(&mut self) -> io::Result<()> {
-        Ok(())
-    }
-}
-
-// With ample memory this is one more run. With an allocation refused there are two ends: the script wasn't read to its end, or
-// it was and `no memory` is told. Nothing is printed then, whichever call was refused.
-#[test]
-fn refused_memory(rt: HostRuntime) {
-    let mut reader = WholeReader {
-        text: SCRIPT.as_bytes(),
-        ended: false,
-    };
-    let mut output = WaitingWriter {
-        text: PRINTED.as_bytes(),
-    };
-    let mut errors = WaitingWriter {
-        text: b"no memory\n",
-    };
-    let status = serve(rt.alloc(), &mut reader, &mut output, &mut errors);
-    assert!(rt; status == DONE || status == STREAM_FAILED || status == OUT_OF_MEMORY);
-    assert!(rt; reader.ended == (status != STREAM_FAILED));
-    let printed = if status == DONE { "" } else { PRINTED };
-    assert!(rt; output.text == printed.as_bytes());
-    assert!(rt; errors.text.is_empty() == (status == OUT_OF_MEMORY));
 }

@@ -21,7 +21,7 @@ use Rattle.textarea_surround.specs.declared.surround.measure.TextAreaMeasure.{Te
 use Rattle.tui_textarea.specs.Drawing.{IsRendered, parts_of}
 use Rattle.tui_textarea.specs.Frames.{IsLaidOutFor}
 use Rattle.tui_textarea.specs.Measure.{IsMeasured}
-use Rattle.tui_textarea.specs.Moves.{IsMoved, moved_by, pushed}
+use Rattle.tui_textarea.specs.Moves.{IsMovedWith, moved_by, pushed}
 use Rattle.tui_textarea.specs.State.{State}
 
 -- ---- what the lines' laws say
@@ -43,7 +43,7 @@ HasOneRowCount = (document : DocumentState) (inner_width count other : ℕ) → 
 
 -- ---- after a drawing
 
-drawn_document : (old new : State) (area : Rect) → IsRendered old area new → new.document ≡ with_inner_width old.document (width_inside old.surround.block area.width)
+pub drawn_document : (old new : State) (area : Rect) → IsRendered old area new → new.document ≡ with_inner_width old.document (width_inside old.surround.block area.width)
 drawn_document old new area h = ap (λ (p : Parts). p.document) h.parts.new_is ∙ ap (with_inner_width old.document) h.parts.inner_is.width
 
 drawn_surround : (old new : State) (area : Rect) → IsRendered old area new → new.surround ≡ old.surround
@@ -65,27 +65,27 @@ document_stays keeps old new area same h =
 
 -- ---- after a move or a scroll
 
-moved_layout : (state : State) (found : Option Place) → (moved_by state found).document.layout ≡ state.document.layout
-moved_layout state None = refl
-moved_layout state (Some place) = refl
+moved_layout : (state : State) (shift : Bool) (found : Option Place) → (moved_by state shift found).document.layout ≡ state.document.layout
+moved_layout state shift None = refl
+moved_layout state shift (Some place) = refl
 
-moved_surround : (state : State) (found : Option Place) → (moved_by state found).surround ≡ state.surround
-moved_surround state None = refl
-moved_surround state (Some place) = refl
+moved_surround : (state : State) (shift : Bool) (found : Option Place) → (moved_by state shift found).surround ≡ state.surround
+moved_surround state shift None = refl
+moved_surround state shift (Some place) = refl
 
-pub layout_moved : (old new : State) (cursor_move : CursorMove) → IsMoved old cursor_move new → new.document.layout ≡ old.document.layout
-layout_moved old new cursor_move h =
-    ap (λ (s : State). s.document.layout) h.new_is ∙ moved_layout old (pushed old.document.ranges cursor_move h.found)
+pub layout_moved : (old new : State) (shift : Bool) (cursor_move : CursorMove) → IsMovedWith old shift cursor_move new → new.document.layout ≡ old.document.layout
+layout_moved old new shift cursor_move h =
+    ap (λ (s : State). s.document.layout) h.new_is ∙ moved_layout old shift (pushed old.document.ranges cursor_move h.found)
 
-surround_moved : (old new : State) (cursor_move : CursorMove) → IsMoved old cursor_move new → new.surround ≡ old.surround
-surround_moved old new cursor_move h =
-    ap (λ (s : State). s.surround) h.new_is ∙ moved_surround old (pushed old.document.ranges cursor_move h.found)
+surround_moved : (old new : State) (shift : Bool) (cursor_move : CursorMove) → IsMovedWith old shift cursor_move new → new.surround ≡ old.surround
+surround_moved old new shift cursor_move h =
+    ap (λ (s : State). s.surround) h.new_is ∙ moved_surround old shift (pushed old.document.ranges cursor_move h.found)
 
-pub width_moved : (old new : State) (cursor_move : CursorMove) (width : ℕ) → IsMoved old cursor_move new → IsLaidOutFor old width → IsLaidOutFor new width
-width_moved old new cursor_move width h put =
-    ap (λ (l : Layout). l.settings.inner_width) (layout_moved old new cursor_move h)
+pub width_moved : (old new : State) (shift : Bool) (cursor_move : CursorMove) (width : ℕ) → IsMovedWith old shift cursor_move new → IsLaidOutFor old width → IsLaidOutFor new width
+width_moved old new shift cursor_move width h put =
+    ap (λ (l : Layout). l.settings.inner_width) (layout_moved old new shift cursor_move h)
     ∙ put
-    ∙ ap (λ (s : SurroundState). width_inside s.block width) (sym (surround_moved old new cursor_move h))
+    ∙ ap (λ (s : SurroundState). width_inside s.block width) (sym (surround_moved old new shift cursor_move h))
 
 -- and for the width of an area that is as wide
 pub as_wide : (state : State) (area other : Rect) → other.width ≡ area.width → IsLaidOutFor state area.width → IsLaidOutFor state other.width

@@ -6,3 +6,7 @@ pub mod Searches
 mod Cases
 mod OneTarget
 mod Frames
+mod OneAct
+mod Removing
+mod Cutting
+mod WorkedCounts

@@ -1,8 +1,11 @@
--- What one call behind another comes to.
-use Rattle.std.specs.Prelude.{◌≡◌, true}
+-- What one call behind another comes to, and what the visual rows are at any time.
+use Rattle.std.specs.Prelude.{◌≡◌, List, true}
 use Rattle.textarea_text.specs.Place.{end, inserted}
 use Rattle.textarea_document.specs.Edits.{insertion_place, is_filled}
+use Rattle.textarea_document.specs.Rows.{laid_out_of}
 use Rattle.textarea_document.specs.Selection.{selected}
+use Rattle.textarea_lines.specs.Rows.{IsLaidOutAs}
+use Rattle.textarea_wrap.specs.RowsView.{RowsView}
 use Rattle.tui_textarea.specs.State.{State}
 use Rattle.tui_textarea.specs.Edits.{str_inserted}
 use Rattle.tui_textarea.specs.Selection.{selection_copied}
@@ -20,3 +23,8 @@ pub record PastesCopy (state : State) : Type 0 where
   pub cursor : (copied_and_pasted state).document.cursor
       ≡ end (insertion_place state.document) (selected state.document)
   pub answer : is_filled (selection_copied state).yank ≡ true
+
+-- The visual rows that are kept are those of a layout anew: for each line of the text as it stands its rows, cut by nothing but that
+-- line, the mode, the tab stops, and the width that is left beside line numbers; and each line was cut when the state says.
+abbrev pub HasRowsAnew : State → Type 0
+HasRowsAnew state = (rows : List RowsView) × IsLaidOutAs (laid_out_of state.document) rows

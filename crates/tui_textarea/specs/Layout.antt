@@ -1,5 +1,5 @@
 -- What the calls that decide how the text is laid out make of the state.
-use Rattle.std.specs.Prelude.{ℕ, Bool, true, false, Option, Some, None, if◌then◌else◌}
+use Rattle.std.specs.Prelude.{ℕ, Bool, true, false, List, [], ◌∷◌, replicate, Option, Some, None, if◌then◌else◌}
 use Rattle.textarea_screen.specs.declared.screen.alignment.Alignment.{Alignment}
 use Rattle.textarea_screen.specs.declared.screen.alignment.Alignment.TheVariants.{Left, Center, Right}
 use Rattle.textarea_screen.specs.declared.screen.style.Style.{Style}
@@ -66,3 +66,7 @@ abbrev pub with_alignment : State → Alignment → State
 with_alignment state alignment =
     with_look (with_layout state (alignment_set state alignment))
     (record state.drawing.look { alignment = alignment })
+
+-- what a tab at a line's start is, by its bytes: a tab character where hard tabs are on, else as many spaces as the tab length
+abbrev pub indent_of : State → List ℕ
+indent_of state = if state.settings.hard_tab_indent then 9 ∷ [] else replicate (tab_length state.document) 32

@@ -4,9 +4,12 @@ pub mod Edits
 pub mod Removals
 pub mod Selection
 pub mod Moves
+pub mod Input
 pub mod Ranges
 pub mod Search
 pub mod Layout
 pub mod Measure
 pub mod Law
 pub mod Frames
+pub mod Cuts
+pub mod Worked

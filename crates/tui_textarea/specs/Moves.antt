@@ -1,5 +1,5 @@
 -- What the moves make of the state.
-use Rattle.std.specs.Prelude.{◌≡◌, List, Option, Some, None, option_map}
+use Rattle.std.specs.Prelude.{◌≡◌, Bool, true, false, List, Option, Some, None, is_some, option_map, unwrap_or}
 use Rattle.textarea_text.specs.Place.{Place}
 use Rattle.textarea_data.specs.declared.cursor.CursorMove.{CursorMove}
 use Rattle.textarea_data.specs.declared.cursor.CursorMove.TheVariants as move
@@ -9,16 +9,22 @@ use Rattle.textarea_ranges.specs.declared.atomic.AtomicCursorBias.{AtomicCursorB
 use Rattle.textarea_ranges.specs.declared.atomic.AtomicCursorBias.TheVariants.{Backward, Forward}
 use Rattle.textarea_ranges.specs.Held.{moved_out}
 use Rattle.textarea_document.specs.Outcomes.{moved}
+use Rattle.textarea_document.specs.State.{DocumentState}
 use Rattle.textarea_document.specs.Rows.{IsAboveCursor, IsBelowCursor}
 use Rattle.textarea_drawing.specs.Hit.{IsInside}
 use Rattle.textarea_target.specs.Target.{VisualTargets, target}
 use Rattle.tui_textarea.specs.Drawing.{viewport_scrolled}
 use Rattle.tui_textarea.specs.State.{State, with_document}
 
--- the cursor goes to the target, if there is one; an open selection stays open
-abbrev pub moved_by : State → Option Place → State
-moved_by state None = state
-moved_by state (Some place) = with_document state (moved state.document place state.document.anchor)
+-- where a selection begins behind a move: with Shift the open one stays, or one begins at the old cursor; without it none is open
+abbrev pub anchor_with : Bool → DocumentState → Option Place
+anchor_with true document = Some (unwrap_or document.anchor document.cursor)
+anchor_with false document = None
+
+-- the cursor goes to the target, if there is one, with Shift or without it; where there is none nothing changes, also no selection
+abbrev pub moved_by : State → Bool → Option Place → State
+moved_by state shift None = state
+moved_by state shift (Some place) = with_document state (moved state.document place (anchor_with shift state.document))
 
 -- the moves that lead to a range's start where they would end strictly inside it; the others lead to its end
 abbrev pub bias_of : CursorMove → AtomicCursorBias
@@ -44,12 +50,20 @@ pub record IsTarget (state : State) (cursor_move : CursorMove) (found : Option P
   pub inside_is : cursor_move ≡ move.InViewport → IsInside state.document state.drawing.viewport visual.inside
   pub found_is : found ≡ target visual state.document.text state.document.cursor cursor_move
 
--- the state after the move: the cursor has gone to the target, if there is one
-pub record IsMoved (old : State) (cursor_move : CursorMove) (new : State) : Type 0 where
+-- the state after the move, with Shift or without it: the cursor has gone to the target, if there is one
+pub record IsMovedWith (old : State) (shift : Bool) (cursor_move : CursorMove) (new : State) : Type 0 where
   pub found : Option Place
   pub target_is : IsTarget old cursor_move found
-  pub new_is : new ≡ moved_by old (pushed old.document.ranges cursor_move found)
+  pub new_is : new ≡ moved_by old shift (pushed old.document.ranges cursor_move found)
 
--- the state after a scroll: another part is shown, and then the cursor has gone to the nearest place that is shown
+-- the state after a scroll, with Shift or without it: another part is shown, and then the cursor has gone to the nearest place that
+-- is shown
+abbrev pub IsScrolledWith : State → Bool → Scrolling → State → Type 0
+IsScrolledWith old shift scrolling new = IsMovedWith (viewport_scrolled old scrolling) shift move.InViewport new
+
+-- the calls that move and scroll do so with Shift exactly if a selection is open, so an open one stays open, and none begins
+abbrev pub IsMoved : State → CursorMove → State → Type 0
+IsMoved old cursor_move new = IsMovedWith old (is_some old.document.anchor) cursor_move new
+
 abbrev pub IsScrolled : State → Scrolling → State → Type 0
-IsScrolled old scrolling new = IsMoved (viewport_scrolled old scrolling) move.InViewport new
+IsScrolled old scrolling new = IsScrolledWith old (is_some old.document.anchor) scrolling new

@@ -1,31 +1,55 @@
 //! Laws of text areas and their visual rows, each the contract of a function that does nothing.
-ghost use Rattle.std.specs.Prelude.{◌≡◌, ◌<◌, ℕ, true, false, length};
+ghost use Rattle.std.specs.Prelude.{◌≡◌, ◌<◌, ℕ, Bool, List, true, false, length};
 ghost use Rattle.textarea_data.specs.declared.cursor.CursorMove.{CursorMove};
 ghost use Rattle.textarea_data.specs.declared.scroll.Scrolling.{Scrolling};
+ghost use Rattle.textarea_document.specs.Cuts.{CutsAll, CutsBySettings, CutsByWidth, SplicesUpTo};
 ghost use Rattle.textarea_document.specs.Rows.{laid_out_of};
+ghost use Rattle.textarea_document.specs.Sound.{IsSound};
+ghost use Rattle.textarea_document.specs.State.{fresh_document};
 ghost use Rattle.textarea_drawing.specs.Frame.{frame_of, shows_placeholder};
+ghost use Rattle.textarea_keys.specs.declared.action.Action.{Action};
+ghost use Rattle.textarea_lines.specs.declared.settings.LayoutSettings.{LayoutSettings};
 ghost use Rattle.textarea_lines.specs.View.{IsViewOf, LentRows};
 ghost use Rattle.textarea_map.specs.Map.{row_total};
+ghost use Rattle.textarea_ranges.specs.declared.atomic.AtomicDeleteDirection.{AtomicDeleteDirection};
 ghost use Rattle.textarea_screen.specs.declared.screen.rect.Rect.{Rect};
 ghost use Rattle.textarea_surround.specs.Measure.{saturated, width_inside};
 ghost use Rattle.textarea_surround.specs.declared.surround.measure.TextAreaMeasure.{TextAreaMeasure};
+ghost use Rattle.textarea_text.specs.Place.{Place};
+ghost use Rattle.textarea_text.specs.Text.{Symbol};
+ghost use Rattle.tui_textarea.specs.Cuts.{CutsByAct};
 ghost use Rattle.tui_textarea.specs.Drawing.{IsRendered, parts_of};
+ghost use Rattle.tui_textarea.specs.Edits.{str_inserted};
 ghost use Rattle.tui_textarea.specs.Frames.{IsLaidOutFor};
 ghost use Rattle.tui_textarea.specs.Measure.{IsMeasured};
-ghost use Rattle.tui_textarea.specs.Moves.{IsMoved, IsScrolled};
-ghost use Rattle.tui_textarea.specs.State.{State};
+ghost use Rattle.tui_textarea.specs.Input.{IsActed};
+ghost use Rattle.tui_textarea.specs.Layout.{with_layout};
+ghost use Rattle.tui_textarea.specs.Moves.{IsMovedWith, IsScrolledWith};
+ghost use Rattle.tui_textarea.specs.Ranges.{hit_range_removed};
+ghost use Rattle.tui_textarea.specs.Removals.{break_before_removed, symbols_ahead_removed, text_cleared, unselected_or};
+ghost use Rattle.tui_textarea.specs.Selection.{unselected};
+ghost use Rattle.tui_textarea.specs.State.{State, with_other_lines};
 
-use textarea_document::laws::{one_place_up_and_down, one_row_count};
+use textarea_document::laws::{edits_cut, layouts_cut, one_place_up_and_down, one_row_count};
 use textarea_drawing::laws::one_place_inside;
 use textarea_lines::laws::{cut_as_measured, settings_stay};
 
-/// A move leads from a state to one state.
+/// A move leads from a state to one state, with Shift and without it.
 pub fn one_move()
-    ensures { (old first second : State) (cursor_move : CursorMove) →
-        IsMoved old cursor_move first → IsMoved old cursor_move second → first ≡ second }
+    ensures { (old first second : State) (shift : Bool) (cursor_move : CursorMove) →
+        IsMovedWith old shift cursor_move first → IsMovedWith old shift cursor_move second →
+        first ≡ second }
 {
     one_place_up_and_down();
     one_place_inside();
+}
+
+/// What an input asks for leads from a state to one state.
+pub fn one_input()
+    ensures { (old first second : State) (action : Action) →
+        IsActed old action first → IsActed old action second → first ≡ second }
+{
+    one_move();
 }
 
 /// An area of a width, in columns, has one measure.
@@ -67,16 +91,19 @@ pub fn drawn_at_its_width()
     settings_stay();
 }
 
-/// A move and a scroll leave the layout of the text, so they cut nothing; and it stays laid out for the width of an area.
+/// A move and a scroll, with Shift or without it, leave the layout of the text, so they cut nothing; and it stays laid out for the
+/// width of an area.
 pub fn moves_cut_nothing()
-    ensures moved { (old new : State) (cursor_move : CursorMove) → IsMoved old cursor_move new →
-        new.document.layout ≡ old.document.layout }
-    ensures scrolled { (old new : State) (scrolling : Scrolling) → IsScrolled old scrolling new →
-        new.document.layout ≡ old.document.layout }
-    ensures width_moved { (old new : State) (cursor_move : CursorMove) (width : ℕ) →
-        IsMoved old cursor_move new → IsLaidOutFor old width → IsLaidOutFor new width }
-    ensures width_scrolled { (old new : State) (scrolling : Scrolling) (width : ℕ) →
-        IsScrolled old scrolling new → IsLaidOutFor old width → IsLaidOutFor new width }
+    ensures moved { (old new : State) (shift : Bool) (cursor_move : CursorMove) →
+        IsMovedWith old shift cursor_move new → new.document.layout ≡ old.document.layout }
+    ensures scrolled { (old new : State) (shift : Bool) (scrolling : Scrolling) →
+        IsScrolledWith old shift scrolling new → new.document.layout ≡ old.document.layout }
+    ensures width_moved { (old new : State) (shift : Bool) (cursor_move : CursorMove)
+        (width : ℕ) → IsMovedWith old shift cursor_move new →
+        IsLaidOutFor old width → IsLaidOutFor new width }
+    ensures width_scrolled { (old new : State) (shift : Bool) (scrolling : Scrolling)
+        (width : ℕ) → IsScrolledWith old shift scrolling new →
+        IsLaidOutFor old width → IsLaidOutFor new width }
 {}
 
 /// The text is cut once for all drawings at one width: a second drawing into an area as wide leaves the document as it is, also
@@ -85,15 +112,63 @@ pub fn frame_cuts_once()
     ensures again { (old first second : State) (area other : Rect) → other.width ≡ area.width →
         IsRendered old area first → IsRendered first other second →
         second.document ≡ first.document }
-    ensures behind_move { (old first moved second : State) (area other : Rect)
+    ensures behind_move { (old first moved second : State) (area other : Rect) (shift : Bool)
         (cursor_move : CursorMove) → other.width ≡ area.width →
-        IsRendered old area first → IsMoved first cursor_move moved →
+        IsRendered old area first → IsMovedWith first shift cursor_move moved →
         IsRendered moved other second → second.document ≡ moved.document }
-    ensures behind_scroll { (old first scrolled second : State) (area other : Rect)
+    ensures behind_scroll { (old first scrolled second : State) (area other : Rect) (shift : Bool)
         (scrolling : Scrolling) → other.width ≡ area.width →
-        IsRendered old area first → IsScrolled first scrolling scrolled →
+        IsRendered old area first → IsScrolledWith first shift scrolling scrolled →
         IsRendered scrolled other second → second.document ≡ scrolled.document }
 {
     drawn_at_its_width();
     moves_cut_nothing();
+}
+
+/// What an input cuts, by what it asks for. An insertion makes at most two splices, since what is selected is removed first, as one
+/// of its own; a removal, an undo and a redo make at most one; each splice cuts what a splice cuts, and the count grows by just as
+/// much. All else that an input asks for leaves count and ticks.
+pub fn inputs_cut()
+    ensures { (old new : State) (action : Action) → IsSound old.document →
+        IsActed old action new → CutsByAct action old.document new.document }
+{
+    edits_cut();
+    moves_cut_nothing();
+}
+
+/// What the calls cut that no input asks for and that edit the text: the insertion of a text makes at most two splices, and each of
+/// these removals at most one; and so does the removal of what is selected, which an insertion leaves that then runs out of memory.
+pub fn calls_cut()
+    ensures text { (state : State) (symbols : List Symbol) → IsSound state.document →
+        SplicesUpTo 2 state.document (str_inserted state symbols).document }
+    ensures ahead { (state : State) (count : ℕ) → IsSound state.document →
+        SplicesUpTo 1 state.document
+        (unselected_or state (symbols_ahead_removed state count)).document }
+    ensures break_before { (state : State) → IsSound state.document →
+        SplicesUpTo 1 state.document (unselected_or state (break_before_removed state)).document }
+    ensures all { (state : State) → IsSound state.document →
+        SplicesUpTo 1 state.document (text_cleared state).document }
+    ensures range { (state : State) (direction : AtomicDeleteDirection) →
+        IsSound state.document →
+        SplicesUpTo 1 state.document (hit_range_removed state direction).document }
+    ensures selection { (state : State) → IsSound state.document →
+        SplicesUpTo 1 state.document (unselected state).document }
+{
+    edits_cut();
+}
+
+/// What else cuts lines. A drawing cuts all lines where it changes the width of the map, and else none; other settings cut all
+/// lines where they cut the text in another way, and else none; and other lines that take the place of the old ones are all cut.
+pub fn layouts_are_cut()
+    ensures drawing { (old new : State) (area : Rect) → IsRendered old area new →
+        CutsByWidth old.document new.document }
+    ensures settings { (state : State) (settings : LayoutSettings) →
+        CutsBySettings state.document settings (with_layout state settings).document }
+    ensures lines { (state : State) (text : List Symbol) (cursor : Place) (maximum : ℕ) →
+        CutsAll state.document
+        (with_other_lines state
+        (fresh_document text state.document.layout.settings state.document.layout.count cursor
+        maximum)).document }
+{
+    layouts_cut();
 }

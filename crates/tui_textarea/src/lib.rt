@@ -5,6 +5,7 @@
 pub mod laws;
 pub mod textarea;
 pub mod util;
+pub mod worked;
 
 pub use textarea::TextArea;
 pub use textarea_data::cursor::{CursorMove, DataCursor};
@@ -13,6 +14,7 @@ pub use textarea_data::scroll::Scrolling;
 pub use textarea_highlight::highlight;
 pub use textarea_history::history;
 pub use textarea_look::look::CursorRenderMode;
+pub use textarea_map::layout::Wrapping;
 pub use textarea_map::screen_map;
 pub use textarea_ranges::atomic::{
     AtomicCursorBias, AtomicDeleteDirection, AtomicRange, AtomicRangeError,

@@ -1,6 +1,7 @@
 //! The text area: a document, what was yanked, the settings, the clock, a pattern, a surround, and how all is drawn.
 mod constructors;
 mod edits;
+mod input;
 mod laws;
 mod layout;
 mod look;

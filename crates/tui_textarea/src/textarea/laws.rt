@@ -7,7 +7,8 @@ ghost use Rattle.textarea_document.specs.Law.{GivesAllBack, GivesBack, ListsFit}
 ghost use Rattle.textarea_document.specs.Outcomes.{edited};
 ghost use Rattle.textarea_document.specs.Ranges.{CutsNone};
 ghost use Rattle.textarea_document.specs.Selection.{is_selected};
-ghost use Rattle.tui_textarea.specs.Law.{PastesCopy};
+ghost use Rattle.textarea_document.specs.Sound.{IsSound};
+ghost use Rattle.tui_textarea.specs.Law.{HasRowsAnew, PastesCopy};
 
 use crate::textarea::TextArea;
 
@@ -60,11 +61,27 @@ impl TextArea<'_> {
         let _ = self.document.filled_selection();
     }
 
+    /// Of every text area the cursor and the anchor are places of the text, the ranges valid for it and in order, the done edits can
+    /// be taken back and the undone ones made again, and both lists together are at most the maximum.
+    pub fn is_sound(&self)
+        ensures { IsSound self.now.document }
+    {
+        self.document.is_sound();
+    }
+
     /// The cursor, and the place where a selection began, are places of the text, of every text area.
     pub fn cursor_and_anchor_are_places(&self)
         ensures cursor { IsPlace self.now.document.text self.now.document.cursor }
         ensures anchor { IfSome self.now.document.anchor (IsPlace self.now.document.text) }
     {
         let _ = (self.document.cursor(), self.document.anchor());
+    }
+
+    /// The law of visual rows, for every text area: the rows that are kept are those of a layout of the text anew, as it
+    /// stands, by the settings.
+    pub fn rows_are_laid_out_anew(&self)
+        ensures { HasRowsAnew self.now }
+    {
+        let _ = self.document.view();
     }
 }

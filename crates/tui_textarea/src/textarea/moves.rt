@@ -1,7 +1,7 @@
 //! Moves of the cursor.
 ghost use Rattle.std.specs.Prelude.{◌≡◌, IfSome};
 ghost use Rattle.textarea_text.specs.Place.{IsPlace};
-ghost use Rattle.tui_textarea.specs.Moves.{IsMoved, IsTarget, bias_of};
+ghost use Rattle.tui_textarea.specs.Moves.{IsMoved, IsMovedWith, IsTarget, anchor_with, bias_of};
 
 use crate::textarea::TextArea;
 use textarea_data::cursor::CursorMove;
@@ -19,10 +19,32 @@ impl TextArea<'_> {
     pub fn move_cursor(&mut self, cursor_move: CursorMove)
         ensures { IsMoved self.old cursor_move self.new }
     {
+        self.move_with_shift(cursor_move, self.is_selecting());
+    }
+
+    // Moves the cursor, with Shift or without it: with it an open selection stays open, or one begins at the old cursor;
+    // without it none is open behind the move.
+    pub(crate) fn move_with_shift(&mut self, cursor_move: CursorMove, shift: bool)
+        ensures { IsMovedWith self.old shift cursor_move self.new }
+    {
         if let Some(place) = self.target_of(cursor_move) {
             let place = move_out(self.document.ranges(), place, bias_of(cursor_move));
-            let anchor = self.document.anchor();
+            let anchor = self.anchor_with(shift);
             self.document.move_to(place, anchor);
+        }
+    }
+
+    // Where a selection begins behind a move with Shift, or without it.
+    fn anchor_with(&self, shift: bool) -> Option<(usize, usize)>
+        ensures value { result ≡ anchor_with shift self.now.document }
+        ensures place { IfSome result (IsPlace self.now.document.text) }
+    {
+        if !shift {
+            return None;
+        }
+        match self.document.anchor() {
+            Some(anchor) => Some(anchor),
+            None => Some(self.document.cursor()),
         }
     }
 

@@ -1,20 +1,23 @@
 //! Drawing into a buffer, the caret, what a cell of the screen shows, and scrolling.
 ghost use Rattle.std.specs.Prelude.{◌≡◌, IfOk, IfSome, IsOk, OnErr, OnOk};
 ghost use Rattle.std.specs.Option.{option_map};
+ghost use Rattle.textarea_drawing.specs.Back.{IsHitBack};
 ghost use Rattle.textarea_drawing.specs.Hit.{IsHit};
 ghost use Rattle.textarea_drawing.specs.Rendered.{IsDrawn};
+ghost use Rattle.textarea_drawing.specs.Shown.{IsCaretShown};
 ghost use Rattle.textarea_drawing.specs.State.{cell_of_position};
 ghost use Rattle.textarea_screen.specs.Buffer.{KeepsOutside};
 ghost use Rattle.textarea_screen.specs.Rect.{contains};
 ghost use Rattle.textarea_screen.specs.declared.screen.alignment.Alignment.TheVariants.{Left};
 ghost use Rattle.textarea_text.specs.Place.{IsPlace};
 ghost use Rattle.tui_textarea.specs.Drawing.{IsRendered, parts_of};
-ghost use Rattle.tui_textarea.specs.Moves.{IsScrolled};
+ghost use Rattle.tui_textarea.specs.Moves.{IsScrolled, IsScrolledWith};
 
 use crate::textarea::TextArea;
 use std::alloc::AllocError;
 use textarea_data::cursor::CursorMove;
 use textarea_data::scroll::Scrolling;
+use textarea_drawing::laws::{caret_is_hit_back, caret_is_shown};
 use textarea_screen::screen::{Buffer, Position, Rect};
 use textarea_viewport::Viewport;
 
@@ -23,12 +26,16 @@ impl TextArea<'_> {
     /// the text is empty and the placeholder has lines. The lines are cut anew, each once, only where the inner width cuts
     /// them in another way; the part that is shown follows the cursor.
     ///
-    /// A cell on which nothing stands keeps its text, and one outside of the area is left as it is. Out of memory, cells of
-    /// the area may be drawn already, and the text area is as it was.
+    /// A cell on which nothing stands keeps its text, and one outside of the area is left as it is. A caret that is shown is hit
+    /// back: `cursor_at_position` of its cell is the cursor, where no character of the cursor's visual row has display width 0.
+    /// With rows at the left it is shown in every area that has room for it.
+    /// Out of memory, cells of the area may be drawn already, and the text area is as it was.
     pub fn render(&mut self, area: Rect, buffer: &mut Buffer) -> Result<(), AllocError>
         ensures ok { OnOk result (IsRendered self.old area self.new) }
         ensures cells { OnOk result (IsDrawn (parts_of self.new) area buffer.old buffer.new) }
         ensures outside { KeepsOutside (contains area) buffer.old buffer.new }
+        ensures back { OnOk result (IsHitBack (parts_of self.new)) }
+        ensures shown { OnOk result (IsCaretShown (parts_of self.new)) }
         ensures err { OnErr result (self.new ≡ self.old) }
     {
         self.drawing.render(
@@ -37,7 +44,13 @@ impl TextArea<'_> {
             &self.search,
             area,
             buffer,
-        )
+        )?;
+        caret_is_hit_back();
+        let _ = self.document.cursor();
+        caret_is_shown();
+        let _ = self.document.lines();
+        let _ = self.tab_length();
+        Ok(())
     }
 
     /// The cell of the cursor at the last `render`, where a terminal's own cursor may stand; none where it wasn't in the part
@@ -77,7 +90,14 @@ impl TextArea<'_> {
     pub fn scroll(&mut self, scrolling: Scrolling)
         ensures { IsScrolled self.old scrolling self.new }
     {
+        self.scroll_with_shift(scrolling, self.is_selecting());
+    }
+
+    // Scrolls, and moves the cursor with Shift or without it.
+    pub(crate) fn scroll_with_shift(&mut self, scrolling: Scrolling, shift: bool)
+        ensures { IsScrolledWith self.old shift scrolling self.new }
+    {
         self.drawing.scroll(scrolling);
-        self.move_cursor(CursorMove::InViewport);
+        self.move_with_shift(CursorMove::InViewport, shift);
     }
 }

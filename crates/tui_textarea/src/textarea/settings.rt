@@ -4,7 +4,7 @@ ghost use Rattle.std.specs.Duration.{as_nanos};
 ghost use Rattle.textarea_history.specs.Log.{empty_log};
 ghost use Rattle.textarea_document.specs.Outcomes.{run_ended};
 ghost use Rattle.tui_textarea.specs.State.{default_settings, with_document};
-ghost use Rattle.tui_textarea.specs.Layout.{tab_length};
+ghost use Rattle.tui_textarea.specs.Layout.{indent_of};
 
 use crate::textarea::TextArea;
 use std::time::Duration;
@@ -50,9 +50,7 @@ impl TextArea<'_> {
 
     /// What a tab at a line's start is: a tab character, or as many spaces as the tab length.
     pub fn indent(&self) -> &'static str
-        ensures { result.now
-            ≡ cond self.now.settings.hard_tab_indent (9 ∷ [])
-            (replicate (tab_length self.now.document) 32) }
+        ensures { result.now ≡ indent_of self.now }
     {
         if self.settings.hard_tab_indent {
             "\t"

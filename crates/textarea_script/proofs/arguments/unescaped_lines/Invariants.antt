@@ -1,10 +1,16 @@
-use Rattle.std.proofs.Common.{◌<◌, length, vec_len}
-use denote.Text.{Utf8}
-use denote.Shadow.{shadow}
+use Rattle.std.proofs.Common.{◌≡◌, ℕ, ◌+◌, ◌<◌, ◌++◌, List, Option, Some, None, Bor, length, map, option_map, string_bytes, vec_len}
+use Rattle.std.specs.Prelude.{option_copied}
+use Rattle.textarea_script.specs.Escapes.{lines_behind, unescaped_lines}
 use Rattle.textarea_script.proofs.arguments.unescaped_lines.Given as goal
 
-abbrev pub invariant-loop-behind : goal.invariant-loop-behind
-invariant-loop-behind l = shadow (Utf8 l.rest) × (0 < vec_len l.lines)
+abbrev left : Option (Bor (List ℕ)) → ℕ
+left None = 0
+left (Some text) = length text.now + 1
 
-abbrev pub decreases-loop-behind : goal.decreases-loop-behind
-decreases-loop-behind l = length l.rest
+abbrev pub invariant-loop-rest : goal.invariant-loop-rest
+invariant-loop-rest l =
+    (0 < vec_len l.lines + left l.rest)
+    × (unescaped_lines l.fn.text ≡ option_map (λ more. map string_bytes l.lines.items ++ more) (lines_behind (option_copied l.rest)))
+
+abbrev pub decreases-loop-rest : goal.decreases-loop-rest
+decreases-loop-rest l = left l.rest

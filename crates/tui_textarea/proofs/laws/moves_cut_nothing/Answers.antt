@@ -7,10 +7,10 @@ pub returns-clause-moved : goal.returns-clause-moved
 returns-clause-moved c = layout_moved
 
 pub returns-clause-scrolled : goal.returns-clause-scrolled
-returns-clause-scrolled c = λ old new scrolling. layout_moved (viewport_scrolled old scrolling) new move.InViewport
+returns-clause-scrolled c = λ old new shift scrolling. layout_moved (viewport_scrolled old scrolling) new shift move.InViewport
 
 pub returns-clause-width_moved : goal.returns-clause-width_moved
 returns-clause-width_moved c = width_moved
 
 pub returns-clause-width_scrolled : goal.returns-clause-width_scrolled
-returns-clause-width_scrolled c = λ old new scrolling. width_moved (viewport_scrolled old scrolling) new move.InViewport
+returns-clause-width_scrolled c = λ old new shift scrolling. width_moved (viewport_scrolled old scrolling) new shift move.InViewport

@@ -5,7 +5,7 @@ use Rattle.tui_textarea.proofs.OneTarget.{one_target}
 use Rattle.tui_textarea.proofs.laws.one_move.Goals as goal
 
 pub returns : goal.returns
-returns c = λ old first second cursor_move h k.
+returns c = λ old first second shift cursor_move h k.
     let up_and_down = c.one_place_up_and_down.ensures in
     let found = one_target old cursor_move h.found k.found up_and_down.above up_and_down.below c.one_place_inside.ensures h.target_is k.target_is in
-    h.new_is ∙ ap (λ (target : Option Place). moved_by old (pushed old.document.ranges cursor_move target)) found ∙ sym k.new_is
+    h.new_is ∙ ap (λ (target : Option Place). moved_by old shift (pushed old.document.ranges cursor_move target)) found ∙ sym k.new_is

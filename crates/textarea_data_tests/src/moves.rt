@@ -1,0 +1,91 @@
+// The forms of moves, scrolls and modes.
+use crate::written::{check, check_refused};
+use std::test::Fail;
+use textarea_data::cursor::CursorMove;
+use textarea_data::scroll::Scrolling;
+use textarea_wrap::wrap::WrapMode;
+
+const MOVES: [(CursorMove, &str); 16] = [
+    (CursorMove::Forward, r#""Forward""#),
+    (CursorMove::Back, r#""Back""#),
+    (CursorMove::Up, r#""Up""#),
+    (CursorMove::Down, r#""Down""#),
+    (CursorMove::Head, r#""Head""#),
+    (CursorMove::End, r#""End""#),
+    (CursorMove::Top, r#""Top""#),
+    (CursorMove::Bottom, r#""Bottom""#),
+    (CursorMove::WordForward, r#""WordForward""#),
+    (CursorMove::WordEnd, r#""WordEnd""#),
+    (CursorMove::WordBack, r#""WordBack""#),
+    (CursorMove::ParagraphForward, r#""ParagraphForward""#),
+    (CursorMove::ParagraphBack, r#""ParagraphBack""#),
+    (CursorMove::Jump(3, 4), r#"{"Jump":[3,4]}"#),
+    (CursorMove::Jump(0, 65535), r#"{"Jump":[0,65535]}"#),
+    (CursorMove::InViewport, r#""InViewport""#),
+];
+
+const NO_MOVES: [&str; 7] = [
+    r#""forward""#,
+    r#""Backward""#,
+    r#""Jump""#,
+    r#"{"Jump":[3]}"#,
+    r#"{"Jump":[3,4,5]}"#,
+    r#"{"Jump":[0,65536]}"#,
+    r#"{"Jump":[-1,0]}"#,
+];
+
+#[test]
+fn moves(rt: HostRuntime) -> Result<(), Fail> {
+    check(&rt, rt.alloc(), &MOVES)?;
+    check_refused::<CursorMove>(&rt, rt.alloc(), &NO_MOVES);
+    Ok(())
+}
+
+const SCROLLS: [(Scrolling, &str); 6] = [
+    (
+        Scrolling::Delta { rows: 1, cols: 2 },
+        r#"{"Delta":{"rows":1,"cols":2}}"#,
+    ),
+    (
+        Scrolling::Delta {
+            rows: -32768,
+            cols: 32767,
+        },
+        r#"{"Delta":{"rows":-32768,"cols":32767}}"#,
+    ),
+    (Scrolling::PageDown, r#""PageDown""#),
+    (Scrolling::PageUp, r#""PageUp""#),
+    (Scrolling::HalfPageDown, r#""HalfPageDown""#),
+    (Scrolling::HalfPageUp, r#""HalfPageUp""#),
+];
+
+const NO_SCROLLS: [&str; 5] = [
+    r#""Page""#,
+    r#""Delta""#,
+    r#"{"Delta":1}"#,
+    r#"{"Delta":{"rows":1}}"#,
+    r#"{"Delta":{"rows":32768,"cols":0}}"#,
+];
+
+#[test]
+fn scrolls(rt: HostRuntime) -> Result<(), Fail> {
+    check(&rt, rt.alloc(), &SCROLLS)?;
+    check_refused::<Scrolling>(&rt, rt.alloc(), &NO_SCROLLS);
+    Ok(())
+}
+
+const MODES: [(WrapMode, &str); 4] = [
+    (WrapMode::None, r#""None""#),
+    (WrapMode::Word, r#""Word""#),
+    (WrapMode::Glyph, r#""Glyph""#),
+    (WrapMode::WordOrGlyph, r#""WordOrGlyph""#),
+];
+
+const NO_MODES: [&str; 4] = ["null", "1", r#""Words""#, r#""none""#];
+
+#[test]
+fn modes(rt: HostRuntime) -> Result<(), Fail> {
+    check(&rt, rt.alloc(), &MODES)?;
+    check_refused::<WrapMode>(&rt, rt.alloc(), &NO_MODES);
+    Ok(())
+}

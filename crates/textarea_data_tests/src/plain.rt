@@ -1,0 +1,35 @@
+// Defaults, conversions, copies, and what is shown by `Debug`.
+use std::test::Fail;
+use textarea_data::cursor::DataCursor;
+use textarea_data::input::{Input, Key};
+use textarea_data::scroll::Scrolling;
+
+#[test]
+fn defaults(rt: HostRuntime) -> Result<(), Fail> {
+    assert!(rt; Key::default() == Key::Null);
+    let input = Input::default();
+    assert!(rt; input.key == Key::Null && !input.ctrl && !input.alt && !input.shift);
+    assert!(rt; input.clone()? == input);
+    Ok(())
+}
+
+#[test]
+fn places_and_amounts(rt: HostRuntime) {
+    let cursor = DataCursor::from((3, 4));
+    assert!(rt; cursor == DataCursor(3, 4));
+    let place: (usize, usize) = cursor.into();
+    assert!(rt; place == (3, 4));
+    let scrolling = Scrolling::from((1, -2));
+    assert!(rt; scrolling == Scrolling::Delta { rows: 1, cols: -2 });
+}
+
+#[test]
+fn shown_by_debug(rt: HostRuntime) -> Result<(), Fail> {
+    let key = Key::Char('a');
+    let shown = format!(in rt.alloc(); "{key:?}")?;
+    assert!(rt; !shown.is_empty());
+    let input = Input::default();
+    let shown = format!(in rt.alloc(); "{input:?}")?;
+    assert!(rt; !shown.is_empty());
+    Ok(())
+}

@@ -1,0 +1,3 @@
+pub mod Courses
+pub mod Runs
+pub mod Ends

@@ -1,0 +1,5 @@
+pub mod Calls
+pub mod Course
+pub mod Runs
+pub mod Session
+pub mod Table

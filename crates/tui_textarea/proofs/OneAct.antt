@@ -1,0 +1,34 @@
+-- What an input asks for leads to one state.
+use Rattle.std.proofs.Common.{◌≡◌, Bool, is_some, sym, ◌∙◌}
+use Rattle.textarea_data.specs.declared.cursor.CursorMove.{CursorMove}
+use Rattle.textarea_data.specs.declared.cursor.CursorMove.TheVariants as move
+use Rattle.textarea_keys.specs.declared.action.Action.{Action}
+use Rattle.textarea_keys.specs.declared.action.Action.TheVariants as action
+use Rattle.tui_textarea.specs.Drawing.{viewport_scrolled}
+use Rattle.tui_textarea.specs.Input.{IsActed}
+use Rattle.tui_textarea.specs.Moves.{IsMovedWith}
+use Rattle.tui_textarea.specs.State.{State}
+
+-- what the law of moves says
+abbrev pub IsOneMove : Type 0
+IsOneMove = (old first second : State) (shift : Bool) (cursor_move : CursorMove) → IsMovedWith old shift cursor_move first → IsMovedWith old shift cursor_move second → first ≡ second
+
+pub one_act : (one : IsOneMove) (old first second : State) (asked : Action) → IsActed old asked first → IsActed old asked second → first ≡ second
+one_act one old first second action.Nothing h k = h ∙ sym k
+one_act one old first second (action.InsertChar c) h k = h ∙ sym k
+one_act one old first second action.InsertNewline h k = h ∙ sym k
+one_act one old first second action.InsertTab h k = h ∙ sym k
+one_act one old first second action.DeleteChar h k = h ∙ sym k
+one_act one old first second action.DeleteNextChar h k = h ∙ sym k
+one_act one old first second action.DeleteLineByEnd h k = h ∙ sym k
+one_act one old first second action.DeleteLineByHead h k = h ∙ sym k
+one_act one old first second action.DeleteWord h k = h ∙ sym k
+one_act one old first second action.DeleteNextWord h k = h ∙ sym k
+one_act one old first second action.Undo h k = h ∙ sym k
+one_act one old first second action.Redo h k = h ∙ sym k
+one_act one old first second action.Paste h k = h ∙ sym k
+one_act one old first second action.Cut h k = h ∙ sym k
+one_act one old first second action.Copy h k = h ∙ sym k
+one_act one old first second (action.MoveWithShift cursor_move shift) h k = one old first second shift cursor_move h k
+one_act one old first second (action.ScrollWithShift scrolling shift) h k = one (viewport_scrolled old scrolling) first second shift move.InViewport h k
+one_act one old first second (action.Scroll scrolling) h k = one (viewport_scrolled old scrolling) first second (is_some old.document.anchor) move.InViewport h k

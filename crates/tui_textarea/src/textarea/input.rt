@@ -1,0 +1,76 @@
+//! Keys: each input asks for one of the calls, by one of the two tables of `textarea_keys`.
+ghost use Rattle.std.specs.Prelude.{◌≡◌, IfOk, OnErr, OnOk};
+ghost use Rattle.tui_textarea.specs.Input.{IsActed, IsLeftBy, MayRefuseAct, acts, asked_by, asked_without_shortcuts};
+
+use crate::textarea::TextArea;
+use std::alloc::AllocError;
+use textarea_data::input::Input;
+use textarea_keys::action::Action;
+use textarea_keys::keys::{action_of, action_without_shortcuts};
+
+impl TextArea<'_> {
+    /// Makes the call that the input asks for by the table of keys with shortcuts, and says whether the text was changed:
+    /// true for a character or a line break; what the call answers for any other edit, `undo` and `redo`; false for `copy`,
+    /// a move, a scroll, and an input of no row, which changes nothing. Shift is handed to moves and scrolls: with it an open
+    /// selection stays open, or one begins where the cursor was; without it none is open behind the move. A move without a
+    /// target changes nothing, also no selection.
+    pub fn input(&mut self, input: Input) -> Result<bool, AllocError>
+        ensures answer { IfOk result (λ changed. changed ≡ acts self.old (asked_by input)) }
+        ensures ok { OnOk result (IsActed self.old (asked_by input) self.new) }
+        ensures err { OnErr result (IsLeftBy self.old (asked_by input) self.new) }
+        ensures may { OnErr result (MayRefuseAct self.old (asked_by input)) }
+    {
+        self.act(action_of(&input))
+    }
+
+    /// As `input`, by the table without shortcuts, for a caller that has shortcuts of its own: characters, Tab, Backspace,
+    /// Delete, Enter and the mouse's wheel alone. The wheel scrolls as `scroll` does, which follows an open selection and not
+    /// the input's Shift.
+    pub fn input_without_shortcuts(&mut self, input: Input) -> Result<bool, AllocError>
+        ensures answer { IfOk result
+            (λ changed. changed ≡ acts self.old (asked_without_shortcuts input)) }
+        ensures ok { OnOk result (IsActed self.old (asked_without_shortcuts input) self.new) }
+        ensures err { OnErr result (IsLeftBy self.old (asked_without_shortcuts input) self.new) }
+        ensures may { OnErr result (MayRefuseAct self.old (asked_without_shortcuts input)) }
+    {
+        self.act(action_without_shortcuts(&input))
+    }
+
+    // Makes the call for which the action stands, and says whether the text was changed.
+    fn act(&mut self, action: Action) -> Result<bool, AllocError>
+        ensures answer { IfOk result (λ changed. changed ≡ acts self.old action) }
+        ensures ok { OnOk result (IsActed self.old action self.new) }
+        ensures err { OnErr result (IsLeftBy self.old action self.new) }
+        ensures may { OnErr result (MayRefuseAct self.old action) }
+    {
+        match action {
+            Action::Nothing => Ok(false),
+            Action::InsertChar(c) => self.insert_char(c).map(|()| true),
+            Action::InsertNewline => self.insert_newline().map(|()| true),
+            Action::InsertTab => self.insert_tab(),
+            Action::DeleteChar => self.delete_char(),
+            Action::DeleteNextChar => self.delete_next_char(),
+            Action::DeleteLineByEnd => self.delete_line_by_end(),
+            Action::DeleteLineByHead => self.delete_line_by_head(),
+            Action::DeleteWord => self.delete_word(),
+            Action::DeleteNextWord => self.delete_next_word(),
+            Action::Undo => self.undo(),
+            Action::Redo => self.redo(),
+            Action::Paste => self.paste(),
+            Action::Cut => self.cut(),
+            Action::Copy => self.copy().map(|()| false),
+            Action::MoveWithShift(cursor_move, shift) => {
+                self.move_with_shift(cursor_move, shift);
+                Ok(false)
+            }
+            Action::ScrollWithShift(scrolling, shift) => {
+                self.scroll_with_shift(scrolling, shift);
+                Ok(false)
+            }
+            Action::Scroll(scrolling) => {
+                self.scroll(scrolling);
+                Ok(false)
+            }
+        }
+    }
+}

@@ -1,0 +1,79 @@
+//! Worked cases of the count, each the contract of a function that does nothing: what it grows by where lines are cut.
+ghost use Rattle.std.specs.Prelude.{◌≡◌, ◌+◌, Bool, Some};
+ghost use Rattle.textarea_data.specs.declared.cursor.CursorMove.TheVariants.{Bottom, Down, End};
+ghost use Rattle.textarea_data.specs.declared.scroll.Scrolling.{Scrolling};
+ghost use Rattle.textarea_document.specs.Cuts.{CutsNothing};
+ghost use Rattle.textarea_document.specs.Rows.{laid_out_of};
+ghost use Rattle.textarea_lines.specs.Cuts.{map_width};
+ghost use Rattle.textarea_screen.specs.declared.screen.rect.Rect.{Rect};
+ghost use Rattle.textarea_screen.specs.declared.screen.style.Style.{Style};
+ghost use Rattle.textarea_wrap.specs.declared.wrap.WrapMode.TheVariants as mode;
+ghost use Rattle.tui_textarea.specs.Drawing.{IsRendered};
+ghost use Rattle.tui_textarea.specs.Edits.{newline_inserted};
+ghost use Rattle.tui_textarea.specs.Moves.{IsMoved, IsScrolled};
+ghost use Rattle.tui_textarea.specs.Search.{next_match, searched};
+ghost use Rattle.tui_textarea.specs.State.{State};
+ghost use Rattle.tui_textarea.specs.Worked.{IsAtEndOf, cut_so_far, hundred_lines, made_again, nine_lines, taken_back, with_a, with_x_y_z};
+
+use crate::laws::{drawn_at_its_width, moves_cut_nothing};
+
+/// A hundred lines `abcdefgh`, wrapped by clusters, are drawn into an area of 6 columns. Then a typed `a` cuts one line; three lines
+/// `x`, `y` and `z`, inserted at once, cut three; taken back, one, and made again, three.
+pub fn hundred_lines_are_cut()
+    ensures typed { (drawn : State) (area : Rect) → area.width ≡ 6 →
+        IsRendered hundred_lines area drawn →
+        cut_so_far (with_a drawn) ≡ cut_so_far drawn + 1 }
+    ensures inserted { (drawn : State) (area : Rect) → area.width ≡ 6 →
+        IsRendered hundred_lines area drawn →
+        cut_so_far (with_x_y_z (with_a drawn)) ≡ cut_so_far (with_a drawn) + 3 }
+    ensures undone { (drawn : State) (area : Rect) → area.width ≡ 6 →
+        IsRendered hundred_lines area drawn →
+        cut_so_far (taken_back (with_x_y_z (with_a drawn)))
+        ≡ cut_so_far (with_x_y_z (with_a drawn)) + 1 }
+    ensures redone { (drawn : State) (area : Rect) → area.width ≡ 6 →
+        IsRendered hundred_lines area drawn →
+        cut_so_far (made_again (taken_back (with_x_y_z (with_a drawn))))
+        ≡ cut_so_far (taken_back (with_x_y_z (with_a drawn))) + 3 }
+{}
+
+/// Nine lines `abcdefg` with line numbers, wrapped by clusters, are drawn into an area of 11 columns, and the cursor goes to the end
+/// of the last one. Then a line break makes a tenth line, whose number takes a column more: the map is 7 columns wide before and 6
+/// after, and all ten lines are cut. Taken back, all nine are cut.
+pub fn tenth_line_is_cut()
+    ensures width { (style : Style) (drawn ended : State) (area : Rect) → area.width ≡ 11 →
+        IsRendered (nine_lines mode.Glyph style) area drawn → IsAtEndOf drawn ended →
+        map_width (laid_out_of ended.document) ≡ Some 7 }
+    ensures narrower { (style : Style) (drawn ended : State) (area : Rect) → area.width ≡ 11 →
+        IsRendered (nine_lines mode.Glyph style) area drawn → IsAtEndOf drawn ended →
+        map_width (laid_out_of (newline_inserted ended).document) ≡ Some 6 }
+    ensures all { (style : Style) (drawn ended : State) (area : Rect) → area.width ≡ 11 →
+        IsRendered (nine_lines mode.Glyph style) area drawn → IsAtEndOf drawn ended →
+        cut_so_far (newline_inserted ended) ≡ cut_so_far ended + 10 }
+    ensures undone { (style : Style) (drawn ended : State) (area : Rect) → area.width ≡ 11 →
+        IsRendered (nine_lines mode.Glyph style) area drawn → IsAtEndOf drawn ended →
+        cut_so_far (taken_back (newline_inserted ended))
+        ≡ cut_so_far (newline_inserted ended) + 9 }
+{}
+
+/// The same lines in an area of 3 columns, where the map is one column wide with nine lines and with ten, and in the mode `None`: the
+/// line break cuts the two lines that it makes, and no other.
+pub fn tenth_line_is_cut_alone()
+    ensures narrow { (style : Style) (drawn ended : State) (area : Rect) → area.width ≡ 3 →
+        IsRendered (nine_lines mode.Glyph style) area drawn → IsAtEndOf drawn ended →
+        cut_so_far (newline_inserted ended) ≡ cut_so_far ended + 2 }
+    ensures whole { (style : Style) (drawn ended : State) (area : Rect) → area.width ≡ 11 →
+        IsRendered (nine_lines mode.None style) area drawn → IsAtEndOf drawn ended →
+        cut_so_far (newline_inserted ended) ≡ cut_so_far ended + 2 }
+{}
+
+/// Behind a drawing a Down, a scroll, a search and a second drawing into the same area leave count and ticks.
+pub fn frames_cut_nothing()
+    ensures { (old drawn down scrolled again : State) (area : Rect) (scrolling : Scrolling)
+        (at_cursor : Bool) → IsRendered old area drawn →
+        IsMoved drawn Down down → IsScrolled down scrolling scrolled →
+        IsRendered (searched scrolled (next_match scrolled at_cursor)) area again →
+        CutsNothing drawn.document again.document }
+{
+    drawn_at_its_width();
+    moves_cut_nothing();
+}
