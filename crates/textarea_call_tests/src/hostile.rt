@@ -96,10 +96,10 @@ fn hostile_places(rt: HostRuntime) -> Result<(), Fail> {
 // More lines than a height counts.
 #[test]
 fn many_lines(rt: HostRuntime) -> Result<(), Fail> {
-    let lines = lines_of_x(rt.alloc(), 70_000)?;
-    let mut area = TextArea::try_default(rt.alloc())?;
+    let mut area = TextArea::new(lines_of_x(rt.alloc(), 70_000)?)?;
     let mut buffer = Buffer::empty(rt.alloc(), Rect::new(0, 0, 10, 5))?;
-    check_many_lines(&rt, lines.as_slice(), &mut area, &mut buffer);
+    check_shown(&rt, &mut area, &mut buffer);
+    check_scrolled(&rt, &mut area, &mut buffer);
     Ok(())
 }
 
@@ -140,29 +140,24 @@ const SCROLLED: [Call<'static>; 3] = [
     Call::SelectionRange,
 ];
 
-fn check_many_lines(
-    rt: &impl Abort,
-    lines: &[String],
-    area: &mut TextArea<'_>,
-    buffer: &mut Buffer,
-) {
-    let cursor = (0, 0);
-    let set = [Call::SetLines { lines, cursor }];
-    check_answers(rt, area, buffer, &set, &[Answer::Done]);
-    let shown = [
+fn check_shown(rt: &impl Abort, area: &mut TextArea<'_>, buffer: &mut Buffer) {
+    let answers = [
         Answer::Done,
         Answer::Done,
         Answer::Cursor((69_999, 1)),
         Answer::Position(Some(Position { x: 1, y: 4 })),
         Answer::Measured(HEIGHT),
     ];
-    check_answers(rt, area, buffer, &SHOWN, &shown);
+    check_answers(rt, area, buffer, &SHOWN, &answers);
     assert_eq!(rt; area.viewport().scroll_top(), (69_995, 0));
-    let scrolled = [
+}
+
+fn check_scrolled(rt: &impl Abort, area: &mut TextArea<'_>, buffer: &mut Buffer) {
+    let answers = [
         Answer::Done,
         Answer::Cursor((37_231, 1)),
         Answer::Selection(Some(((0, 0), (37_231, 1)))),
     ];
-    check_answers(rt, area, buffer, &SCROLLED, &scrolled);
+    check_answers(rt, area, buffer, &SCROLLED, &answers);
     assert_eq!(rt; area.viewport().scroll_top(), (37_227, 0));
 }
