@@ -16,6 +16,8 @@ mod keys;
 #[cfg(test)]
 mod looks;
 #[cfg(test)]
+mod moved;
+#[cfg(test)]
 mod quick_start;
 #[cfg(test)]
 mod settings;

@@ -80,7 +80,7 @@ pub fn read_off<'a>(area: &'a TextArea<'_>) -> Unprinted<'a> {
 }
 
 // Scripts, and what is read behind them.
-static READ: [(&str, Unprinted<'static>); 24] = [
+static READ: [(&str, Unprinted<'static>); 18] = [
     ("", AT_FIRST),
     (
         "set_tab_length 2",
@@ -194,19 +194,6 @@ static READ: [(&str, Unprinted<'static>); 24] = [
             ..FILLED
         },
     ),
-    // Each edit, undo, redo and `set_lines` forgets them.
-    ("insert_str a[b]c\nranges 0 1 4\ninsert_char x", FILLED),
-    ("set_lines 0 0 x[[a]]y\nranges 0 1 6\ndelete_str 2", FILLED),
-    (
-        "set_lines 0 0 x[[a]]y\nranges 0 1 6\nmove Forward\ndelete_next_word",
-        FILLED,
-    ),
-    ("insert_str ab\ninsert_char c\nranges 0 0 2\nundo", FILLED),
-    (
-        "insert_str ab\ninsert_char c\nundo\nranges 0 0 2\nredo",
-        FILLED,
-    ),
-    ("insert_str ab\nranges 0 0 2\nset_lines 0 0 ab", FILLED),
     // A selection may be empty, and so may the text under it.
     (
         "start_selection",

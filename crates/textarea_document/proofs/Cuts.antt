@@ -1,5 +1,5 @@
 -- What the edits of a document cut, where each splice of a text cuts what it cuts.
-use Rattle.std.proofs.Common.{◌≡◌, ℕ, Bool, Option, Some, ap, subst, sym}
+use Rattle.std.proofs.Common.{◌≡◌, ℕ, Bool, Option, Some, subst, sym}
 use Rattle.textarea_text.specs.Splice.{Splice, Fits, inverse}
 use Rattle.textarea_history.specs.Log.{newest, next}
 use Rattle.textarea_lines.specs.Cuts.{IsSpliced, IsSetTo, IsWidened}

@@ -8,3 +8,5 @@ pub mod Ranges
 pub mod Sounds
 pub mod StepLaw
 pub mod Cuts
+pub mod Moves
+pub mod Going

@@ -3,18 +3,19 @@ use Rattle.std.proofs.Common.{◌≡◌, ℕ, Bool, true, false, cond, List, [],
 use Rattle.std.specs.Result.{OnErr, OnOk}
 use Rattle.textarea_text.specs.Text.{Symbol, lines}
 use Rattle.textarea_text.specs.Place.{Place, IsPlace}
-use Rattle.textarea_text.specs.Splice.{Splice, Fits, applied, inverse, place_after}
+use Rattle.textarea_text.specs.Splice.{Splice, Fits, applied, inverse}
 use Rattle.textarea_text.proofs.Places.{IsPlace-end, takes_back}
 use Rattle.textarea_history.specs.Log.{Log, empty_log, made_again, newest, next, recorded, taken_back}
 use Rattle.textarea_history.specs.Law.{IsSound as LogIsSound}
 use Rattle.textarea_history.proofs.LogLaws.{each_fits, newest_back, sound_redone_by, sound_undone_by, sound_edited as log_edited}
 use Rattle.textarea_ranges.specs.declared.atomic.AtomicRange.{AtomicRange}
 use Rattle.textarea_ranges.specs.Order.{AreInOrder}
+use Rattle.textarea_ranges.proofs.Moving.{in_order_moved, valid_moved}
 use Rattle.textarea_lines.specs.declared.settings.LayoutSettings.{LayoutSettings}
 use Rattle.textarea_lines.specs.Layout.{LaidOut, Layout, all_cut, laid_out_anew, laid_out_with, wrapping_of}
 use Rattle.textarea_lines.specs.Wrappings.{is_same, wrapping_for}
 use Rattle.textarea_document.specs.State.{DocumentState, document_of, fresh_document, logged}
-use Rattle.textarea_document.specs.Outcomes.{after_change, edited, redone_by, layout_after, undone_by}
+use Rattle.textarea_document.specs.Outcomes.{after_change, edited, redone_by, undone_by}
 use Rattle.textarea_document.specs.Rows.{laid_out_of, with_layout_settings}
 use Rattle.textarea_document.specs.Sound.{IsSound}
 use Rattle.textarea_document.proofs.Ranges.{valid_none}
@@ -23,29 +24,33 @@ use Rattle.textarea_document.proofs.Ranges.{valid_none}
 pub logged_sound : (document : DocumentState) → IsSound document → LogIsSound (logged document)
 logged_sound document h = record { undo = h.undo; redo = h.redo; bounded = h.bounded }
 
--- a document with nothing selected and without ranges is sound by its cursor and its log
-bare_sound : (text : List Symbol) (layout : Layout) (cursor : Place) (log : Log) → IsPlace text cursor → LogIsSound (record { text = text; log = log }) → IsSound (record { text = text; layout = layout; cursor = cursor; anchor = None; ranges = []; log = log })
-bare_sound text layout cursor log place h = record { cursor = place; anchor = tt; ranges = valid_none (lines text); in_order = refl; undo = h.undo; redo = h.redo; bounded = h.bounded }
-
 -- after a change that fits and leaves this log
-sound_after : (document : DocumentState) (splice : Splice) (log : Log) → Fits document.text splice → LogIsSound (record { text = applied document.text splice; log = log }) → IsSound (after_change document splice log)
-sound_after document splice log fits h = bare_sound (applied document.text splice) (layout_after document splice) (place_after splice) log (takes_back document.text splice fits).is_place h
+sound_after : (document : DocumentState) (splice : Splice) (log : Log) → IsSound document → Fits document.text splice → LogIsSound (record { text = applied document.text splice; log = log }) → IsSound (after_change document splice log)
+sound_after document splice log sound fits h = record {
+  cursor = (takes_back document.text splice fits).is_place;
+  anchor = tt;
+  ranges = valid_moved document.text splice document.ranges fits sound.ranges;
+  in_order = in_order_moved document.text splice document.ranges fits sound.ranges sound.in_order;
+  undo = h.undo;
+  redo = h.redo;
+  bounded = h.bounded;
+}
 
 pub sound_edited : (document : DocumentState) (splice : Splice) (typed : Bool) (now : ℕ) → IsSound document → Fits document.text splice → IsSound (edited document splice typed now)
 sound_edited document splice typed now h fits =
-    sound_after document splice (recorded document.log splice typed now) fits (log_edited (logged document) splice typed now (logged_sound document h) fits)
+    sound_after document splice (recorded document.log splice typed now) h fits (log_edited (logged document) splice typed now (logged_sound document h) fits)
 
 -- what is seen of the text changes nothing of this
 pub resound : (document : DocumentState) (layout : Layout) → IsSound document → IsSound (record document { layout = layout })
 resound document layout h = record { cursor = h.cursor; anchor = h.anchor; ranges = h.ranges; in_order = h.in_order; undo = h.undo; redo = h.redo; bounded = h.bounded }
 
--- the same, of what a step left that has nothing selected and no ranges
-pub sound_left : (outcome : DocumentState) (text : List Symbol) (layout : Layout) (cursor : Place) (held : List AtomicRange) (log : Log) → IsSound outcome → text ≡ outcome.text → cursor ≡ outcome.cursor → held ≡ [] → log ≡ outcome.log → IsSound (record { text = text; layout = layout; cursor = cursor; anchor = None; ranges = held; log = log })
+-- the same, of what a step left that has nothing selected
+pub sound_left : (outcome : DocumentState) (text : List Symbol) (layout : Layout) (cursor : Place) (held : List AtomicRange) (log : Log) → IsSound outcome → text ≡ outcome.text → cursor ≡ outcome.cursor → held ≡ outcome.ranges → log ≡ outcome.log → IsSound (record { text = text; layout = layout; cursor = cursor; anchor = None; ranges = held; log = log })
 sound_left outcome text layout cursor held log h text_is cursor_is held_is log_is = record {
   cursor = rw (text_is, cursor_is) h.cursor;
   anchor = tt;
-  ranges = rw held_is (valid_none (lines text));
-  in_order = subst AreInOrder (sym held_is) refl;
+  ranges = rw (text_is, held_is) h.ranges;
+  in_order = subst AreInOrder (sym held_is) h.in_order;
   undo = rw (text_is, log_is) h.undo;
   redo = rw (text_is, log_is) h.redo;
   bounded = rw log_is h.bounded;
@@ -62,11 +67,11 @@ next_fits document splice h e = (each_fits (logged document) (logged_sound docum
 
 pub sound_undone : (document : DocumentState) (splice : Splice) → IsSound document → newest document.log ≡ Some splice → IsSound (undone_by (Some splice) document)
 sound_undone document splice h e =
-    sound_after document (inverse splice) (taken_back document.log splice) (newest_fits document splice h e) (sound_undone_by (logged document) splice (logged_sound document h) e)
+    sound_after document (inverse splice) (taken_back document.log splice) h (newest_fits document splice h e) (sound_undone_by (logged document) splice (logged_sound document h) e)
 
 pub sound_redone : (document : DocumentState) (splice : Splice) → IsSound document → next document.log ≡ Some splice → IsSound (redone_by (Some splice) document)
 sound_redone document splice h e =
-    sound_after document splice (made_again document.log splice) (next_fits document splice h e) (sound_redone_by (logged document) splice (logged_sound document h) e)
+    sound_after document splice (made_again document.log splice) h (next_fits document splice h e) (sound_redone_by (logged document) splice (logged_sound document h) e)
 
 -- a document without a past
 pub sound_fresh : (text : List Symbol) (settings : LayoutSettings) (count : ℕ) (cursor : Place) (maximum : ℕ) → IsPlace text cursor → IsSound (fresh_document text settings count cursor maximum)

@@ -7,3 +7,4 @@ pub mod Rows
 pub mod Cuts
 pub mod Law
 pub mod Sound
+pub mod Goes

@@ -1,31 +1,27 @@
 -- What an edit, an undo, a redo and a move make of a document.
-use Rattle.std.specs.Prelude.{Bool, false, ℕ, List, [], length, Option, Some, None}
+use Rattle.std.specs.Prelude.{Bool, false, ℕ, length, Option, Some, None}
 use Rattle.textarea_text.specs.Text.{lines}
 use Rattle.textarea_lines.specs.Layout.{Layout, after_splice}
 use Rattle.textarea_text.specs.Place.{Place}
 use Rattle.textarea_text.specs.Splice.{Splice, applied, inverse, place_after}
 use Rattle.textarea_history.specs.Log.{Log, recorded, newest, next, taken_back, made_again}
-use Rattle.textarea_ranges.specs.declared.atomic.AtomicRange.{AtomicRange}
+use Rattle.textarea_ranges.specs.Moved.{moved_ranges}
 use Rattle.textarea_document.specs.State.{DocumentState}
-
--- what a change of the text leaves of the atomic ranges: none of them
-abbrev pub ranges_after : List AtomicRange → Splice → List AtomicRange
-ranges_after ranges splice = []
 
 -- the layout of the text after a change: the lines that it touches are cut, each once, and all others keep their rows; all
 -- lines are cut where their number changes how they are cut
 abbrev pub layout_after : DocumentState → Splice → Layout
 layout_after document splice = after_splice document.layout (length (lines document.text)) splice
 
--- a change is made, and this is the log then: the cursor stands behind what was inserted, or where what was removed began, and
--- nothing is selected
+-- a change is made, and this is the log then: the cursor stands behind what was inserted, or where what was removed began,
+-- nothing is selected, and the atomic ranges that the change leaves go with the text
 abbrev pub after_change : DocumentState → Splice → Log → DocumentState
 after_change document splice log = record {
   text = applied document.text splice;
   layout = layout_after document splice;
   cursor = place_after splice;
   anchor = None;
-  ranges = ranges_after document.ranges splice;
+  ranges = moved_ranges document.ranges splice;
   log = log;
 }
 

@@ -12,24 +12,27 @@ ghost use Rattle.std.specs.Duration.{as_nanos};
 ghost use Rattle.textarea_text.specs.Text.{lines, lines_of, text_of};
 ghost use Rattle.textarea_text.specs.Place.{IsPlace};
 ghost use Rattle.textarea_text.specs.Size.{size_of};
-ghost use Rattle.textarea_text.specs.Splice.{Fits, Splice};
+ghost use Rattle.textarea_text.specs.Splice.{Fits, place_after};
 ghost use Rattle.textarea_edit.specs.Edit.{IsWellFormed};
 ghost use Rattle.textarea_history.specs.Log.{empty_log, newest, next};
 ghost use Rattle.textarea_pieces.specs.Part.{clip};
 ghost use Rattle.textarea_document.specs.State.{new_document, fresh_document};
-ghost use Rattle.textarea_document.specs.Outcomes.{edited, moved, ranges_after, redone, run_ended, undone};
+ghost use Rattle.textarea_document.specs.Outcomes.{edited, moved, redone, run_ended, undone};
+ghost use Rattle.textarea_lines.specs.Layout.{applied_to};
+ghost use Rattle.textarea_ranges.specs.Moved.{moved_ranges};
 ghost use Rattle.textarea_ranges.specs.Valid.{AreValid};
 ghost use Rattle.textarea_document.specs.Ranges.{CutsNone};
 
 use std::alloc::{AllocError, Global};
 use std::marker::Model;
 use std::time::Duration;
-use textarea_edit::edit::Edit;
+use textarea_edit::edit::{Change, Edit};
 use textarea_history::history::History;
 use textarea_lines::laid_out::LaidOutLines;
 use textarea_lines::settings::LayoutSettings;
 use textarea_pieces::places::clip;
 use textarea_ranges::atomic::AtomicRange;
+use textarea_ranges::moved::move_ranges;
 
 /// Lines of text, a cursor, the place where a selection began, atomic ranges, and a history of edits.
 ///
@@ -137,7 +140,7 @@ impl Document {
     }
 
     /// Takes back the newest edit, and says whether there was one. The cursor then stands behind the text that came
-    /// back, or where the text that went began, and nothing is selected.
+    /// back, or where the text that went began, nothing is selected, and the ranges that are left went with the text.
     pub fn undo(&mut self) -> Result<bool, AllocError>
         ensures undone { IfOk result (λ found. found ≡ is_some (newest self.old.log)) }
         ensures ok { OnOk result (self.new ≡ undone self.old) }
@@ -147,18 +150,15 @@ impl Document {
         let Some(edit) = self.history.newest() else {
             return Ok(false);
         };
-        let change = edit.inverse();
-        let back = change.cursor_after();
-        self.laid.apply(change)?;
+        let back = make_change(&mut self.laid, &mut self.ranges, edit.inverse())?;
         self.history.step_back();
         self.cursor = back;
         self.anchor = None;
-        change_ranges(&mut self.ranges);
         Ok(true)
     }
 
     /// Makes again the edit that was undone last, and says whether there was one. The cursor then stands where that edit
-    /// had left it, and nothing is selected.
+    /// had left it, nothing is selected, and the ranges that are left went with the text.
     pub fn redo(&mut self) -> Result<bool, AllocError>
         ensures redone { IfOk result (λ found. found ≡ is_some (next self.old.log)) }
         ensures ok { OnOk result (self.new ≡ redone self.old) }
@@ -168,18 +168,15 @@ impl Document {
         let Some(edit) = self.history.next() else {
             return Ok(false);
         };
-        let change = edit.change();
-        let ahead = change.cursor_after();
-        self.laid.apply(change)?;
+        let ahead = make_change(&mut self.laid, &mut self.ranges, edit.change())?;
         self.history.step_forward();
         self.cursor = ahead;
         self.anchor = None;
-        change_ranges(&mut self.ranges);
         Ok(true)
     }
 
-    /// Makes an edit that fits the text and cuts no range, and records it, as typed with coalescing on or not. All memory is
-    /// taken before the first change.
+    /// Makes an edit that fits the text and cuts no range, and records it, as typed with coalescing on or not. The ranges that
+    /// it doesn't take go with the text. All memory is taken before the first change.
     pub fn edit(&mut self, edit: Edit, typed: bool, now: Duration) -> Result<(), AllocError>
         requires well_formed { IsWellFormed edit }
         requires fits { Fits self.old.text edit.splice }
@@ -188,13 +185,10 @@ impl Document {
         ensures err { OnErr result (self.new ≡ self.old) }
     {
         self.history.reserve()?;
-        let change = edit.change();
-        let ahead = change.cursor_after();
-        self.laid.apply(change)?;
+        let ahead = make_change(&mut self.laid, &mut self.ranges, edit.change())?;
         self.history.put(edit, typed, now);
         self.cursor = ahead;
         self.anchor = None;
-        change_ranges(&mut self.ranges);
         Ok(())
     }
 
@@ -272,10 +266,28 @@ impl Document {
     }
 }
 
-// What a change of the text leaves of the ranges: none.
-fn change_ranges(ranges: &mut Vec<AtomicRange>)
-    ensures after { (change : Splice) → ranges.new.items ≡ ranges_after ranges.old.items change }
-    ensures none { ranges.new.items ≡ [] }
+// Makes a change that fits the text of the lines, and moves the ranges with it. Gives where the cursor stands then. All memory is
+// taken before the first change.
+fn make_change(
+    laid: &mut LaidOutLines,
+    ranges: &mut Vec<AtomicRange>,
+    change: Change<'_>,
+) -> Result<(usize, usize), AllocError>
+    requires fits { Fits laid.old.text change }
+    requires valid { AreValid (lines laid.old.text) ranges.old.items }
+    ensures cursor { IfOk result (λ cursor. cursor ≡ place_after change.entry) }
+    ensures laid { OnOk result (laid.new ≡ applied_to laid.old change.entry) }
+    ensures ranges { OnOk result
+        (ranges.new.items ≡ moved_ranges ranges.old.items change.entry) }
+    ensures laid_stay { OnErr result (laid.new ≡ laid.old) }
+    ensures ranges_stay { OnErr result (ranges.new.items ≡ ranges.old.items) }
 {
-    ranges.clear();
+    let _lines = laid.lines();
+    let start = change.start();
+    let old = change.cursor_before();
+    let new = change.cursor_after();
+    laid.apply(change)?;
+    let _changed = laid.lines();
+    move_ranges(ranges, start, old, new);
+    Ok(new)
 }

@@ -1,18 +1,24 @@
 //! Laws of documents and their visual rows, each the contract of a function that does nothing.
-ghost use Rattle.std.specs.Prelude.{◌≡◌, ℕ, Bool, List, Option, Some};
+ghost use Rattle.std.specs.Prelude.{◌≡◌, ℕ, Bool, false, List, [], ◌∷◌, Contains, None, Option, Some};
 ghost use Rattle.textarea_history.specs.Log.{newest, next};
 ghost use Rattle.textarea_lines.specs.declared.settings.LayoutSettings.{LayoutSettings};
-ghost use Rattle.textarea_text.specs.Place.{Place};
+ghost use Rattle.textarea_ranges.specs.declared.atomic.AtomicRange.{AtomicRange};
+ghost use Rattle.textarea_ranges.specs.Held.{IsWithin};
+ghost use Rattle.textarea_ranges.specs.Moved.{moved_range};
+ghost use Rattle.textarea_text.specs.Place.{Place, end};
 ghost use Rattle.textarea_text.specs.Splice.{Fits, Splice, inverse};
 ghost use Rattle.textarea_text.specs.Text.{Symbol};
 ghost use Rattle.textarea_document.specs.Cuts.{CutsAll, CutsBySettings, CutsByWidth, SplicesBy};
 ghost use Rattle.textarea_document.specs.Edits.{IsMade, Step, splice_of, stepped};
+ghost use Rattle.textarea_document.specs.Goes.{AllStemFrom, Goes, GoesOver, GoesUncut};
 ghost use Rattle.textarea_document.specs.Outcomes.{edited, redone, undone};
+ghost use Rattle.textarea_document.specs.Ranges.{CutsNone};
 ghost use Rattle.textarea_document.specs.Rows.{HasRowsAt, IsAboveCursor, IsBelowCursor, with_inner_width, with_layout_settings};
 ghost use Rattle.textarea_document.specs.Sound.{IsSound};
 ghost use Rattle.textarea_document.specs.State.{DocumentState, fresh_document};
 
 use textarea_lines::laws::{settings_cut, splices_cut};
+use textarea_ranges::laws::ranges_go_with_the_text;
 
 /// From a document's cursor one place, or none, is found one visual row up, and one place, or none, one visual row down.
 pub fn one_place_up_and_down()
@@ -65,4 +71,33 @@ pub fn layouts_cut()
         (fresh_document text document.layout.settings document.layout.count cursor maximum) }
 {
     settings_cut();
+}
+
+/// The ranges of a document go with its text: over each of the five things that a call which inserts or removes can do to the text,
+/// none of which cuts a range, and over an undo and a redo. Where they go so, each range that is held then stems from one that was
+/// held before: it covers the same characters, all in one line.
+pub fn ranges_go_along()
+    ensures stepped { (document : DocumentState) (step : Step) (typed : Bool) (now : ℕ) →
+        IsSound document → IsMade document step →
+        GoesUncut document (stepped document step typed now) }
+    ensures undone { (document : DocumentState) (splice : Splice) →
+        IsSound document → newest document.log ≡ Some splice →
+        GoesOver document (inverse splice ∷ []) (undone document) }
+    ensures redone { (document : DocumentState) (splice : Splice) →
+        IsSound document → next document.log ≡ Some splice →
+        GoesOver document (splice ∷ []) (redone document) }
+    ensures stem { (old new : DocumentState) →
+        IsSound old → Goes old new → AllStemFrom old new }
+{
+    ranges_go_with_the_text();
+}
+
+/// A splice that cuts no range drops those alone that it takes whole: it removes, and from its start to its end.
+pub fn only_taken_ranges_are_dropped()
+    ensures { (ranges : List AtomicRange) (splice : Splice) (range : AtomicRange) →
+        CutsNone ranges splice → Contains ranges range → moved_range splice range ≡ None →
+        (splice.inserts ≡ false)
+        × IsWithin splice.place (end splice.place splice.symbols) range }
+{
+    ranges_go_with_the_text();
 }

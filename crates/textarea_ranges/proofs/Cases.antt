@@ -1,5 +1,7 @@
 -- Worked cases of the definitions, each by computing.
-use Rattle.std.proofs.Common.{◌≡◌, ℕ, List, [], ◌∷◌, refl, Some, None}
+use Rattle.std.proofs.Common.{◌≡◌, ℕ, true, false, List, [], ◌∷◌, refl, Some, None}
+use Rattle.textarea_text.specs.Text.{Symbol, Break, Character}
+use Rattle.textarea_text.specs.Splice.{Splice}
 use Rattle.textarea_ranges.specs.declared.atomic.AtomicRange.{AtomicRange}
 use Rattle.textarea_ranges.specs.declared.atomic.RejectedAtomicRange.{RejectedAtomicRange}
 use Rattle.textarea_ranges.specs.declared.atomic.AtomicCursorBias.TheVariants.{Backward, Forward}
@@ -7,6 +9,7 @@ use Rattle.textarea_ranges.specs.declared.atomic.AtomicDeleteDirection.TheVarian
 use Rattle.textarea_ranges.specs.declared.atomic.AtomicRangeRejectReason.{AtomicRangeRejectReason}
 use Rattle.textarea_ranges.specs.declared.atomic.AtomicRangeRejectReason.TheVariants.{Empty, RowOutOfBounds, ColumnOutOfBounds, OverlapsPrevious}
 use Rattle.textarea_ranges.specs.Held.{hit, moved_out, widened}
+use Rattle.textarea_ranges.specs.Moved.{moved_ranges}
 use Rattle.textarea_ranges.specs.Order.{in_order}
 use Rattle.textarea_ranges.specs.Rejected.{rejected_of}
 
@@ -85,3 +88,41 @@ widened_case = refl
 
 pub widened_inside_case : widened bracket (0, 6) (0, 7) ≡ ((0, 5), (0, 10))
 widened_inside_case = refl
+
+-- ---- ranges that go with the text
+
+abbrev pub insertion : ℕ → ℕ → List Symbol → Splice
+insertion row column symbols = record { place = (row, column); symbols = symbols; inserts = true }
+
+abbrev pub removal : ℕ → ℕ → List Symbol → Splice
+removal row column symbols = record { place = (row, column); symbols = symbols; inserts = false }
+
+-- `oh` and a break before `hi [[a]] x`: the range is in the row below, and its columns are those of before
+pub break_before_case : moved_ranges (part 0 3 8 ∷ []) (insertion 0 0 (Character 111 ∷ Character 104 ∷ Break ∷ [])) ≡ part 1 3 8 ∷ []
+unfolding moved_ranges
+break_before_case = refl
+
+-- a break inside the line: the range behind it starts its row
+pub break_inside_case : moved_ranges (part 0 3 8 ∷ part 1 0 2 ∷ []) (insertion 0 3 (Break ∷ [])) ≡ part 1 0 5 ∷ part 2 0 2 ∷ []
+unfolding moved_ranges
+break_inside_case = refl
+
+-- a character between two ranges that touch: the first stays, the second goes along
+pub between_case : moved_ranges (part 0 0 5 ∷ part 0 5 10 ∷ []) (insertion 0 5 (Character 45 ∷ [])) ≡ part 0 0 5 ∷ part 0 6 11 ∷ []
+unfolding moved_ranges
+between_case = refl
+
+-- what is inserted strictly inside of a range drops it
+pub inside_case : moved_ranges (part 0 0 5 ∷ part 0 5 10 ∷ []) (insertion 0 6 (Character 45 ∷ [])) ≡ part 0 0 5 ∷ []
+unfolding moved_ranges
+inside_case = refl
+
+-- the break between two lines goes: the range of the second one stands behind the first line's two characters
+pub joined_case : moved_ranges (part 0 0 2 ∷ part 1 1 3 ∷ part 2 0 4 ∷ []) (removal 0 2 (Break ∷ [])) ≡ part 0 0 2 ∷ part 0 3 5 ∷ part 1 0 4 ∷ []
+unfolding moved_ranges
+joined_case = refl
+
+-- a range that is taken whole is dropped, as is one of which a character goes; one that is only touched stays
+pub taken_case : moved_ranges (part 0 0 2 ∷ part 0 2 4 ∷ part 0 4 7 ∷ part 0 7 9 ∷ []) (removal 0 2 (Character 97 ∷ Character 98 ∷ Character 99 ∷ [])) ≡ part 0 0 2 ∷ part 0 4 6 ∷ []
+unfolding moved_ranges
+taken_case = refl

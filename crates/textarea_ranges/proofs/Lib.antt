@@ -1,7 +1,9 @@
 pub mod Cases
+pub mod Closing
 pub mod Finds
 pub mod HeldLemmas
 pub mod Lists
+pub mod Moving
 pub mod Sorts
 pub mod OrderLemmas
 pub mod RejectedLemmas

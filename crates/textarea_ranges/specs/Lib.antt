@@ -1,4 +1,5 @@
 pub mod Held
+pub mod Moved
 pub mod Order
 pub mod Rejected
 pub mod Valid

@@ -1,12 +1,15 @@
 //! Laws of ranges, each the contract of a function without a body.
-ghost use Rattle.std.specs.Prelude.{◌≡◌, ◌↔◌, ℕ, List, [], All, Contains, MatchOption, Some};
+ghost use Rattle.std.specs.Prelude.{◌≡◌, ◌↔◌, ℕ, List, [], All, Contains, MatchOption, None, Some};
+ghost use Rattle.textarea_text.specs.Text.{Symbol, lines};
 ghost use Rattle.textarea_text.specs.Place.{Place};
+ghost use Rattle.textarea_text.specs.Splice.{Fits, Splice, applied};
 ghost use Rattle.textarea_ranges.specs.declared.atomic.AtomicDeleteDirection.{AtomicDeleteDirection};
 ghost use Rattle.textarea_ranges.specs.declared.atomic.AtomicRange.{AtomicRange};
 ghost use Rattle.textarea_ranges.specs.Held.{IsHit, IsInside, hit, inside};
+ghost use Rattle.textarea_ranges.specs.Moved.{CoversTheSame, Disturbs, moved_range, moved_ranges};
 ghost use Rattle.textarea_ranges.specs.Order.{AreInOrder, IsInOrder, in_order};
 ghost use Rattle.textarea_ranges.specs.Rejected.{rejected_of};
-ghost use Rattle.textarea_ranges.specs.Valid.{AreValid};
+ghost use Rattle.textarea_ranges.specs.Valid.{AreValid, IsPart};
 
 /// Ranges in order are the same ranges by row and start, those that start at one place as they stood; no other list is
 /// that; and ranges that were put in order stay as they are when they are put in order again.
@@ -46,4 +49,21 @@ pub fn found_where_there_is_one()
         → MatchOption (hit ranges place direction)
         (All (λ range. ¬ IsHit place direction range) ranges)
         (λ range. Contains ranges range × IsHit place direction range) }
+{}
+
+/// Ranges go with the text: one that a splice leaves is a part of a line of the text after it, and covers the same characters
+/// as before, all in that line. Exactly the ranges are dropped that the splice disturbs, since it inserts strictly inside of
+/// them or removes a character of them. Valid ranges stay valid for the text as it stands then, and ranges in order stay so.
+pub fn ranges_go_with_the_text()
+    ensures covers { (text : List Symbol) (splice : Splice) (old new : AtomicRange)
+        → Fits text splice → IsPart (lines text) old → moved_range splice old ≡ Some new
+        → CoversTheSame text (applied text splice) old new }
+    ensures dropped { (splice : Splice) (range : AtomicRange)
+        → ((moved_range splice range ≡ None) ↔ Disturbs splice range) }
+    ensures valid { (text : List Symbol) (splice : Splice) (ranges : List AtomicRange)
+        → Fits text splice → AreValid (lines text) ranges
+        → AreValid (lines (applied text splice)) (moved_ranges ranges splice) }
+    ensures in_order { (text : List Symbol) (splice : Splice) (ranges : List AtomicRange)
+        → Fits text splice → AreValid (lines text) ranges → AreInOrder ranges
+        → AreInOrder (moved_ranges ranges splice) }
 {}

@@ -4,5 +4,6 @@
 pub mod atomic;
 pub mod held;
 pub mod laws;
+pub mod moved;
 mod order;
 pub mod validate;

@@ -1,5 +1,5 @@
 -- Which lines each call cuts, by what the text area says of its outcomes; and that the count never falls.
-use Rattle.std.proofs.Common.{◌≡◌, ◌≤◌, ◌⊎◌, ℕ, List, [], ◌∷◌, Option, None, Some, is_some, true, false, ap, refl, subst, sym, ◌∙◌, ⊎_elim, arith}
+use Rattle.std.proofs.Common.{◌≡◌, ◌≤◌, ℕ, List, [], ◌∷◌, Option, None, Some, is_some, true, false, ap, refl, subst, sym, ◌∙◌, ⊎_elim, arith}
 use Rattle.textarea_keys.specs.declared.action.Action.{Action}
 use Rattle.textarea_keys.specs.declared.action.Action.TheVariants as action
 use Rattle.textarea_lines.specs.Cuts.{AreSpliced, CutsAllLines, IsSetTo, IsWidened}

@@ -25,7 +25,7 @@ use Rattle.textarea_script.specs.declared.answer.Answer.{Answer}
 
 -- ---- one call more
 
-Leads-append : (old mid new : State) (buffer screen shown : Buffer) (calls : List Call) (answers : List Said) (call : Call) (answer : Said) → Leads old buffer calls answers mid screen → Makes mid screen call answer new shown → Leads old buffer (calls ++ call ∷ []) (answers ++ answer ∷ []) new shown
+pub Leads-append : (old mid new : State) (buffer screen shown : Buffer) (calls : List Call) (answers : List Said) (call : Call) (answer : Said) → Leads old buffer calls answers mid screen → Makes mid screen call answer new shown → Leads old buffer (calls ++ call ∷ []) (answers ++ answer ∷ []) new shown
 Leads-append old mid new buffer screen shown [] [] call answer so_far made =
     (new, shown, subst (λ (b : Buffer). Makes old b call answer new shown) so_far.1 (subst (λ (s : State). Makes s screen call answer new shown) so_far.0 made), (refl, refl))
 Leads-append old mid new buffer screen shown [] (a ∷ answers) call answer so_far made = absurd so_far
@@ -34,7 +34,7 @@ Leads-append old mid new buffer screen shown (first ∷ calls) (a ∷ answers) c
     (so_far.0, so_far.1, so_far.2, Leads-append so_far.0 mid new so_far.1 screen shown calls answers call answer so_far.3 made)
 
 -- the calls up to the one at the index
-one_more : (calls : List Call) (index : ℕ) (call : Call) → index < length calls → call ≡ get_or calls index call → take index calls ++ call ∷ [] ≡ take (index + 1) calls
+pub one_more : (calls : List Call) (index : ℕ) (call : Call) → index < length calls → call ≡ get_or calls index call → take index calls ++ call ∷ [] ≡ take (index + 1) calls
 one_more calls index call within is_call =
     ap (λ (this : Call). take index calls ++ this ∷ []) is_call ∙ sym (take_more calls index call within)
 

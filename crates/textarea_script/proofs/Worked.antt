@@ -2,6 +2,7 @@
 use Rattle.std.proofs.Common.{◌≡◌, List, [], ◌∷◌, Option, None, Some, is_some, true, false, refl, subst}
 use Rattle.textarea_text.specs.Text.{Character, Break}
 use Rattle.textarea_text.specs.Place.{Place}
+use Rattle.textarea_ranges.specs.Moved.{moved_ranges}
 use Rattle.textarea_document.specs.Edits.{removed_before, removed_behind, part_removed}
 use Rattle.tui_textarea.specs.Removals.{yanked}
 use Rattle.textarea_screen.specs.declared.screen.buffer.Buffer.{Buffer}
@@ -132,7 +133,7 @@ abbrev two_lines : List Call
 two_lines = InsertChar 97 ∷ InsertNewline ∷ InsertChar 98 ∷ DeleteChar ∷ Undo ∷ []
 
 two_lines-answers : answers_of empty two_lines ≡ Done ∷ Done ∷ Done ∷ Flag true ∷ Flag true ∷ []
-unfolding removed_before removed_behind part_removed yanked
+unfolding removed_before removed_behind part_removed yanked moved_ranges
 two_lines-answers = refl
 
 -- so a run leads there
@@ -140,17 +141,17 @@ two_lines-leads : (buffer : Buffer) → Leads empty buffer two_lines (answers_of
 two_lines-leads buffer = settled-leads empty buffer two_lines (tt, (tt, (tt, (tt, (tt, tt)))))
 
 two_lines-text : (reached two_lines).document.text ≡ Character 97 ∷ Break ∷ Character 98 ∷ []
-unfolding removed_before removed_behind part_removed yanked
+unfolding removed_before removed_behind part_removed yanked moved_ranges
 two_lines-text = refl
 
 -- the cursor stands behind the restored text
 two_lines-cursor : (reached two_lines).document.cursor ≡ (1, 1)
-unfolding removed_before removed_behind part_removed yanked
+unfolding removed_before removed_behind part_removed yanked moved_ranges
 two_lines-cursor = refl
 
 -- the removal can be made again
 two_lines-undone : (reached two_lines).document.log.undone ≡ (record { place = (1, 0); symbols = Character 98 ∷ []; inserts = false }) ∷ []
-unfolding removed_before removed_behind part_removed yanked
+unfolding removed_before removed_behind part_removed yanked moved_ranges
 two_lines-undone = refl
 
 -- a new edit drops what was undone
@@ -158,25 +159,25 @@ abbrev replaced_edit : List Call
 replaced_edit = InsertChar 97 ∷ Undo ∷ InsertChar 98 ∷ Redo ∷ []
 
 replaced_edit-answers : answers_of empty replaced_edit ≡ Done ∷ Flag true ∷ Done ∷ Flag false ∷ []
-unfolding removed_before removed_behind part_removed yanked
+unfolding removed_before removed_behind part_removed yanked moved_ranges
 replaced_edit-answers = refl
 
 replaced_edit-text : (reached replaced_edit).document.text ≡ Character 98 ∷ []
-unfolding removed_before removed_behind part_removed yanked
+unfolding removed_before removed_behind part_removed yanked moved_ranges
 replaced_edit-text = refl
 
 -- a carriage return breaks the line
 return-text : (reached (InsertChar 13 ∷ [])).document.text ≡ Break ∷ []
-unfolding removed_before removed_behind part_removed yanked
+unfolding removed_before removed_behind part_removed yanked moved_ranges
 return-text = refl
 
 -- nothing to do
 idle-answers : answers_of empty (DeleteChar ∷ Undo ∷ Redo ∷ Cut ∷ Paste ∷ []) ≡ Flag false ∷ Flag false ∷ Flag false ∷ Flag false ∷ Flag false ∷ []
-unfolding removed_before removed_behind part_removed yanked
+unfolding removed_before removed_behind part_removed yanked moved_ranges
 idle-answers = refl
 
 idle-state : reached (DeleteChar ∷ Undo ∷ Redo ∷ Cut ∷ Paste ∷ []) ≡ empty
-unfolding removed_before removed_behind part_removed yanked
+unfolding removed_before removed_behind part_removed yanked moved_ranges
 idle-state = refl
 
 -- `a`, a break and `b`, all selected and cut: the yank has a line feed for the break
@@ -184,11 +185,11 @@ abbrev cut_all : List Call
 cut_all = InsertChar 97 ∷ InsertNewline ∷ InsertChar 98 ∷ SelectAll ∷ Cut ∷ YankText ∷ []
 
 cut_all-answers : answers_of empty cut_all ≡ Done ∷ Done ∷ Done ∷ Done ∷ Flag true ∷ Text (97 ∷ 10 ∷ 98 ∷ []) ∷ []
-unfolding removed_before removed_behind part_removed yanked
+unfolding removed_before removed_behind part_removed yanked moved_ranges
 cut_all-answers = refl
 
 cut_all-text : (reached cut_all).document.text ≡ []
-unfolding removed_before removed_behind part_removed yanked
+unfolding removed_before removed_behind part_removed yanked moved_ranges
 cut_all-text = refl
 
 -- what is typed takes the place of what is selected, as two edits
@@ -196,7 +197,7 @@ abbrev typed_over : List Call
 typed_over = InsertChar 97 ∷ StartSelection ∷ Move Back ∷ InsertChar 98 ∷ Undo ∷ []
 
 typed_over-text : (reached typed_over).document.text ≡ []
-unfolding removed_before removed_behind part_removed yanked
+unfolding removed_before removed_behind part_removed yanked moved_ranges
 typed_over-text = refl
 
 -- the removal of two symbols behind the cursor, a break among them
@@ -204,7 +205,7 @@ abbrev removed_count : List Call
 removed_count = InsertNewline ∷ InsertChar 97 ∷ Move Head ∷ Move Back ∷ DeleteStr 2 ∷ []
 
 removed_count-yank : (reached removed_count).yank ≡ Break ∷ Character 97 ∷ []
-unfolding removed_before removed_behind part_removed yanked
+unfolding removed_before removed_behind part_removed yanked moved_ranges
 removed_count-yank = refl
 
 -- a mask is read until it is taken away; before the first drawing there is no caret

@@ -4,6 +4,7 @@ pub mod Commands
 pub mod Cuts
 pub mod Escapes
 pub mod FirstLine
+pub mod Goes
 pub mod Inputs
 pub mod Kinds
 pub mod Outcomes

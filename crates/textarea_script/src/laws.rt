@@ -1,18 +1,23 @@
 //! Laws of runs, each the contract of a function that does nothing.
 ghost use Rattle.std.specs.Prelude.{◌≡◌, ◌≤◌, List};
 ghost use Rattle.textarea_document.specs.Cuts.{SplicesUpTo};
+ghost use Rattle.textarea_document.specs.Goes.{GoesUncut};
 ghost use Rattle.textarea_document.specs.Sound.{IsSound};
 ghost use Rattle.textarea_screen.specs.declared.screen.buffer.Buffer.{Buffer};
 ghost use Rattle.tui_textarea.specs.State.{State};
 ghost use Rattle.textarea_script.specs.Calls.{IsLeft};
 ghost use Rattle.textarea_script.specs.Cuts.{CutsByCall};
 ghost use Rattle.textarea_script.specs.declared.call.Call.{Call};
-ghost use Rattle.textarea_script.specs.Outcomes.{IsBehind};
+ghost use Rattle.textarea_script.specs.Goes.{GoesByCall};
+ghost use Rattle.textarea_script.specs.Outcomes.{IsAnswer, IsBehind};
 ghost use Rattle.textarea_script.specs.Run.{Leads, ShowsSame};
 ghost use Rattle.textarea_script.specs.Said.{Said};
 
 use textarea_drawing::laws::{one_drawing, one_rendering};
-use tui_textarea::laws::{calls_cut, inputs_cut, layouts_are_cut, one_input, one_move};
+use tui_textarea::laws::{
+    calls_cut, inputs_cut, layouts_are_cut, one_input, one_move, ranges_go_behind_calls,
+    ranges_go_behind_inputs,
+};
 
 /// Calls that answer so lead to one state, whatever the buffers: the answers settle all that a run leaves of a text area.
 pub fn one_end()
@@ -64,4 +69,18 @@ pub fn count_never_falls()
 {
     each_call_cuts();
     textarea_lines::laws::count_never_falls();
+}
+
+/// How the ranges go over each call, of every state that a text area has: they go with the text, over splices that lead from the old
+/// text to the new one, and only an undo and a redo may cut one. Other lines and the call that clears leave none, and ranges that are
+/// accepted take the place of the old ones. A call that runs out of memory has at most removed what was selected.
+pub fn ranges_go_with_each_call()
+    ensures made { (old new : State) (call : Call) (answer : Said) → IsSound old.document →
+        IsAnswer old call answer → IsBehind old call answer new →
+        GoesByCall old call answer new }
+    ensures refused { (old new : State) (call : Call) → IsSound old.document →
+        IsLeft old call new → GoesUncut old.document new.document }
+{
+    ranges_go_behind_inputs();
+    ranges_go_behind_calls();
 }

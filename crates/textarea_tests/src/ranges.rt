@@ -2,7 +2,7 @@
 use crate::transcript::check;
 use std::test::Fail;
 
-static RANGES: [&str; 7] = [
+static RANGES: [&str; 9] = [
     // A character's removal takes the range whole, yanks nothing, and is undone as one edit.
     "
         set_lines 0 0 Send [[a]] now => ok
@@ -111,6 +111,39 @@ static RANGES: [&str; 7] = [
         ranges => ok
         lines 1
         |c
+    ",
+    // Of two ranges that touch one goes, and comes back as text alone; the cursor stands behind it.
+    r"
+        set_lines 0 0 [[a]][[b]] => ok
+        ranges 0 0 5 0 5 10 => ok
+        jump 0 5 => ok
+        delete_char => true
+        lines 1
+        |[[b]]
+        cursor 0 0
+        undo => true
+        lines 1
+        |[[a]][[b]]
+        cursor 0 5
+        move Forward => ok
+        cursor 0 10
+        jump 0 3 => ok
+        cursor 0 3
+    ",
+    // An undo goes where the history says, into a range too.
+    r"
+        set_lines 0 0 abcd => ok
+        move Forward => ok
+        delete_next_char => true
+        lines 1
+        |acd
+        cursor 0 1
+        ranges 0 0 2 => ok
+        cursor 0 2
+        undo => true
+        lines 1
+        |abcd
+        cursor 0 2
     ",
 ];
 

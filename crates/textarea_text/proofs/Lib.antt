@@ -10,3 +10,4 @@ pub mod Insides
 pub mod Touching
 pub mod EmptyTexts
 pub mod Copies
+pub mod Carrying

@@ -4,3 +4,4 @@ pub mod Splice
 pub mod Replaced
 pub mod Size
 pub mod Touched
+pub mod Carried

@@ -7,6 +7,7 @@ use Rattle.textarea_history.specs.Log.{empty_log, recorded}
 use Rattle.tui_textarea.specs.State.{State, new_state, with_document}
 use Rattle.textarea_document.specs.Edits.{removed_before, part_removed}
 use Rattle.textarea_document.specs.Outcomes.{redone, undone}
+use Rattle.textarea_ranges.specs.Moved.{moved_ranges}
 use Rattle.tui_textarea.specs.Edits.{char_inserted, newline_inserted}
 use Rattle.tui_textarea.specs.Selection.{selection_cut}
 use Rattle.tui_textarea.specs.Removals.{symbol_before_removed, unselected_or}
@@ -71,15 +72,16 @@ abbrev pub first_run : State
 first_run = undo_of (deleted_char (char_inserted (newline_inserted (char_inserted (new_state []) 97)) 98))
 
 pub first_run_case : first_run.document.text ≡ Character 97 ∷ Break ∷ Character 98 ∷ []
-unfolding removed_before
+unfolding removed_before moved_ranges
 first_run_case = refl
 
 pub first_run_cursor_case : first_run.document.cursor ≡ (1, 1)
-unfolding removed_before
+unfolding removed_before moved_ranges
 first_run_cursor_case = refl
 
 -- a change after an undo: there is nothing left to make again
 pub redo_case : (redo_of (char_inserted (undo_of (char_inserted (new_state []) 97)) 98)).document.text ≡ Character 98 ∷ []
+unfolding moved_ranges
 redo_case = refl
 
 -- a carriage return breaks the line
@@ -88,7 +90,7 @@ carriage_return_case = refl
 
 -- an insertion over a selection is two changes: the removal and the insertion
 pub over_selection_case : (char_inserted (selected_first (new_state (Character 97 ∷ Character 98 ∷ []))) 120).document.log.done ≡ (record { place = (0, 0); symbols = Character 97 ∷ []; inserts = false }) ∷ (record { place = (0, 0); symbols = Character 120 ∷ []; inserts = true }) ∷ []
-unfolding part_removed
+unfolding part_removed moved_ranges
 over_selection_case = refl
 
 -- a selection's removal yanks nothing, and a cut yanks

@@ -9,4 +9,6 @@ mod Frames
 mod OneAct
 mod Removing
 mod Cutting
+mod Stepping
+mod Going
 mod WorkedCounts

@@ -13,3 +13,4 @@ pub mod Law
 pub mod Frames
 pub mod Cuts
 pub mod Worked
+pub mod Goes

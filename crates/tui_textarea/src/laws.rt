@@ -2,6 +2,7 @@
 ghost use Rattle.std.specs.Prelude.{◌≡◌, ◌<◌, ℕ, Bool, List, true, false, length};
 ghost use Rattle.textarea_data.specs.declared.cursor.CursorMove.{CursorMove};
 ghost use Rattle.textarea_data.specs.declared.scroll.Scrolling.{Scrolling};
+ghost use Rattle.textarea_document.specs.Goes.{GoesUncut};
 ghost use Rattle.textarea_document.specs.Cuts.{CutsAll, CutsBySettings, CutsByWidth, SplicesUpTo};
 ghost use Rattle.textarea_document.specs.Rows.{laid_out_of};
 ghost use Rattle.textarea_document.specs.Sound.{IsSound};
@@ -22,6 +23,7 @@ ghost use Rattle.tui_textarea.specs.Drawing.{IsRendered, parts_of};
 ghost use Rattle.tui_textarea.specs.Edits.{str_inserted};
 ghost use Rattle.tui_textarea.specs.Frames.{IsLaidOutFor};
 ghost use Rattle.tui_textarea.specs.Measure.{IsMeasured};
+ghost use Rattle.tui_textarea.specs.Goes.{GoesByAct};
 ghost use Rattle.tui_textarea.specs.Input.{IsActed};
 ghost use Rattle.tui_textarea.specs.Layout.{with_layout};
 ghost use Rattle.tui_textarea.specs.Moves.{IsMovedWith, IsScrolledWith};
@@ -30,7 +32,9 @@ ghost use Rattle.tui_textarea.specs.Removals.{break_before_removed, symbols_ahea
 ghost use Rattle.tui_textarea.specs.Selection.{unselected};
 ghost use Rattle.tui_textarea.specs.State.{State, with_other_lines};
 
-use textarea_document::laws::{edits_cut, layouts_cut, one_place_up_and_down, one_row_count};
+use textarea_document::laws::{
+    edits_cut, layouts_cut, one_place_up_and_down, one_row_count, ranges_go_along,
+};
 use textarea_drawing::laws::one_place_inside;
 use textarea_lines::laws::{cut_as_measured, settings_stay};
 
@@ -171,4 +175,36 @@ pub fn layouts_are_cut()
         maximum)).document }
 {
     layouts_cut();
+}
+
+/// The ranges go with the text behind an input, whatever it asks for: splices lead from the old text to the new one, none where
+/// nothing is edited, and the ranges go with it. Only an undo and a redo may cut one.
+pub fn ranges_go_behind_inputs()
+    ensures { (old new : State) (action : Action) → IsSound old.document →
+        IsActed old action new → GoesByAct action old.document new.document }
+{
+    ranges_go_along();
+}
+
+/// And so they do behind the calls that no input asks for and that edit the text, behind the removal of what is selected, which an
+/// insertion leaves that then runs out of memory, and behind a drawing. None of these cuts a range.
+pub fn ranges_go_behind_calls()
+    ensures text { (state : State) (symbols : List Symbol) → IsSound state.document →
+        GoesUncut state.document (str_inserted state symbols).document }
+    ensures ahead { (state : State) (count : ℕ) → IsSound state.document →
+        GoesUncut state.document
+        (unselected_or state (symbols_ahead_removed state count)).document }
+    ensures break_before { (state : State) → IsSound state.document →
+        GoesUncut state.document (unselected_or state (break_before_removed state)).document }
+    ensures all { (state : State) → IsSound state.document →
+        GoesUncut state.document (text_cleared state).document }
+    ensures range { (state : State) (direction : AtomicDeleteDirection) →
+        IsSound state.document →
+        GoesUncut state.document (hit_range_removed state direction).document }
+    ensures selection { (state : State) → IsSound state.document →
+        GoesUncut state.document (unselected state).document }
+    ensures drawing { (old new : State) (area : Rect) → IsRendered old area new →
+        GoesUncut old.document new.document }
+{
+    ranges_go_along();
 }

@@ -42,8 +42,8 @@ impl<'a> Change<'a> {
         self.inserts
     }
 
-    // Where its symbols begin.
-    fn start(&self) -> (usize, usize)
+    /// Where its symbols begin, as (row, column).
+    pub fn start(&self) -> (usize, usize)
         ensures { result ≡ self.now.place }
     {
         let edit = self.edit;

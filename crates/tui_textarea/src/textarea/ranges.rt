@@ -17,7 +17,8 @@ use textarea_ranges::atomic::{
 impl TextArea<'_> {
     /// Holds these ranges, in order of row and start, in place of the old ones. Each has a character at least and lies in
     /// one line, and no two share a character. A cursor strictly inside one goes to its end, the place where a selection
-    /// began to its start, and a selection that is empty then is dropped. An edit, an undo and a redo forget all ranges.
+    /// began to its start, and a selection that is empty then is dropped. Ranges go with the text over each edit, undo and redo:
+    /// a removal drops those that it takes, an undo and a redo those that they cut.
     pub fn set_atomic_ranges(&mut self, ranges: Vec<AtomicRange>) -> Result<(), AllocError>
         requires valid { AreValid (lines self.old.document.text) ranges.items }
         ensures ok { OnOk result (self.new ≡ ranges_accepted self.old ranges.items) }

@@ -1,0 +1,20 @@
+-- Ranges of a document that go with its text.
+use Rattle.std.proofs.Common.{◌≤◌, ◌<◌, ◌^◌, List, All, get_or, arith}
+use Rattle.textarea_text.specs.Text.{Symbol, lines}
+use Rattle.textarea_text.specs.Place.{IsPlace, Place}
+use Rattle.textarea_ranges.specs.declared.atomic.AtomicRange.{AtomicRange}
+use Rattle.textarea_ranges.specs.Held.{range_end}
+use Rattle.textarea_ranges.specs.Moved.{IsMovable}
+use Rattle.textarea_ranges.specs.Valid.{AreValid}
+
+-- each place of the text has a row and a column that are small
+abbrev pub HasSmallPlaces : List Symbol → Type 0
+HasSmallPlaces text = (place : Place) → IsPlace text place → (place.0 < 2 ^ 48) × (place.1 ≤ 2 ^ 48)
+
+-- ranges of such a text can be moved
+pub movable : (text : List Symbol) (ranges : List AtomicRange) → HasSmallPlaces text → AreValid (lines text) ranges → All IsMovable ranges
+movable text ranges small valid k d within =
+    let range = get_or ranges k d in
+    let part = valid.parts k d within in
+    let behind = small (range_end range) (part.0, part.2) in
+    record { ordered = omega (arith, part.1); row = omega (arith, behind.0); column = behind.1 }

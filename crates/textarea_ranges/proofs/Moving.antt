@@ -1,0 +1,309 @@
+-- Where atomic ranges go with the text that they stand in.
+use Rattle.std.proofs.Common.{◌≡◌, ◌≤◌, ◌<◌, ℕ, ◌+◌, ◌-◌, ◌⊎◌, ◌↔◌, inl, inr, Bool, true, false, List, [], ◌∷◌, ◌++◌, length, take, drop, filter_map, nat_eq, Option, Some, None, sym, ap, refl, ◌∙◌, arith, subst}
+use Rattle.std.proofs.lemmas.Bool.{cases_Bool}
+use Rattle.std.proofs.lemmas.Bool.Decides.{nat_tests}
+use Rattle.std.proofs.lemmas.List.{append_assoc, length-append, length-drop, length-take-le, take-append-drop, take_at, drop_at, get_or_at}
+use Rattle.std.proofs.lemmas.List.Elements.{All-from_recursion, recursion_from_All}
+use Rattle.std.specs.List.{AllByRecursion, cons_option}
+use Rattle.textarea_text.specs.Text.{Symbol, Character, Break, characters, following, joined, leading, lines, on_first}
+use Rattle.textarea_text.specs.Place.{Place, IsUpTo, end, line_of}
+use Rattle.textarea_text.specs.Splice.{Splice, Fits, applied, place_after, place_before}
+use Rattle.textarea_text.specs.Carried.{is_up_to, shifted}
+use Rattle.textarea_text.proofs.Splices.{characters-append, end-append, end_of_front, end-characters, joined-append, lines-joined}
+use Rattle.textarea_text.proofs.Places.{Parted, cut, joined-lines, part_rows}
+use Rattle.textarea_text.proofs.Carrying.{back_stays, end_from, front_stays}
+use Rattle.textarea_ranges.specs.declared.atomic.AtomicRange.{AtomicRange}
+use Rattle.textarea_ranges.specs.Held.{range_end, range_start}
+use Rattle.textarea_ranges.specs.Moved.{CoversTheSame, Disturbs, DisturbsBy, covered, moved_range, moved_ranges, shifted_range}
+use Rattle.textarea_ranges.specs.Order.{AreInOrder, is_before}
+use Rattle.textarea_ranges.specs.Valid.{AreDisjoint, AreValid, IsPart}
+use Rattle.textarea_ranges.proofs.Lists.{AllPairs-later, EachLater, each_both, later-AllPairs}
+use Rattle.textarea_ranges.proofs.OrderLemmas.{in_order-sorted, sorted-in_order}
+use Rattle.textarea_ranges.proofs.Sorts.{NotBefore}
+
+-- ---- a range as a part of the flat text
+
+pub record Segment (text : List Symbol) (range : AtomicRange) : Type 0 where
+  pub front : List Symbol
+  pub back : List Symbol
+  pub is : text ≡ front ++ (characters (covered (lines text) range) ++ back)
+  pub starts : end (0, 0) front ≡ range_start range
+  pub ends : range.start_col + length (covered (lines text) range) ≡ range.end_col
+
+pub segment : (text : List Symbol) (range : AtomicRange) → IsPart (lines text) range → Segment text range
+unfolding part_rows
+segment text range part =
+    let rows = lines text in
+    let line = line_of rows range.row in
+    let count = range.end_col - range.start_col in
+    let parts = part_rows rows range.row range.start_col (part.0, omega (arith, part.1, part.2)) in
+    let rest = drop range.start_col line in
+    let split : characters rest ≡ characters (take count rest) ++ characters (drop count rest) =
+    ap characters (sym (take-append-drop count rest)) ∙ characters-append (take count rest) (drop count rest) in
+    let below = following (drop (range.row + 1) rows) in
+    record {
+      front = parts.front;
+      back = characters (drop count rest) ++ below;
+      is = sym (joined-lines text) ∙ parts.is
+          ∙ ap (λ t. parts.front ++ (t ++ below)) split
+          ∙ ap (λ t. parts.front ++ t) (append_assoc (characters (take count rest)) (characters (drop count rest)) below);
+      starts = parts.ends;
+      ends = omega (arith, length-take-le count rest (omega (arith, length-drop range.start_col line, part.2)), part.1);
+    }
+
+filled : (text : List Symbol) → (line : List ℕ) × (rest : List (List ℕ)) × (lines text ≡ line ∷ rest)
+filled [] = ([], [], refl)
+filled (Character c ∷ text) = let found = filled text in (c ∷ found.0, found.1, ap (on_first c) found.2)
+filled (Break ∷ text) = ([], lines text, refl)
+
+-- characters that stand in a text are a part of the line in which they begin
+pub record Stands (text : List Symbol) (range : AtomicRange) (cs : List ℕ) : Type 0 where
+  pub part : IsPart (lines text) range
+  pub is : covered (lines text) range ≡ cs
+
+stands_in : (rows above rest : List (List ℕ)) (before cs behind : List ℕ) (range : AtomicRange) → rows ≡ above ++ ((before ++ (cs ++ behind)) ∷ rest) → range.row ≡ length above → range.start_col ≡ length before → range.end_col ≡ length before + length cs → 0 < length cs → IsPart rows range × (covered rows range ≡ cs)
+stands_in rows above rest before cs behind range e row start to some =
+    let line = before ++ (cs ++ behind) in
+    let here : line_of rows range.row ≡ line =
+    ap (λ (r : List (List ℕ)). line_of r range.row) e ∙ get_or_at above line rest [] range.row (sym row) in
+    let within : range.row < length rows = omega (arith, ap length e, length-append above (line ∷ rest), row) in
+    let inside : range.end_col ≤ length (line_of rows range.row) =
+    omega (arith, ap length here, length-append before (cs ++ behind), length-append cs behind, to) in
+    let count : range.end_col - range.start_col ≡ length cs = omega (arith, to, start) in (
+      (within, omega (arith, start, to, some), inside),
+      ap (λ (n : ℕ). take n (drop range.start_col (line_of rows range.row))) count
+          ∙ ap (λ (l : List ℕ). take (length cs) (drop range.start_col l)) here
+          ∙ ap (take (length cs)) (drop_at before (cs ++ behind) range.start_col (sym start))
+          ∙ take_at cs behind (length cs) refl,
+    )
+
+pub stands : (text front back : List Symbol) (cs : List ℕ) (range : AtomicRange) → text ≡ front ++ (characters cs ++ back) → end (0, 0) front ≡ range_start range → range.start_col + length cs ≡ range.end_col → 0 < length cs → Stands text range cs
+stands text front back cs range e starts ends some =
+    let parts = cut front in
+    let next = filled back in
+    let line = parts.start ++ (cs ++ next.0) in
+    let rows = parts.above ++ (line ∷ next.1) in
+    let last : back ≡ characters next.0 ++ following next.1 = sym (joined-lines back) ∙ ap joined next.2 in
+    let lined : characters parts.start ++ (characters cs ++ back) ≡ joined (line ∷ next.1) =
+    ap (λ t. characters parts.start ++ (characters cs ++ t)) last
+    ∙ ap (λ t. characters parts.start ++ t) (sym (append_assoc (characters cs) (characters next.0) (following next.1)))
+    ∙ ap (λ t. characters parts.start ++ (t ++ following next.1)) (sym (characters-append cs next.0))
+    ∙ sym (append_assoc (characters parts.start) (characters (cs ++ next.0)) (following next.1))
+    ∙ ap (λ t. t ++ following next.1) (sym (characters-append parts.start (cs ++ next.0))) in
+    let whole : text ≡ joined rows =
+    e ∙ ap (λ t. t ++ (characters cs ++ back)) parts.is
+    ∙ append_assoc (leading parts.above) (characters parts.start) (characters cs ++ back)
+    ∙ ap (λ t. leading parts.above ++ t) lined
+    ∙ sym (joined-append parts.above (line ∷ next.1) (omega arith)) in
+    let cut_so : lines text ≡ rows = ap lines whole ∙ lines-joined rows (omega (arith, length-append parts.above (line ∷ next.1))) in
+    let at : (length parts.above, length parts.start) ≡ range_start range =
+    sym (end_of_front parts.above parts.start) ∙ ap (end (0, 0)) (sym parts.is) ∙ starts in
+    let row : range.row ≡ length parts.above = sym (ap (λ (p : Place). p.0) at) in
+    let column : range.start_col ≡ length parts.start = sym (ap (λ (p : Place). p.1) at) in
+    let found = stands_in (lines text) parts.above next.1 parts.start cs next.0 range cut_so row column (omega (arith, ends, column)) some in
+    record { part = found.0; is = found.1 }
+
+-- ---- the two ways in which a range is left
+
+-- it stays, or goes along
+pub data Left (splice : Splice) (old new : AtomicRange) : Type 0 where
+  StaysThere : IsUpTo (range_end old) splice.place → new ≡ old → Left splice old new
+  GoesOn : IsUpTo (place_before splice) (range_start old) → new ≡ shifted_range (place_before splice) (place_after splice) old → Left splice old new
+
+up_to-test : (one other : Place) → is_up_to one other ≡ true → IsUpTo one other
+up_to-test one other e = (grind (arith, nat_tests), λ same. grind (arith, nat_tests))
+
+pub left : (splice : Splice) (old new : AtomicRange) → moved_range splice old ≡ Some new → Left splice old new
+left splice old new e =
+    elim (cases_Bool (is_up_to (range_end old) splice.place)) [
+      | inl before ↦ StaysThere (up_to-test (range_end old) splice.place before) (grind (arith, nat_tests))
+      | inr not_before ↦ elim (cases_Bool (is_up_to (place_before splice) (range_start old))) [
+        | inl behind ↦ GoesOn (up_to-test (place_before splice) (range_start old) behind) (grind (arith, nat_tests))
+        | inr not_behind ↦ absurd (grind (arith, nat_tests))
+      ]
+    ]
+
+-- both ends of a range that goes along move alike
+shifted_ends : (old new : Place) (row start to : ℕ) → IsUpTo old (row, start) → (shifted old new (row, start + to)).1 ≡ (shifted old new (row, start)).1 + to
+shifted_ends old new row start to h = grind (arith, nat_tests)
+
+-- ---- a range that is left covers the same
+
+pub covers_the_same : (text : List Symbol) (splice : Splice) (old new : AtomicRange) → Fits text splice → IsPart (lines text) old → moved_range splice old ≡ Some new → CoversTheSame text (applied text splice) old new
+covers_the_same text splice old new h part e = by_cases (left splice old new e)
+  where
+    cs : List ℕ
+    cs = covered (lines text) old
+
+    at : Segment text old
+    at = segment text old part
+
+    some : 0 < length cs
+    some = omega (arith, at.ends, part.1)
+
+    behind : end (0, 0) (at.front ++ characters cs) ≡ range_end old
+    behind = end-append (0, 0) at.front (characters cs) ∙ ap (λ (p : Place). end p (characters cs)) at.starts
+        ∙ end-characters old.row old.start_col cs ∙ ap (λ (n : ℕ). (old.row, n)) at.ends
+
+    result : Stands (applied text splice) new cs → CoversTheSame text (applied text splice) old new
+    result found = record { part = found.part; same = found.is }
+
+    by_cases : Left splice old new → CoversTheSame text (applied text splice) old new
+    by_cases (StaysThere up same) =
+        let parts : Parted text (range_end old) = record { front = at.front ++ characters cs; back = at.back; is = at.is ∙ sym (append_assoc at.front (characters cs) at.back); ends = behind } in
+        let kept = front_stays text splice h (range_end old) parts up in
+        result (stands (applied text splice) at.front kept.back cs new (kept.is ∙ append_assoc at.front (characters cs) kept.back)
+        (at.starts ∙ ap range_start (sym same)) (subst (λ (r : AtomicRange). r.start_col + length cs ≡ r.end_col) (sym same) at.ends) some)
+    by_cases (GoesOn up same) =
+        let parts : Parted text (range_start old) = record { front = at.front; back = characters cs ++ at.back; is = at.is; ends = at.starts } in
+        let kept = back_stays text splice h (range_start old) parts up in
+        let goes = shifted_range (place_before splice) (place_after splice) old in
+        let ends : goes.start_col + length cs ≡ goes.end_col =
+        sym (shifted_ends (place_before splice) (place_after splice) old.row old.start_col (length cs) up)
+        ∙ ap (λ (n : ℕ). (shifted (place_before splice) (place_after splice) (old.row, n)).1) at.ends in
+        result (stands (applied text splice) kept.front at.back cs new kept.is
+        (kept.ends ∙ ap range_start (sym same)) (subst (λ (r : AtomicRange). r.start_col + length cs ≡ r.end_col) (sym same) ends) some)
+
+-- ---- which ranges are dropped
+
+dropped_by : (inserts : Bool) (place : Place) (symbols : List Symbol) (range : AtomicRange) → (moved_range (record { place = place; symbols = symbols; inserts = inserts }) range ≡ None) ↔ DisturbsBy inserts place (end place symbols) range
+dropped_by true place symbols range = (λ e. (grind (arith, nat_tests), grind (arith, nat_tests), grind (arith, nat_tests)), λ h. grind (arith, nat_tests))
+dropped_by false place symbols range = (
+  λ e. ((grind (arith, nat_tests), λ same. grind (arith, nat_tests)), (grind (arith, nat_tests), λ same. grind (arith, nat_tests))),
+  λ h. grind (arith, nat_tests),
+)
+
+pub dropped : (splice : Splice) (range : AtomicRange) → (moved_range splice range ≡ None) ↔ Disturbs splice range
+dropped splice range = dropped_by splice.inserts splice.place splice.symbols range
+
+-- ---- facts of each range that is left, and of each two
+
+each_cons : {X : Type 0} (Q : X → Type 0) (found : Option X) (rest : List X) → ((y : X) → found ≡ Some y → Q y) → AllByRecursion Q rest → AllByRecursion Q (cons_option found rest)
+each_cons Q None rest here all = all
+each_cons Q (Some y) rest here all = (here y refl, all)
+
+each_left : {X Y : Type 0} (P : X → Type 0) (Q : Y → Type 0) (f : X → Option Y) → ((x : X) (y : Y) → P x → f x ≡ Some y → Q y) → (xs : List X) → AllByRecursion P xs → AllByRecursion Q (filter_map f xs)
+each_left P Q f keeps [] all = tt
+each_left P Q f keeps (x ∷ xs) all = each_cons Q (f x) (filter_map f xs) (λ y e. keeps x y all.0 e) (each_left P Q f keeps xs all.1)
+
+later_cons : {X : Type 0} (R : X → X → Type 0) (found : Option X) (rest : List X) → ((y : X) → found ≡ Some y → AllByRecursion (R y) rest) → EachLater R rest → EachLater R (cons_option found rest)
+later_cons R None rest here later = later
+later_cons R (Some y) rest here later = (here y refl, later)
+
+later_left : {X : Type 0} (P : X → Type 0) (R Q : X → X → Type 0) (f : X → Option X) → ((x z y w : X) → P x → P z → R x z → f x ≡ Some y → f z ≡ Some w → Q y w) → (xs : List X) → AllByRecursion P xs → EachLater R xs → EachLater Q (filter_map f xs)
+later_left P R Q f keeps [] all later = tt
+later_left {X} P R Q f keeps (x ∷ xs) all later =
+    later_cons Q (f x) (filter_map f xs)
+    (λ y e. each_left (λ (z : X). P z × R x z) (Q y) f (λ z w h k. keeps x z y w all.0 h.0 h.1 e k) xs (each_both P (R x) (λ (z : X). P z × R x z) (λ z p r. (p, r)) xs all.1 later.0))
+    (later_left P R Q f keeps xs all.1 later.1)
+
+-- ---- two ranges that are left
+
+-- the splice's start comes before both ends of what changes
+starts_by : (inserts : Bool) (place : Place) (symbols : List Symbol) → IsUpTo place (place_before (record { place = place; symbols = symbols; inserts = inserts })) × IsUpTo place (place_after (record { place = place; symbols = symbols; inserts = inserts }))
+starts_by true place symbols = (end_from place [], end_from place symbols)
+starts_by false place symbols = (end_from place symbols, end_from place [])
+
+starts : (splice : Splice) → IsUpTo splice.place (place_before splice) × IsUpTo splice.place (place_after splice)
+starts splice = starts_by splice.inserts splice.place splice.symbols
+
+-- a range that goes along stands in the new place's row, by columns behind it, or below it, by rows behind it
+record InRow (old new : Place) (range there : AtomicRange) : Type 0 where
+  pub row_was : range.row ≡ old.0
+  pub from : old.1 ≤ range.start_col
+  pub row : there.row ≡ new.0
+  pub start : there.start_col + old.1 ≡ new.1 + range.start_col
+  pub to : there.end_col + old.1 ≡ new.1 + range.end_col
+
+record BelowRow (old new : Place) (range there : AtomicRange) : Type 0 where
+  pub row_was : old.0 < range.row
+  pub row : there.row + old.0 ≡ new.0 + range.row
+  pub start : there.start_col ≡ range.start_col
+  pub to : there.end_col ≡ range.end_col
+
+goes_cases : (old new : Place) (range : AtomicRange) → range.start_col ≤ range.end_col → IsUpTo old (range_start range) → InRow old new range (shifted_range old new range) ⊎ BelowRow old new range (shifted_range old new range)
+goes_cases old new range ordered h =
+    elim (cases_Bool (nat_eq range.row old.0)) [
+      | inl here ↦ inl (record { row_was = grind (arith, nat_tests); from = grind (arith, nat_tests); row = grind (arith, nat_tests); start = grind (arith, nat_tests); to = grind (arith, nat_tests) })
+      | inr below ↦ inr (record { row_was = grind (arith, nat_tests); row = grind (arith, nat_tests); start = grind (arith, nat_tests); to = grind (arith, nat_tests) })
+    ]
+
+-- one that stays ends before one that goes along starts
+stays_before : (start old new : Place) (one other there : AtomicRange) → IsUpTo start new → IsUpTo (range_end one) start → InRow old new other there ⊎ BelowRow old new other there → IsUpTo (range_end one) (range_start there)
+stays_before start old new one other there up stays (inl h) = (omega (arith, up.0, stays.0, h.row), λ same. omega (arith, up.0, up.1, stays.0, stays.1, h.row, h.start, h.from, same))
+stays_before start old new one other there up stays (inr h) = (omega (arith, up.0, stays.0, h.row, h.row_was), λ same. absurd (omega (arith, up.0, stays.0, h.row, h.row_was, same)))
+
+-- two that go along share no character, and stay in order
+go_apart : (old new : Place) (one other there away : AtomicRange) → AreDisjoint one other → InRow old new one there ⊎ BelowRow old new one there → InRow old new other away ⊎ BelowRow old new other away → AreDisjoint there away
+go_apart old new one other there away apart (inl h) (inl k) same =
+    elim (apart (omega (arith, h.row_was, k.row_was))) [ inl before ↦ inl (omega (arith, h.to, k.start, before)) | inr behind ↦ inr (omega (arith, k.to, h.start, behind)) ]
+go_apart old new one other there away apart (inl h) (inr k) same = absurd (omega (arith, h.row, k.row, k.row_was, same))
+go_apart old new one other there away apart (inr h) (inl k) same = absurd (omega (arith, h.row, k.row, h.row_was, same))
+go_apart old new one other there away apart (inr h) (inr k) same =
+    elim (apart (omega (arith, h.row, k.row, same))) [ inl before ↦ inl (omega (arith, h.to, k.start, before)) | inr behind ↦ inr (omega (arith, k.to, h.start, behind)) ]
+
+go_in_order : (old new : Place) (one other there away : AtomicRange) → IsUpTo (range_start one) (range_start other) → InRow old new one there ⊎ BelowRow old new one there → InRow old new other away ⊎ BelowRow old new other away → IsUpTo (range_start there) (range_start away)
+go_in_order old new one other there away up (inl h) (inl k) = (omega (arith, h.row, k.row), λ same. omega (arith, h.start, k.start, h.row_was, k.row_was, up.1))
+go_in_order old new one other there away up (inl h) (inr k) = (omega (arith, h.row, k.row, k.row_was), λ same. absurd (omega (arith, h.row, k.row, k.row_was, same)))
+go_in_order old new one other there away up (inr h) (inl k) = absurd (omega (arith, up.0, h.row_was, k.row_was))
+go_in_order old new one other there away up (inr h) (inr k) = (omega (arith, h.row, k.row, up.0), λ same. omega (arith, h.start, k.start, h.row, k.row, same, up.1))
+
+-- what holds of two ranges holds of what is left of them
+module _ (splice : Splice) (one other there away : AtomicRange) (one_some : one.start_col < one.end_col) (other_some : other.start_col < other.end_col) where
+  go_one : IsUpTo (place_before splice) (range_start one) → there ≡ shifted_range (place_before splice) (place_after splice) one → InRow (place_before splice) (place_after splice) one there ⊎ BelowRow (place_before splice) (place_after splice) one there
+  go_one up same = subst (λ (r : AtomicRange). InRow (place_before splice) (place_after splice) one r ⊎ BelowRow (place_before splice) (place_after splice) one r) (sym same) (goes_cases (place_before splice) (place_after splice) one (omega arith) up)
+
+  go_other : IsUpTo (place_before splice) (range_start other) → away ≡ shifted_range (place_before splice) (place_after splice) other → InRow (place_before splice) (place_after splice) other away ⊎ BelowRow (place_before splice) (place_after splice) other away
+  go_other up same = subst (λ (r : AtomicRange). InRow (place_before splice) (place_after splice) other r ⊎ BelowRow (place_before splice) (place_after splice) other r) (sym same) (goes_cases (place_before splice) (place_after splice) other (omega arith) up)
+
+  apart_by : Left splice one there → Left splice other away → AreDisjoint one other → AreDisjoint there away
+  apart_by (StaysThere up same) (StaysThere up' same') apart = subst (λ (r : AtomicRange). AreDisjoint r away) (sym same) (subst (AreDisjoint one) (sym same') apart)
+  apart_by (StaysThere up same) (GoesOn up' same') apart =
+      let before = stays_before splice.place (place_before splice) (place_after splice) one other away (starts splice).1 up (go_other up' same') in
+      subst (λ (r : AtomicRange). AreDisjoint r away) (sym same) (λ row. inl (before.1 row))
+  apart_by (GoesOn up same) (StaysThere up' same') apart =
+      let before = stays_before splice.place (place_before splice) (place_after splice) other one there (starts splice).1 up' (go_one up same) in
+      subst (AreDisjoint there) (sym same') (λ row. inr (before.1 (sym row)))
+  apart_by (GoesOn up same) (GoesOn up' same') apart = go_apart (place_before splice) (place_after splice) one other there away apart (go_one up same) (go_other up' same')
+
+  ordered_by : Left splice one there → Left splice other away → IsUpTo (range_start one) (range_start other) → IsUpTo (range_start there) (range_start away)
+  ordered_by (StaysThere up same) (StaysThere up' same') h = subst (λ (r : AtomicRange). IsUpTo (range_start r) (range_start away)) (sym same) (subst (λ (r : AtomicRange). IsUpTo (range_start one) (range_start r)) (sym same') h)
+  ordered_by (StaysThere up same) (GoesOn up' same') h =
+      let before = stays_before splice.place (place_before splice) (place_after splice) one other away (starts splice).1 up (go_other up' same') in
+      subst (λ (r : AtomicRange). IsUpTo (range_start r) (range_start away)) (sym same) (before.0, λ row. omega (arith, before.1 row))
+  ordered_by (GoesOn up same) (StaysThere up' same') h =
+      let between = (starts splice).0 in
+      absurd (omega (arith, up.0, up.1, up'.0, up'.1, h.0, h.1, between.0, between.1))
+  ordered_by (GoesOn up same) (GoesOn up' same') h = go_in_order (place_before splice) (place_after splice) one other there away h (go_one up same) (go_other up' same')
+
+-- ---- ranges that are left are valid and in order
+
+pub valid_moved : (text : List Symbol) (splice : Splice) (ranges : List AtomicRange) → Fits text splice → AreValid (lines text) ranges → AreValid (lines (applied text splice)) (moved_ranges ranges splice)
+unfolding moved_ranges
+valid_moved text splice ranges h valid =
+    let Was : AtomicRange → Type 0 = IsPart (lines text) in
+    let parts : AllByRecursion Was ranges = recursion_from_All Was ranges valid.parts in
+    record {
+      parts = All-from_recursion (IsPart (lines (applied text splice))) (moved_ranges ranges splice)
+          (each_left Was (IsPart (lines (applied text splice))) (moved_range splice) (λ old new part e. (covers_the_same text splice old new h part e).part) ranges parts);
+      disjoint = AllPairs-later AreDisjoint (moved_ranges ranges splice)
+          (later_left Was AreDisjoint AreDisjoint (moved_range splice)
+          (λ one other there away p q apart e k. apart_by splice one other there away p.1 q.1 (left splice one there e) (left splice other away k) apart)
+          ranges parts (later-AllPairs AreDisjoint ranges valid.disjoint));
+    }
+
+up_to-not_before : (one other : AtomicRange) → is_before other one ≡ false → IsUpTo (range_start one) (range_start other)
+up_to-not_before one other e = (grind (arith, nat_tests), λ same. grind (arith, nat_tests))
+
+not_before-up_to : (one other : AtomicRange) → IsUpTo (range_start one) (range_start other) → is_before other one ≡ false
+not_before-up_to one other h = grind (arith, nat_tests)
+
+pub in_order_moved : (text : List Symbol) (splice : Splice) (ranges : List AtomicRange) → Fits text splice → AreValid (lines text) ranges → AreInOrder ranges → AreInOrder (moved_ranges ranges splice)
+unfolding moved_ranges
+in_order_moved text splice ranges h valid ordered =
+    let Was : AtomicRange → Type 0 = IsPart (lines text) in
+    let later : EachLater (NotBefore is_before) ranges = subst (EachLater (NotBefore is_before)) ordered (sorted-in_order ranges) in
+    sym (in_order-sorted (moved_ranges ranges splice) (moved_ranges ranges splice)
+    (later_left Was (NotBefore is_before) (NotBefore is_before) (moved_range splice)
+    (λ one other there away p q up e k. not_before-up_to there away (ordered_by splice one other there away p.1 q.1 (left splice one there e) (left splice other away k) (up_to-not_before one other up)))
+    ranges (recursion_from_All Was ranges valid.parts) later) (λ z. refl))

@@ -1,0 +1,60 @@
+-- Where atomic ranges go with the text that they stand in.
+use Rattle.std.specs.Prelude.{◌≡◌, ℕ, ◌≤◌, ◌^◌, ◌-◌, Bool, true, false, List, filter_map, take, drop, Option, Some, None, if◌then◌else◌}
+use Rattle.textarea_text.specs.Text.{Symbol, lines}
+use Rattle.textarea_text.specs.Place.{Place, end, line_of}
+use Rattle.textarea_text.specs.Splice.{Splice, place_after, place_before}
+use Rattle.textarea_text.specs.Carried.{is_up_to, shifted}
+use Rattle.textarea_ranges.specs.declared.atomic.AtomicRange.{AtomicRange}
+use Rattle.textarea_ranges.specs.Held.{IsInside, Overlaps, range_end, range_start}
+use Rattle.textarea_ranges.specs.Valid.{IsPart}
+
+-- the range, both ends of which go as far behind the new place as they are behind the old one
+abbrev pub shifted_range : Place → Place → AtomicRange → AtomicRange
+shifted_range old new range = record {
+  row = (shifted old new (range_start range)).0;
+  start_col = (shifted old new (range_start range)).1;
+  end_col = (shifted old new (range_end range)).1;
+}
+
+-- The text changes from the start up to the old place, and what stood behind the old place stands behind the new one then. A range
+-- that ends by the start stays, one that starts at the old place or behind it goes along, and any other is dropped.
+abbrev pub moved_by : Place → Place → Place → AtomicRange → Option AtomicRange
+moved_by start old new range =
+    if is_up_to (range_end range) start then Some range
+    else (if is_up_to old (range_start range) then Some (shifted_range old new range) else None)
+
+-- what a splice of the text leaves of a range
+abbrev pub moved_range : Splice → AtomicRange → Option AtomicRange
+moved_range splice range =
+    moved_by splice.place (place_before splice) (place_after splice) range
+
+-- the same of some ranges, in their order
+unfoldable pub moved_ranges : List AtomicRange → Splice → List AtomicRange
+moved_ranges ranges splice = filter_map (moved_range splice) ranges
+
+-- the range starts by its end, and its row and columns are those of a text, which are at most 2^48
+pub record IsMovable (range : AtomicRange) : Type 0 where
+  pub ordered : range.start_col ≤ range.end_col
+  pub row : range.row ≤ 2 ^ 48
+  pub column : range.end_col ≤ 2 ^ 48
+
+-- ---- what holds of the ranges that are left, and of those that are dropped
+
+-- the characters that the range covers: all of them stand in the line of its row
+abbrev pub covered : List (List ℕ) → AtomicRange → List ℕ
+covered rows range =
+    take (range.end_col - range.start_col) (drop range.start_col (line_of rows range.row))
+
+-- the new range is a part of a line of the new text, and covers the same characters there as the old one in the old text
+pub record CoversTheSame (text new_text : List Symbol) (old new : AtomicRange) : Type 0 where
+  pub part : IsPart (lines new_text) new
+  pub same : covered (lines new_text) new ≡ covered (lines text) old
+
+-- a change between two places disturbs the range: it inserts strictly inside of it, or removes a character of it
+abbrev pub DisturbsBy : Bool → Place → Place → AtomicRange → Type 0
+DisturbsBy true place to range = IsInside place range
+DisturbsBy false place to range = Overlaps place to range
+
+abbrev pub Disturbs : Splice → AtomicRange → Type 0
+Disturbs splice range =
+    DisturbsBy splice.inserts splice.place (end splice.place splice.symbols) range

@@ -1,0 +1,72 @@
+//! Ranges that go with the text that they stand in.
+ghost use Rattle.std.specs.Prelude.{◌≡◌, ◌≤◌, ◌^◌, All, filter_map, length, take};
+ghost use Rattle.textarea_ranges.specs.Moved.{IsMovable, moved_by};
+
+use crate::atomic::AtomicRange;
+use textarea_text::carried::{is_up_to, shift};
+
+/// Moves the ranges with the text, which changes from `start` up to `old`, and in which what stood behind `old` stands behind
+/// `new` then. A range that ends by `start` stays, one that starts at `old` or behind it goes along, and any other is dropped.
+/// Those that are left stay in their order. Takes no memory, and goes once over the ranges.
+pub fn move_ranges(
+    ranges: &mut Vec<AtomicRange>,
+    start: (usize, usize),
+    old: (usize, usize),
+    new: (usize, usize),
+)
+    requires movable { All IsMovable ranges.old.items }
+    requires small { (new.0 ≤ 2 ^ 48) × (new.1 ≤ 2 ^ 48) }
+    ensures { ranges.new.items ≡ filter_map (moved_by start old new) ranges.old.items }
+{
+    let kept = close_up(ranges.as_mut_slice(), start, old, new);
+    ranges.truncate(kept);
+}
+
+// Moves the ranges, puts those that are left at the front, and gives their number.
+fn close_up(
+    ranges: &mut [AtomicRange],
+    start: (usize, usize),
+    old: (usize, usize),
+    new: (usize, usize),
+) -> usize
+    requires movable { All IsMovable ranges.old }
+    requires small { (new.0 ≤ 2 ^ 48) × (new.1 ≤ 2 ^ 48) }
+    ensures within { result ≤ length ranges.old }
+    ensures kept { take result ranges.new ≡ filter_map (moved_by start old new) ranges.old }
+{
+    let mut kept = 0;
+    for index in 0..ranges.len() {
+        if let Some(range) = moved(ranges[index], start, old, new) {
+            ranges[kept] = range;
+            kept += 1;
+        }
+    }
+    kept
+}
+
+// The range as it is then; none where it is dropped.
+fn moved(
+    range: AtomicRange,
+    start: (usize, usize),
+    old: (usize, usize),
+    new: (usize, usize),
+) -> Option<AtomicRange>
+    requires movable { IsMovable range }
+    requires small { (new.0 ≤ 2 ^ 48) × (new.1 ≤ 2 ^ 48) }
+    ensures { result ≡ moved_by start old new range }
+{
+    let first = (range.row, range.start_col);
+    let behind = (range.row, range.end_col);
+    if is_up_to(behind, start) {
+        return Some(range);
+    }
+    if !is_up_to(old, first) {
+        return None;
+    }
+    let place = shift(first, old, new);
+    Some(AtomicRange {
+        row: place.0,
+        start_col: place.1,
+        end_col: shift(behind, old, new).1,
+    })
+}
