@@ -3,9 +3,11 @@ use Rattle.std.specs.Prelude.{◌≡◌, ℕ, Option, Some}
 use Rattle.textarea_document.specs.Rows.{laid_out_of}
 use Rattle.textarea_drawing.specs.Frame.{Parts}
 use Rattle.textarea_drawing.specs.Hit.{IsHit}
+use Rattle.textarea_drawing.specs.Rendered.{IsRendered}
 use Rattle.textarea_lines.specs.View.{IsViewOf, LentRows}
 use Rattle.textarea_map.specs.Rows.{row_at}
 use Rattle.textarea_map.specs.Seen.{HasNoZeroWidth, IsVisualPosition}
+use Rattle.textarea_screen.specs.declared.screen.rect.Rect.{Rect}
 use Rattle.textarea_text.specs.Place.{Place}
 
 -- no character of the visual row in which the cursor is seen has display width 0
@@ -18,3 +20,9 @@ HasWideCursorRow parts = (rows : LentRows) (seen : Place) → IsViewOf (laid_out
 abbrev pub IsHitBack : Parts → Type 0
 IsHitBack parts = (x y : ℕ) (found : Option Place) → parts.drawing.caret ≡ Some (x, y)
     → HasWideCursorRow parts → IsHit parts x y found → found ≡ Some parts.document.cursor
+
+-- where a drawing left these parts, the caret is shown in this cell, and no character of the cursor's visual row has display width 0,
+-- the cell shows the cursor's place
+abbrev pub IsCursorAtCaret : Parts → ℕ → ℕ → Option Place → Type 0
+IsCursorAtCaret parts x y found = (old : Parts) (area : Rect) → IsRendered old area parts
+    → parts.drawing.caret ≡ Some (x, y) → HasWideCursorRow parts → found ≡ Some parts.document.cursor

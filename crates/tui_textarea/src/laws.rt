@@ -1,5 +1,5 @@
 //! Laws of text areas and their visual rows, each the contract of a function that does nothing.
-ghost use Rattle.std.specs.Prelude.{◌≡◌, ◌<◌, ℕ, Bool, List, true, false, length};
+ghost use Rattle.std.specs.Prelude.{◌≡◌, ◌<◌, ◌^◌, ℕ, Bool, List, true, false, length};
 ghost use Rattle.textarea_data.specs.declared.cursor.CursorMove.{CursorMove};
 ghost use Rattle.textarea_data.specs.declared.scroll.Scrolling.{Scrolling};
 ghost use Rattle.textarea_document.specs.Goes.{GoesUncut};
@@ -7,7 +7,9 @@ ghost use Rattle.textarea_document.specs.Cuts.{CutsAll, CutsBySettings, CutsByWi
 ghost use Rattle.textarea_document.specs.Rows.{laid_out_of};
 ghost use Rattle.textarea_document.specs.Sound.{IsSound};
 ghost use Rattle.textarea_document.specs.State.{fresh_document};
+ghost use Rattle.textarea_drawing.specs.Back.{IsHitBack};
 ghost use Rattle.textarea_drawing.specs.Frame.{frame_of, shows_placeholder};
+ghost use Rattle.textarea_drawing.specs.Shown.{IsCaretShown};
 ghost use Rattle.textarea_keys.specs.declared.action.Action.{Action};
 ghost use Rattle.textarea_lines.specs.declared.settings.LayoutSettings.{LayoutSettings};
 ghost use Rattle.textarea_lines.specs.View.{IsViewOf, LentRows};
@@ -17,6 +19,7 @@ ghost use Rattle.textarea_screen.specs.declared.screen.rect.Rect.{Rect};
 ghost use Rattle.textarea_surround.specs.Measure.{saturated, width_inside};
 ghost use Rattle.textarea_surround.specs.declared.surround.measure.TextAreaMeasure.{TextAreaMeasure};
 ghost use Rattle.textarea_text.specs.Place.{Place};
+ghost use Rattle.textarea_text.specs.Size.{weight};
 ghost use Rattle.textarea_text.specs.Text.{Symbol};
 ghost use Rattle.tui_textarea.specs.Cuts.{CutsByAct};
 ghost use Rattle.tui_textarea.specs.Drawing.{IsRendered, parts_of};
@@ -35,7 +38,7 @@ ghost use Rattle.tui_textarea.specs.State.{State, with_other_lines};
 use textarea_document::laws::{
     edits_cut, layouts_cut, one_place_up_and_down, one_row_count, ranges_go_along,
 };
-use textarea_drawing::laws::one_place_inside;
+use textarea_drawing::laws::{caret_is_hit_back, caret_is_shown, one_place_inside};
 use textarea_lines::laws::{cut_as_measured, settings_stay};
 
 /// A move leads from a state to one state, with Shift and without it.
@@ -207,4 +210,18 @@ pub fn ranges_go_behind_calls()
         GoesUncut old.document new.document }
 {
     ranges_go_along();
+}
+
+/// In each state that a drawing leaves, a caret that is shown is hit back, where no character of the cursor's visual row has display
+/// width 0: its cell shows the cursor. And with rows at the left the caret is shown where the inner area has room for it. Every text
+/// area is so small, and its tabs are so short, as is asked here.
+pub fn carets_are_kept()
+    ensures back { (old new : State) (area : Rect) → IsSound new.document →
+        IsRendered old area new → IsHitBack (parts_of new) }
+    ensures shown { (old new : State) (area : Rect) → weight new.document.text < 2 ^ 48 →
+        new.document.layout.settings.tab_len < 2 ^ 8 →
+        IsRendered old area new → IsCaretShown (parts_of new) }
+{
+    caret_is_hit_back();
+    caret_is_shown();
 }

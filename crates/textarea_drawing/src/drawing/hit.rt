@@ -1,5 +1,6 @@
 //! Which place a cell of the screen shows, and which place is the nearest one that is shown.
 ghost use Rattle.std.specs.Prelude.{◌≡◌, ◌-◌, ◌<◌, IfOk, IfSome, IsOk, Some};
+ghost use Rattle.textarea_drawing.specs.Back.{IsCursorAtCaret};
 ghost use Rattle.textarea_drawing.specs.Hit.{IsHit, IsHitInRows, IsHitOf, IsInside, IsLastArea};
 ghost use Rattle.textarea_map.specs.Map.{row_total};
 ghost use Rattle.textarea_scene.specs.Scene.{HasPlaces};
@@ -10,6 +11,7 @@ ghost use Rattle.textarea_viewport.specs.Caret.{hit_row};
 use super::Drawing;
 use super::frame::Frame;
 use super::placing::row_view;
+use crate::laws::caret_is_hit_back;
 use std::alloc::{AllocError, Global};
 use textarea_document::Document;
 use textarea_scene::scene::Scene;
@@ -21,7 +23,8 @@ use textarea_viewport::Viewport;
 impl Drawing {
     /// The place of the text that a cell of the screen shows, in the inner area of the last drawing: of the text as it stands, in
     /// the part that is shown now. A cell below the last visual row shows that row, and one behind a row its greatest cursor
-    /// column; with a placeholder each shows the start. None for a cell outside of the inner area.
+    /// column; with a placeholder each shows the start. None for a cell outside of the inner area. Right after a drawing the
+    /// caret's cell shows the cursor's place, where no character of the cursor's visual row has display width 0.
     pub fn hit(
         &self,
         document: &Document,
@@ -36,10 +39,18 @@ impl Drawing {
           drawing = self.now;
         }) position.x position.y) }
         ensures place { IfOk result (λ found. IfSome found (IsPlace document.now.text)) }
+        ensures back { IfOk result (IsCursorAtCaret (record {
+          document = document.now;
+          pattern = search.now;
+          surround = surround.now;
+          drawing = self.now;
+        }) position.x position.y) }
         ensures left { self.now.look.alignment ≡ Left → IsOk result }
     {
         let frame = self.frame(document, document.view(), surround, search);
         let inner = self.last_area(document);
+        caret_is_hit_back();
+        let _ = document.cursor();
         frame.hit(document.allocator(), self.viewport, inner, position)
     }
 

@@ -1,11 +1,14 @@
 //! A drawing into a buffer.
 ghost use Rattle.std.specs.Prelude.{◌≡◌, OnErr, OnOk};
+ghost use Rattle.textarea_drawing.specs.Back.{IsHitBack};
 ghost use Rattle.textarea_drawing.specs.Rendered.{IsDrawn, IsRendered, drawn_into};
+ghost use Rattle.textarea_drawing.specs.Shown.{IsCaretShown};
 ghost use Rattle.textarea_screen.specs.Buffer.{KeepsOutside};
 ghost use Rattle.textarea_screen.specs.Rect.{contains};
 
 use super::Drawing;
 use super::placing::Placing;
+use crate::laws::{caret_is_hit_back, caret_is_shown};
 use std::alloc::AllocError;
 use textarea_document::Document;
 use textarea_screen::screen::{Buffer, Position, Rect};
@@ -17,7 +20,9 @@ impl Drawing {
     /// width inside of the block: its lines are cut anew, each once, only where that cuts them in another way. The part that
     /// is shown follows the cursor.
     ///
-    /// A cell on which nothing stands keeps its text. Out of memory, cells of the area may be drawn already.
+    /// A cell on which nothing stands keeps its text. A caret that is shown is hit back: its cell shows the cursor's place, where
+    /// no character of the cursor's visual row has display width 0. With rows at the left the caret is shown in every area that
+    /// has room for it. Out of memory, cells of the area may be drawn already.
     pub fn render(
         &mut self,
         document: &mut Document,
@@ -44,6 +49,18 @@ impl Drawing {
           surround = surround.now;
           drawing = self.new;
         }) area buffer.old buffer.new) }
+        ensures back { OnOk result (IsHitBack (record {
+          document = document.new;
+          pattern = search.now;
+          surround = surround.now;
+          drawing = self.new;
+        })) }
+        ensures shown { OnOk result (IsCaretShown (record {
+          document = document.new;
+          pattern = search.now;
+          surround = surround.now;
+          drawing = self.new;
+        })) }
         ensures outside { KeepsOutside (contains area) buffer.old buffer.new }
         ensures err { OnErr result ((document.new ≡ document.old) × (self.new ≡ self.old)) }
     {
@@ -55,6 +72,11 @@ impl Drawing {
         frame.draw(alloc, buffer, area, placing.viewport, inner)?;
         document.put_width(prepared);
         self.put(inner, placing);
+        caret_is_hit_back();
+        let _ = document.cursor();
+        caret_is_shown();
+        let _ = document.lines();
+        let _ = document.layout_settings();
         Ok(())
     }
 

@@ -1,7 +1,7 @@
 //! Drawing into a buffer, the caret, what a cell of the screen shows, and scrolling.
 ghost use Rattle.std.specs.Prelude.{◌≡◌, IfOk, IfSome, IsOk, OnErr, OnOk};
 ghost use Rattle.std.specs.Option.{option_map};
-ghost use Rattle.textarea_drawing.specs.Back.{IsHitBack};
+ghost use Rattle.textarea_drawing.specs.Back.{IsCursorAtCaret, IsHitBack};
 ghost use Rattle.textarea_drawing.specs.Hit.{IsHit};
 ghost use Rattle.textarea_drawing.specs.Rendered.{IsDrawn};
 ghost use Rattle.textarea_drawing.specs.Shown.{IsCaretShown};
@@ -17,7 +17,6 @@ use crate::textarea::TextArea;
 use std::alloc::AllocError;
 use textarea_data::cursor::CursorMove;
 use textarea_data::scroll::Scrolling;
-use textarea_drawing::laws::{caret_is_hit_back, caret_is_shown};
 use textarea_screen::screen::{Buffer, Position, Rect};
 use textarea_viewport::Viewport;
 
@@ -44,13 +43,7 @@ impl TextArea<'_> {
             &self.search,
             area,
             buffer,
-        )?;
-        caret_is_hit_back();
-        let _ = self.document.cursor();
-        caret_is_shown();
-        let _ = self.document.lines();
-        let _ = self.tab_length();
-        Ok(())
+        )
     }
 
     /// The cell of the cursor at the last `render`, where a terminal's own cursor may stand; none where it wasn't in the part
@@ -63,7 +56,8 @@ impl TextArea<'_> {
 
     /// The place of the text that a cell of the screen shows, in the inner area of the last `render`, of the text and of the
     /// part that is shown as they are now. A cell below the last visual row shows that row, and one behind a row its greatest
-    /// cursor column; with a placeholder each shows the start. None for a cell outside of that area. Only with rows in the
+    /// cursor column; with a placeholder each shows the start. None for a cell outside of that area. Right after a `render` the
+    /// caret's cell shows the cursor, where no character of the cursor's visual row has display width 0. Only with rows in the
     /// middle or at the right memory is taken.
     pub fn cursor_at_position(
         &self,
@@ -71,6 +65,8 @@ impl TextArea<'_> {
     ) -> Result<Option<(usize, usize)>, AllocError>
         ensures hit { IfOk result (IsHit (parts_of self.now) position.x position.y) }
         ensures place { IfOk result (λ found. IfSome found (IsPlace self.now.document.text)) }
+        ensures back { IfOk result
+            (IsCursorAtCaret (parts_of self.now) position.x position.y) }
         ensures left { self.now.drawing.look.alignment ≡ Left → IsOk result }
     {
         self.drawing

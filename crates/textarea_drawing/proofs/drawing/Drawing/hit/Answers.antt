@@ -1,4 +1,5 @@
 use Rattle.std.proofs.Common.{ap, subst}
+use Rattle.textarea_text.specs.Place.{IsPlace, Place}
 use Rattle.textarea_drawing.specs.Frame.{FrameState, Parts, frame_of}
 use Rattle.textarea_drawing.specs.Hit.{IsHitOf}
 use Rattle.textarea_drawing.specs.State.{DrawingState}
@@ -17,3 +18,10 @@ returns-clause-hit c =
       found_is = subst (λ (v : ViewportState). IsHitOf (frame_of parts c.view.result) v c.last_area-inner.result c.args.position.x c.args.position.y found) (ap (λ (d : DrawingState). d.viewport) c.self.view_is)
           (subst (λ (f : FrameState). IsHitOf f c.self.inside.viewport c.last_area-inner.result c.args.position.x c.args.position.y found) c.frame-frame.ensures.frame h);
     })
+
+pub returns-clause-back : goal.returns-clause-back
+returns-clause-back c =
+    let parts : Parts = record { document = c.args.document.now; pattern = c.args.search.now; surround = c.args.surround.now; drawing = c.args.self.now } in
+    let place : IsPlace parts.document.text parts.document.cursor = subst (λ (p : Place). IsPlace parts.document.text p) c.cursor.ensures.value c.cursor.ensures.place in
+    if_ok c.hit.result (returns-clause-hit c) (λ found h. λ old area rendered caret wide.
+    c.caret_is_hit_back.ensures old parts area rendered place c.args.position.x c.args.position.y found caret wide h)

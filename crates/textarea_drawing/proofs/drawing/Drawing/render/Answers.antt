@@ -1,4 +1,8 @@
-use Rattle.std.proofs.Common.{ap, subst, ◌∙◌}
+use Rattle.std.proofs.Common.{ap, arith, subst, ◌∙◌, ◌<◌, ◌^◌}
+use Rattle.textarea_lines.specs.declared.settings.LayoutSettings.{LayoutSettings}
+use Rattle.textarea_text.proofs.Sizes.{size_of_text}
+use Rattle.textarea_text.specs.Place.{IsPlace, Place}
+use Rattle.textarea_text.specs.Size.{weight}
 use Rattle.textarea_drawing.specs.Frame.{Parts}
 use Rattle.textarea_drawing.specs.Placed.{IsPlaced, Placing}
 use Rattle.textarea_drawing.specs.State.{DrawingState}
@@ -6,10 +10,10 @@ use Rattle.textarea_viewport.specs.Viewport.{ViewportState}
 use Rattle.textarea_drawing.proofs.Rendering.{IsFramed, IsStepped, drawn, rendered}
 use Rattle.textarea_drawing.proofs.drawing.Drawing.render.Goals as goal
 
-parts_of : goal.After-put → Parts
+parts_of : goal.After-layout_settings → Parts
 parts_of c = record { document = c.args.document.now; pattern = c.args.search.now; surround = c.args.surround.now; drawing = c.args.self.now }
 
-steps : (c : goal.After-put) → IsStepped (parts_of c) c.args.area c.inner_area-inner.result c.in_ok-prepared.prepared.inner_width c.view_with.result c.frame-frame.result c.in_ok-placing.placing c.put_width.new.self c.put.new.self
+steps : (c : goal.After-layout_settings) → IsStepped (parts_of c) c.args.area c.inner_area-inner.result c.in_ok-prepared.prepared.inner_width c.view_with.result c.frame-frame.result c.in_ok-placing.placing c.put_width.new.self c.put.new.self
 unfolding parts_of
 steps c = record {
   inner_is = c.inner_area-inner.ensures.inner;
@@ -29,3 +33,15 @@ pub returns-clause-cells : goal.returns-clause-cells
 unfolding parts_of
 returns-clause-cells c = drawn (parts_of c) c.args.area c.inner_area-inner.result c.in_ok-prepared.prepared.inner_width c.view_with.result c.frame-frame.result c.in_ok-placing.placing c.put_width.new.self c.put.new.self c.args.buffer.now c.draw.new.buffer (steps c)
     (subst (λ (p : Placing). IsFramed c.frame-frame.result p.viewport c.args.area c.inner_area-inner.result c.args.buffer.now c.draw.new.buffer) c.placing-2.view_is c.in_ok-draw.ensures.ok)
+
+pub returns-clause-back : goal.returns-clause-back
+returns-clause-back c =
+    let place : IsPlace c.put_width.new.self.text c.put_width.new.self.cursor = subst (λ (p : Place). IsPlace c.put_width.new.self.text p) c.cursor.ensures.value c.cursor.ensures.place in
+    c.caret_is_hit_back.ensures _ _ c.args.area (returns-clause-ok c) place
+
+pub returns-clause-shown : goal.returns-clause-shown
+returns-clause-shown c =
+    let limit : weight c.put_width.new.self.text < 2 ^ 48 =
+    omega (arith, size_of_text c.lines.result.now c.lines.ensures.some, c.lines.ensures.limit, ap weight c.lines.ensures.value) in
+    let tabs : c.put_width.new.self.layout.settings.tab_len < 2 ^ 8 = omega (arith, ap (λ (s : LayoutSettings). s.tab_len) c.layout_settings.ensures, c.layout_settings.type_inv.1) in
+    c.caret_is_shown.ensures _ _ c.args.area (returns-clause-ok c) limit tabs

@@ -1,0 +1,116 @@
+//! The calls of a script, and behind them those that no line of a script makes.
+use std::alloc::{AllocError, Global};
+use textarea_script::Call;
+use textarea_script::commands::{Command, calls};
+use tui_textarea::{
+    Alignment, AtomicCursorBias, AtomicDeleteDirection, Block, Borders, Color, CursorRenderMode,
+    Input, Key, Line, Style, Text,
+};
+
+const RED: Style = Style {
+    fg: Some(Color::Red),
+    bg: None,
+    add_modifier: tui_textarea::Modifier(0),
+    sub_modifier: tui_textarea::Modifier(0),
+};
+
+const CALLS: [Call<'static>; 48] = [
+    Call::Cursor,
+    Call::IsEmpty,
+    Call::IsSelecting,
+    Call::SelectionRange,
+    Call::TabLength,
+    Call::HardTabIndent,
+    Call::MaxHistories,
+    Call::UndoCoalescing,
+    Call::WrapMode,
+    Call::LineNumberStyle,
+    Call::PlaceholderStyle,
+    Call::MinRows,
+    Call::MaxRows,
+    Call::MaskChar,
+    Call::Style,
+    Call::CursorStyle,
+    Call::CursorLineStyle,
+    Call::SelectionStyle,
+    Call::SearchStyle,
+    Call::CursorRenderMode,
+    Call::Alignment,
+    Call::RenderedCursorPosition,
+    Call::SetStyle(RED),
+    Call::SetCursorStyle(RED),
+    Call::SetCursorLineStyle(RED),
+    Call::SetSelectionStyle(RED),
+    Call::SetSearchStyle(RED),
+    Call::SetCursorRenderMode(CursorRenderMode::Hidden),
+    Call::CustomHighlight {
+        range: ((0, 1), (1, 2)),
+        style: RED,
+        priority: 3,
+    },
+    Call::SetAlignment(Alignment::Right),
+    Call::SetAlignment(Alignment::Center),
+    Call::SetAlignment(Alignment::Left),
+    Call::SetLineNumberStyle(RED),
+    Call::ClearCustomHighlight,
+    Call::AtomicRangeAtCursor(AtomicDeleteDirection::Forward),
+    Call::NormalizeCursorAroundAtomicRanges(AtomicCursorBias::Forward),
+    Call::NormalizeCursorAroundAtomicRanges(AtomicCursorBias::Backward),
+    Call::DeleteAtomicRangeAtCursor(AtomicDeleteDirection::Forward),
+    Call::DeleteAtomicRangeAtCursor(AtomicDeleteDirection::Backward),
+    Call::ClearAtomicRanges,
+    Call::SetMinRows(2),
+    Call::SetMaxRows(5),
+    Call::Measure(5),
+    Call::SetPlaceholderText("犬\tplace"),
+    Call::SetPlaceholderStyle(RED),
+    Call::Clear,
+    Call::Undo,
+    Call::RemoveLineNumber,
+];
+
+/// What is lent to calls.
+#[derive(Drop)]
+pub struct Lent {
+    block: Block<'static>,
+    placeholder: Text<'static>,
+    letter: Input,
+}
+
+impl Lent {
+    /// A block with a title, a placeholder of one line, and a key.
+    pub fn new(alloc: Global) -> Result<Lent, AllocError> {
+        let title = Line::raw(String::from_str(alloc, "a\u{301}犬 title")?)?;
+        let mut lines = Vec::new(alloc);
+        lines.push(Line::raw(String::from_str(alloc, "e\u{301}犬")?)?)?;
+        Ok(Lent {
+            block: Block::new().borders(Borders::TOP).title(title),
+            placeholder: Text { lines, style: RED },
+            letter: Input {
+                key: Key::Char('犬'),
+                ctrl: false,
+                alt: false,
+                shift: false,
+            },
+        })
+    }
+}
+
+/// The calls that the commands stand for, those that no line of a script makes, and those to which something is lent.
+pub fn all_calls<'a>(
+    alloc: Global,
+    commands: &'a [Command],
+    lent: &'a Lent,
+) -> Result<Vec<Call<'a>>, AllocError> {
+    let mut all = calls(alloc, commands)?;
+    for call in &CALLS {
+        all.push(*call)?;
+    }
+    all.push(Call::InputWithoutShortcuts(&lent.letter))?;
+    all.push(Call::SetBlock(&lent.block))?;
+    all.push(Call::SetStyledPlaceholder(&lent.placeholder))?;
+    all.push(Call::Clear)?;
+    all.push(Call::RemoveBlock)?;
+    all.push(Call::Undo)?;
+    Ok(all)
+}

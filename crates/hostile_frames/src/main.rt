@@ -1,0 +1,56 @@
+//! Draws frames of hostile texts, in many areas and settings and behind each call, and judges them.
+//!
+//! Standard input has blocks of lines, with an empty line between each two. The first block is a script: the calls that are made
+//! on each text, with a frame behind each. Each further block is a text: its first line is a name and, behind a space, the columns
+//! of the widest cluster that isn't a tab; the lines behind it are a script that makes the text. A line is printed for each text:
+//! how many frames were drawn and calls made, how many carets were shown, and what was wrong.
+//!
+//! No call may fail. A caret that is shown has to lie in the inner area, and to be hit back where no character of the cursor's line
+//! has display width 0; and a caret has to be shown where that is promised.
+//!
+//! The exit status is 0 where all was as it has to be, 1 where a stream failed, 3 where something else than a judged call ran out
+//! of memory or the input can't be read, and 4 where a judgement failed.
+#![tactic(auto)]
+
+mod asked;
+mod judge;
+mod setting;
+mod tally;
+mod tour;
+
+use std::io::Read;
+use std::process::ExitCode;
+use tour::tour;
+
+const STREAM_FAILED: u8 = 1;
+
+const NOT_JUDGED: u8 = 3;
+
+fn main(rt: HostRuntime) -> ExitCode {
+    let mut given = String::new(rt.alloc());
+    if rt.stdin().read_to_string(&mut given).is_err() {
+        return ExitCode::from(STREAM_FAILED);
+    }
+    let (script, texts) = given.split_once("\n\n").unwrap_or(("", ""));
+    let mut status = 0;
+    for text in texts.split("\n\n") {
+        status = status.max(tell_text(&rt, script, text));
+    }
+    ExitCode::from(status)
+}
+
+// Judges a text, and tells what was counted.
+fn tell_text(rt: &(impl Print + AllocGlobal), script: &str, text: &str) -> u8 {
+    let (head, lines) = text.split_once('\n').unwrap_or((text, ""));
+    let (name, widest) = head.split_once(' ').unwrap_or((head, ""));
+    let Ok(widest) = widest.parse() else {
+        return NOT_JUDGED;
+    };
+    let Ok(tally) = tour(rt.alloc(), lines, widest, script) else {
+        return NOT_JUDGED;
+    };
+    if println!(rt; "{name}: {tally}").is_err() {
+        return STREAM_FAILED;
+    }
+    tally.status()
+}

@@ -1,0 +1,118 @@
+//! A text in all settings and areas, behind all calls and at all tab lengths.
+use crate::asked::{Lent, all_calls};
+use crate::judge::{Judge, has_tab};
+use crate::setting::Setting;
+use crate::tally::Tally;
+use std::alloc::{AllocError, AllocFailed, Global};
+use textarea_script::Call;
+use textarea_script::commands::{ReadError, calls, read};
+use textarea_script::run::run;
+use tui_textarea::{Buffer, CursorMove, Rect, TextArea};
+
+/// The frames in each area, the cursor at another place in each.
+const FRAMES: usize = 4;
+
+/// The area behind calls.
+const BEHIND_CALLS: Rect = Rect {
+    x: 1,
+    y: 1,
+    width: 11,
+    height: 4,
+};
+
+/// Nothing was judged: a script isn't one, or something else than a judged call ran out of memory.
+#[derive(Clone, Copy)]
+pub struct NotJudged;
+
+impl From<AllocError> for NotJudged {
+    fn from(_refused: AllocError) -> NotJudged {
+        NotJudged
+    }
+}
+
+impl<T: Drop> From<AllocFailed<T>> for NotJudged {
+    fn from(_refused: AllocFailed<T>) -> NotJudged {
+        NotJudged
+    }
+}
+
+impl From<ReadError> for NotJudged {
+    fn from(_unread: ReadError) -> NotJudged {
+        NotJudged
+    }
+}
+
+/// Judges the text that the lines of a script make, whose widest cluster that isn't a tab has so many columns, and makes the
+/// calls of another script on it.
+pub fn tour(alloc: Global, lines: &str, widest: usize, script: &str) -> Result<Tally, NotJudged> {
+    let lent = Lent::new(alloc)?;
+    let commands = read(alloc, script.as_bytes())?;
+    let asked = all_calls(alloc, commands.as_slice(), &lent)?;
+    let text = text_of(alloc, lines)?;
+    let mut judge = Judge::new(alloc, widest)?;
+    for number in 0..Setting::COUNT {
+        let mut area = text.clone()?;
+        Setting::numbered(number).put(&mut area)?;
+        draw_areas(&mut judge, &mut area);
+        draw_tabs(&mut judge, &mut area)?;
+        make_calls(&mut judge, &mut area, asked.as_slice());
+    }
+    Ok(judge.tally())
+}
+
+// The text area that a script leaves.
+fn text_of(alloc: Global, lines: &str) -> Result<TextArea<'static>, NotJudged> {
+    let commands = read(alloc, lines.as_bytes())?;
+    let calls = calls(alloc, commands.as_slice())?;
+    let mut area = TextArea::try_default(alloc)?;
+    let mut nowhere = Buffer::empty(alloc, Rect::default())?;
+    match run(&mut area, calls.as_slice(), &mut nowhere).refused {
+        None => Ok(area),
+        Some(_) => Err(NotJudged),
+    }
+}
+
+// Frames of each width and height, the cursor at one place behind another.
+fn draw_areas(judge: &mut Judge, area: &mut TextArea<'_>) {
+    for width in 0..=12 {
+        for height in 0..=4 {
+            for _ in 0..FRAMES {
+                judge.draw_frame(area, Rect::new(1, 1, width, height));
+                go_on(area);
+            }
+        }
+    }
+}
+
+// The cursor goes on by one place, and from the text's end back to its start.
+fn go_on(area: &mut TextArea<'_>) {
+    let place = area.cursor();
+    area.move_cursor(CursorMove::Forward);
+    if area.cursor() == place {
+        area.move_cursor(CursorMove::Top);
+        area.move_cursor(CursorMove::Head);
+    }
+}
+
+// Where the text has a tab, frames at each tab length: one where a tab fits, and one where longer ones don't.
+fn draw_tabs(judge: &mut Judge, area: &mut TextArea<'_>) -> Result<(), NotJudged> {
+    if !has_tab(area) {
+        return Ok(());
+    }
+    let before = area.tab_length();
+    for length in 0..=255 {
+        area.set_tab_length(length)?;
+        judge.draw_frame(area, Rect::new(1, 1, u16::from(length) + 6, 3));
+        judge.draw_frame(area, Rect::new(1, 1, 9, 4));
+        go_on(area);
+    }
+    area.set_tab_length(before)?;
+    Ok(())
+}
+
+// Makes each of the calls, with a frame behind it.
+fn make_calls(judge: &mut Judge, area: &mut TextArea<'_>, calls: &[Call<'_>]) {
+    for call in calls {
+        judge.make_call(area, *call, BEHIND_CALLS);
+    }
+}
