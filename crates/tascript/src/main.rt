@@ -1,15 +1,29 @@
-// Runs a script of calls on an empty text area, and prints the answers and the text area at the end.
+// Runs a script of calls on an empty text area, or with the word `modal` a session of a modal editor, and prints how it ended and the
+// text area then.
 #![tactic(auto)]
 
+use std::env;
+use std::env::Env;
+use std::io;
 use std::process::ExitCode;
-use textarea_script::serve::serve;
+use textarea_modal::serve::{serve_no_words, serve_words};
 
 fn main(rt: HostRuntime) -> ExitCode {
-    let status = serve(
-        rt.alloc(),
-        &mut rt.stdin(),
-        &mut rt.stdout(),
-        &mut rt.stderr(),
-    );
+    let status = match words_behind_name(&rt) {
+        Ok(words) => serve_words(
+            rt.alloc(),
+            words.as_slice(),
+            &mut rt.stdin(),
+            &mut rt.stdout(),
+            &mut rt.stderr(),
+        ),
+        Err(error) => serve_no_words(&error, &mut rt.stderr()),
+    };
     ExitCode::from(status)
+}
+
+// The words that the program is given, behind its name.
+fn words_behind_name(rt: &(impl Env + AllocGlobal)) -> io::Result<Vec<String>> {
+    let words = env::args(rt)?.skip(1).collect(rt.alloc())?;
+    Ok(words)
 }

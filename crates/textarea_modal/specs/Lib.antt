@@ -3,3 +3,4 @@ pub mod Course
 pub mod Runs
 pub mod Session
 pub mod Table
+pub mod Words

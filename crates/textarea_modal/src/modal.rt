@@ -7,6 +7,7 @@ use crate::making::{hand_on, make_all};
 use crate::mode::Mode;
 use crate::steps::step;
 use std::alloc::AllocError;
+use std::marker::Model;
 use textarea_data::input::Input;
 use tui_textarea::TextArea;
 
@@ -36,17 +37,27 @@ pub struct Modal {
     mode: Mode,
 }
 
+impl Model for Modal {
+    ghost use Rattle.textarea_modal.specs.declared.mode.Mode.{Mode};
+
+    ghost Value = { Mode };
+
+    ghost view = { λ modal. modal.mode };
+
+    ghost inverse = { λ mode. record { mode = mode } };
+}
+
 impl Modal {
     /// A modal editor in Normal.
     pub fn new() -> Modal
-        ensures { result.mode ≡ Mode.Normal }
+        ensures { result ≡ Mode.Normal }
     {
         Modal { mode: Mode::Normal }
     }
 
     /// The mode.
     pub fn mode(&self) -> Mode
-        ensures { result ≡ self.now.mode }
+        ensures { result ≡ self.now }
     {
         self.mode
     }
@@ -57,8 +68,7 @@ impl Modal {
     /// The text area is then that of the run of those calls, up to the one that was refused, if there is one. Where one is
     /// refused, the mode is that before its input.
     pub fn run(&mut self, area: &mut TextArea<'_>, inputs: &[Input]) -> ModalEnd
-        ensures { EndsAs area.old self.old.mode inputs.now area.new self.new.mode result.taken
-            result.stop }
+        ensures { EndsAs area.old self.old inputs.now area.new self.new result.taken result.stop }
     {
         for (index, input) in inputs.iter().enumerate() {
             match self.take(area, input) {
@@ -86,11 +96,11 @@ impl Modal {
     // Takes one input: makes its calls, goes into the mode behind it, and says whether it quits.
     fn take(&mut self, area: &mut TextArea<'_>, input: &Input) -> Result<bool, AllocError>
         ensures ok { OnOk result
-            (AllMade area.old (step self.old.mode input.now).calls area.new) }
-        ensures mode { OnOk result (self.new.mode ≡ (step self.old.mode input.now).mode) }
-        ensures quits { IfOk result (λ quits. quits ≡ (step self.old.mode input.now).quits) }
+            (AllMade area.old (step self.old input.now).calls area.new) }
+        ensures mode { OnOk result (self.new ≡ (step self.old input.now).mode) }
+        ensures quits { IfOk result (λ quits. quits ≡ (step self.old input.now).quits) }
         ensures err { OnErr result
-            (OneRefused area.old (step self.old.mode input.now).calls area.new) }
+            (OneRefused area.old (step self.old input.now).calls area.new) }
         ensures stays { OnErr result (self.new ≡ self.old) }
     {
         match step(self.mode, input) {

@@ -1,34 +1,26 @@
-// The text that is printed of a session that came to its end.
+// The first lines that are printed of a session that came to its end.
+ghost use Rattle.std.specs.Prelude.{◌≡◌, IfOk, string_bytes};
+ghost use Rattle.textarea_modal.specs.Session.{head, mode_name, stop_name};
+
 use crate::modal::{ModalEnd, ModalStop};
 use crate::mode::Mode;
-use std::fmt;
-use textarea_script::printing::Report;
-use tui_textarea::TextArea;
+use std::alloc::{AllocError, Global};
 
-// The end of a session, printed as a line each for the mode, for how many inputs were used and for why that was all, and then the text
-// area, as at the end of a script.
-#[derive(Clone, Copy)]
-pub struct Session<'a, 'b> {
-    pub mode: Mode,
-    pub end: ModalEnd,
-    pub area: &'a TextArea<'b>,
+// A line each for the mode, for how many inputs were used, and for why that was all.
+pub fn head(alloc: Global, mode: Mode, end: ModalEnd) -> Result<String, AllocError>
+    ensures { IfOk result (λ text. string_bytes text ≡ head mode end.taken end.stop) }
+{
+    format!(in alloc;
+        "mode {}\ntaken {}\n{}\n",
+        mode_name(mode),
+        end.taken,
+        stop_name(end.stop)
+    )
 }
 
-impl fmt::Display for Session<'_, '_> {
-    fn fmt<W: fmt::Write>(&self, f: &mut fmt::Formatter<W>) -> fmt::Result {
-        writeln!(f, "mode {}", mode_name(self.mode))?;
-        writeln!(f, "taken {}", self.end.taken)?;
-        writeln!(f, "{}", stop_name(self.end.stop))?;
-        let report = Report {
-            answers: &[],
-            area: self.area,
-            screen: None,
-        };
-        write!(f, "{report}")
-    }
-}
-
-fn mode_name(mode: Mode) -> &'static str {
+fn mode_name(mode: Mode) -> &'static str
+    ensures { result.now ≡ mode_name mode }
+{
     match mode {
         Mode::Normal => "normal",
         Mode::Insert => "insert",
@@ -37,7 +29,9 @@ fn mode_name(mode: Mode) -> &'static str {
     }
 }
 
-fn stop_name(stop: ModalStop) -> &'static str {
+fn stop_name(stop: ModalStop) -> &'static str
+    ensures { result.now ≡ stop_name stop }
+{
     match stop {
         ModalStop::End => "end",
         ModalStop::Quit => "quit",

@@ -1,17 +1,22 @@
 //! The whole work of `tascript`, by the words behind its name: a script, or a session of the modal editor, over any reader and two
 //! writers.
-ghost use Rattle.std.specs.Prelude.{◌≡◌, ◌≤◌, ◌<◌, ◌≢◌, IfErr, IfOk, map};
-ghost use Rattle.std.specs.Str.{chars};
-ghost use Rattle.textarea_modal.specs.Session.{input_of};
+ghost use Rattle.std.specs.Prelude.{[], ◌≡◌, ◌≤◌, ◌<◌, ◌≢◌, IfErr, IfOk, IfSome, OnOk, map, string_bytes};
+ghost use Rattle.std.specs.Io.KnownBytes.{Appends};
+ghost use Rattle.std.specs.Io.{StartsWith};
+ghost use Rattle.std.specs.IoError.{error_kind};
+ghost use Rattle.tui_textarea.specs.State.{new_state};
+ghost use Rattle.textarea_modal.specs.Session.{IsNoText, IsPrinted, IsWritten, input_of, inputs_of};
+ghost use Rattle.textarea_modal.specs.Words.{AskForNothing, AskForSession};
 
 use crate::modal::{Modal, ModalStop};
-use crate::printing::Session;
+use crate::printing::head;
 use std::alloc::{AllocError, Global};
 use std::io;
 use std::io::{ErrorKind, Read, Write};
 use std::str::from_utf8;
 use std::string::ToString;
 use textarea_data::input::{Input, Key};
+use textarea_script::printing::Report;
 use textarea_script::serve as script;
 use textarea_script::serve::{DONE, OUT_OF_MEMORY, STREAM_FAILED};
 use tui_textarea::TextArea;
@@ -27,13 +32,18 @@ enum Failure {
 }
 
 impl From<AllocError> for Failure {
+    ghost use Rattle.textarea_modal.specs.declared.serve.Failure.{Failure};
+
+    ghost from_gives = { λ _ failure. failure ≡ Failure.Memory };
+
     fn from(_refused: AllocError) -> Failure {
         Failure::Memory
     }
 }
 
 /// Does the work of `tascript` that the words behind its name ask for: none, a script (`textarea_script::serve::serve`), and `modal`
-/// alone, a session ([`serve`]). Any others aren't understood: one line says so on `errors`, and the status is `NOT_READ`.
+/// alone, a session ([`serve`]). Any others aren't understood: nothing is read, one line says so on `errors`, and the status is
+/// `NOT_READ`.
 pub fn serve_words<R: Read, W: Write, E: Write>(
     alloc: Global,
     words: &[String],
@@ -44,6 +54,12 @@ pub fn serve_words<R: Read, W: Write, E: Write>(
     ensures status { result ≤ OUT_OF_MEMORY }
     ensures silent { STREAM_FAILED < result → output.new ≡ output.old }
     ensures quiet { result ≤ STREAM_FAILED → errors.new ≡ errors.old }
+    ensures session_done { AskForSession (map string_bytes words.now) → result ≡ DONE →
+        IfSome (R.remaining reader.old) (IsWritten (W.contents output.old) (W.contents output.new)) }
+    ensures session_not_read { AskForSession (map string_bytes words.now) → result ≡ NOT_READ →
+        IfSome (R.remaining reader.old) IsNoText }
+    ensures not_understood { AskForNothing (map string_bytes words.now) →
+        (result ≡ NOT_READ) × (reader.new ≡ reader.old) }
 {
     match words {
         [] => script::serve(alloc, reader, output, errors),
@@ -68,6 +84,9 @@ pub fn serve<R: Read, W: Write, E: Write>(
     ensures status { result ≤ OUT_OF_MEMORY }
     ensures silent { STREAM_FAILED < result → output.new ≡ output.old }
     ensures quiet { result ≤ STREAM_FAILED → errors.new ≡ errors.old }
+    ensures done { result ≡ DONE →
+        IfSome (R.remaining reader.old) (IsWritten (W.contents output.old) (W.contents output.new)) }
+    ensures not_read { result ≡ NOT_READ → IfSome (R.remaining reader.old) IsNoText }
 {
     match run_session(alloc, reader, output) {
         Ok(()) => DONE,
@@ -79,8 +98,8 @@ pub fn serve<R: Read, W: Write, E: Write>(
 
 /// Says why there are no words: memory was refused, or else one isn't UTF-8. The result is the exit status.
 pub fn serve_no_words<E: Write>(error: &io::Error, errors: &mut E) -> u8
-    ensures above { STREAM_FAILED < result }
-    ensures status { result ≤ OUT_OF_MEMORY }
+    ensures memory { error_kind error.now ≡ ErrorKind.OutOfMemory → result ≡ OUT_OF_MEMORY }
+    ensures not_read { error_kind error.now ≢ ErrorKind.OutOfMemory → result ≡ NOT_READ }
 {
     match error.kind() {
         ErrorKind::OutOfMemory => lack(errors),
@@ -110,7 +129,11 @@ fn run_session<R: Read, W: Write>(
     reader: &mut R,
     output: &mut W,
 ) -> Result<(), Failure>
-    ensures { IfErr result (λ failure. failure ≢ Failure.Stream → output.new ≡ output.old) }
+    ensures done { OnOk result (IfSome (R.remaining reader.old)
+        (IsWritten (W.contents output.old) (W.contents output.new))) }
+    ensures not_read { IfErr result (λ failure. failure ≡ Failure.NotRead →
+        IfSome (R.remaining reader.old) IsNoText) }
+    ensures silent { IfErr result (λ failure. failure ≢ Failure.Stream → output.new ≡ output.old) }
 {
     let mut bytes = Vec::new(alloc);
     if reader.read_to_end(&mut bytes).is_err() {
@@ -119,19 +142,57 @@ fn run_session<R: Read, W: Write>(
     let Ok(text) = from_utf8(bytes.as_slice()) else {
         return Err(Failure::NotRead);
     };
+    let printed = printed_of(alloc, text)?;
+    write_whole(output, printed.as_str())
+}
+
+// What is printed of the session of a text.
+fn printed_of(alloc: Global, text: &str) -> Result<String, AllocError>
+    ensures { IfOk result
+        (λ printed. IsPrinted (new_state []) (inputs_of text.now) (string_bytes printed)) }
+{
     let inputs = inputs_of(alloc, text)?;
     let mut area = TextArea::try_default(alloc)?;
+    printed_behind(alloc, &mut area, inputs.as_slice())
+}
+
+// What is printed of the inputs' run on a text area.
+fn printed_behind(
+    alloc: Global,
+    area: &mut TextArea<'_>,
+    inputs: &[Input],
+) -> Result<String, AllocError>
+    ensures { IfOk result (λ printed. IsPrinted area.old inputs.now (string_bytes printed)) }
+{
     let mut modal = Modal::new();
-    let end = modal.run(&mut area, inputs.as_slice());
+    let end = modal.run(area, inputs);
     if end.stop == ModalStop::Memory {
-        return Err(Failure::Memory);
+        return Err(AllocError);
     }
-    let session = Session {
-        mode: modal.mode(),
-        end,
-        area: &area,
+    let head = head(alloc, modal.mode(), end)?;
+    with_report(alloc, head, area)
+}
+
+// A text, and behind it what is printed of a text area.
+fn with_report(alloc: Global, head: String, area: &TextArea<'_>) -> Result<String, AllocError>
+    ensures { IfOk result (λ text. StartsWith (string_bytes text) (string_bytes head)) }
+{
+    let report = Report {
+        answers: &[],
+        area,
+        screen: None,
     };
-    let text = session.to_string(alloc)?;
+    let report = report.to_string(alloc)?;
+    let mut text = head;
+    text.push_str(report.as_str())?;
+    Ok(text)
+}
+
+// Writes the whole text.
+fn write_whole<W: Write>(output: &mut W, text: &str) -> Result<(), Failure>
+    ensures done { OnOk result (Appends (W.contents output.old) (W.contents output.new) text.now) }
+    ensures fails { IfErr result (λ failure. failure ≡ Failure.Stream) }
+{
     if output.write_all(text.as_bytes()).is_err() || output.flush().is_err() {
         return Err(Failure::Stream);
     }
@@ -140,7 +201,7 @@ fn run_session<R: Read, W: Write>(
 
 // The inputs that a text stands for, one for each character.
 fn inputs_of(alloc: Global, text: &str) -> Result<Vec<Input>, AllocError>
-    ensures { IfOk result (λ inputs. inputs.items ≡ map input_of (chars text.now)) }
+    ensures { IfOk result (λ inputs. inputs.items ≡ inputs_of text.now) }
 {
     text.chars().map(input_of).collect(alloc)
 }

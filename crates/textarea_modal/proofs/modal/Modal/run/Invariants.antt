@@ -4,4 +4,4 @@ use Rattle.textarea_modal.proofs.modal.Modal.run.Given as goal
 
 abbrev pub invariant-loop-index : goal.invariant-loop-index
 invariant-loop-index l =
-    Finishes l.initial.area l.initial.self.mode (take l.index l.inputs) l.area l.self.mode l.index false
+    Finishes l.initial.area l.initial.self (take l.index l.inputs) l.area l.self l.index false
