@@ -50,22 +50,38 @@ pub fn tour(alloc: Global, lines: &str, widest: usize, script: &str) -> Result<T
     let lent = Lent::new(alloc)?;
     let commands = read(alloc, script.as_bytes())?;
     let asked = all_calls(alloc, commands.as_slice(), &lent)?;
-    judge_text(alloc, lines, asked.as_slice(), &mut judge)?;
+    for number in 0..Setting::COUNT {
+        let setting = Setting::numbered(number);
+        judge_text(alloc, lines, setting, asked.as_slice(), &mut judge)?;
+    }
     Ok(judge.tally())
 }
 
-// Judges the text that the lines of a script make, in all settings.
+// Judges the text that the lines of a script make, in a setting.
 fn judge_text(
     alloc: Global,
     lines: &str,
+    setting: Setting,
     asked: &[Call<'_>],
     judge: &mut Judge,
 ) -> Result<(), NotJudged> {
-    let mut text = TextArea::try_default(alloc)?;
-    write(&mut text, lines)?;
-    for number in 0..Setting::COUNT {
-        judge_copy(&text, Setting::numbered(number), asked, judge)?;
-    }
+    let mut area = TextArea::try_default(alloc)?;
+    judge_area(&mut area, lines, setting, asked, judge)
+}
+
+// Judges an empty text area, once the lines of a script and the setting are put into it.
+fn judge_area(
+    area: &mut TextArea<'_>,
+    lines: &str,
+    setting: Setting,
+    asked: &[Call<'_>],
+    judge: &mut Judge,
+) -> Result<(), NotJudged> {
+    write(area, lines)?;
+    setting.put(area)?;
+    draw_areas(judge, area);
+    draw_tabs(judge, area)?;
+    make_calls(judge, area, asked);
     Ok(())
 }
 
@@ -79,21 +95,6 @@ fn write(area: &mut TextArea<'_>, script: &str) -> Result<(), NotJudged> {
         None => Ok(()),
         Some(_) => Err(NotJudged),
     }
-}
-
-// Judges a copy of a text in a setting.
-fn judge_copy(
-    text: &TextArea<'_>,
-    setting: Setting,
-    asked: &[Call<'_>],
-    judge: &mut Judge,
-) -> Result<(), AllocError> {
-    let mut area = text.clone()?;
-    setting.put(&mut area)?;
-    draw_areas(judge, &mut area);
-    draw_tabs(judge, &mut area)?;
-    make_calls(judge, &mut area, asked);
-    Ok(())
 }
 
 // Frames of each width and height, the cursor at one place behind another.
