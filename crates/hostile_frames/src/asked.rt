@@ -14,7 +14,8 @@ const RED: Style = Style {
     sub_modifier: tui_textarea::Modifier(0),
 };
 
-const CALLS: [Call<'static>; 48] = [
+/// What tells something, and leaves the text area.
+const READS: [Call<'static>; 22] = [
     Call::Cursor,
     Call::IsEmpty,
     Call::IsSelecting,
@@ -37,6 +38,10 @@ const CALLS: [Call<'static>; 48] = [
     Call::CursorRenderMode,
     Call::Alignment,
     Call::RenderedCursorPosition,
+];
+
+/// What changes how the text area is drawn.
+const LOOKS: [Call<'static>; 12] = [
     Call::SetStyle(RED),
     Call::SetCursorStyle(RED),
     Call::SetCursorLineStyle(RED),
@@ -53,6 +58,10 @@ const CALLS: [Call<'static>; 48] = [
     Call::SetAlignment(Alignment::Left),
     Call::SetLineNumberStyle(RED),
     Call::ClearCustomHighlight,
+];
+
+/// What is left of the calls.
+const OTHERS: [Call<'static>; 14] = [
     Call::AtomicRangeAtCursor(AtomicDeleteDirection::Forward),
     Call::NormalizeCursorAroundAtomicRanges(AtomicCursorBias::Forward),
     Call::NormalizeCursorAroundAtomicRanges(AtomicCursorBias::Backward),
@@ -94,6 +103,18 @@ impl Lent {
             },
         })
     }
+
+    // The calls to which it is lent, and what shows the placeholder and takes all away again.
+    fn calls(&self) -> [Call<'_>; 6] {
+        [
+            Call::InputWithoutShortcuts(&self.letter),
+            Call::SetBlock(&self.block),
+            Call::SetStyledPlaceholder(&self.placeholder),
+            Call::Clear,
+            Call::RemoveBlock,
+            Call::Undo,
+        ]
+    }
 }
 
 /// The calls that the commands stand for, those that no line of a script makes, and those to which something is lent.
@@ -103,14 +124,16 @@ pub fn all_calls<'a>(
     lent: &'a Lent,
 ) -> Result<Vec<Call<'a>>, AllocError> {
     let mut all = calls(alloc, commands)?;
-    for call in &CALLS {
+    add(&mut all, &READS)?;
+    add(&mut all, &LOOKS)?;
+    add(&mut all, &OTHERS)?;
+    add(&mut all, &lent.calls())?;
+    Ok(all)
+}
+
+fn add<'a>(all: &mut Vec<Call<'a>>, calls: &[Call<'a>]) -> Result<(), AllocError> {
+    for call in calls {
         all.push(*call)?;
     }
-    all.push(Call::InputWithoutShortcuts(&lent.letter))?;
-    all.push(Call::SetBlock(&lent.block))?;
-    all.push(Call::SetStyledPlaceholder(&lent.placeholder))?;
-    all.push(Call::Clear)?;
-    all.push(Call::RemoveBlock)?;
-    all.push(Call::Undo)?;
-    Ok(all)
+    Ok(())
 }

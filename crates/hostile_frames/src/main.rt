@@ -3,16 +3,17 @@
 //! Standard input has blocks of lines, with an empty line between each two. The first block is a script: the calls that are made
 //! on each text, with a frame behind each. Each further block is a text: its first line is a name and, behind a space, the columns
 //! of the widest cluster that isn't a tab; the lines behind it are a script that makes the text. A line is printed for each text:
-//! how many frames were drawn and calls made, how many carets were shown, and what was wrong.
+//! how many frames were drawn and calls made, how many carets were shown, had to be shown and were hit back, and what was wrong.
 //!
-//! No call may fail. A caret that is shown has to lie in the inner area, and to be hit back where no character of the cursor's line
-//! has display width 0; and a caret has to be shown where that is promised.
+//! No call may fail. A caret that is shown has to lie in the inner area, and to be hit back to the cursor where no character of the
+//! cursor's visual row has display width 0; and a caret has to be shown where that is promised.
 //!
 //! The exit status is 0 where all was as it has to be, 1 where a stream failed, 3 where something else than a judged call ran out
 //! of memory or the input can't be read, and 4 where a judgement failed.
 #![tactic(auto)]
 
 mod asked;
+mod caret;
 mod judge;
 mod setting;
 mod tally;

@@ -4,13 +4,18 @@ use std::fmt;
 /// The status where a judgement failed.
 const WRONG: u8 = 4;
 
-/// How many frames were drawn, calls made and carets shown, and what was wrong.
+/// What was made and found, and what was wrong.
 #[derive(Clone, Copy, Default)]
 pub struct Tally {
     pub frames: usize,
     pub calls: usize,
-    pub carets: usize,
-    /// Calls that failed.
+    /// Carets that were shown.
+    pub shown: usize,
+    /// Frames whose caret has to be shown.
+    pub promised: usize,
+    /// Carets whose cell is hit back to the cursor.
+    pub hit_back: usize,
+    /// Calls and drawings that failed.
     pub failed: usize,
     /// Carets that weren't shown where that is promised.
     pub missing: usize,
@@ -31,22 +36,14 @@ impl Tally {
 
 impl fmt::Display for Tally {
     fn fmt<W: fmt::Write>(&self, f: &mut fmt::Formatter<W>) -> fmt::Result {
-        let Tally {
-            frames,
-            calls,
-            carets,
-            failed,
-            missing,
-            astray,
-        } = self;
-        write!(f, "{frames} frames, {calls} calls, {carets} carets shown, ")?;
+        write!(f, "{} frames, {} calls, ", self.frames, self.calls)?;
+        write!(f, "carets: {} shown, ", self.shown)?;
+        write!(f, "{} promised, {} hit back", self.promised, self.hit_back)?;
         if self.is_right() {
-            return write!(f, "wrong 0");
+            return Ok(());
         }
-        write!(
-            f,
-            "WRONG: {failed} failed, {missing} missing, {astray} astray"
-        )
+        write!(f, ", WRONG: {} failed, ", self.failed)?;
+        write!(f, "{} missing, {} astray", self.missing, self.astray)
     }
 }
 

@@ -1,6 +1,7 @@
 //! A text in all settings and areas, behind all calls and at all tab lengths.
 use crate::asked::{Lent, all_calls};
-use crate::judge::{Judge, has_tab};
+use crate::caret::has_tab;
+use crate::judge::Judge;
 use crate::setting::Setting;
 use crate::tally::Tally;
 use std::alloc::{AllocError, AllocFailed, Global};
@@ -45,29 +46,53 @@ impl From<ReadError> for NotJudged {
 /// Judges the text that the lines of a script make, whose widest cluster that isn't a tab has so many columns, and makes the
 /// calls of another script on it.
 pub fn tour(alloc: Global, lines: &str, widest: usize, script: &str) -> Result<Tally, NotJudged> {
+    let mut judge = Judge::new(alloc, widest)?;
     let lent = Lent::new(alloc)?;
     let commands = read(alloc, script.as_bytes())?;
     let asked = all_calls(alloc, commands.as_slice(), &lent)?;
-    let text = text_of(alloc, lines)?;
-    let mut judge = Judge::new(alloc, widest)?;
     for number in 0..Setting::COUNT {
-        let mut area = text.clone()?;
-        Setting::numbered(number).put(&mut area)?;
-        draw_areas(&mut judge, &mut area);
-        draw_tabs(&mut judge, &mut area)?;
-        make_calls(&mut judge, &mut area, asked.as_slice());
+        let setting = Setting::numbered(number);
+        judge_text(alloc, lines, setting, asked.as_slice(), &mut judge)?;
     }
     Ok(judge.tally())
 }
 
-// The text area that a script leaves.
-fn text_of(alloc: Global, lines: &str) -> Result<TextArea<'static>, NotJudged> {
-    let commands = read(alloc, lines.as_bytes())?;
-    let calls = calls(alloc, commands.as_slice())?;
+// Judges the text that the lines of a script make, in a setting.
+fn judge_text(
+    alloc: Global,
+    lines: &str,
+    setting: Setting,
+    asked: &[Call<'_>],
+    judge: &mut Judge,
+) -> Result<(), NotJudged> {
     let mut area = TextArea::try_default(alloc)?;
+    judge_area(&mut area, lines, setting, asked, judge)
+}
+
+// Judges an empty text area, once the lines of a script and the setting are put into it.
+fn judge_area(
+    area: &mut TextArea<'_>,
+    lines: &str,
+    setting: Setting,
+    asked: &[Call<'_>],
+    judge: &mut Judge,
+) -> Result<(), NotJudged> {
+    write(area, lines)?;
+    setting.put(area)?;
+    draw_areas(judge, area);
+    draw_tabs(judge, area)?;
+    make_calls(judge, area, asked);
+    Ok(())
+}
+
+// Makes the calls of a script on a text area.
+fn write(area: &mut TextArea<'_>, script: &str) -> Result<(), NotJudged> {
+    let alloc = *area.lines()[0].allocator();
+    let commands = read(alloc, script.as_bytes())?;
+    let calls = calls(alloc, commands.as_slice())?;
     let mut nowhere = Buffer::empty(alloc, Rect::default())?;
-    match run(&mut area, calls.as_slice(), &mut nowhere).refused {
-        None => Ok(area),
+    match run(area, calls.as_slice(), &mut nowhere).refused {
+        None => Ok(()),
         Some(_) => Err(NotJudged),
     }
 }
@@ -95,7 +120,7 @@ fn go_on(area: &mut TextArea<'_>) {
 }
 
 // Where the text has a tab, frames at each tab length: one where a tab fits, and one where longer ones don't.
-fn draw_tabs(judge: &mut Judge, area: &mut TextArea<'_>) -> Result<(), NotJudged> {
+fn draw_tabs(judge: &mut Judge, area: &mut TextArea<'_>) -> Result<(), AllocError> {
     if !has_tab(area) {
         return Ok(());
     }
@@ -106,13 +131,13 @@ fn draw_tabs(judge: &mut Judge, area: &mut TextArea<'_>) -> Result<(), NotJudged
         judge.draw_frame(area, Rect::new(1, 1, 9, 4));
         go_on(area);
     }
-    area.set_tab_length(before)?;
-    Ok(())
+    area.set_tab_length(before)
 }
 
 // Makes each of the calls, with a frame behind it.
 fn make_calls(judge: &mut Judge, area: &mut TextArea<'_>, calls: &[Call<'_>]) {
     for call in calls {
-        judge.make_call(area, *call, BEHIND_CALLS);
+        judge.make_call(area, *call);
+        judge.draw_frame(area, BEHIND_CALLS);
     }
 }
