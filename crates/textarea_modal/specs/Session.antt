@@ -1,5 +1,5 @@
 -- Sessions: the inputs that the characters of a text stand for, and what is printed of their end.
-use Rattle.std.specs.Prelude.{◌≡◌, ◌≢◌, ℕ, false, ◌==◌, if◌then◌else◌, List, [], ◌++◌, codes, decimal, map, IsUtf8, Option}
+use Rattle.std.specs.Prelude.{◌≢◌, ℕ, false, ◌==◌, if◌then◌else◌, List, [], ◌++◌, codes, decimal, map, IsUtf8, Option}
 use Rattle.std.specs.Io.{StartsWith}
 use Rattle.std.specs.Io.KnownBytes.{Appends}
 use Rattle.std.specs.Str.{chars}
