@@ -74,7 +74,7 @@ impl Judge {
         }
     }
 
-    // The cell of a caret has to be one of the inner area and to be hit back to the cursor or, where the cursor's row has a character
+    // The cell of a caret has to lie in the inner area and to be hit back to the cursor or, where the cursor's row has a character
     // of display width 0, to some place.
     fn judge_cell(&mut self, area: &TextArea<'_>, inner: Rect, cell: Position) {
         count(&mut self.tally.shown);
