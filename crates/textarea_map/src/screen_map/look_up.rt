@@ -109,7 +109,7 @@ impl ScreenMap {
         let row = row_holding(ranges, offset);
         let start = ranges[row].0;
         let column = display_column_behind_text(&line[start..offset], 0, self.wrapping.tab_len);
-        (self.firsts[place.0] + row, column)
+        (self.first_row(place.0) + row, column)
     }
 
     /// The place that a visual row and a display column lead back to: the row's first place at that column, else the character

@@ -1,0 +1,115 @@
+//! The marks of a screen map: for the first line of each stretch of lines the number of visual rows before it. A line's own
+//! number is found from its stretch's mark by a walk over the lines before it in that stretch, and an exchange of lines turns
+//! marks alone.
+ghost use Rattle.std.specs.Prelude.{◌≡◌, ℕ, ◌+◌, ◌-◌, ◌/◌, ◌<◌, ◌≤◌, ◌^◌, length, take, get_or, vec_capacity};
+ghost use Rattle.textarea_map.specs.Map.{row_total};
+ghost use Rattle.textarea_map.specs.Marks.{AreMarks, AreMarksBefore, IsMarked, mark_count};
+
+use crate::layout::count_rows;
+use textarea_wrap::wrap::Rows;
+
+/// How many lines a stretch has.
+pub(super) const STRETCH: usize = 512;
+
+/// Lines that took the place of others, from one line on: how many went and came, and how many visual rows these had.
+#[derive(Clone, Copy)]
+pub(super) struct Exchanged {
+    pub line: usize,
+    pub lines_gone: usize,
+    pub lines_come: usize,
+    pub rows_gone: usize,
+    pub rows_come: usize,
+}
+
+/// How many visual rows the lines before this one have.
+pub(super) fn rows_before(marks: &[usize], rows: &[Rows], line: usize) -> usize
+    requires marked { IsMarked rows.now marks.now }
+    requires line { line ≤ length rows.now }
+    requires small { row_total rows.now ≤ 2 ^ 48 }
+    ensures { result ≡ row_total (take line rows.now) }
+{
+    let stretch = line / STRETCH;
+    marks[stretch] + count_rows(&rows[stretch * STRETCH..line])
+}
+
+/// The last stretch that begins with the visual row or before it.
+pub(super) fn stretch_of_row(marks: &[usize], row: usize) -> usize
+    requires some { 0 < length marks.now }
+    requires first { get_or marks.now 0 0 ≤ row }
+    ensures within { result < length marks.now }
+    ensures from { get_or marks.now result 0 ≤ row }
+    ensures next { result + 1 < length marks.now → row < get_or marks.now (result + 1) 0 }
+{
+    let mut low = 0;
+    let mut high = marks.len();
+    'halving: while 1 < high - low {
+        let middle = low + (high - low) / 2;
+        if marks[middle] <= row {
+            low = middle;
+        } else {
+            high = middle;
+        }
+    }
+    low
+}
+
+/// Turns the marks after an exchange of lines. There is room for those of the lines as they are now.
+pub(super) fn turn_marks(marks: &mut Vec<usize>, rows: &[Rows], exchanged: Exchanged)
+    requires before { AreMarksBefore rows.now marks.old.items exchanged }
+    requires room { mark_count (length rows.now) ≤ vec_capacity marks.old }
+    requires small { row_total rows.now ≤ 2 ^ 48 }
+    requires gone { exchanged.rows_gone ≤ 2 ^ 48 }
+    ensures { IsMarked rows.now marks.new.items }
+{
+    let first = exchanged.line / STRETCH + 1;
+    if exchanged.lines_gone == exchanged.lines_come {
+        let end = exchanged.line + exchanged.lines_gone;
+        let behind = end.div_ceil(STRETCH).max(first);
+        mark_stretches(marks.as_mut_slice(), rows, first, behind);
+        move_marks(
+            marks.as_mut_slice(),
+            behind,
+            exchanged.rows_gone,
+            exchanged.rows_come,
+        );
+    } else {
+        let count = rows.len() / STRETCH + 1;
+        let _ = marks.resize(count, 0);
+        mark_stretches(marks.as_mut_slice(), rows, first, count);
+    }
+}
+
+// Makes the marks from one number on up to another by a walk over the lines of the stretch before each; those above are right.
+fn mark_stretches(marks: &mut [usize], rows: &[Rows], from: usize, to: usize)
+    requires some { 0 < from }
+    requires ordered { from ≤ to }
+    requires within { to ≤ length marks.old }
+    requires len { length marks.old ≡ mark_count (length rows.now) }
+    requires small { row_total rows.now ≤ 2 ^ 48 }
+    requires above { AreMarks rows.now marks.old 0 from }
+    ensures marked { AreMarks rows.now marks.new 0 to }
+    ensures behind { (k : ℕ) → to ≤ k → get_or marks.new k 0 ≡ get_or marks.old k 0 }
+{
+    for k in from..to {
+        let begin = (k - 1) * STRETCH;
+        marks[k] = marks[k - 1] + count_rows(&rows[begin..begin + STRETCH]);
+    }
+}
+
+// Has each mark from one number on say so many visual rows less and so many more.
+fn move_marks(marks: &mut [usize], from: usize, gone: usize, come: usize)
+    requires enough { (k : ℕ) → from ≤ k → k < length marks.old
+        → gone ≤ get_or marks.old k 0 + come }
+    requires small { (k : ℕ) → from ≤ k → k < length marks.old
+        → get_or marks.old k 0 + come ≤ usize.MAX }
+    ensures above { (k : ℕ) → k < from → get_or marks.new k 0 ≡ get_or marks.old k 0 }
+    ensures moved { (k : ℕ) → from ≤ k → k < length marks.old
+        → get_or marks.new k 0 + gone ≡ get_or marks.old k 0 + come }
+{
+    if gone == come {
+        return;
+    }
+    for k in from..marks.len() {
+        marks[k] = marks[k] + come - gone;
+    }
+}
