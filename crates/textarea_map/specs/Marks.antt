@@ -13,6 +13,12 @@ mark_count lines = lines / STRETCH + 1
 abbrev pub AreMarks : List RowsView → List ℕ → ℕ → ℕ → Type 0
 AreMarks rows marks from to = (k : ℕ) → from ≤ k → k < to → get_or marks k 0 ≡ row_total (take (k * STRETCH) rows)
 
+-- each mark from one number on up to another says how many visual rows the lines before one have that stands so many lines before
+-- the first one of its stretch, and so many behind
+abbrev pub AreMarksShifted : List RowsView → List ℕ → ℕ → ℕ → ℕ → ℕ → Type 0
+AreMarksShifted rows marks from to before behind =
+    (k : ℕ) → from ≤ k → k < to → get_or marks k 0 ≡ row_total (take (k * STRETCH + behind - before) rows)
+
 -- these are the marks of lines that have these rows
 pub record IsMarked (rows : List RowsView) (marks : List ℕ) : Type 0 where
   pub count : length marks ≡ mark_count (length rows)
@@ -26,13 +32,14 @@ pub record IsCounted (rows : List RowsView) (marks : List ℕ) (total size : ℕ
   pub size_is : size ≡ size_total rows
   pub limit : IsWithinLimit rows
 
--- The marks are those from before an exchange of lines, told by the rows from after it: up to the line of the exchange they are
--- right, and behind the lines that went each says the visual rows before the line that its stretch began with, but for those that
--- came in the place of those that went.
-pub record AreMarksBefore (rows : List RowsView) (marks : List ℕ) (exchanged : Exchanged) : Type 0 where
+-- So many marks are those from before an exchange of lines, told by the rows from after it: up to the line of the exchange they
+-- are right, and behind the lines that went each says the visual rows before the line that its stretch began with, but for those
+-- that came in the place of those that went.
+pub record AreMarksBefore (rows : List RowsView) (marks : List ℕ) (kept : ℕ) (exchanged : Exchanged) : Type 0 where
   pub within : exchanged.line + exchanged.lines_come ≤ length rows
-  pub count : length marks ≡ mark_count (length rows + exchanged.lines_gone - exchanged.lines_come)
+  pub first : exchanged.line < kept * STRETCH
+  pub last : (k : ℕ) → k < kept → k * STRETCH + exchanged.lines_come ≤ length rows + exchanged.lines_gone
   pub above : AreMarks rows marks 0 (exchanged.line / STRETCH + 1)
-  pub behind : (k : ℕ) → exchanged.line + exchanged.lines_gone ≤ k * STRETCH → k < length marks
+  pub behind : (k : ℕ) → exchanged.line + exchanged.lines_gone ≤ k * STRETCH → k < kept
       → get_or marks k 0 + exchanged.rows_come
       ≡ row_total (take (k * STRETCH + exchanged.lines_come - exchanged.lines_gone) rows) + exchanged.rows_gone

@@ -9,8 +9,8 @@ ghost use Rattle.textarea_map.specs.Layout.{AreRowsOf, ticks_behind, ticks_of, w
 ghost use Rattle.textarea_map.specs.Map.{IsReady, IsWithinLimit, ranges_at, row_total, rows_with, size_total};
 
 use crate::layout::{Wrapping, count_rows, rows_of, size_of_rows};
-use marks::{Exchanged, STRETCH, rows_before, stretch_of_row, turn_marks};
 pub use look_up::RowText;
+use marks::{Exchanged, STRETCH, rows_before, stretch_of_row, turn_marks};
 use std::alloc::{AllocError, Global};
 use std::marker::Model;
 use textarea_text::replace::replace_items;
