@@ -1,5 +1,5 @@
 -- The marks of lines, made one after the other and turned after an exchange of lines.
-use Rattle.std.proofs.Common.{◌≡◌, ◌≢◌, ℕ, zero, suc, ◌+◌, ◌-◌, ◌*◌, ◌/◌, ◌≤◌, ◌<◌, inl, inr, List, length, take, drop, get_or, min, max, set, sym, ap, ◌∙◌, arith}
+use Rattle.std.proofs.Common.{◌≡◌, ◌≢◌, ℕ, ◌+◌, ◌-◌, ◌*◌, ◌≤◌, ◌<◌, inl, inr, List, length, take, drop, min, max, set, sym, ap, ◌∙◌, arith}
 use Rattle.std.proofs.lemmas.Bool.{cases_lt}
 use Rattle.std.proofs.lemmas.List.{get_or-set_other}
 use Rattle.std.proofs.lemmas.Grind.{get_or-set_at}
@@ -9,7 +9,7 @@ use Rattle.textarea_text.proofs.Replacing.{length-replaced}
 use Rattle.textarea_map.specs.declared.screen_map.marks.TheConstants.{STRETCH}
 use Rattle.textarea_map.specs.declared.screen_map.marks.Exchanged.{Exchanged}
 use Rattle.textarea_map.specs.Map.{row_total}
-use Rattle.textarea_map.specs.Marks.{AreMarks, AreMarksBefore, IsMarked, mark_count}
+use Rattle.textarea_map.specs.Marks.{AreMarks, AreMarksBefore, IsMarked}
 use Rattle.textarea_map.proofs.Numbers.{row_total-above, row_total-behind}
 
 -- one mark more

@@ -186,8 +186,8 @@ impl ScreenMap {
         Ok((total, size))
     }
 
-    /// Has the rows take their place, without memory; no line is cut. Where lines and rows stay as many as they were, nothing else is
-    /// touched; otherwise the marks behind are turned.
+    /// Has the rows take their place, without memory; no line is cut. Where lines and rows stay as many as they were, nothing else
+    /// is touched; otherwise the marks behind are turned.
     pub fn replace(&mut self, prepared: PreparedRows)
         requires { IsReady self.old prepared }
         ensures rows { self.new.rows ≡ rows_with self.old.rows prepared }

@@ -1,7 +1,7 @@
 //! The marks of a screen map: for the first line of each stretch of lines the number of visual rows before it. A line's own
 //! number is found from its stretch's mark by a walk over the lines before it in that stretch, and an exchange of lines turns
 //! marks alone.
-ghost use Rattle.std.specs.Prelude.{◌≡◌, ℕ, ◌+◌, ◌-◌, ◌*◌, ◌/◌, ◌<◌, ◌≤◌, ◌^◌, length, take, get_or, vec_capacity, vec_len};
+ghost use Rattle.std.specs.Prelude.{◌≡◌, ℕ, ◌+◌, ◌-◌, ◌*◌, ◌/◌, ◌<◌, ◌≤◌, ◌^◌, length, take, get_or, vec_capacity};
 ghost use Rattle.textarea_map.specs.Map.{row_total};
 ghost use Rattle.textarea_map.specs.Marks.{AreMarks, AreMarksBefore, AreMarksShifted, IsMarked, mark_count};
 
@@ -55,7 +55,7 @@ pub(super) fn stretch_of_row(marks: &[usize], row: usize) -> usize
 
 /// Turns the marks after an exchange of lines. There is room for those of the lines as they are now.
 pub(super) fn turn_marks(marks: &mut Vec<usize>, rows: &[Rows], exchanged: Exchanged)
-    requires before { AreMarksBefore rows.now marks.old.items (vec_len marks.old) exchanged }
+    requires before { AreMarksBefore rows.now marks.old.items (length marks.old.items) exchanged }
     requires room { mark_count (length rows.now) ≤ vec_capacity marks.old }
     requires small { row_total rows.now ≤ 2 ^ 48 }
     requires gone { exchanged.rows_gone ≤ 2 ^ 48 }

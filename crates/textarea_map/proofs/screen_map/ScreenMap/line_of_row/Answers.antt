@@ -1,4 +1,4 @@
-use Rattle.std.proofs.Common.{◌≡◌, ◌+◌, ◌-◌, ◌<◌, ◌∙◌, ℕ, ap, arith, length, take}
+use Rattle.std.proofs.Common.{◌≡◌, ◌+◌, ◌<◌, ap, arith, length, take}
 use Rattle.textarea_map.specs.Map.{MapView, row_total}
 use Rattle.textarea_map.proofs.Numbers.{line_there, row_total-more}
 use Rattle.textarea_map.proofs.screen_map.ScreenMap.line_of_row.Goals as goal

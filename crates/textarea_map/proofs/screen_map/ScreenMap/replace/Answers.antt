@@ -1,4 +1,4 @@
-use Rattle.std.proofs.Common.{◌≡◌, ◌+◌, ◌-◌, ◌≤◌, ◌∙◌, ℕ, List, ap, sym, arith, length, take, drop, subst}
+use Rattle.std.proofs.Common.{◌≡◌, ◌+◌, ◌-◌, ◌≤◌, ◌∙◌, List, ap, sym, arith, length, subst}
 use Rattle.textarea_wrap.specs.RowsView.{RowsView}
 use Rattle.textarea_map.specs.Map.{row_total, size_total, MapView}
 use Rattle.textarea_map.specs.declared.screen_map.marks.Exchanged.{Exchanged}
@@ -53,7 +53,7 @@ turn_marks-requires-clause-before c =
       rows_gone = c.count_rows-old.result;
       rows_come = prepared.total;
     } in
-    subst (λ (t : List RowsView). AreMarksBefore t c.self.inside.marks.items exchanged) (sym (c.as_slice-2.ensures.value ∙ c.replace_items.ensures.items))
+    subst (λ (t : List RowsView). AreMarksBefore t c.self.inside.marks.items (length c.self.inside.marks.items) exchanged) (sym (c.as_slice-2.ensures.value ∙ c.replace_items.ensures.items))
     (marks_before rows prepared.rows.items c.self.inside.marks.items exchanged c.self.invariant.marked
     (omega (arith, c.requires.within, ap (λ (v : MapView). length v.rows) c.self.view_is))
     (omega arith)

@@ -1,4 +1,4 @@
-use Rattle.std.proofs.Common.{◌≡◌, ◌≢◌, ℕ, ◌+◌, ◌*◌, ◌-◌, ◌≤◌, ◌<◌, ◌∙◌, length, take, get_or, arith}
+use Rattle.std.proofs.Common.{◌≡◌, ◌≢◌, ◌+◌, ◌*◌, ◌-◌, ◌∙◌, take, get_or, arith}
 use Rattle.std.proofs.lemmas.List.{get_or-set_other}
 use Rattle.textarea_map.specs.Map.{row_total}
 use Rattle.textarea_map.proofs.Numbers.{row_total-part, row_total-take_le}

@@ -1,5 +1,4 @@
-use Rattle.std.proofs.Common.{◌≡◌, ◌+◌, ◌*◌, ◌/◌, ◌-◌, ◌≤◌, ℕ, List, length, take, drop, get_or, arith}
-use Rattle.textarea_map.specs.Map.{row_total}
+use Rattle.std.proofs.Common.{◌*◌, ◌/◌, arith}
 use Rattle.textarea_map.proofs.Numbers.{row_total-part, row_total-take_le}
 use Rattle.textarea_map.proofs.screen_map.marks.rows_before.Goals as goal
 
