@@ -155,7 +155,7 @@ impl ScreenMap {
         let (total, size) = self.within_limit_with(row, count, rows.as_slice())?;
         let more = rows.len().saturating_sub(count);
         self.rows.reserve(more)?;
-        self.marks.reserve(more / STRETCH + 1)?;
+        self.marks.reserve(more.div_ceil(STRETCH))?;
         Ok(PreparedRows {
             row,
             count,
