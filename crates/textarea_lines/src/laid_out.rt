@@ -296,7 +296,8 @@ impl LaidOutLines {
             self.settings,
             &mut count,
         )?;
-        self.lines.reserve(replacement.lines.len())?;
+        let more = replacement.lines.len().saturating_sub(replacement.count);
+        self.lines.reserve(more)?;
         replacement.replace_in(&mut self.lines);
         self.map.replace(prepared);
         self.size = size;
