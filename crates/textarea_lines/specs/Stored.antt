@@ -1,5 +1,8 @@
 -- What holds of all lines with their rows.
 use Rattle.std.specs.Prelude.{◌≡◌, ℕ, ◌+◌, ◌-◌, ◌^◌, ◌<◌, ◌≤◌, List, length, String, Option, IfSome, if◌then◌else◌}
+use Rattle.textarea_text.specs.declared.util.Pos.{Pos}
+use Rattle.textarea_text.specs.Offset.{offset_at}
+use Rattle.textarea_text.specs.Place.{IsPlaceOf}
 use Rattle.textarea_text.specs.Text.{lines_of}
 use Rattle.textarea_text.specs.Size.{size_of, weight}
 use Rattle.textarea_text.specs.Splice.{Splice}
@@ -25,7 +28,14 @@ pub record HoldsRows {Z : Type 0} (settings : LayoutSettings) (lines : List (Str
   pub wrapping_is : map.wrapping ≡ wrapping_for settings (length lines)
   pub laid_out : AreRowsOf map.wrapping (lines_of lines) map.rows
 
--- the rows are held, and what was measured last, if it is kept, is true of the lines as they stand
-pub record KeepsRows {Z : Type 0} (settings : LayoutSettings) (lines : List (String Z)) (size : ℕ) (map : MapView) (kept : Option Measured) : Type 0 where
+-- the position is a place of the lines, and so many bytes of its line stand before it
+pub record IsFound {Z : Type 0} (lines : List (String Z)) (found : Pos) : Type 0 where
+  pub place : IsPlaceOf (lines_of lines) (found.row, found.col)
+  pub offset : found.offset ≡ offset_at (lines_of lines) (found.row, found.col)
+
+-- the rows are held, and what was measured last, if it is kept, is true of the lines as they stand, and so is the place that was
+-- found last
+pub record KeepsRows {Z : Type 0} (settings : LayoutSettings) (lines : List (String Z)) (size : ℕ) (map : MapView) (kept : Option Measured) (found : Pos) : Type 0 where
   pub held : HoldsRows settings lines size map
   pub measured : IfSome kept (λ last. IsRowCount last.wrapping (lines_of lines) last.rows)
+  pub found : IsFound lines found

@@ -2,6 +2,7 @@
 mod width;
 
 ghost use Rattle.std.specs.Prelude.{◌≡◌, ◌+◌, ◌-◌, ◌<◌, ◌≤◌, ◌^◌, ◌↔◌, [], length, vec_len, false, true, IfOk, IfSome, IsOk, IsTrue, OnErr, OnOk, if◌then◌else◌};
+ghost use Rattle.textarea_text.specs.Offset.{offset_at};
 ghost use Rattle.textarea_text.specs.Place.{Place, IsPlace};
 ghost use Rattle.textarea_text.specs.Size.{size_of, weight};
 ghost use Rattle.textarea_text.specs.Splice.{Fits, applied};
@@ -22,7 +23,10 @@ use std::marker::Model;
 use textarea_edit::edit::Change;
 use textarea_map::layout::rows_in;
 use textarea_map::screen_map::ScreenMap;
-use textarea_text::rows::{Replacement, size_within_limit, within_limit};
+use textarea_text::rows::{
+    Replacement, byte_offset, byte_offset_from, size_within_limit, within_limit,
+};
+use textarea_text::util::Pos;
 use textarea_wrap::wrap::WrapCount;
 pub use width::PreparedWidth;
 
@@ -38,6 +42,7 @@ pub struct LaidOutLines {
     count: WrapCount,
     settings: LayoutSettings,
     measured: Option<Measured>,
+    found: Pos,
 }
 
 impl Model for LaidOutLines {
@@ -54,7 +59,7 @@ impl Model for LaidOutLines {
     } };
 
     ghost invariant = { λ laid.
-        KeepsRows laid.settings laid.lines.items laid.size laid.map laid.measured };
+        KeepsRows laid.settings laid.lines.items laid.size laid.map laid.measured laid.found };
 }
 
 impl Clone for LaidOutLines {
@@ -69,6 +74,7 @@ impl Clone for LaidOutLines {
             count: self.count.clone()?,
             settings: self.settings,
             measured: self.measured,
+            found: Pos::new(self.found.row, self.found.col, self.found.offset),
         })
     }
 }
@@ -109,6 +115,7 @@ impl LaidOutLines {
             count,
             settings,
             measured: None,
+            found: Pos::new(0, 0, 0),
         })
     }
 
@@ -233,6 +240,19 @@ impl LaidOutLines {
         Ok(rows)
     }
 
+    /// The bytes of its line before a place of the text. Near the place where a change was made last in place, only what stands
+    /// between the two is walked, however long the line is.
+    pub fn offset_of(&self, place: (usize, usize)) -> usize
+        requires { IsPlace self.now.text place }
+        ensures { result ≡ offset_at (lines self.now.text) place }
+    {
+        let line = self.lines[place.0].as_str();
+        if self.found.row == place.0 {
+            return byte_offset_from(line, (self.found.col, self.found.offset), place.1);
+        }
+        byte_offset(line, place.1)
+    }
+
     /// Makes a change that fits the text.
     pub fn apply(&mut self, change: Change<'_>) -> Result<(), AllocError>
         requires { Fits self.old.text change }
@@ -260,9 +280,10 @@ impl LaidOutLines {
         ensures err { OnErr result (self.new ≡ self.old) }
     {
         let alloc = *self.lines.allocator();
-        let row = change.cursor_before().0;
+        let (row, column) = change.start();
+        let offset = self.offset_of((row, column));
         let rows = Vec::with_capacity(alloc, 1)?;
-        change.apply(&mut self.lines)?;
+        change.apply_inside(&mut self.lines, offset)?;
         put_whole_line(
             alloc,
             &mut self.map,
@@ -273,6 +294,7 @@ impl LaidOutLines {
         );
         self.size = size;
         self.measured = None;
+        self.found = Pos::new(row, column, offset);
         Ok(())
     }
 
@@ -302,6 +324,7 @@ impl LaidOutLines {
         self.map.replace(prepared);
         self.size = size;
         self.measured = None;
+        self.found = Pos::new(0, 0, 0);
         self.count = count;
         Ok(())
     }

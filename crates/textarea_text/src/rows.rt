@@ -2,6 +2,7 @@
 ghost use Rattle.std.specs.Prelude.{◌≡◌, ◌+◌, ◌-◌, ◌<◌, ◌≤◌, ◌++◌, ◌∷◌, ◌^◌, ◌↔◌, length, take, drop, MatchOption, encode_utf8_all, vec_len, vec_capacity, min, IfOk, IsOk, OnOk, OnErr};
 ghost use Rattle.std.specs.Str.{chars};
 ghost use Rattle.textarea_text.specs.Text.{characters, following, lines_of, symbol_in, text_of};
+ghost use Rattle.textarea_text.specs.Offset.{offset_at};
 ghost use Rattle.textarea_text.specs.Place.{IsPlaceOf, IsSymbolBefore, ReplacesRows, changed, index_of};
 ghost use Rattle.textarea_text.specs.Replaced.{replaced};
 ghost use Rattle.textarea_text.specs.Size.{size_of};
@@ -26,6 +27,54 @@ pub fn byte_offset(line: &str, column: usize) -> usize
     line.len() - rest.as_str().len()
 }
 
+/// The byte at which the column of a line begins, told from another column and its byte: no more than what stands between the
+/// two is walked, and nothing where the column is the line's length in bytes.
+pub fn byte_offset_from(line: &str, known: (usize, usize), column: usize) -> usize
+    requires known { known.0 ≤ length (chars line.now) }
+    requires offset { known.1 ≡ length (encode_utf8_all (take known.0 (chars line.now))) }
+    requires column { column ≤ length (chars line.now) }
+    ensures { result ≡ length (encode_utf8_all (take column (chars line.now))) }
+{
+    let (from, offset) = known;
+    if line.len() == column {
+        return column;
+    }
+    if column < from {
+        return offset_back(line, from, offset, column);
+    }
+    offset_ahead(line, from, offset, column)
+}
+
+// The same for a column from the known one on.
+fn offset_ahead(line: &str, from: usize, offset: usize, column: usize) -> usize
+    requires ordered { from ≤ column }
+    requires offset { offset ≡ length (encode_utf8_all (take from (chars line.now))) }
+    requires column { column ≤ length (chars line.now) }
+    ensures { result ≡ length (encode_utf8_all (take column (chars line.now))) }
+{
+    let mut rest = line[offset..].chars();
+    for _index in from..column {
+        rest.next();
+    }
+    line.len() - rest.as_str().len()
+}
+
+// The same for a column up to the known one.
+fn offset_back(line: &str, from: usize, offset: usize, column: usize) -> usize
+    requires ordered { column ≤ from }
+    requires from { from ≤ length (chars line.now) }
+    requires offset { offset ≡ length (encode_utf8_all (take from (chars line.now))) }
+    ensures { result ≡ length (encode_utf8_all (take column (chars line.now))) }
+{
+    let mut at = from;
+    let mut bytes = offset;
+    'walking: while column < at {
+        bytes -= character_before(line, at, bytes).len_utf8();
+        at -= 1;
+    }
+    bytes
+}
+
 /// How many characters the line has.
 #[tactic(auto, using(std::proofs::lemmas::Str::chars_from_encodes))]
 pub fn column_count(line: &str) -> usize
@@ -34,13 +83,14 @@ pub fn column_count(line: &str) -> usize
     line.chars().count()
 }
 
-// The character that ends at the column of a line.
-fn character_before(line: &str, column: usize) -> char
+// The character that ends at the column of a line, which begins behind so many bytes.
+fn character_before(line: &str, column: usize, offset: usize) -> char
     requires some { 0 < column }
     requires within { column ≤ length (chars line.now) }
+    requires offset { offset ≡ length (encode_utf8_all (take column (chars line.now))) }
     ensures { drop (column - 1) (chars line.now) ≡ result ∷ drop (column - 1 + 1) (chars line.now) }
 {
-    let mut before = line[..byte_offset(line, column)].chars();
+    let mut before = line[..offset].chars();
     before.next_back().unwrap()
 }
 
@@ -51,9 +101,10 @@ pub struct SymbolBefore {
     pub character: Option<char>,
 }
 
-/// The symbol before the place; none at the start of the text.
-pub fn symbol_before(lines: &[String], place: (usize, usize)) -> Option<SymbolBefore>
-    requires { IsPlaceOf (lines_of lines.now) place }
+/// The symbol before the place, which stands behind so many bytes of its line; none at the start of the text.
+pub fn symbol_before(lines: &[String], place: (usize, usize), offset: usize) -> Option<SymbolBefore>
+    requires place { IsPlaceOf (lines_of lines.now) place }
+    requires offset { offset ≡ offset_at (lines_of lines.now) place }
     ensures { MatchOption result (index_of (text_of lines.now) place ≡ 0)
         (λ before. IsSymbolBefore (text_of lines.now) place before.start
         (symbol_in before.character)) }
@@ -62,7 +113,7 @@ pub fn symbol_before(lines: &[String], place: (usize, usize)) -> Option<SymbolBe
     if 0 < column {
         return Some(SymbolBefore {
             start: (row, column - 1),
-            character: Some(character_before(lines[row].as_str(), column)),
+            character: Some(character_before(lines[row].as_str(), column, offset)),
         });
     }
     if row == 0 {

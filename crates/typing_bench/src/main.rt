@@ -1,7 +1,9 @@
-//! Types into a text of many wrapped lines, and prints how many visual rows it has then.
+//! Types into the first line of a text, and prints how many visual rows it has then, and the cursor's column.
 //!
-//! Each line of standard input is a job of two numbers with one space between them: how many lines the text has, and how many
-//! keys are typed into its first one, by turns a hundred characters and a hundred times Backspace.
+//! Each line of standard input is a job of a word and two numbers with one space between each two: what is typed, how many lines
+//! the text has, and how many keys there are. `text` types into long wrapped lines, by turns a hundred characters and a hundred
+//! times Backspace; `rows` by turns a character with which the line has a row more, and Backspace; `breaks` by turns a line break
+//! and Backspace; `wide` types characters of two bytes at the end of one line that has as many of them as the first number says.
 #![tactic(auto)]
 
 mod job;
@@ -14,8 +16,8 @@ fn main(rt: HostRuntime) -> Result<()> {
     for input in rt.lines(alloc) {
         let input = input?;
         let job = Job::parse(input.as_str()).context("a line that is no job")?;
-        let rows = job.run(alloc)?;
-        println!(rt; "{rows}")?;
+        let (rows, column) = job.run(alloc)?;
+        println!(rt; "{rows} {column}")?;
     }
     Ok(())
 }
