@@ -38,4 +38,4 @@ pub record IsFound {Z : Type 0} (lines : List (String Z)) (found : Pos) : Type 0
 pub record KeepsRows {Z : Type 0} (settings : LayoutSettings) (lines : List (String Z)) (size : ℕ) (map : MapView) (kept : Option Measured) (found : Pos) : Type 0 where
   pub held : HoldsRows settings lines size map
   pub measured : IfSome kept (λ last. IsRowCount last.wrapping (lines_of lines) last.rows)
-  pub found : IsFound lines found
+  pub place : IsFound lines found
