@@ -1,11 +1,11 @@
 #!/bin/sh
 # Times a key in the first line of a text (PROGRAM is what `rt run typing_bench` builds).
 # - Typing into wrapped lines of about 1,000 characters at a width of 80 columns: a key costs what its line takes to be cut,
-#   whatever the number of lines.
+#   whatever the number of lines. The times should lie within 1.5x of each other.
 # - Keys that give a line of 80 columns a second row, and Backspace that takes it away: the lines behind keep what is known of
-#   them but for one number for 512 lines, so the time at 1,000,000 lines is at most 1.5 times that at 1,000.
+#   them but for one number for 512 lines, so the time at 1,000,000 lines should be at most 1.5 times that at 1,000.
 # - Line breaks and Backspace: what grows with the number of lines is the moving of the lines behind.
-# - Characters of two bytes at the end of a line that isn't wrapped: a key costs the same, whatever the line's length.
+# - Characters of two bytes at the end of a line that isn't wrapped: a key should cost the same, whatever the line's length.
 # Of each time that of the same text without a key is taken away.
 # usage: bench/wrapped_typing.sh PROGRAM
 set -e
