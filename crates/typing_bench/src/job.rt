@@ -74,7 +74,10 @@ impl Job {
         for key in 0..self.keys {
             self.type_key(&mut document, key)?;
         }
-        Ok((document.rows_at_width(view.inner_width)?, document.cursor().1))
+        Ok((
+            document.rows_at_width(view.inner_width)?,
+            document.cursor().1,
+        ))
     }
 
     // The lines of the text.
