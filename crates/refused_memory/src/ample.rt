@@ -43,12 +43,9 @@ fn make_lines(
     };
     let mut area = TextArea::try_default(alloc)?;
     for line in row.lines() {
-        if let Some(name) = line.strip_prefix("each ") {
-            make_each(&mut area, row_of(rows, name)?, &lent, &mut told)?;
-        } else if let Some(name) = line.strip_prefix("row ") {
-            make_all(&mut area, row_of(rows, name)?, &lent, &mut told)?;
-        } else {
-            make_line(&mut area, line, &lent, &mut told)?;
+        match line.strip_prefix("row ") {
+            Some(name) => make_all(&mut area, row_of(rows, name)?, &lent, &mut told)?,
+            None => make_line(&mut area, line, &lent, &mut told)?,
         }
         *made = made.saturating_add(1);
     }
@@ -65,20 +62,6 @@ fn row_of<'a>(rows: &'a str, name: &str) -> Result<&'a str, AmpleStop> {
         }
     }
     Err(AmpleStop::NotRead)
-}
-
-// Makes each of the lines, each on a clone of its own.
-fn make_each(
-    area: &mut TextArea<'_>,
-    lines: &str,
-    lent: &Lent,
-    told: &mut Told,
-) -> Result<(), AmpleStop> {
-    for line in lines.lines() {
-        let mut other = area.clone()?;
-        make_line(&mut other, line, lent, told)?;
-    }
-    Ok(())
 }
 
 // Makes the lines one after another.

@@ -109,7 +109,7 @@ fn judge_step(
         // `regex` may have an error of its own for want of memory.
         Err(_) | Ok(Answer::PatternRefused) => judge_refused(area, &mut other, step, drawn),
         Ok(answer) => {
-            let wanted = make(&mut other, step, &mut drawn.other)?;
+            let wanted = make_wanted(&mut other, step, drawn)?;
             same(answer == wanted, Difference::Answer)?;
             compare_shown(area, &other)?;
             let are_alike = are_alike_outside(&drawn.buffer, &drawn.other, Rect::default());
@@ -117,6 +117,18 @@ fn judge_step(
             *made = made.saturating_add(1);
             Ok(())
         }
+    }
+}
+
+// Makes the clone's step. A refusal that it meets is none of the step that is judged.
+fn make_wanted(
+    other: &mut TextArea<'_>,
+    step: Step<'_>,
+    drawn: &mut Drawn,
+) -> Result<Answer, Stop> {
+    match make(other, step, &mut drawn.other)? {
+        Answer::PatternRefused => Err(Stop::Memory),
+        wanted => Ok(wanted),
     }
 }
 
@@ -155,7 +167,7 @@ fn drawn_area(step: Step<'_>) -> Rect {
 
 // Makes the calls of a script by one run. Where it is refused, the answers have to be those of the calls before the refused
 // one, and the text area what a refusal of that one leaves of a clone that made these; the first reservation, whose refusal
-// stands for that of the first call, is met so too.
+// stands for that of the first call, is met so too. A pattern that `regex` refused for want of memory has changed nothing.
 fn judge_run(
     area: &mut TextArea<'_>,
     script: &str,
@@ -173,8 +185,10 @@ fn judge_run(
         Difference::Index,
     )?;
     for (call, answer) in calls.iter().zip(answered) {
-        let wanted = make(&mut other, Step::Call(*call), &mut drawn.other)?;
-        same(*answer == wanted, Difference::Answer)?;
+        if *answer != Answer::PatternRefused {
+            let wanted = make_wanted(&mut other, Step::Call(*call), drawn)?;
+            same(*answer == wanted, Difference::Answer)?;
+        }
         *made = made.saturating_add(1);
     }
     match calls.get(answered.len()) {

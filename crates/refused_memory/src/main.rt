@@ -7,8 +7,8 @@
 //!
 //! A row whose name begins with `ample ` is made without judgement, on small texts and on large ones (`ample`). There `<N TEXT>`
 //! in a line stands for so many times the text, in which `#` is the number of the time, from 0, and `;` a line's end;
-//! `times N LINE` makes a line so many times, by one run if it is a script's; `row NAME` makes the lines of another row; and
-//! `each NAME` makes each of the lines of a row on a clone of its own. A row whose name begins with `list ` isn't made by itself.
+//! `times N LINE` makes a line so many times, by one run if it is a script's; and `row NAME` makes the lines of another row. A row
+//! whose name begins with `list ` isn't made by itself.
 //!
 //! A line is printed for each row. The exit status is 0 where all was as it has to be, 1 where a stream failed, 3 where memory
 //! was refused to what is around the calls, so that nothing was judged, 4 where a judgement failed or a call of a row with ample

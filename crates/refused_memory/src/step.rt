@@ -4,7 +4,7 @@ ghost use Rattle.std.specs.Prelude.{◌<◌, length};
 use std::alloc::{AllocError, Global};
 use textarea_script::perform::perform;
 use textarea_script::{Answer, Call};
-use tui_textarea::{AtomicRange, Buffer, Key, TextArea};
+use tui_textarea::{AtomicRange, Buffer, Input, Key, TextArea};
 
 /// What is made in one step.
 #[derive(Clone, Copy)]
@@ -35,9 +35,7 @@ impl Step<'_> {
                 | Call::InsertNewline
                 | Call::InsertTab
                 | Call::Paste => true,
-                Call::Input(input) | Call::InputWithoutShortcuts(input) => {
-                    !input.ctrl && !input.alt && is_key_that_inserts(input.key)
-                }
+                Call::Input(input) | Call::InputWithoutShortcuts(input) => is_inserting(input),
                 _ => false,
             },
             _ => false,
@@ -45,8 +43,14 @@ impl Step<'_> {
     }
 }
 
-fn is_key_that_inserts(key: Key) -> bool {
-    matches!(key, Key::Char(_) | Key::Enter | Key::Tab | Key::Paste)
+// Whether an input asks for an insertion.
+fn is_inserting(input: &Input) -> bool {
+    match input.key {
+        Key::Enter | Key::Paste => true,
+        Key::Char('m' | 'y') => !input.alt,
+        Key::Char(_) | Key::Tab => !input.ctrl && !input.alt,
+        _ => false,
+    }
 }
 
 /// Makes a step. What it draws is drawn into the buffer. A text area that it makes is dropped, and the number of its lines is
