@@ -42,14 +42,31 @@ fn make_lines(
         answers: Answers::default(),
     };
     let mut area = TextArea::try_default(alloc)?;
+    make_all(&mut area, rows, row, &lent, &mut told, made)?;
+    Ok(AmpleEnd::Made {
+        answers: told.answers,
+        lines: area.lines().len(),
+        cursor: area.cursor(),
+    })
+}
+
+// Makes the lines of a row one after another.
+fn make_all(
+    area: &mut TextArea<'_>,
+    rows: &str,
+    row: &str,
+    lent: &Lent,
+    told: &mut Told,
+    made: &mut usize,
+) -> Result<(), AmpleStop> {
     for line in row.lines() {
         match line.strip_prefix("row ") {
-            Some(name) => make_all(&mut area, row_of(rows, name)?, &lent, &mut told)?,
-            None => make_line(&mut area, line, &lent, &mut told)?,
+            Some(name) => make_each(area, row_of(rows, name)?, lent, told)?,
+            None => make_line(area, line, lent, told)?,
         }
         *made = made.saturating_add(1);
     }
-    Ok(AmpleEnd::of(told.answers, &area))
+    Ok(())
 }
 
 // The lines of the row of this name.
@@ -64,8 +81,7 @@ fn row_of<'a>(rows: &'a str, name: &str) -> Result<&'a str, AmpleStop> {
     Err(AmpleStop::NotRead)
 }
 
-// Makes the lines one after another.
-fn make_all(
+fn make_each(
     area: &mut TextArea<'_>,
     lines: &str,
     lent: &Lent,

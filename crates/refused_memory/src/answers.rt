@@ -3,7 +3,6 @@ use std::alloc::{AllocError, AllocFailed};
 use std::fmt;
 use textarea_script::Answer;
 use textarea_script::commands::ReadError;
-use tui_textarea::TextArea;
 
 /// How a row ended.
 #[derive(Clone, Copy)]
@@ -14,8 +13,6 @@ pub enum AmpleEnd {
         answers: Answers,
         /// The lines that they left.
         lines: usize,
-        /// The bytes of these lines.
-        bytes: usize,
         /// The cursor's (row, column).
         cursor: (usize, usize),
     },
@@ -24,20 +21,6 @@ pub enum AmpleEnd {
 }
 
 impl AmpleEnd {
-    /// The end of a row whose steps were all made and left this text area.
-    pub fn of(answers: Answers, area: &TextArea<'_>) -> AmpleEnd {
-        let mut bytes = 0;
-        for line in area.lines() {
-            add(&mut bytes, line.len());
-        }
-        AmpleEnd::Made {
-            answers,
-            lines: area.lines().len(),
-            bytes,
-            cursor: area.cursor(),
-        }
-    }
-
     /// The exit status for this end.
     pub fn status(&self) -> u8 {
         match self {
@@ -53,14 +36,10 @@ impl fmt::Display for AmpleEnd {
             AmpleEnd::Made {
                 answers,
                 lines,
-                bytes,
                 cursor,
             } => {
                 let (row, column) = *cursor;
-                write!(
-                    f,
-                    "{answers}; lines {lines}, bytes {bytes}, cursor {row} {column}"
-                )
+                write!(f, "{answers}; {lines} lines, cursor {row} {column}")
             }
             AmpleEnd::Stopped(stop, lines) => write!(f, "{stop:?} behind {lines} lines"),
         }
@@ -116,48 +95,37 @@ impl From<ReadError> for AmpleStop {
 /// The answers, counted and summed up.
 #[derive(Default, Clone, Copy)]
 pub struct Answers {
-    done: usize,
-    yes: usize,
-    no: usize,
-    rejected: usize,
-    bytes: usize,
+    calls: usize,
+    yanked: usize,
     rows: usize,
-    others: usize,
 }
 
 impl Answers {
     /// Takes an answer in: a pattern that was refused stops the row.
     pub fn take(&mut self, answer: &Answer) -> Result<(), AmpleStop> {
+        self.calls = self.calls.saturating_add(1);
         match answer {
-            Answer::Done => add(&mut self.done, 1),
-            Answer::Flag(true) => add(&mut self.yes, 1),
-            Answer::Flag(false) => add(&mut self.no, 1),
-            Answer::Rejected(ranges) => add(&mut self.rejected, ranges.len()),
-            Answer::Text(text) => add(&mut self.bytes, text.len()),
-            Answer::Measured(measure) => add(&mut self.rows, usize::from(measure.content_rows)),
+            Answer::Text(text) => self.yanked = self.yanked.saturating_add(text.len()),
+            Answer::Measured(measure) => {
+                self.rows = self.rows.saturating_add(usize::from(measure.content_rows));
+            }
             Answer::PatternRefused => return Err(AmpleStop::Pattern),
-            _ => add(&mut self.others, 1),
+            _ => {}
         }
         Ok(())
     }
 }
 
-fn add(sum: &mut usize, more: usize) {
-    *sum = sum.saturating_add(more);
-}
-
 impl fmt::Display for Answers {
     fn fmt<W: fmt::Write>(&self, f: &mut fmt::Formatter<W>) -> fmt::Result {
         let Answers {
-            done,
-            yes,
-            no,
-            rejected,
-            bytes,
+            calls,
+            yanked,
             rows,
-            others,
         } = *self;
-        write!(f, "ok {done}, true {yes}, false {no}, others {others}, ")?;
-        write!(f, "rejected {rejected}, yanked {bytes}, measured {rows}")
+        write!(
+            f,
+            "{calls} calls made, {yanked} bytes yanked, {rows} rows measured"
+        )
     }
 }

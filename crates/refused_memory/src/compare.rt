@@ -1,6 +1,6 @@
 //! What two text areas differ in, as far as it is seen.
 use crate::end::{Difference, Stop};
-use std::alloc::{AllocError, Global};
+use std::alloc::AllocError;
 use tui_textarea::{Buffer, Cell, Rect, TextArea};
 
 /// The columns of an area in which two text areas are drawn.
@@ -14,19 +14,15 @@ const MOST_EDITS: usize = 1000;
 
 /// The two text areas must be alike: in what they show of themselves, in their next drawing, in a character that is typed into
 /// clones of them, and in all further undos and redos, with what they show after each, and in a drawing behind these.
-pub fn compare(
-    alloc: Global,
-    area: &mut TextArea<'_>,
-    other: &mut TextArea<'_>,
-) -> Result<(), Stop> {
+pub fn compare(area: &mut TextArea<'_>, other: &mut TextArea<'_>) -> Result<(), Stop> {
     compare_shown(area, other)?;
     compare_yanks(area, other)?;
-    compare_drawn(alloc, area, other)?;
+    compare_drawn(area, other)?;
     compare_typed(area, other)?;
-    compare_redos(area, other)?;
-    compare_undos(area, other)?;
-    compare_redos(area, other)?;
-    compare_drawn(alloc, area, other)
+    compare_edits(area, other, Difference::Redo)?;
+    compare_edits(area, other, Difference::Undo)?;
+    compare_edits(area, other, Difference::Redo)?;
+    compare_drawn(area, other)
 }
 
 /// The two text areas must show the same of themselves, as far as that takes no memory.
@@ -70,24 +66,22 @@ fn compare_yanks(area: &TextArea<'_>, other: &TextArea<'_>) -> Result<(), Stop> 
     same(yank.as_str() == other_yank.as_str(), Difference::Yank)
 }
 
-// Draws both, at a width that no row draws at, and measures both.
-fn compare_drawn(
-    alloc: Global,
-    area: &mut TextArea<'_>,
-    other: &mut TextArea<'_>,
-) -> Result<(), Stop> {
-    let place = Rect::new(1, 1, COLUMNS, ROWS);
-    let mut buffer = Buffer::empty(alloc, Rect::new(0, 0, COLUMNS + 2, ROWS + 2))?;
-    let mut other_buffer = Buffer::empty(alloc, Rect::new(0, 0, COLUMNS + 2, ROWS + 2))?;
+// Measures both and draws both, at a width that no row draws at.
+fn compare_drawn(area: &mut TextArea<'_>, other: &mut TextArea<'_>) -> Result<(), Stop> {
     let is_measured_alike = area.measure(COLUMNS)? == other.measure(COLUMNS)?;
     same(is_measured_alike, Difference::Measure)?;
-    area.render(place, &mut buffer)?;
-    other.render(place, &mut other_buffer)?;
-    same(
-        are_alike_outside(&buffer, &other_buffer, Rect::default()),
-        Difference::Cells,
-    )?;
+    let buffer = drawn(area)?;
+    let other_buffer = drawn(other)?;
+    let are_alike = are_alike_outside(&buffer, &other_buffer, Rect::default());
+    same(are_alike, Difference::Cells)?;
     compare_shown(area, other)
+}
+
+fn drawn(area: &mut TextArea<'_>) -> Result<Buffer, AllocError> {
+    let alloc = *area.lines()[0].allocator();
+    let mut buffer = Buffer::empty(alloc, Rect::new(0, 0, COLUMNS + 2, ROWS + 2))?;
+    area.render(Rect::new(1, 1, COLUMNS, ROWS), &mut buffer)?;
+    Ok(buffer)
 }
 
 /// Whether the cells of the buffers outside of an area are alike.
@@ -117,34 +111,38 @@ fn is_cell_alike(cell: Option<&Cell>, other: Option<&Cell>) -> bool {
 // A character that is typed joins the same edit, if any.
 fn compare_typed(area: &TextArea<'_>, other: &TextArea<'_>) -> Result<(), Stop> {
     let mut typed = area.clone()?;
+    type_and_undo(&mut typed)?;
     let mut other_typed = other.clone()?;
-    typed.insert_char('x')?;
-    other_typed.insert_char('x')?;
-    typed.undo()?;
-    other_typed.undo()?;
+    type_and_undo(&mut other_typed)?;
     same(have_same_lines(&typed, &other_typed), Difference::Typing)
 }
 
-fn compare_undos(area: &mut TextArea<'_>, other: &mut TextArea<'_>) -> Result<(), Stop> {
+fn type_and_undo(area: &mut TextArea<'_>) -> Result<(), AllocError> {
+    area.insert_char('x')?;
+    area.undo()?;
+    Ok(())
+}
+
+// As many edits are taken back, or made again, with the same behind each.
+fn compare_edits(
+    area: &mut TextArea<'_>,
+    other: &mut TextArea<'_>,
+    way: Difference,
+) -> Result<(), Stop> {
     for _ in 0..MOST_EDITS {
-        let is_undone = area.undo()?;
-        same(is_undone == other.undo()?, Difference::Undo)?;
+        let has_gone = go(area, way)?;
+        same(has_gone == go(other, way)?, way)?;
         compare_shown(area, other)?;
-        if !is_undone {
+        if !has_gone {
             break;
         }
     }
     Ok(())
 }
 
-fn compare_redos(area: &mut TextArea<'_>, other: &mut TextArea<'_>) -> Result<(), Stop> {
-    for _ in 0..MOST_EDITS {
-        let is_redone = area.redo()?;
-        same(is_redone == other.redo()?, Difference::Redo)?;
-        compare_shown(area, other)?;
-        if !is_redone {
-            break;
-        }
+fn go(area: &mut TextArea<'_>, way: Difference) -> Result<bool, AllocError> {
+    match way {
+        Difference::Undo => area.undo(),
+        _ => area.redo(),
     }
-    Ok(())
 }

@@ -6,7 +6,7 @@ use crate::words::{Lent, script_of, step_of};
 use std::alloc::Global;
 use textarea_script::commands::{calls, read};
 use textarea_script::run::run;
-use textarea_script::{Answer, Call};
+use textarea_script::{Answer, Call, RunEnd};
 use tui_textarea::{Buffer, Rect, TextArea};
 
 /// The columns of the buffer that the calls of a row draw into.
@@ -42,15 +42,25 @@ fn judge_lines(alloc: Global, row: &str, made: &mut usize) -> Result<(), Stop> {
         other: empty_buffer(alloc)?,
     };
     let mut area = TextArea::try_default(alloc)?;
+    judge_all(&mut area, row, &lent, &mut drawn, made)
+}
+
+fn judge_all(
+    area: &mut TextArea<'_>,
+    row: &str,
+    lent: &Lent,
+    drawn: &mut Drawn,
+    made: &mut usize,
+) -> Result<(), Stop> {
     // The calls of a run stand behind its word, up to the row's end.
     let (lines, run) = row.split_once("run\n").unwrap_or((row, ""));
     for line in lines.lines() {
-        judge_line(&mut area, line, &lent, &mut drawn, made)?;
+        judge_line(area, line, lent, drawn, made)?;
     }
     if run.is_empty() {
         return Ok(());
     }
-    judge_run(&mut area, run, &mut drawn, made)
+    judge_run(area, run, drawn, made)
 }
 
 fn judge_line(
@@ -97,7 +107,7 @@ fn judge_script(
     Ok(())
 }
 
-// Makes a step behind a clone. Where memory isn't refused to it, the clone has to answer the same and to be alike then.
+// Makes a step behind a clone.
 fn judge_step(
     area: &mut TextArea<'_>,
     step: Step<'_>,
@@ -105,19 +115,39 @@ fn judge_step(
     made: &mut usize,
 ) -> Result<(), Stop> {
     let mut other = area.clone()?;
+    judge_beside(area, &mut other, step, drawn)?;
+    *made = made.saturating_add(1);
+    Ok(())
+}
+
+// Makes a step. Where memory isn't refused to it, the clone has to answer the same and to be alike then.
+fn judge_beside(
+    area: &mut TextArea<'_>,
+    other: &mut TextArea<'_>,
+    step: Step<'_>,
+    drawn: &mut Drawn,
+) -> Result<(), Stop> {
     match make(area, step, &mut drawn.buffer) {
         // `regex` may have an error of its own for want of memory.
-        Err(_) | Ok(Answer::PatternRefused) => judge_refused(area, &mut other, step, drawn),
+        Err(_) | Ok(Answer::PatternRefused) => judge_refused(area, other, step, drawn),
         Ok(answer) => {
-            let wanted = make_wanted(&mut other, step, drawn)?;
-            same(answer == wanted, Difference::Answer)?;
-            compare_shown(area, &other)?;
-            let are_alike = are_alike_outside(&drawn.buffer, &drawn.other, Rect::default());
-            same(are_alike, Difference::Cells)?;
-            *made = made.saturating_add(1);
-            Ok(())
+            judge_answer(&answer, other, step, drawn)?;
+            compare_shown(area, other)
         }
     }
+}
+
+// The clone has to answer so, and to draw the same cells.
+fn judge_answer(
+    answer: &Answer,
+    other: &mut TextArea<'_>,
+    step: Step<'_>,
+    drawn: &mut Drawn,
+) -> Result<(), Stop> {
+    let wanted = make_wanted(other, step, drawn)?;
+    same(*answer == wanted, Difference::Answer)?;
+    let are_alike = are_alike_outside(&drawn.buffer, &drawn.other, Rect::default());
+    same(are_alike, Difference::Cells)
 }
 
 // Makes the clone's step. A refusal that it meets is none of the step that is judged.
@@ -140,11 +170,10 @@ fn judge_refused(
     step: Step<'_>,
     drawn: &Drawn,
 ) -> Result<(), Stop> {
-    let alloc = *area.lines()[0].allocator();
     if step.inserts() && holds_selected(other) && !area.is_selecting() {
         other.delete_char()?;
     }
-    compare(alloc, area, other)?;
+    compare(area, other)?;
     let are_alike = are_alike_outside(&drawn.buffer, &drawn.other, drawn_area(step));
     same(are_alike, Difference::Cells)?;
     Err(Stop::Refused)
@@ -179,20 +208,29 @@ fn judge_run(
     let calls = calls(alloc, commands.as_slice())?;
     let mut other = area.clone()?;
     let end = run(area, calls.as_slice(), &mut drawn.buffer);
+    judge_end(area, &mut other, calls.as_slice(), &end, drawn, made)
+}
+
+fn judge_end(
+    area: &mut TextArea<'_>,
+    other: &mut TextArea<'_>,
+    calls: &[Call<'_>],
+    end: &RunEnd,
+    drawn: &mut Drawn,
+    made: &mut usize,
+) -> Result<(), Stop> {
     let answered = end.answers.as_slice();
-    same(
-        answered.len() == end.refused.unwrap_or(calls.len()),
-        Difference::Index,
-    )?;
+    let is_counted = answered.len() == end.refused.unwrap_or(calls.len());
+    same(is_counted, Difference::Index)?;
     for (call, answer) in calls.iter().zip(answered) {
         if *answer != Answer::PatternRefused {
-            let wanted = make_wanted(&mut other, Step::Call(*call), drawn)?;
+            let wanted = make_wanted(other, Step::Call(*call), drawn)?;
             same(*answer == wanted, Difference::Answer)?;
         }
         *made = made.saturating_add(1);
     }
     match calls.get(answered.len()) {
-        Some(call) => judge_refused(area, &mut other, Step::Call(*call), drawn),
-        None => compare_shown(area, &other),
+        Some(call) => judge_refused(area, other, Step::Call(*call), drawn),
+        None => compare_shown(area, other),
     }
 }

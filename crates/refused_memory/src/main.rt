@@ -17,12 +17,10 @@
 
 mod ample;
 mod answers;
-mod asking;
 mod compare;
 mod end;
 mod expand;
 mod judge;
-mod setting;
 mod step;
 mod words;
 

@@ -1,10 +1,12 @@
-//! What a row may say besides the lines of scripts.
-use crate::asking::{asking_call, look_asking_call, ranges_call};
-use crate::setting::{look_call, style_call};
+//! What a row may say besides the lines of scripts: the other calls that may be out of memory, as `perform` promises, and what
+//! makes text areas.
 use crate::step::Step;
 use std::alloc::{AllocError, Global};
 use textarea_script::Call;
-use tui_textarea::{Block, Borders, Input, Key, Line, Style, Text};
+use tui_textarea::{
+    Alignment, AtomicDeleteDirection, Block, Borders, Color, Input, Key, Line, Modifier, Style,
+    Text,
+};
 
 /// A text with edits of all kinds behind it, of which two are undone: calls that are made by one run.
 const EDITED: &str = r"insert_str one two\nthree four\n\nfive
@@ -29,6 +31,13 @@ render 0 0 12 6";
 const SELECTED: &str = "jump 0 2
 start_selection
 jump 1 2";
+
+const RED: Style = Style {
+    fg: Some(Color::Red),
+    bg: None,
+    add_modifier: Modifier::BOLD,
+    sub_modifier: Modifier(0),
+};
 
 /// The script that a word stands for, whose calls are made by one run.
 pub fn script_of(word: &str) -> Option<&'static str> {
@@ -98,14 +107,18 @@ pub fn step_of<'a>(word: &'a str, lent: &'a Lent) -> Option<Step<'a>> {
 
 // The call that a word stands for, if nothing is lent to it but the word.
 fn call_of(word: &str) -> Option<Call<'_>> {
-    let call = asking_call(word)
-        .or_else(|| look_asking_call(word))
-        .or_else(|| ranges_call(word))
-        .or_else(|| style_call(word))
-        .or_else(|| look_call(word));
-    if call.is_some() {
-        return call;
-    }
-    let text = word.strip_prefix("set_placeholder_text ")?;
-    Some(Call::SetPlaceholderText(text))
+    Some(match word {
+        "delete_range" => Call::DeleteAtomicRangeAtCursor(AtomicDeleteDirection::Backward),
+        "delete_range_behind" => Call::DeleteAtomicRangeAtCursor(AtomicDeleteDirection::Forward),
+        "remove_block" => Call::RemoveBlock,
+        "align_left" => Call::SetAlignment(Alignment::Left),
+        "align_center" => Call::SetAlignment(Alignment::Center),
+        "align_right" => Call::SetAlignment(Alignment::Right),
+        "highlight" => Call::CustomHighlight {
+            range: ((0, 1), (1, 3)),
+            style: RED,
+            priority: 15,
+        },
+        _ => Call::SetPlaceholderText(word.strip_prefix("set_placeholder_text ")?),
+    })
 }
