@@ -1,5 +1,6 @@
 // The whole work of `tascript`, over any reader and two writers.
-ghost use Rattle.std.specs.Prelude.{◌≡◌, ◌≤◌, ◌<◌, ◌≢◌, IfErr};
+ghost use Rattle.std.specs.Prelude.{◌≡◌, ◌≤◌, ◌<◌, ◌≢◌, All, IfErr};
+ghost use Rattle.textarea_script.specs.Calls.{CanBeMade};
 
 use crate::call::Call;
 use crate::commands;
@@ -97,27 +98,45 @@ fn run_script<R: Read, W: Write>(
     if reader.read_to_end(&mut script).is_err() {
         return Err(Failure::Stream);
     }
-    let commands = commands::read(alloc, script.as_slice())?;
-    let calls = commands::calls(alloc, commands.as_slice())?;
-    let mut area = TextArea::try_default(alloc)?;
-    let mut buffer = Buffer::empty(alloc, Rect::new(0, 0, COLUMNS, ROWS))?;
-    let end = run(&mut area, calls.as_slice(), &mut buffer);
-    if end.refused.is_some() {
-        return Err(Failure::Memory);
-    }
-    let report = Report {
-        answers: end.answers.as_slice(),
-        area: &area,
-        screen: last_drawn(calls.as_slice()).map(|area| Screen {
-            buffer: &buffer,
-            area,
-        }),
-    };
-    let text = report.to_string(alloc)?;
+    let text = printed_of(alloc, script.as_slice())?;
     if output.write_all(text.as_bytes()).is_err() || output.flush().is_err() {
         return Err(Failure::Stream);
     }
     Ok(())
+}
+
+// What is printed of a script.
+fn printed_of(alloc: Global, script: &[u8]) -> Result<String, Failure> {
+    let commands = commands::read(alloc, script)?;
+    let calls = commands::calls(alloc, commands.as_slice())?;
+    let mut area = TextArea::try_default(alloc)?;
+    printed_behind(alloc, &mut area, calls.as_slice())
+}
+
+// What is printed of a run of calls.
+fn printed_behind(
+    alloc: Global,
+    area: &mut TextArea<'_>,
+    calls: &[Call<'_>],
+) -> Result<String, Failure>
+    requires { All CanBeMade calls.now }
+{
+    let mut buffer = Buffer::empty(alloc, Rect::new(0, 0, COLUMNS, ROWS))?;
+    let end = run(area, calls, &mut buffer);
+    if end.refused.is_some() {
+        return Err(Failure::Memory);
+    }
+    let answers = end.answers.as_slice();
+    let screen = last_drawn(calls).map(|area| Screen {
+        buffer: &buffer,
+        area,
+    });
+    let report = Report {
+        answers,
+        area,
+        screen,
+    };
+    Ok(report.to_string(alloc)?)
 }
 
 // The area that the last of the calls that draw drew into, if one of them does.
