@@ -46,31 +46,62 @@ fn check_drawn<'a>(
     block: &'a Block<'static>,
     placeholder: &'a Text<'static>,
 ) -> Result<(), Fail> {
-    let script = drawn.script;
     let mut area = TextArea::try_default(rt.alloc())?;
-    make(rt, &mut area, script)?;
+    make(rt, &mut area, drawn.script)?;
     let mut buffer = Buffer::empty(rt.alloc(), Rect::new(0, 0, 12, 6))?;
+    make_asked(rt, &mut area, drawn, block, placeholder, &mut buffer)?;
+    check_frame(rt, &mut area, drawn, &mut buffer)
+}
+
+// Makes the calls that no script says.
+fn make_asked<'a>(
+    rt: &(impl Abort + AllocGlobal),
+    area: &mut TextArea<'_>,
+    drawn: &Drawn,
+    block: &'a Block<'static>,
+    placeholder: &'a Text<'static>,
+    buffer: &mut Buffer,
+) -> Result<(), Fail> {
     let calls = calls_of(rt.alloc(), drawn.asked, block, placeholder)?;
     assert!(rt; calls.iter().all(|call| call.can_be_made()));
-    let end = run(&mut area, calls.as_slice(), &mut buffer);
+    let end = run(area, calls.as_slice(), buffer);
     assert!(rt; end.refused == None);
+    Ok(())
+}
+
+// Draws the text area, and looks at its caret and at the cells.
+fn check_frame(
+    rt: &(impl Abort + AllocGlobal),
+    area: &mut TextArea<'_>,
+    drawn: &Drawn,
+    buffer: &mut Buffer,
+) -> Result<(), Fail> {
+    let script = drawn.script;
     let (x, y, width, height) = drawn.area;
     let place = Rect::new(x, y, width, height);
     let drawing = [Call::Render(place), Call::RenderedCursorPosition];
-    let end = run(&mut area, &drawing, &mut buffer);
+    let end = run(area, &drawing, buffer);
     assert!(rt; end.refused == None);
     let wanted = [Answer::Done, Answer::Position(drawn.caret)];
     assert_eq!(rt; end.answers.as_slice(), wanted.as_slice(), "{script}");
-    let screen = Screen {
-        buffer: &buffer,
-        area: place,
-    };
+    check_cells(rt, buffer, place, drawn)
+}
+
+// The cells of the area must have these texts and styles.
+fn check_cells(
+    rt: &(impl Abort + AllocGlobal),
+    buffer: &Buffer,
+    area: Rect,
+    drawn: &Drawn,
+) -> Result<(), Fail> {
+    let script = drawn.script;
+    let screen = Screen { buffer, area };
     assert_eq!(rt;
         screen.to_string(rt.alloc())?.as_str(),
         drawn.screen,
         "{script}"
     );
-    check_styles(rt, &buffer, place, drawn)
+    check_styles(rt, buffer, area, drawn)
 }
 
 // The cells of the area must have these styles, and be so many.

@@ -122,7 +122,16 @@ fn ranges_go_with_the_text(rt: HostRuntime) -> Result<(), Fail> {
 fn check_held(rt: &(impl Abort + AllocGlobal), script: &str, wanted: &str) -> Result<(), Fail> {
     let mut area = TextArea::try_default(rt.alloc())?;
     make(rt, &mut area, script)?;
-    let found = written(rt, area.atomic_ranges())?;
+    check_ranges(rt, area.atomic_ranges(), script, wanted)
+}
+
+fn check_ranges(
+    rt: &(impl Abort + AllocGlobal),
+    ranges: &[AtomicRange],
+    script: &str,
+    wanted: &str,
+) -> Result<(), Fail> {
+    let found = written(rt, ranges)?;
     assert_eq!(rt; found.as_str().trim_start(), wanted, "{script}");
     Ok(())
 }
