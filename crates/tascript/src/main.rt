@@ -2,10 +2,9 @@
 // text area then.
 #![tactic(auto)]
 
-use std::env;
 use std::env::Env;
-use std::io;
 use std::process::ExitCode;
+use std::{env, io};
 use textarea_modal::serve::{serve_no_words, serve_words};
 
 fn main(rt: HostRuntime) -> ExitCode {
