@@ -1,6 +1,7 @@
-//! A text area of many lines, how many keys are typed into its first one, and a frame behind each.
+//! A text area of many lines, and the frames that are drawn of it: one behind each of some keys, or frames alone.
+use anyhow::Result;
 use std::alloc::{AllocError, Global};
-use tui_textarea::{Buffer, Rect, TextArea, WrapMode};
+use tui_textarea::{Buffer, Rect, Style, TextArea, WrapMode};
 
 const PARAGRAPH: &str =
     "A paragraph of a note, as people write them: a few sentences, some of them long, others not. It goes \
@@ -11,32 +12,48 @@ const WIDTH: u16 = 80;
 
 const HEIGHT: u16 = 24;
 
-/// How the lines are wrapped, how many the text has, and how many keys are typed into its first one.
+/// Words of six letters or more: each row of the paragraphs has some.
+const PATTERN: &str = "[a-z]{6,}";
+
+/// What a frame shows, and what is done before it.
+#[derive(Clone, Copy, Debug)]
+enum Kind {
+    /// A key is typed before each frame, and the lines are wrapped so.
+    Keys(WrapMode),
+    /// Frames alone, of lines that are wrapped at words.
+    Plain,
+    /// The same, with line numbers, all lines selected, and matches in each row.
+    Full,
+}
+
+/// What is drawn, of how many lines, and how many frames behind the first one.
 #[derive(Clone, Copy, Debug)]
 pub struct Job {
-    mode: WrapMode,
+    kind: Kind,
     lines: usize,
-    keys: usize,
+    frames: usize,
 }
 
 impl Job {
     /// Reads the parts of a job.
     pub fn parse(line: &str) -> Option<Job> {
-        let (mode, numbers) = line.split_once(' ')?;
-        let (lines, keys) = numbers.split_once(' ')?;
+        let (kind, numbers) = line.split_once(' ')?;
+        let (lines, frames) = numbers.split_once(' ')?;
         Some(Job {
-            mode: match mode {
-                "Word" => WrapMode::Word,
-                "None" => WrapMode::None,
+            kind: match kind {
+                "Word" => Kind::Keys(WrapMode::Word),
+                "None" => Kind::Keys(WrapMode::None),
+                "plain" => Kind::Plain,
+                "full" => Kind::Full,
                 _ => return None,
             },
             lines: lines.parse().ok()?,
-            keys: keys.parse().ok()?,
+            frames: frames.parse().ok()?,
         })
     }
 
-    /// Draws a frame, types the keys with a frame behind each, and answers with the first row of the last frame.
-    pub fn run(&self, alloc: Global) -> Result<String, AllocError> {
+    /// Draws a frame and then as many as the job has, and answers with the first row of the last one.
+    pub fn run(&self, alloc: Global) -> Result<String> {
         let mut lines = Vec::new(alloc);
         for _ in 0..self.lines {
             lines.push(String::from_str(alloc, PARAGRAPH)?)?;
@@ -44,23 +61,50 @@ impl Job {
         let area = Rect::new(0, 0, WIDTH, HEIGHT);
         let mut buffer = Buffer::empty(alloc, area)?;
         let mut text_area = TextArea::new(lines)?;
-        text_area.set_wrap_mode(self.mode)?;
+        self.prepare(&mut text_area)?;
         text_area.render(area, &mut buffer)?;
-        for key in 0..self.keys {
-            type_key(&mut text_area, key)?;
+        for frame in 0..self.frames {
+            self.type_key(&mut text_area, frame)?;
             text_area.render(area, &mut buffer)?;
         }
-        first_row(alloc, &buffer)
+        Ok(first_row(alloc, &buffer)?)
     }
-}
 
-// By turns a hundred characters and a hundred times Backspace.
-fn type_key(text_area: &mut TextArea<'_>, key: usize) -> Result<(), AllocError> {
-    if key / 100 % 2 == 0 {
-        text_area.insert_char(if key % 6 == 5 { ' ' } else { 'x' })
-    } else {
-        text_area.delete_char()?;
-        Ok(())
+    // Lays the text area out, and puts on it what the frames are to show.
+    fn prepare(&self, text_area: &mut TextArea<'_>) -> Result<()> {
+        let mode = match self.kind {
+            Kind::Keys(mode) => mode,
+            Kind::Plain | Kind::Full => WrapMode::Word,
+        };
+        text_area.set_wrap_mode(mode)?;
+        match self.kind {
+            Kind::Keys(_) => Ok(()),
+            Kind::Plain => {
+                text_area.select_all();
+                text_area.cancel_selection();
+                Ok(())
+            }
+            Kind::Full => {
+                text_area.set_line_number_style(Style::new())?;
+                text_area.set_search_pattern(PATTERN)?;
+                text_area.select_all();
+                Ok(())
+            }
+        }
+    }
+
+    // Types the key before this frame, if one is to be typed: by turns a hundred characters and a hundred times Backspace.
+    fn type_key(&self, text_area: &mut TextArea<'_>, frame: usize) -> Result<(), AllocError> {
+        match self.kind {
+            Kind::Keys(_) if frame / 100 % 2 == 0 => {
+                text_area.insert_char(if frame % 6 == 5 { ' ' } else { 'x' })
+            }
+            Kind::Keys(_) => {
+                text_area.delete_char()?;
+                Ok(())
+            }
+            Kind::Plain | Kind::Full => Ok(()),
+        }
     }
 }
 

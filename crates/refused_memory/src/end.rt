@@ -3,23 +3,37 @@ use std::alloc::{AllocError, AllocFailed};
 use std::fmt;
 use textarea_script::commands::ReadError;
 
-/// How a row ended.
+/// The status where memory was refused to something else than a call, so that nothing was judged.
+const NOT_JUDGED: u8 = 3;
+
+/// The status where something isn't as it has to be.
+const WRONG: u8 = 4;
+
+/// How a row ended: behind as many calls, and why it wasn't gone on with, if it wasn't.
 #[derive(Clone, Copy)]
-pub enum End {
-    /// As many calls were made as the row has.
-    Made(usize),
-    /// The call of this number, counted from 1, was refused, and what it left is as it has to be.
-    Refused(usize),
-    /// Memory was refused to something else than a call, behind as many calls.
-    Unjudged(usize),
-    /// At the call of this number something isn't as it has to be.
-    Wrong(usize, Difference),
+pub struct End {
+    pub made: usize,
+    pub stop: Option<Stop>,
+}
+
+/// Why the calls of a row aren't gone on with.
+#[derive(Clone, Copy)]
+pub enum Stop {
+    /// Memory was refused to something else than a call.
+    Memory,
+    /// A call was refused, and what it left is as it has to be.
+    Refused,
+    /// Something isn't as it has to be.
+    Wrong(Difference),
 }
 
 /// What isn't as it has to be.
 #[derive(Clone, Copy, Debug)]
 pub enum Difference {
+    /// A line is neither a word nor a line of a script.
     Script,
+    /// A call was out of memory where memory is ample.
+    Memory,
     Answer,
     Lines,
     Cursor,
@@ -40,43 +54,23 @@ pub enum Difference {
 impl End {
     /// The exit status for this end.
     pub fn status(&self) -> u8 {
-        match self {
-            End::Made(_) | End::Refused(_) => 0,
-            End::Unjudged(_) => 3,
-            End::Wrong(..) => 4,
+        match self.stop {
+            None | Some(Stop::Refused) => 0,
+            Some(Stop::Memory) => NOT_JUDGED,
+            Some(Stop::Wrong(_)) => WRONG,
         }
     }
 }
 
 impl fmt::Display for End {
     fn fmt<W: fmt::Write>(&self, f: &mut fmt::Formatter<W>) -> fmt::Result {
-        match self {
-            End::Made(calls) => write!(f, "{calls} calls made"),
-            End::Refused(call) => write!(f, "call {call} refused, as it has to be"),
-            End::Unjudged(calls) => write!(f, "refused beside the calls, behind {calls}"),
-            End::Wrong(call, difference) => write!(f, "call {call} WRONG: {difference:?}"),
-        }
-    }
-}
-
-/// Why the calls of a row aren't gone on with.
-#[derive(Clone, Copy)]
-pub enum Stop {
-    /// Memory was refused to something else than a call.
-    Memory,
-    /// A call was refused, and what it left is as it has to be.
-    Refused,
-    /// Something isn't as it has to be.
-    Wrong(Difference),
-}
-
-impl Stop {
-    /// The end of a row that stops behind as many calls.
-    pub fn behind(self, calls: usize) -> End {
-        match self {
-            Stop::Memory => End::Unjudged(calls),
-            Stop::Refused => End::Refused(calls.saturating_add(1)),
-            Stop::Wrong(difference) => End::Wrong(calls.saturating_add(1), difference),
+        let made = self.made;
+        let call = made.saturating_add(1);
+        match self.stop {
+            None => write!(f, "{made} calls made"),
+            Some(Stop::Memory) => write!(f, "refused beside the calls, behind {made}"),
+            Some(Stop::Refused) => write!(f, "call {call} refused, as it has to be"),
+            Some(Stop::Wrong(difference)) => write!(f, "call {call} WRONG: {difference:?}"),
         }
     }
 }
@@ -99,5 +93,14 @@ impl From<ReadError> for Stop {
             ReadError::Memory => Stop::Memory,
             ReadError::Line(_) => Stop::Wrong(Difference::Script),
         }
+    }
+}
+
+/// It must be the same.
+pub fn same(is_same: bool, difference: Difference) -> Result<(), Stop> {
+    if is_same {
+        Ok(())
+    } else {
+        Err(Stop::Wrong(difference))
     }
 }

@@ -1,123 +1,181 @@
 //! The calls of a row, made one after another, and judged.
-use crate::compare::{are_alike_outside, compare, compare_shown, same};
-use crate::end::{Difference, End, Stop};
+ghost use Rattle.std.specs.Prelude.{All};
+ghost use Rattle.textarea_script.specs.Calls.{CanBeMade};
+
+use crate::compare::{are_alike_outside, compare, compare_shown};
+use crate::end::{Difference, End, Stop, same};
+use crate::script::run_script;
 use crate::step::{Step, make};
 use crate::words::{Lent, script_of, step_of};
-use std::alloc::Global;
+use std::alloc::{AllocError, Global};
 use textarea_script::commands::{calls, read};
 use textarea_script::run::run;
-use textarea_script::{Answer, Call};
+use textarea_script::{Answer, Call, RunEnd};
 use tui_textarea::{Buffer, Rect, TextArea};
 
-/// The columns of the buffer that the calls of a row draw into.
-const COLUMNS: u16 = 40;
+/// The area of the buffer that the calls of a row draw into.
+const WHOLE: Rect = Rect {
+    x: 0,
+    y: 0,
+    width: 40,
+    height: 12,
+};
 
-/// The rows of that buffer.
-const ROWS: u16 = 12;
+// What the calls draw into, what the same calls of clones draw into, and how many calls were made.
+#[derive(Drop)]
+struct Judge {
+    buffer: Buffer,
+    other: Buffer,
+    made: usize,
+}
 
-/// Makes the calls of a row, up to the one that is refused, if one is.
-pub fn judge_row(alloc: Global, row: &str) -> End {
-    let mut made = 0;
-    match judge_lines(alloc, row, &mut made) {
-        Ok(()) => End::Made(made),
-        Err(stop) => stop.behind(made),
+impl Judge {
+    fn new(alloc: Global) -> Result<Judge, AllocError> {
+        Ok(Judge {
+            buffer: Buffer::empty(alloc, WHOLE)?,
+            other: Buffer::empty(alloc, WHOLE)?,
+            made: 0,
+        })
+    }
+
+    fn count(&mut self, calls: usize) {
+        self.made = self.made.saturating_add(calls);
+    }
+
+    // The two buffers must have the same cells outside of an area.
+    fn compare_cells(&self, area: Rect) -> Result<(), Stop> {
+        let are_alike = are_alike_outside(&self.buffer, &self.other, area);
+        same(are_alike, Difference::Cells)
     }
 }
 
-// What the calls draw into, and what the same calls of clones draw into.
-#[derive(Drop)]
-struct Drawn {
-    buffer: Buffer,
-    other: Buffer,
+/// Makes the calls of a row, up to the one that is refused, if one is.
+pub fn judge_row(alloc: Global, row: &str) -> End {
+    match Judge::new(alloc) {
+        Ok(mut judge) => {
+            let stop = judge_lines(alloc, row, &mut judge).err();
+            End {
+                made: judge.made,
+                stop,
+            }
+        }
+        Err(_) => End {
+            made: 0,
+            stop: Some(Stop::Memory),
+        },
+    }
 }
 
-fn empty_buffer(alloc: Global) -> Result<Buffer, Stop> {
-    Ok(Buffer::empty(alloc, Rect::new(0, 0, COLUMNS, ROWS))?)
-}
-
-fn judge_lines(alloc: Global, row: &str, made: &mut usize) -> Result<(), Stop> {
+fn judge_lines(alloc: Global, row: &str, judge: &mut Judge) -> Result<(), Stop> {
     let lent = Lent::new(alloc)?;
-    let mut drawn = Drawn {
-        buffer: empty_buffer(alloc)?,
-        other: empty_buffer(alloc)?,
-    };
+    judge_text(alloc, row, &lent, judge)
+}
+
+fn judge_text(alloc: Global, row: &str, lent: &Lent, judge: &mut Judge) -> Result<(), Stop> {
     let mut area = TextArea::try_default(alloc)?;
+    judge_all(&mut area, row, lent, judge)
+}
+
+fn judge_all(
+    area: &mut TextArea<'_>,
+    row: &str,
+    lent: &Lent,
+    judge: &mut Judge,
+) -> Result<(), Stop> {
     // The calls of a run stand behind its word, up to the row's end.
     let (lines, run) = row.split_once("run\n").unwrap_or((row, ""));
     for line in lines.lines() {
-        judge_line(&mut area, line, &lent, &mut drawn, made)?;
+        judge_line(area, line, lent, judge)?;
     }
     if run.is_empty() {
         return Ok(());
     }
-    judge_run(&mut area, run, &mut drawn, made)
+    judge_run(area, run, judge)
 }
 
 fn judge_line(
     area: &mut TextArea<'_>,
     line: &str,
     lent: &Lent,
-    drawn: &mut Drawn,
-    made: &mut usize,
+    judge: &mut Judge,
 ) -> Result<(), Stop> {
     if let Some(script) = script_of(line) {
-        return make_script(area, script, made);
+        return make_script(area, script, judge);
     }
     match step_of(line, lent) {
-        Some(step) => judge_step(area, step, drawn, made),
-        None => judge_script(area, line, drawn, made),
+        Some(step) => judge_step(area, step, judge),
+        None => judge_script(area, line, judge),
     }
 }
 
 // Makes the calls of a script, and draws nowhere.
-fn make_script(area: &mut TextArea<'_>, script: &str, made: &mut usize) -> Result<(), Stop> {
+fn make_script(area: &mut TextArea<'_>, script: &str, judge: &mut Judge) -> Result<(), Stop> {
+    let alloc = *area.lines()[0].allocator();
+    let mut nowhere = Buffer::empty(alloc, Rect::default())?;
+    let end = run_script(area, script, &mut nowhere)?;
+    judge.count(end.answers.len());
+    match end.refused {
+        Some(_) => Err(Stop::Memory),
+        None => Ok(()),
+    }
+}
+
+fn judge_script(area: &mut TextArea<'_>, script: &str, judge: &mut Judge) -> Result<(), Stop> {
     let alloc = *area.lines()[0].allocator();
     let commands = read(alloc, script.as_bytes())?;
     let calls = calls(alloc, commands.as_slice())?;
-    let mut nowhere = Buffer::empty(alloc, Rect::default())?;
-    let end = run(area, calls.as_slice(), &mut nowhere);
-    if end.refused.is_some() {
-        return Err(Stop::Memory);
-    }
-    *made = made.saturating_add(calls.len());
-    Ok(())
-}
-
-fn judge_script(
-    area: &mut TextArea<'_>,
-    script: &str,
-    drawn: &mut Drawn,
-    made: &mut usize,
-) -> Result<(), Stop> {
-    let alloc = *area.lines()[0].allocator();
-    let commands = read(alloc, script.as_bytes())?;
-    for call in calls(alloc, commands.as_slice())? {
-        judge_step(area, Step::Call(call), drawn, made)?;
+    for call in calls.as_slice() {
+        judge_step(area, Step::Call(*call), judge)?;
     }
     Ok(())
 }
 
-// Makes a step behind a clone. Where memory isn't refused to it, the clone has to answer the same and to be alike then.
-fn judge_step(
-    area: &mut TextArea<'_>,
-    step: Step<'_>,
-    drawn: &mut Drawn,
-    made: &mut usize,
-) -> Result<(), Stop> {
+// Makes a step behind a clone.
+fn judge_step(area: &mut TextArea<'_>, step: Step<'_>, judge: &mut Judge) -> Result<(), Stop> {
     let mut other = area.clone()?;
-    match make(area, step, &mut drawn.buffer) {
-        // `regex` may have an error of its own for want of memory.
-        Err(_) | Ok(Answer::PatternRefused) => judge_refused(area, &mut other, step, drawn),
+    judge_beside(area, &mut other, step, judge)
+}
+
+// Makes a step. Where memory isn't refused to it, the clone has to answer the same and to be alike then.
+fn judge_beside(
+    area: &mut TextArea<'_>,
+    other: &mut TextArea<'_>,
+    step: Step<'_>,
+    judge: &mut Judge,
+) -> Result<(), Stop> {
+    match make_or_refuse(area, step, &mut judge.buffer) {
+        Err(_) => judge_refused(area, other, step, judge),
         Ok(answer) => {
-            let wanted = make(&mut other, step, &mut drawn.other)?;
-            same(answer == wanted, Difference::Answer)?;
-            compare_shown(area, &other)?;
-            let are_alike = are_alike_outside(&drawn.buffer, &drawn.other, Rect::default());
-            same(are_alike, Difference::Cells)?;
-            *made = made.saturating_add(1);
-            Ok(())
+            judge_answer(&answer, other, step, judge)?;
+            judge.compare_cells(Rect::default())?;
+            compare_shown(area, other)
         }
     }
+}
+
+// Makes a step. The error that `regex` may have of its own for want of memory is a refusal too.
+fn make_or_refuse(
+    area: &mut TextArea<'_>,
+    step: Step<'_>,
+    buffer: &mut Buffer,
+) -> Result<Answer, AllocError> {
+    match make(area, step, buffer)? {
+        Answer::PatternRefused => Err(AllocError),
+        answer => Ok(answer),
+    }
+}
+
+// The clone has to answer so. A refusal that it meets is none of the step that is judged.
+fn judge_answer(
+    answer: &Answer,
+    other: &mut TextArea<'_>,
+    step: Step<'_>,
+    judge: &mut Judge,
+) -> Result<(), Stop> {
+    let wanted = make_or_refuse(other, step, &mut judge.other)?;
+    same(*answer == wanted, Difference::Answer)?;
+    judge.count(1);
+    Ok(())
 }
 
 // A step was refused: the text area has to be like the clone or, in an insertion over a selection, like the clone after the
@@ -126,15 +184,13 @@ fn judge_refused(
     area: &mut TextArea<'_>,
     other: &mut TextArea<'_>,
     step: Step<'_>,
-    drawn: &Drawn,
+    judge: &Judge,
 ) -> Result<(), Stop> {
-    let alloc = *area.lines()[0].allocator();
     if step.inserts() && holds_selected(other) && !area.is_selecting() {
         other.delete_char()?;
     }
-    compare(alloc, area, other)?;
-    let are_alike = are_alike_outside(&drawn.buffer, &drawn.other, drawn_area(step));
-    same(are_alike, Difference::Cells)?;
+    compare(area, other)?;
+    judge.compare_cells(drawn_area(step))?;
     Err(Stop::Refused)
 }
 
@@ -155,30 +211,52 @@ fn drawn_area(step: Step<'_>) -> Rect {
 
 // Makes the calls of a script by one run. Where it is refused, the answers have to be those of the calls before the refused
 // one, and the text area what a refusal of that one leaves of a clone that made these; the first reservation, whose refusal
-// stands for that of the first call, is met so too.
-fn judge_run(
-    area: &mut TextArea<'_>,
-    script: &str,
-    drawn: &mut Drawn,
-    made: &mut usize,
-) -> Result<(), Stop> {
+// stands for that of the first call, is met so too. A pattern that `regex` refused for want of memory has changed nothing.
+fn judge_run(area: &mut TextArea<'_>, script: &str, judge: &mut Judge) -> Result<(), Stop> {
     let alloc = *area.lines()[0].allocator();
     let commands = read(alloc, script.as_bytes())?;
     let calls = calls(alloc, commands.as_slice())?;
+    judge_calls(area, calls.as_slice(), judge)
+}
+
+fn judge_calls(area: &mut TextArea<'_>, calls: &[Call<'_>], judge: &mut Judge) -> Result<(), Stop>
+    requires { All CanBeMade calls.now }
+{
     let mut other = area.clone()?;
-    let end = run(area, calls.as_slice(), &mut drawn.buffer);
+    judge_run_beside(area, &mut other, calls, judge)
+}
+
+fn judge_run_beside(
+    area: &mut TextArea<'_>,
+    other: &mut TextArea<'_>,
+    calls: &[Call<'_>],
+    judge: &mut Judge,
+) -> Result<(), Stop>
+    requires { All CanBeMade calls.now }
+{
+    let end = run(area, calls, &mut judge.buffer);
+    judge_end(area, other, calls, &end, judge)
+}
+
+fn judge_end(
+    area: &mut TextArea<'_>,
+    other: &mut TextArea<'_>,
+    calls: &[Call<'_>],
+    end: &RunEnd,
+    judge: &mut Judge,
+) -> Result<(), Stop> {
     let answered = end.answers.as_slice();
-    same(
-        answered.len() == end.refused.unwrap_or(calls.len()),
-        Difference::Index,
-    )?;
+    let is_counted = answered.len() == end.refused.unwrap_or(calls.len());
+    same(is_counted, Difference::Index)?;
     for (call, answer) in calls.iter().zip(answered) {
-        let wanted = make(&mut other, Step::Call(*call), &mut drawn.other)?;
-        same(*answer == wanted, Difference::Answer)?;
-        *made = made.saturating_add(1);
+        if *answer == Answer::PatternRefused {
+            judge.count(1);
+        } else {
+            judge_answer(answer, other, Step::Call(*call), judge)?;
+        }
     }
     match calls.get(answered.len()) {
-        Some(call) => judge_refused(area, &mut other, Step::Call(*call), drawn),
-        None => compare_shown(area, &other),
+        Some(call) => judge_refused(area, other, Step::Call(*call), judge),
+        None => compare_shown(area, other),
     }
 }

@@ -1,17 +1,17 @@
 //! A call, or what else is made of a text area and may be refused.
 ghost use Rattle.std.specs.Prelude.{◌<◌, length};
 
-use std::alloc::{AllocError, Global};
+use std::alloc::AllocError;
 use textarea_script::perform::perform;
 use textarea_script::{Answer, Call};
-use tui_textarea::{AtomicRange, Buffer, Key, TextArea};
+use tui_textarea::{Buffer, Input, Key, TextArea};
 
 /// What is made in one step.
 #[derive(Clone, Copy)]
 pub enum Step<'a> {
     /// A call.
     Call(Call<'a>),
-    /// `TextArea::set_atomic_ranges`, with two ranges, where these are valid.
+    /// `TextArea::set_atomic_ranges`, of the ranges that it holds.
     SetAtomicRanges,
     /// `TextArea::clone`
     Clone,
@@ -35,9 +35,7 @@ impl Step<'_> {
                 | Call::InsertNewline
                 | Call::InsertTab
                 | Call::Paste => true,
-                Call::Input(input) | Call::InputWithoutShortcuts(input) => {
-                    !input.ctrl && !input.alt && is_key_that_inserts(input.key)
-                }
+                Call::Input(input) | Call::InputWithoutShortcuts(input) => is_inserting(input),
                 _ => false,
             },
             _ => false,
@@ -45,8 +43,14 @@ impl Step<'_> {
     }
 }
 
-fn is_key_that_inserts(key: Key) -> bool {
-    matches!(key, Key::Char(_) | Key::Enter | Key::Tab | Key::Paste)
+// Whether an input asks for an insertion.
+fn is_inserting(input: &Input) -> bool {
+    match input.key {
+        Key::Enter | Key::Paste => true,
+        Key::Char('m' | 'y') => !input.alt,
+        Key::Char(_) | Key::Tab => !input.ctrl && !input.alt,
+        _ => false,
+    }
 }
 
 /// Makes a step. What it draws is drawn into the buffer. A text area that it makes is dropped, and the number of its lines is
@@ -58,12 +62,8 @@ pub fn make(
 ) -> Result<Answer, AllocError> {
     match step {
         Step::Call(call) => make_call(area, call, buffer),
-        Step::SetAtomicRanges => {
-            set_atomic_ranges(area)?;
-            Ok(Answer::Done)
-        }
-        Step::Clone => Ok(Answer::Number(area.clone()?.lines().len())),
-        _ => Ok(Answer::Number(lines_of_another(area.lines(), step)?)),
+        Step::SetAtomicRanges => set_atomic_ranges(area),
+        _ => lines_of_another(area, step),
     }
 }
 
@@ -80,46 +80,37 @@ fn make_call(
     }
 }
 
-const TWO_RANGES: [AtomicRange; 2] = [
-    AtomicRange {
-        row: 1,
-        start_col: 0,
-        end_col: 2,
-    },
-    AtomicRange {
-        row: 0,
-        start_col: 0,
-        end_col: 3,
-    },
-];
-
-// Sets the ranges where they are valid, as a clone says, and leaves the text area else.
-fn set_atomic_ranges(area: &mut TextArea<'_>) -> Result<(), AllocError> {
+// Sets the ranges again that are held.
+fn set_atomic_ranges(area: &mut TextArea<'_>) -> Result<Answer, AllocError> {
     let alloc = *area.lines()[0].allocator();
-    let mut other = area.clone()?;
-    match other.try_set_atomic_ranges(TWO_RANGES.to_vec(alloc)?)? {
-        Ok(()) => area.set_atomic_ranges(TWO_RANGES.to_vec(alloc)?),
-        Err(_) => Ok(()),
+    let ranges = area.atomic_ranges().to_vec(alloc)?;
+    area.set_atomic_ranges(ranges)?;
+    Ok(Answer::Done)
+}
+
+fn lines_of_another(area: &TextArea<'_>, step: Step<'_>) -> Result<Answer, AllocError> {
+    let another = another(area, step)?;
+    Ok(Answer::Number(another.lines().len()))
+}
+
+// A clone of the text area or, for the other steps, a text area that is made of its lines or, by default, of none.
+fn another<'a>(area: &TextArea<'a>, step: Step<'_>) -> Result<TextArea<'a>, AllocError> {
+    let lines = area.lines();
+    let alloc = *lines[0].allocator();
+    match step {
+        Step::Clone => area.clone(),
+        Step::New => TextArea::new(copies(lines)?),
+        Step::FromStrs => TextArea::from_strs(alloc, lines.iter().map(|line| line.as_str())),
+        Step::FromStrings => TextArea::from_strings(alloc, copies(lines)?.into_iter()),
+        _ => TextArea::try_default(alloc),
     }
 }
 
-// The number of lines of another text area, that is made of these lines or, by default, of none.
-fn lines_of_another(lines: &[String], step: Step<'_>) -> Result<usize, AllocError>
+/// Copies of the lines of a text area.
+pub fn copies(lines: &[String]) -> Result<Vec<String>, AllocError>
     requires { 0 < length lines.now }
 {
-    let alloc = *lines[0].allocator();
-    let texts = lines.iter().map(|line| line.as_str());
-    let another = match step {
-        Step::New => TextArea::new(copies(alloc, lines)?)?,
-        Step::FromStrs => TextArea::from_strs(alloc, texts)?,
-        Step::FromStrings => TextArea::from_strings(alloc, copies(alloc, lines)?.into_iter())?,
-        _ => TextArea::try_default(alloc)?,
-    };
-    Ok(another.lines().len())
-}
-
-fn copies(alloc: Global, lines: &[String]) -> Result<Vec<String>, AllocError> {
-    let mut copies = Vec::new(alloc);
+    let mut copies = Vec::new(*lines[0].allocator());
     for line in lines {
         copies.push(line.clone()?)?;
     }

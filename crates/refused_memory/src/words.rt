@@ -1,13 +1,14 @@
-//! What a row may say besides the lines of scripts.
+//! What a row may say besides the lines of scripts: the other calls that may be out of memory, as `perform` promises, and what
+//! makes text areas.
 use crate::step::Step;
 use std::alloc::{AllocError, Global};
 use textarea_script::Call;
 use tui_textarea::{
-    Alignment, AtomicCursorBias, AtomicDeleteDirection, Block, Borders, Color, CursorRenderMode,
-    Input, Key, Line, Style, Text,
+    Alignment, AtomicDeleteDirection, Block, Borders, Color, Input, Key, Line, Modifier, Style,
+    Text,
 };
 
-/// A text with edits of all kinds behind it, of which two are undone: calls that aren't judged.
+/// A text with edits of all kinds behind it, of which two are undone: calls that are made by one run.
 const EDITED: &str = r"insert_str one two\nthree four\n\nfive
 insert_char a
 delete_word
@@ -31,7 +32,14 @@ const SELECTED: &str = "jump 0 2
 start_selection
 jump 1 2";
 
-/// The script that a word stands for, whose calls aren't judged.
+const RED: Style = Style {
+    fg: Some(Color::Red),
+    bg: None,
+    add_modifier: Modifier::BOLD,
+    sub_modifier: Modifier(0),
+};
+
+/// The script that a word stands for, whose calls are made by one run.
 pub fn script_of(word: &str) -> Option<&'static str> {
     match word {
         "edited" => Some(EDITED),
@@ -46,34 +54,22 @@ pub fn script_of(word: &str) -> Option<&'static str> {
 pub struct Lent {
     block: Block<'static>,
     placeholder: Text<'static>,
-    enter: Input,
     letter: Input,
-    paste: Input,
-    removal: Input,
-    paragraph: Input,
 }
 
 impl Lent {
-    /// A block with a title, two lines of a placeholder, and keys.
+    /// A block with a title, two lines of a placeholder, and a letter's key.
     pub fn new(alloc: Global) -> Result<Lent, AllocError> {
         Ok(Lent {
             block: titled(alloc)?,
             placeholder: two_lines(alloc)?,
-            enter: key(Key::Enter, false, false),
-            letter: key(Key::Char('z'), false, false),
-            paste: key(Key::Char('y'), true, false),
-            removal: key(Key::Char('k'), true, false),
-            paragraph: key(Key::Char(']'), false, true),
+            letter: Input {
+                key: Key::Char('z'),
+                ctrl: false,
+                alt: false,
+                shift: false,
+            },
         })
-    }
-}
-
-fn key(key: Key, ctrl: bool, alt: bool) -> Input {
-    Input {
-        key,
-        ctrl,
-        alt,
-        shift: false,
     }
 }
 
@@ -102,31 +98,27 @@ pub fn step_of<'a>(word: &'a str, lent: &'a Lent) -> Option<Step<'a>> {
         "new" => Step::New,
         "from_strs" => Step::FromStrs,
         "from_strings" => Step::FromStrings,
-        _ => Step::Call(call_of(word, lent)?),
+        "letter" => Step::Call(Call::InputWithoutShortcuts(&lent.letter)),
+        "set_block" => Step::Call(Call::SetBlock(&lent.block)),
+        "set_styled_placeholder" => Step::Call(Call::SetStyledPlaceholder(&lent.placeholder)),
+        _ => Step::Call(call_of(word)?),
     })
 }
 
-// The call that a word stands for.
-fn call_of<'a>(word: &'a str, lent: &'a Lent) -> Option<Call<'a>> {
+// The call that a word stands for, if nothing is lent to it but the word.
+fn call_of(word: &str) -> Option<Call<'_>> {
     Some(match word {
-        "enter" => Call::Input(&lent.enter),
-        "letter" => Call::InputWithoutShortcuts(&lent.letter),
-        "ctrl_y" => Call::Input(&lent.paste),
-        "ctrl_k" => Call::Input(&lent.removal),
-        "alt_bracket" => Call::Input(&lent.paragraph),
         "delete_range" => Call::DeleteAtomicRangeAtCursor(AtomicDeleteDirection::Backward),
-        "normalize" => Call::NormalizeCursorAroundAtomicRanges(AtomicCursorBias::Forward),
-        "set_block" => Call::SetBlock(&lent.block),
+        "delete_range_behind" => Call::DeleteAtomicRangeAtCursor(AtomicDeleteDirection::Forward),
         "remove_block" => Call::RemoveBlock,
-        "set_styled_placeholder" => Call::SetStyledPlaceholder(&lent.placeholder),
-        "highlight" => Call::CustomHighlight {
-            range: ((0, 1), (1, 3)),
-            style: Style::new().fg(Color::Red),
-            priority: 15,
-        },
-        "hide_cursor" => Call::SetCursorRenderMode(CursorRenderMode::Hidden),
+        "align_left" => Call::SetAlignment(Alignment::Left),
         "align_center" => Call::SetAlignment(Alignment::Center),
         "align_right" => Call::SetAlignment(Alignment::Right),
+        "highlight" => Call::CustomHighlight {
+            range: ((0, 1), (1, 3)),
+            style: RED,
+            priority: 15,
+        },
         _ => Call::SetPlaceholderText(word.strip_prefix("set_placeholder_text ")?),
     })
 }

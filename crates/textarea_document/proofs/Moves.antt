@@ -1,5 +1,6 @@
 -- Ranges of a document that go with its text.
-use Rattle.std.proofs.Common.{◌≤◌, ◌<◌, ◌^◌, List, All, get_or, arith}
+use Rattle.std.proofs.Common.{◌≤◌, ◌<◌, List, All, get_or, arith}
+use Rattle.textarea_size.specs.Limit.{size_limit}
 use Rattle.textarea_text.specs.Text.{Symbol, lines}
 use Rattle.textarea_text.specs.Place.{IsPlace, Place}
 use Rattle.textarea_ranges.specs.declared.atomic.AtomicRange.{AtomicRange}
@@ -9,7 +10,7 @@ use Rattle.textarea_ranges.specs.Valid.{AreValid}
 
 -- each place of the text has a row and a column that are small
 abbrev pub HasSmallPlaces : List Symbol → Type 0
-HasSmallPlaces text = (place : Place) → IsPlace text place → (place.0 < 2 ^ 48) × (place.1 ≤ 2 ^ 48)
+HasSmallPlaces text = (place : Place) → IsPlace text place → (place.0 < size_limit) × (place.1 ≤ size_limit)
 
 -- ranges of such a text can be moved
 pub movable : (text : List Symbol) (ranges : List AtomicRange) → HasSmallPlaces text → AreValid (lines text) ranges → All IsMovable ranges

@@ -7,8 +7,9 @@ mod removals;
 mod rows;
 mod selection;
 
-ghost use Rattle.std.specs.Prelude.{◌≡◌, ◌<◌, ◌≤◌, ◌+◌, ◌^◌, ◌↔◌, length, OnOk, OnErr, IsOk, IfOk, IfSome, None, IsTrue, is_some, [], vec_len};
+ghost use Rattle.std.specs.Prelude.{◌≡◌, ◌<◌, ◌≤◌, ◌+◌, ◌↔◌, length, OnOk, OnErr, IsOk, IfOk, IfSome, None, IsTrue, is_some, [], vec_len};
 ghost use Rattle.std.specs.Duration.{as_nanos};
+ghost use Rattle.textarea_size.specs.Limit.{size_limit};
 ghost use Rattle.textarea_text.specs.Text.{lines, lines_of, text_of};
 ghost use Rattle.textarea_text.specs.Place.{IsPlace};
 ghost use Rattle.textarea_text.specs.Size.{size_of};
@@ -103,7 +104,7 @@ impl Document {
         ensures value { text_of result.now ≡ self.now.text }
         ensures lines { lines_of result.now ≡ lines self.now.text }
         ensures some { 0 < length result.now }
-        ensures limit { size_of result.now ≤ 2 ^ 48 }
+        ensures limit { size_of result.now ≤ size_limit }
         ensures ranges { AreValid (lines self.now.text) self.now.ranges }
     {
         self.laid.lines()
@@ -118,7 +119,7 @@ impl Document {
     pub fn cursor(&self) -> (usize, usize)
         ensures value { result ≡ self.now.cursor }
         ensures place { IsPlace self.now.text result }
-        ensures small { (result.0 < 2 ^ 48) × (result.1 ≤ 2 ^ 48) }
+        ensures small { (result.0 < size_limit) × (result.1 ≤ size_limit) }
     {
         let _lines = self.laid.lines();
         self.cursor

@@ -1,6 +1,7 @@
 -- The caret is shown where the inner area has room for it.
 use Rattle.std.proofs.Common.{◌≡◌, ◌≢◌, ℕ, ◌+◌, ◌-◌, ◌*◌, ◌^◌, ◌<◌, ◌≤◌, ◌==◌, ◌||◌, max, Bool, true, false, List, [], ◌∷◌, None, Some, IsSome, rules, if◌then◌else◌, length, refl, ap, ap₂, arith, subst, sym, ◌∙◌}
 use Rattle.std.proofs.lemmas.Bool.Decides.{nat_tests}
+use Rattle.textarea_size.specs.Limit.{size_limit}
 use Rattle.textarea_document.specs.Rows.{laid_out_of, with_inner_width}
 use Rattle.textarea_document.specs.State.{DocumentState}
 use Rattle.textarea_drawing.proofs.CaretBack.{IsSeenAtColumn, IsSeenInRow, PutsSettings, made, made_area}
@@ -146,7 +147,7 @@ module _ (laws : Laws) (new : Parts) (rows : LentRows) (view : IsViewOf (laid_ou
   right : AreRowsOf rows.wrapping rows.lines rows.rows
   right = lent_right (laid_out_of new.document) rows view
 
-  few : weight new.document.text < 2 ^ 48 → (row : ℕ) → row < row_total rows.rows → row < 2 ^ 64
+  few : weight new.document.text < size_limit → (row : ℕ) → row < row_total rows.rows → row < 2 ^ 64
   few limit row below =
       omega (arith, below, laws.few_rows rows.wrapping rows.lines rows.rows right, laws.size rows.wrapping rows.lines rows.rows right, ap (λ (l : List (List ℕ)). weight (following l)) view.lines, weight_of_lines new.document.text, limit)
 
@@ -169,7 +170,7 @@ module _ (laws : Laws) (new : Parts) (rows : LentRows) (view : IsViewOf (laid_ou
       ap₂ (λ (t : ℕ) (l : List (List ℕ)). greatest_column t (row_at l rows.rows row)) (ap (λ (w : Wrapping). w.tab_len) (view.wrapping ∙ cut)) view.lines in
       omega (arith, bound, same, room.columns)
 
-  module _ (viewport : ViewportState) (inner : Rect) (placing : Placing) (width : settings.inner_width ≡ inner.width) (limit : weight new.document.text < 2 ^ 48) (tabs : settings.tab_len < 2 ^ 8) (room : HasRoomForCaret new inner) where
+  module _ (viewport : ViewportState) (inner : Rect) (placing : Placing) (width : settings.inner_width ≡ inner.width) (limit : weight new.document.text < size_limit) (tabs : settings.tab_len < 2 ^ 8) (room : HasRoomForCaret new inner) where
     in_rows : IsPlacedInRows (scene_of new rows) settings.mode viewport inner placing → IsSome placing.caret
     in_rows h =
         let columns = number_width (scene_of new rows) in
@@ -193,7 +194,7 @@ module _ (laws : Laws) (new : Parts) (rows : LentRows) (view : IsViewOf (laid_ou
 
 -- ---- a drawing
 
-made_shown : (laws : Laws) (old : Parts) (inner : Rect) (rows : LentRows) (placing : Placing) → IsViewOf (laid_out_of (with_inner_width old.document inner.width)) rows → IsPlaced (frame_of (at_inner_width old inner.width) rows) old.drawing.viewport inner placing → weight (made old inner placing).document.text < 2 ^ 48 → (made old inner placing).document.layout.settings.tab_len < 2 ^ 8 → IsCaretShown (made old inner placing)
+made_shown : (laws : Laws) (old : Parts) (inner : Rect) (rows : LentRows) (placing : Placing) → IsViewOf (laid_out_of (with_inner_width old.document inner.width)) rows → IsPlaced (frame_of (at_inner_width old inner.width) rows) old.drawing.viewport inner placing → weight (made old inner placing).document.text < size_limit → (made old inner placing).document.layout.settings.tab_len < 2 ^ 8 → IsCaretShown (made old inner placing)
 made_shown laws old inner rows placing view is_placed limit tabs = λ other other_is room.
     let new = made old inner placing in
     let same : other ≡ inner = last_area_once new.document new.drawing other inner other_is (made_area laws.settings_put old inner placing) in
@@ -201,7 +202,7 @@ made_shown laws old inner rows placing view is_placed limit tabs = λ other othe
     let width : new.document.layout.settings.inner_width ≡ inner.width = ap (λ (s : LayoutSettings). s.inner_width) (laws.settings_put laid (at_width laid inner.width)) in
     placed laws new rows view old.drawing.viewport inner placing width limit tabs (subst (HasRoomForCaret new) same room) (shows_placeholder (frame_of new rows)) is_placed
 
-pub caret_shown : (laws : Laws) (old new : Parts) (area : Rect) → IsRendered old area new → weight new.document.text < 2 ^ 48 → new.document.layout.settings.tab_len < 2 ^ 8 → IsCaretShown new
+pub caret_shown : (laws : Laws) (old new : Parts) (area : Rect) → IsRendered old area new → weight new.document.text < size_limit → new.document.layout.settings.tab_len < 2 ^ 8 → IsCaretShown new
 caret_shown laws old new area h =
-    subst (λ (p : Parts). weight p.document.text < 2 ^ 48 → p.document.layout.settings.tab_len < 2 ^ 8 → IsCaretShown p) (sym h.new_is)
+    subst (λ (p : Parts). weight p.document.text < size_limit → p.document.layout.settings.tab_len < 2 ^ 8 → IsCaretShown p) (sym h.new_is)
     (made_shown laws old h.inner h.rows h.placing h.rows_are h.placing_is)

@@ -1,5 +1,6 @@
 //! Laws of what is drawn, each the contract of a function that does nothing.
 ghost use Rattle.std.specs.Prelude.{◌≡◌, ◌<◌, ◌^◌, ℕ, Option, is_some};
+ghost use Rattle.textarea_size.specs.Limit.{size_limit};
 ghost use Rattle.textarea_document.specs.State.{DocumentState};
 ghost use Rattle.textarea_drawing.specs.Back.{IsHitBack};
 ghost use Rattle.textarea_drawing.specs.Frame.{Parts};
@@ -91,7 +92,7 @@ pub fn caret_is_hit_back()
 /// tab at its full length, and each whitespace cluster that has a width is to be one character. With a placeholder too.
 pub fn caret_is_shown()
     ensures { (old new : Parts) (area : Rect) → IsRendered old area new →
-        weight new.document.text < 2 ^ 48 → new.document.layout.settings.tab_len < 2 ^ 8 →
+        weight new.document.text < size_limit → new.document.layout.settings.tab_len < 2 ^ 8 →
         IsCaretShown new }
 {
     seen_within();

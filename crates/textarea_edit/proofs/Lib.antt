@@ -1,3 +1,4 @@
 mod Runs
 mod Weights
 mod Changes
+mod Offsets

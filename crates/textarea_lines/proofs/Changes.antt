@@ -1,6 +1,7 @@
 -- Lines with their rows, after some of them gave place to others.
-use Rattle.std.proofs.Common.{◌≡◌, ℕ, ◌+◌, ◌-◌, ◌≤◌, ◌<◌, ◌^◌, Bool, true, false, cond, List, length, sym, ap, ◌∙◌, arith, String}
+use Rattle.std.proofs.Common.{◌≡◌, ℕ, ◌+◌, ◌-◌, ◌≤◌, ◌<◌, Bool, true, false, cond, List, length, sym, ap, ◌∙◌, arith, String}
 use Rattle.std.proofs.lemmas.List.{length-map}
+use Rattle.textarea_size.specs.Limit.{size_limit}
 use Rattle.textarea_text.specs.Place.{inserted, removed}
 use Rattle.textarea_text.specs.Replaced.{replaced}
 use Rattle.textarea_text.specs.Size.{weight}
@@ -43,11 +44,15 @@ now_as old lent kept now new row count h = cc
 pub text_now : {Z : Type 0} (old lent kept now new : List (String Z)) (row count : ℕ) → Replacing old lent kept now new row count → text_of now ≡ joined (replaced (lines (text_of old)) row count (lines_of new))
 text_now old lent kept now new row count h = ap text_of (now_as old lent kept now new row count h) ∙ text_replaced old new row count h.some
 
-pub holds_replaced : {Z : Type 0} (settings : LayoutSettings) (old lent kept now new : List (String Z)) (row count size n : ℕ) (wrapping : Wrapping) (was : List RowsView) (map : MapView) → Replacing old lent kept now new row count → n ≡ length new → wrapping ≡ wrapping_for settings (length lent - count + n) → AreRowsOf wrapping (lines_of (replaced lent row count new)) was → map.rows ≡ was → map.wrapping ≡ wrapping → size ≡ weight (joined (replaced (lines (text_of old)) row count (lines_of new))) + 1 → size ≤ 2 ^ 48 → HoldsRows settings now size map
+pub some_now : {Z : Type 0} (old lent kept now new : List (String Z)) (row count : ℕ) → Replacing old lent kept now new row count → 0 < length now
+some_now old lent kept now new row count h =
+    omega (arith, ap length (now_as old lent kept now new row count h), length-replaced old row count new h.within, h.within, h.new_some)
+
+pub holds_replaced : {Z : Type 0} (settings : LayoutSettings) (old lent kept now new : List (String Z)) (row count size n : ℕ) (wrapping : Wrapping) (was : List RowsView) (map : MapView) → Replacing old lent kept now new row count → n ≡ length new → wrapping ≡ wrapping_for settings (length lent - count + n) → AreRowsOf wrapping (lines_of (replaced lent row count new)) was → map.rows ≡ was → map.wrapping ≡ wrapping → size ≡ weight (joined (replaced (lines (text_of old)) row count (lines_of new))) + 1 → size ≤ size_limit → HoldsRows settings now size map
 holds_replaced settings old lent kept now new row count size n wrapping was map h n_is cut_is k rows_is wrapping_is size_is limit =
     let is = now_as old lent kept now new row count h in
     let long : length now ≡ length lent - count + n = omega (arith, ap length is, length-replaced old row count new h.within, h.within, n_is, ap length h.lent_is) in
-    let some : 0 < length now = omega (arith, ap length is, length-replaced old row count new h.within, h.within, h.new_some) in
+    let some = some_now old lent kept now new row count h in
     record {
       stored = record { some = some; size_is = omega (arith, size_is, size_of_text now some, ap weight (text_now old lent kept now new row count h)); limit = limit };
       wrapping_is = wrapping_is ∙ cut_is ∙ ap (wrapping_for settings) (sym long);

@@ -13,3 +13,4 @@ mod MapWidths
 mod Splicing
 mod SplicedRows
 mod Cutting
+pub mod Founds

@@ -1,5 +1,5 @@
 -- How many visual rows lines have in all at a width: as they are cut, as they were measured last, and anew.
-use Rattle.std.proofs.Common.{◌≡◌, ℕ, true, List, length, String, Option, Some}
+use Rattle.std.proofs.Common.{◌≡◌, ◌∙◌, ℕ, true, List, length, String, Option, Some, ap, subst, sym}
 use Rattle.std.specs.Option.{IfSome}
 use Rattle.textarea_text.specs.Text.{lines, lines_of}
 use Rattle.textarea_map.specs.declared.layout.Wrapping.{Wrapping}
@@ -40,3 +40,9 @@ pub counted_as_measured : {Z : Type 0} (items lent : List (String Z)) (wrapping 
 counted_as_measured items lent wrapping kept last lent_is same is h =
     let there : IsRowCount last.wrapping (lines_of items) last.rows = rw is at h in
     rw lent_is (there.0, AreRowsOf-same wrapping last.wrapping (lines_of items) there.0 same there.1, there.2)
+
+-- what was counted of the text's lines, cut so
+pub counted_anew : {Z : Type 0} (settings : LayoutSettings) (items lent : List (String Z)) (size count inner_width : ℕ) (map : MapView) (laid : LaidOut) (wrapping now : Wrapping) (n : ℕ) → Measuring settings items lent size count inner_width map laid wrapping now → IsRowCount wrapping (lines laid.text) n → IsRowCount (cut_at_width laid.layout.settings inner_width (length (lines laid.text))) (lines laid.text) n
+counted_anew settings items lent size count inner_width map laid wrapping now n m h =
+    let same : lines laid.text ≡ lines_of lent = ap (λ (l : LaidOut). lines l.text) (sym m.is) ∙ lines_held items m.held.stored.some ∙ ap lines_of (sym m.lent_is) in
+    counted_in_text settings items lent size count inner_width map laid wrapping now n m (subst (λ (t : List (List ℕ)). IsRowCount wrapping t n) same h)

@@ -1,7 +1,8 @@
 -- Lines that are stored: how far a place can be, when the text is empty, and their size after a change.
-use Rattle.std.proofs.Common.{◌≡◌, ℕ, zero, suc, ◌+◌, ◌<◌, ◌≤◌, ◌^◌, true, false, cond, List, [], ◌∷◌, length, sym, ap, refl, ◌∙◌, arith, get_or, subst, String, string_bytes, encode_utf8_all}
+use Rattle.std.proofs.Common.{◌≡◌, ℕ, zero, suc, ◌+◌, ◌<◌, ◌≤◌, true, false, cond, List, [], ◌∷◌, length, sym, ap, refl, ◌∙◌, arith, get_or, subst, String, string_bytes, encode_utf8_all}
 use Rattle.std.proofs.lemmas.Str.{IsUtf8-string_bytes, length-le-encodes, encodes-chars}
 use Rattle.std.proofs.lemmas.List.{length-map}
+use Rattle.textarea_size.specs.Limit.{size_limit}
 use Rattle.textarea_text.specs.Text.{characters_of, joined, lines, lines_of, text_of}
 use Rattle.textarea_text.specs.Place.{Place, IsPlace, IsPlaceOf}
 use Rattle.textarea_text.specs.Size.{size_of, weight}
@@ -26,7 +27,7 @@ bytes_in_size [] row within = absurd (omega arith)
 bytes_in_size (s ∷ items) zero within = omega (arith, ap length (encodes-chars (string_bytes s) (IsUtf8-string_bytes s)), s.bytes.ok.0)
 bytes_in_size (s ∷ items) (suc row) within = omega (arith, bytes_in_size items row (omega arith))
 
-pub small_place : {Z : Type 0} (items : List (String Z)) (size : ℕ) (place : Place) → IsStored items size → IsPlace (text_of items) place → (place.0 < 2 ^ 48) × (place.1 ≤ 2 ^ 48)
+pub small_place : {Z : Type 0} (items : List (String Z)) (size : ℕ) (place : Place) → IsStored items size → IsPlace (text_of items) place → (place.0 < size_limit) × (place.1 ≤ size_limit)
 small_place items size place stored h =
     let p = rows_place items place stored.some h in
     let row : place.0 < length items = row_within items place p in (

@@ -1,7 +1,8 @@
 -- Lines that aren't wrapped, and an edit inside one of them.
-use Rattle.std.proofs.Common.{◌≡◌, ℕ, zero, suc, ◌+◌, ◌-◌, ◌<◌, ◌≤◌, ◌^◌, Bool, true, false, not, cond, List, [], ◌∷◌, ◌++◌, length, take, drop, get_or, encode_utf8_all, sym, ap, refl, ◌∙◌, arith, subst, String, Result, Ok, Err, is_ok}
+use Rattle.std.proofs.Common.{◌≡◌, ℕ, zero, suc, ◌+◌, ◌-◌, ◌<◌, ◌≤◌, Bool, true, false, not, cond, List, [], ◌∷◌, ◌++◌, length, take, drop, get_or, encode_utf8_all, sym, ap, refl, ◌∙◌, arith, subst, String, Result, Ok, Err, is_ok}
 use Rattle.std.specs.Result.{IsOk}
 use Rattle.std.proofs.lemmas.List.{get_or-append_right, length-map, length-take-le}
+use Rattle.textarea_size.specs.Limit.{size_limit}
 use Rattle.textarea_text.specs.Place.{end}
 use Rattle.textarea_text.specs.Replaced.{replaced}
 use Rattle.textarea_text.specs.Size.{weight}
@@ -62,7 +63,7 @@ size_of_one rows new cut row bytes is e =
     let size : size_total new ≡ bytes + 1 = ap size_total is ∙ omega (arith, e) in
     (sym size, omega (arith, size, size_total-append (take row rows) (new ++ drop (row + 1) rows), size_total-append new (drop (row + 1) rows)))
 
-pub total_of_one : (rows new : List RowsView) (cut : RowsView) (row : ℕ) → row < length rows → length (ranges_at rows row) ≡ 1 → new ≡ cut ∷ [] → length cut.ranges ≡ 1 → row_total rows ≤ 2 ^ 48 → (1 ≡ row_total new) × (row_total (replaced rows row 1 new) ≤ 2 ^ 48)
+pub total_of_one : (rows new : List RowsView) (cut : RowsView) (row : ℕ) → row < length rows → length (ranges_at rows row) ≡ 1 → new ≡ cut ∷ [] → length cut.ranges ≡ 1 → row_total rows ≤ size_limit → (1 ≡ row_total new) × (row_total (replaced rows row 1 new) ≤ size_limit)
 total_of_one rows new cut row within one is has few =
     let total : row_total new ≡ 1 = ap row_total is ∙ omega arith in
     (sym total, omega (arith, row_total-replaced rows new row 1, total_next rows row within))
@@ -90,7 +91,7 @@ pub record Inside {Z : Type 0} (settings : LayoutSettings) (old now lent : List 
   pub lent_is : lent ≡ now
   pub row_is : row ≡ splice.place.0
   pub after_is : after ≡ weight (applied (text_of old) splice) + 1
-  pub limit : after ≤ 2 ^ 48
+  pub limit : after ≤ size_limit
 
 inside_line : {Z : Type 0} (settings : LayoutSettings) (old now lent : List (String Z)) (size after : ℕ) (map : MapView) (splice : Splice) (row : ℕ) → Inside settings old now lent size after map splice row → ChangesLine (lines_of old) (lines_of now) row
 inside_line settings old now lent size after map splice row h =

@@ -1,6 +1,8 @@
 -- Lines that are lent with their rows, and lines at an inner width that is prepared.
-use Rattle.std.proofs.Common.{◌≡◌, ℕ, ◌+◌, ◌≤◌, ◌^◌, Bool, true, false, cond, List, Option, Some, None, length, sym, ap, ◌∙◌, refl, subst, String}
+use Rattle.std.proofs.Common.{◌≡◌, ℕ, ◌+◌, ◌<◌, ◌≤◌, Bool, true, false, cond, List, Option, Some, None, length, sym, ap, ◌∙◌, refl, subst, String}
+use Rattle.std.specs.Option.{IfSome}
 use Rattle.std.proofs.lemmas.List.{length-map}
+use Rattle.textarea_size.specs.Limit.{size_limit}
 use Rattle.textarea_text.specs.Text.{Symbol, characters_of, lines, lines_of}
 use Rattle.textarea_wrap.specs.RowsView.{RowsView}
 use Rattle.textarea_map.specs.declared.layout.Wrapping.{Wrapping}
@@ -9,8 +11,8 @@ use Rattle.textarea_map.specs.Map.{MapView}
 use Rattle.textarea_lines.specs.declared.cut.CutAnew.{CutAnew}
 use Rattle.textarea_lines.specs.declared.settings.LayoutSettings.{LayoutSettings}
 use Rattle.textarea_lines.specs.Layout.{LaidOut, at_width, laid_out_anew, laid_out_with, stays_cut, wrapping_of}
-use Rattle.textarea_lines.specs.Stored.{HoldsRows}
-use Rattle.textarea_lines.specs.View.{IsCutFor, IsCutWhereOther, IsLent, IsViewOf, lent_rows}
+use Rattle.textarea_lines.specs.Stored.{HoldsRows, IsNextCut}
+use Rattle.textarea_lines.specs.View.{IsCutFor, IsCutWhereOther, IsLent, IsViewOf, IsWholeCut, lent_rows}
 use Rattle.textarea_lines.specs.Wrappings.{is_same, is_wrapped, wrapping_for}
 use Rattle.textarea_lines.proofs.Changes.{Reviewing, holds_whole, holds_wrapped, test_is}
 use Rattle.textarea_lines.proofs.SameCuts.{kept_whole, kept_wrapped}
@@ -26,7 +28,7 @@ pub record Holds {Z : Type 0} (settings : LayoutSettings) (items : List (String 
 pub is_lent : {Z : Type 0} (settings : LayoutSettings) (items lent : List (String Z)) (size count : ℕ) (map : MapView) (laid : LaidOut) → Holds settings items size count map laid → lent ≡ items → IsLent lent map
 is_lent settings items lent size count map laid h is =
     subst (λ (t : List (String _)). IsLent t map) (sym is)
-    (record { some = h.rows.stored.some; limit = subst (λ n. n ≤ 2 ^ 48) h.rows.stored.size_is h.rows.stored.limit; right = h.rows.laid_out })
+    (record { some = h.rows.stored.some; limit = subst (λ n. n ≤ size_limit) h.rows.stored.size_is h.rows.stored.limit; right = h.rows.laid_out })
 
 pub is_view : {Z : Type 0} (settings : LayoutSettings) (items lent : List (String Z)) (size count : ℕ) (map : MapView) (laid : LaidOut) → Holds settings items size count map laid → lent ≡ items → IsViewOf laid (lent_rows lent map)
 is_view settings items lent size count map laid h lent_is =
@@ -39,17 +41,45 @@ is_view settings items lent size count map laid h lent_is =
 
 -- ---- lines that are cut anew
 
-pub cut_for : {Z : Type 0} (old settings : LayoutSettings) (items lent : List (String Z)) (count now : ℕ) (rows : List RowsView) (map : MapView) (laid : LaidOut) (before after : Wrapping) → Reviewing old settings items count rows laid before after → is_same after before ≡ false → lent ≡ items → map.wrapping ≡ after → AreRowsOf map.wrapping (lines_of lent) map.rows → ticks_of map.rows ≡ ticks_behind count (length lent) → now ≡ count + length lent → IsCutFor laid settings (record { map = map; count = now })
-cut_for old settings items lent count now rows map laid before after h differs lent_is wrapping_is right ticks counted =
-    let same : lines laid.text ≡ lines_of lent = ap (λ (l : LaidOut). lines l.text) (sym h.is) ∙ lines_held items h.some ∙ ap lines_of (sym lent_is) in
+-- lines that are lent are cut: so the text is, and each line once
+pub whole_cut : {Z : Type 0} (settings : LayoutSettings) (items lent : List (String Z)) (count now : ℕ) (rows : List RowsView) (map : MapView) (laid : LaidOut) (wrapping : Wrapping) → 0 < length items → seen settings items count rows ≡ laid → lent ≡ items → map.wrapping ≡ wrapping → AreRowsOf map.wrapping (lines_of lent) map.rows → ticks_of map.rows ≡ ticks_behind count (length lent) → now ≡ count + length lent → IsWholeCut laid wrapping (record { map = map; count = now })
+whole_cut settings items lent count now rows map laid wrapping some is lent_is wrapping_is right ticks counted =
+    let same : lines laid.text ≡ lines_of lent = ap (λ (l : LaidOut). lines l.text) (sym is) ∙ lines_held items some ∙ ap lines_of (sym lent_is) in
     let many : length lent ≡ length (lines laid.text) = sym (ap length same ∙ length-map lent characters_of) in
-    let count_is : count ≡ laid.layout.count = ap (λ (l : LaidOut). l.layout.count) h.is in
+    let count_is : count ≡ laid.layout.count = ap (λ (l : LaidOut). l.layout.count) is in
     record {
-      differs = test_is old settings items count rows laid before after h ∙ differs;
-      wrapping = wrapping_is ∙ h.after_is ∙ ap (wrapping_for settings) (ap length (sym lent_is) ∙ many);
+      wrapping = wrapping_is;
       rows = subst (λ (t : List (List ℕ)). AreRowsOf map.wrapping t map.rows) (sym same) right;
       ticks = ticks ∙ ap (λ n. ticks_behind n (length lent)) count_is ∙ ap (ticks_behind laid.layout.count) many;
       count = counted ∙ ap (λ n. n + length lent) count_is ∙ ap (λ n. laid.layout.count + n) many;
+    }
+
+-- they are cut for settings under which they are cut in another way
+pub cut_for : {Z : Type 0} (old settings : LayoutSettings) (items : List (String Z)) (count : ℕ) (rows : List RowsView) (laid : LaidOut) (before after : Wrapping) (cut : CutAnew) → Reviewing old settings items count rows laid before after → is_same after before ≡ false → IsWholeCut laid after cut → IsCutFor laid settings cut
+cut_for old settings items count rows laid before after cut h differs whole =
+    let same : lines laid.text ≡ lines_of items = ap (λ (l : LaidOut). lines l.text) (sym h.is) ∙ lines_held items h.some in
+    let many : length items ≡ length (lines laid.text) = sym (ap length same ∙ length-map items characters_of) in
+    record {
+      differs = test_is old settings items count rows laid before after h ∙ differs;
+      whole = subst (λ (w : Wrapping). IsWholeCut laid w cut) (h.after_is ∙ ap (wrapping_for settings) many) whole;
+    }
+
+-- rows that are kept beside those that stand are all lines of the text, cut
+pub whole_kept : {Z : Type 0} (settings : LayoutSettings) (items : List (String Z)) (count : ℕ) (rows : List RowsView) (laid : LaidOut) (wrapping : Wrapping) (next : Option CutAnew) (cut : CutAnew) → 0 < length items → seen settings items count rows ≡ laid → next ≡ Some cut → IfSome next (IsNextCut count items) → cut.map.wrapping ≡ wrapping → IsWholeCut laid wrapping cut
+whole_kept settings items count rows laid wrapping next cut some is there kept wrapping_is =
+    let known : IsNextCut count items cut = rw there at kept in
+    whole_cut settings items items count cut.count rows cut.map laid wrapping some is refl wrapping_is known.rows known.ticks known.count_is
+
+-- all lines of the text, cut, can be kept beside those that stand
+pub next_cut : {Z : Type 0} (settings : LayoutSettings) (items : List (String Z)) (count : ℕ) (rows : List RowsView) (laid : LaidOut) (wrapping : Wrapping) (cut : CutAnew) → 0 < length items → seen settings items count rows ≡ laid → IsWholeCut laid wrapping cut → IsNextCut count items cut
+next_cut settings items count rows laid wrapping cut some is whole =
+    let same : lines laid.text ≡ lines_of items = ap (λ (l : LaidOut). lines l.text) (sym is) ∙ lines_held items some in
+    let many : length (lines laid.text) ≡ length items = ap length same ∙ length-map items characters_of in
+    let count_is : laid.layout.count ≡ count = ap (λ (l : LaidOut). l.layout.count) (sym is) in
+    record {
+      rows = subst (λ (t : List (List ℕ)). AreRowsOf cut.map.wrapping t cut.map.rows) same whole.rows;
+      ticks = whole.ticks ∙ ap (λ n. ticks_behind n (length (lines laid.text))) count_is ∙ ap (ticks_behind count) many;
+      count_is = whole.count ∙ ap (λ n. n + length (lines laid.text)) count_is ∙ ap (λ n. count + n) many;
     }
 
 -- they are held with their new rows
@@ -59,12 +89,12 @@ holds_cut old settings items size count map laid cut h k =
     record {
       rows = record {
         stored = h.rows.stored;
-        wrapping_is = k.wrapping ∙ ap (wrapping_for settings) (ap length same ∙ length-map items characters_of);
-        laid_out = subst (λ (t : List (List ℕ)). AreRowsOf cut.map.wrapping t cut.map.rows) same k.rows;
+        wrapping_is = k.whole.wrapping ∙ ap (wrapping_for settings) (ap length same ∙ length-map items characters_of);
+        laid_out = subst (λ (t : List (List ℕ)). AreRowsOf cut.map.wrapping t cut.map.rows) same k.whole.rows;
       };
       is = ap (λ (t : List Symbol). record { text = t; layout = record { settings = settings; count = cut.count; ticks = ticks_of cut.map.rows } }) (ap (λ (l : LaidOut). l.text) h.is)
-          ∙ ap (λ (n : ℕ). record { text = laid.text; layout = record { settings = settings; count = n; ticks = ticks_of cut.map.rows } }) k.count
-          ∙ ap (λ (t : List ℕ). record { text = laid.text; layout = record { settings = settings; count = laid.layout.count + length (lines laid.text); ticks = t } }) k.ticks
+          ∙ ap (λ (n : ℕ). record { text = laid.text; layout = record { settings = settings; count = n; ticks = ticks_of cut.map.rows } }) k.whole.count
+          ∙ ap (λ (t : List ℕ). record { text = laid.text; layout = record { settings = settings; count = laid.layout.count + length (lines laid.text); ticks = t } }) k.whole.ticks
           ∙ ap (λ (b : Bool). cond b (record { text = laid.text; layout = record { settings = settings; count = laid.layout.count; ticks = laid.layout.ticks } }) (laid_out_anew settings laid.layout.count laid.text)) (sym k.differs);
     }
 

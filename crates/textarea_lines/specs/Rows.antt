@@ -1,6 +1,7 @@
 -- The rows behind what clauses see of a text.
-use Rattle.std.specs.Prelude.{◌≡◌, ℕ, ◌+◌, ◌<◌, ◌≤◌, ◌^◌, true, List, Option, MatchOption, String, [], ◌∷◌, encode_utf8_all, get_or, length, take, drop}
+use Rattle.std.specs.Prelude.{◌≡◌, ℕ, ◌+◌, ◌<◌, ◌≤◌, true, List, Option, MatchOption, String, [], ◌∷◌, encode_utf8_all, get_or, length, take, drop}
 use Rattle.std.specs.Str.{all_scalars}
+use Rattle.textarea_size.specs.Limit.{size_limit}
 use Rattle.textarea_text.specs.Place.{Place}
 use Rattle.textarea_text.specs.Replaced.{replaced}
 use Rattle.textarea_text.specs.Text.{lines, lines_of}
@@ -48,8 +49,8 @@ pub record CanStayWhole {Z : Type 0} (lines : List (String Z)) (rows : List Rows
   pub within : row < length lines
   pub same : length rows ≡ length lines
   pub one : length (ranges_at rows row) ≡ 1
-  pub few : row_total rows ≤ 2 ^ 48
-  pub size : size_total (take row rows) + line_size (get_or (lines_of lines) row []) + size_total (drop (row + 1) rows) ≤ 2 ^ 48
+  pub few : row_total rows ≤ size_limit
+  pub size : size_total (take row rows) + line_size (get_or (lines_of lines) row []) + size_total (drop (row + 1) rows) ≤ size_limit
 
 -- the line in the row, given by its characters, each of them one of Unicode's, is shorter than 2^48 bytes and was cut as one
 -- that isn't wrapped, with this tick; all others keep their rows
@@ -58,5 +59,5 @@ pub record HasWholeLine (tab_len : ℕ) (line : List ℕ) (row tick : ℕ) (old 
   pub new_is : new ≡ replaced old row 1 (cut ∷ [])
   pub tick_is : cut.tick ≡ tick
   pub characters : all_scalars line ≡ true
-  pub short : length (encode_utf8_all line) < 2 ^ 48
+  pub short : length (encode_utf8_all line) < size_limit
   pub right : IsWrapped mode.None tab_len 1 (encode_utf8_all line) cut.ranges

@@ -1,9 +1,14 @@
 -- What holds of all lines with their rows.
-use Rattle.std.specs.Prelude.{◌≡◌, ℕ, ◌+◌, ◌-◌, ◌^◌, ◌<◌, ◌≤◌, List, length, String, Option, IfSome, if◌then◌else◌}
+use Rattle.std.specs.Prelude.{◌≡◌, ℕ, ◌+◌, ◌-◌, ◌<◌, ◌≤◌, List, length, String, Option, IfSome, if◌then◌else◌}
+use Rattle.textarea_size.specs.Limit.{size_limit}
+use Rattle.textarea_text.specs.declared.util.Pos.{Pos}
+use Rattle.textarea_text.specs.Offset.{offset_at}
+use Rattle.textarea_text.specs.Place.{IsPlaceOf}
 use Rattle.textarea_text.specs.Text.{lines_of}
 use Rattle.textarea_text.specs.Size.{size_of, weight}
 use Rattle.textarea_text.specs.Splice.{Splice}
-use Rattle.textarea_map.specs.Layout.{AreRowsOf}
+use Rattle.textarea_map.specs.Layout.{AreRowsOf, ticks_behind, ticks_of}
+use Rattle.textarea_lines.specs.declared.cut.CutAnew.{CutAnew}
 use Rattle.textarea_lines.specs.declared.settings.LayoutSettings.{LayoutSettings}
 use Rattle.textarea_lines.specs.declared.measured.Measured.{Measured}
 use Rattle.textarea_lines.specs.Wrappings.{wrapping_for}
@@ -13,7 +18,7 @@ use Rattle.textarea_map.specs.Map.{IsRowCount, MapView}
 pub record IsStored {Z : Type 0} (lines : List (String Z)) (size : ℕ) : Type 0 where
   pub some : 0 < length lines
   pub size_is : size ≡ size_of lines
-  pub limit : size ≤ 2 ^ 48
+  pub limit : size ≤ size_limit
 
 -- how large lines of this size are after the splice
 abbrev pub size_after : ℕ → Splice → ℕ
@@ -25,7 +30,21 @@ pub record HoldsRows {Z : Type 0} (settings : LayoutSettings) (lines : List (Str
   pub wrapping_is : map.wrapping ≡ wrapping_for settings (length lines)
   pub laid_out : AreRowsOf map.wrapping (lines_of lines) map.rows
 
--- the rows are held, and what was measured last, if it is kept, is true of the lines as they stand
-pub record KeepsRows {Z : Type 0} (settings : LayoutSettings) (lines : List (String Z)) (size : ℕ) (map : MapView) (kept : Option Measured) : Type 0 where
+-- the position is a place of the lines, and so many bytes of its line stand before it
+pub record IsFound {Z : Type 0} (lines : List (String Z)) (found : Pos) : Type 0 where
+  pub place : IsPlaceOf (lines_of lines) (found.row, found.col)
+  pub offset : found.offset ≡ offset_at (lines_of lines) (found.row, found.col)
+
+-- all lines are cut once more, with the next ticks of the count: rows that can take the place of those that stand
+pub record IsNextCut {Z : Type 0} (count : ℕ) (lines : List (String Z)) (cut : CutAnew) : Type 0 where
+  pub rows : AreRowsOf cut.map.wrapping (lines_of lines) cut.map.rows
+  pub ticks : ticks_of cut.map.rows ≡ ticks_behind count (length lines)
+  pub count_is : cut.count ≡ count + length lines
+
+-- the rows are held; what was measured last, if it is known, is true of the lines as they stand; rows that are kept beside, if
+-- there are any, are those that come next; and the place that was found last stands where it was found
+pub record KeepsRows {Z : Type 0} (settings : LayoutSettings) (lines : List (String Z)) (size : ℕ) (map : MapView) (last : Option Measured) (count : ℕ) (next : Option CutAnew) (found : Pos) : Type 0 where
   pub held : HoldsRows settings lines size map
-  pub measured : IfSome kept (λ last. IsRowCount last.wrapping (lines_of lines) last.rows)
+  pub measured : IfSome last (λ measured. IsRowCount measured.wrapping (lines_of lines) measured.rows)
+  pub kept : IfSome next (IsNextCut count lines)
+  pub place : IsFound lines found

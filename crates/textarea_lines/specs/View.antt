@@ -1,5 +1,6 @@
 -- What is lent of lines with their rows, as they are seen now or at a width that is prepared.
-use Rattle.std.specs.Prelude.{◌≡◌, ℕ, ◌+◌, ◌<◌, ◌≤◌, ◌^◌, true, false, List, Option, MatchOption, String, length}
+use Rattle.std.specs.Prelude.{◌≡◌, ℕ, ◌+◌, ◌<◌, ◌≤◌, true, false, List, Option, MatchOption, String, length}
+use Rattle.textarea_size.specs.Limit.{size_limit}
 use Rattle.textarea_text.specs.Size.{size_of}
 use Rattle.textarea_text.specs.Text.{lines, lines_of}
 use Rattle.textarea_wrap.specs.RowsView.{RowsView}
@@ -25,7 +26,7 @@ lent_rows lines map = record { lines = lines_of lines; wrapping = map.wrapping; 
 -- there is a line; bytes and lines together are at most 2^48; and the map has right rows of the lines
 pub record IsLent {Z : Type 0} (lines : List (String Z)) (map : MapView) : Type 0 where
   pub some : 0 < length lines
-  pub limit : size_of lines ≤ 2 ^ 48
+  pub limit : size_of lines ≤ size_limit
   pub right : AreRowsOf map.wrapping (lines_of lines) map.rows
 
 -- the text's lines are lent as they are laid out, with their right rows, ticks included
@@ -41,14 +42,17 @@ pub record PreparedView : Type 0 where
   pub inner_width : ℕ
   pub cut : Option CutAnew
 
--- under the settings the text is cut in another way than as it stands, and so it was cut: each line once, with the next ticks of
--- the count
-pub record IsCutFor (laid : LaidOut) (settings : LayoutSettings) (cut : CutAnew) : Type 0 where
-  pub differs : stays_cut laid settings ≡ false
-  pub wrapping : cut.map.wrapping ≡ wrapping_for settings (length (lines laid.text))
+-- all lines of the text were cut so: each once, with the next ticks of the count
+pub record IsWholeCut (laid : LaidOut) (way : Wrapping) (cut : CutAnew) : Type 0 where
+  pub wrapping : cut.map.wrapping ≡ way
   pub rows : AreRowsOf cut.map.wrapping (lines laid.text) cut.map.rows
   pub ticks : ticks_of cut.map.rows ≡ ticks_behind laid.layout.count (length (lines laid.text))
   pub count : cut.count ≡ laid.layout.count + length (lines laid.text)
+
+-- under the settings the text is cut in another way than as it stands, and so it was cut
+pub record IsCutFor (laid : LaidOut) (settings : LayoutSettings) (cut : CutAnew) : Type 0 where
+  pub differs : stays_cut laid settings ≡ false
+  pub whole : IsWholeCut laid (wrapping_for settings (length (lines laid.text))) cut
 
 -- it was cut for the settings where it is cut in another way under them, and only there
 abbrev pub IsCutWhereOther : LaidOut → LayoutSettings → Option CutAnew → Type 0

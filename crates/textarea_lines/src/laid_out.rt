@@ -1,28 +1,32 @@
 //! The lines of a text with their visual rows, kept line by line.
 mod width;
 
-ghost use Rattle.std.specs.Prelude.{◌≡◌, ◌+◌, ◌-◌, ◌<◌, ◌≤◌, ◌^◌, ◌↔◌, [], length, vec_len, false, true, IfOk, IfSome, IsOk, IsTrue, OnErr, OnOk, if◌then◌else◌};
+ghost use Rattle.std.specs.Prelude.{◌≡◌, ◌+◌, ◌-◌, ◌<◌, ◌≤◌, ◌↔◌, [], length, vec_len, false, true, IfOk, IfSome, IsOk, IsTrue, OnErr, OnOk, if◌then◌else◌};
+ghost use Rattle.textarea_size.specs.Limit.{size_limit};
+ghost use Rattle.textarea_text.specs.Offset.{offset_at};
 ghost use Rattle.textarea_text.specs.Place.{Place, IsPlace};
 ghost use Rattle.textarea_text.specs.Size.{size_of, weight};
 ghost use Rattle.textarea_text.specs.Splice.{Fits, applied};
 ghost use Rattle.textarea_text.specs.Text.{lines, lines_of, text_of};
 ghost use Rattle.textarea_text.specs.Touched.{breaks_of};
-ghost use Rattle.textarea_map.specs.Map.{row_total};
+ghost use Rattle.textarea_map.specs.Map.{IsRowCount, row_total};
 ghost use Rattle.textarea_map.specs.Seen.{IsVisualPosition};
 ghost use Rattle.textarea_lines.specs.Rows.{IsFoundAbove, IsFoundBelow, IsRowCountAt, OfRows};
 ghost use Rattle.textarea_lines.specs.Layout.{applied_to, is_cut_at, laid_out_anew, laid_out_with, stays_cut, with_replacement};
 ghost use Rattle.textarea_lines.specs.Stored.{size_after};
 ghost use Rattle.textarea_lines.specs.Wrappings.{is_wrapped};
 
-use crate::cut::{prepare_rows, put_whole_line};
+use crate::cut::{CutAnew, prepare_rows, put_whole_line};
 use crate::measured::Measured;
 use crate::settings::{LayoutSettings, is_same, is_wrapped, wrapping_at, wrapping_for};
 use std::alloc::{AllocError, Global};
 use std::marker::Model;
 use textarea_edit::edit::Change;
-use textarea_map::layout::rows_in;
+use textarea_map::layout::{Wrapping, rows_in};
 use textarea_map::screen_map::ScreenMap;
-use textarea_text::rows::{Replacement, size_within_limit, within_limit};
+use textarea_size::limit::within_limit;
+use textarea_text::rows::{Replacement, byte_offset, byte_offset_from, size_within_limit};
+use textarea_text::util::Pos;
 use textarea_wrap::wrap::WrapCount;
 pub use width::PreparedWidth;
 
@@ -38,6 +42,8 @@ pub struct LaidOutLines {
     count: WrapCount,
     settings: LayoutSettings,
     measured: Option<Measured>,
+    kept: Option<CutAnew>,
+    found: Pos,
 }
 
 impl Model for LaidOutLines {
@@ -54,7 +60,8 @@ impl Model for LaidOutLines {
     } };
 
     ghost invariant = { λ laid.
-        KeepsRows laid.settings laid.lines.items laid.size laid.map laid.measured };
+        KeepsRows laid.settings laid.lines.items laid.size laid.map laid.measured
+        laid.count laid.kept laid.found };
 }
 
 impl Clone for LaidOutLines {
@@ -69,6 +76,8 @@ impl Clone for LaidOutLines {
             count: self.count.clone()?,
             settings: self.settings,
             measured: self.measured,
+            kept: None,
+            found: Pos::new(self.found.row, self.found.col, self.found.offset),
         })
     }
 }
@@ -109,6 +118,8 @@ impl LaidOutLines {
             count,
             settings,
             measured: None,
+            kept: None,
+            found: Pos::new(0, 0, 0),
         })
     }
 
@@ -118,9 +129,9 @@ impl LaidOutLines {
         ensures value { text_of result.now ≡ self.now.text }
         ensures lines { lines_of result.now ≡ lines self.now.text }
         ensures some { 0 < length result.now }
-        ensures limit { size_of result.now ≤ 2 ^ 48 }
+        ensures limit { size_of result.now ≤ size_limit }
         ensures small { (place : Place) → IsPlace self.now.text place →
-            (place.0 < 2 ^ 48) × (place.1 ≤ 2 ^ 48) }
+            (place.0 < size_limit) × (place.1 ≤ size_limit) }
     {
         self.lines.as_slice()
     }
@@ -212,7 +223,8 @@ impl LaidOutLines {
 
     /// How many visual rows the lines would have in all in an inner area of this width, in columns. Where they are cut so as
     /// they stand, and so always in the mode `None`, it takes no memory. What is seen of the lines stays as it is, the count
-    /// too.
+    /// too. Rows that are cut for it are kept beside those that stand, where there is memory for them, until the lines change
+    /// or are cut in a third way.
     pub fn rows_at_width(&mut self, inner_width: u16) -> Result<usize, AllocError>
         ensures same { self.new ≡ self.old }
         ensures rows { IfOk result (IsRowCountAt self.old inner_width) }
@@ -228,9 +240,39 @@ impl LaidOutLines {
                 return Ok(measured.rows);
             }
         }
-        let rows = rows_in(*self.lines.allocator(), lines, wrapping)?;
+        let rows = self.measure_anew(wrapping)?;
         self.measured = Some(Measured { wrapping, rows });
         Ok(rows)
+    }
+
+    // How many rows the lines would have in all where they are cut so. Each is cut once, and the rows are kept where there is
+    // memory for them.
+    fn measure_anew(&mut self, wrapping: Wrapping) -> Result<usize, AllocError>
+        ensures same { self.new ≡ self.old }
+        ensures rows { IfOk result (IsRowCount wrapping (lines self.old.text)) }
+    {
+        let _ = self.take_kept(wrapping);
+        match self.cut_anew(wrapping) {
+            Ok(cut) => {
+                let rows = cut.map.row_count();
+                self.kept = Some(cut);
+                Ok(rows)
+            }
+            Err(_) => rows_in(*self.lines.allocator(), self.lines.as_slice(), wrapping),
+        }
+    }
+
+    /// The bytes of its line before a place of the text. Near the place where a change was made last in place, only what stands
+    /// between the two is walked, however long the line is.
+    pub fn offset_of(&self, place: (usize, usize)) -> usize
+        requires { IsPlace self.now.text place }
+        ensures { result ≡ offset_at (lines self.now.text) place }
+    {
+        let line = self.lines[place.0].as_str();
+        if self.found.row == place.0 {
+            return byte_offset_from(line, (self.found.col, self.found.offset), place.1);
+        }
+        byte_offset(line, place.1)
     }
 
     /// Makes a change that fits the text.
@@ -255,14 +297,15 @@ impl LaidOutLines {
         requires inside { breaks_of change.symbols ≡ 0 }
         requires whole { is_wrapped self.old.layout.settings ≡ false }
         requires size { size ≡ weight (applied self.old.text change) + 1 }
-        requires limit { size ≤ 2 ^ 48 }
+        requires limit { size ≤ size_limit }
         ensures ok { OnOk result (self.new ≡ applied_to self.old change.entry) }
         ensures err { OnErr result (self.new ≡ self.old) }
     {
         let alloc = *self.lines.allocator();
-        let row = change.cursor_before().0;
+        let (row, column) = change.start();
+        let offset = self.offset_of((row, column));
         let rows = Vec::with_capacity(alloc, 1)?;
-        change.apply(&mut self.lines)?;
+        change.apply_inside(&mut self.lines, offset)?;
         put_whole_line(
             alloc,
             &mut self.map,
@@ -273,6 +316,8 @@ impl LaidOutLines {
         );
         self.size = size;
         self.measured = None;
+        self.kept = None;
+        self.found = Pos::new(row, column, offset);
         Ok(())
     }
 
@@ -282,7 +327,7 @@ impl LaidOutLines {
         requires within { replacement.row + replacement.count ≤ length (lines self.old.text) }
         requires some { 0 < vec_len replacement.lines }
         requires size { size ≡ weight (with_replacement self.old replacement).text + 1 }
-        requires limit { size ≤ 2 ^ 48 }
+        requires limit { size ≤ size_limit }
         ensures ok { OnOk result (self.new ≡ with_replacement self.old replacement) }
         ensures err { OnErr result (self.new ≡ self.old) }
     {
@@ -296,11 +341,14 @@ impl LaidOutLines {
             self.settings,
             &mut count,
         )?;
-        self.lines.reserve(replacement.lines.len())?;
+        let more = replacement.lines.len().saturating_sub(replacement.count);
+        self.lines.reserve(more)?;
         replacement.replace_in(&mut self.lines);
         self.map.replace(prepared);
         self.size = size;
         self.measured = None;
+        self.kept = None;
+        self.found = Pos::new(0, 0, 0);
         self.count = count;
         Ok(())
     }
@@ -309,7 +357,7 @@ impl LaidOutLines {
 // How large the lines are after the change; more than the limit is out of memory.
 fn size_after(size: usize, change: &Change<'_>) -> Result<usize, AllocError>
     ensures size { IfOk result (λ after. after ≡ size_after size change.now) }
-    ensures limit { IsOk result ↔ (size_after size change.now ≤ 2 ^ 48) }
+    ensures limit { IsOk result ↔ (size_after size change.now ≤ size_limit) }
 {
     let weight = change.weight();
     if change.inserts() {

@@ -1,5 +1,6 @@
 //! Lines with their rows, lent to be looked at.
-ghost use Rattle.std.specs.Prelude.{◌≡◌, ◌+◌, ◌<◌, ◌≤◌, ◌^◌, length, take};
+ghost use Rattle.std.specs.Prelude.{◌≡◌, ◌+◌, ◌<◌, ◌≤◌, length, take};
+ghost use Rattle.textarea_size.specs.Limit.{size_limit};
 ghost use Rattle.textarea_text.specs.Place.{IsPlaceOf};
 ghost use Rattle.textarea_text.specs.Size.{size_of};
 ghost use Rattle.textarea_text.specs.Text.{lines_of};
@@ -44,7 +45,7 @@ impl<'a> LaidOutView<'a> {
     pub fn lines(&self) -> &'a [String]
         ensures lines { lines_of result.now ≡ self.now.lines }
         ensures some { 0 < length result.now }
-        ensures limit { size_of result.now ≤ 2 ^ 48 }
+        ensures limit { size_of result.now ≤ size_limit }
         ensures right { AreRowsOf self.now.wrapping self.now.lines self.now.rows }
     {
         self.lines
@@ -61,7 +62,7 @@ impl<'a> LaidOutView<'a> {
     pub fn row_count(&self) -> usize
         ensures value { result ≡ row_total self.now.rows }
         ensures some { 0 < result }
-        ensures few { result ≤ 2 ^ 48 }
+        ensures few { result ≤ size_limit }
     {
         self.map.row_count()
     }
@@ -72,8 +73,8 @@ impl<'a> LaidOutView<'a> {
         ensures shown { shown_row result ≡ row_at self.now.lines self.now.rows row }
         ensures number { row_total (take result.line self.now.rows) + result.number ≡ row }
         ensures line { result.line < length self.now.lines }
-        ensures before { length result.before.now < 2 ^ 48 }
-        ensures short { length result.text.now < 2 ^ 48 }
+        ensures before { length result.before.now < size_limit }
+        ensures short { length result.text.now < size_limit }
     {
         self.map.row_at(self.lines, row)
     }

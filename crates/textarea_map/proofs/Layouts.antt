@@ -1,9 +1,10 @@
 -- Rows of lines, taken apart and put together.
-use Rattle.std.proofs.Common.{map, ap₂, ◌≡◌, ℕ, zero, suc, ◌+◌, ◌<◌, ◌^◌, max, List, [], ◌∷◌, ◌++◌, length, take, drop, get_or, ap, refl, ◌∙◌, arith, encode_utf8_all, String, string_bytes}
+use Rattle.std.proofs.Common.{map, ap₂, ◌≡◌, ℕ, zero, suc, ◌+◌, ◌<◌, max, List, [], ◌∷◌, ◌++◌, length, take, drop, get_or, ap, refl, ◌∙◌, arith, encode_utf8_all, String, string_bytes}
 use Rattle.std.proofs.lemmas.List.{append_assoc, length-map, map-append, take_more}
 use Rattle.std.proofs.lemmas.Str.{scalars-chars, IsUtf8-string_bytes}
 use Rattle.std.specs.List.{range_with_len}
 use Rattle.std.specs.Str.{all_scalars}
+use Rattle.textarea_size.specs.Limit.{size_limit}
 use Rattle.textarea_text.specs.Text.{characters_of, lines_of}
 use Rattle.textarea_text.proofs.StringRows.{line_at}
 use Rattle.textarea_wrap.specs.RowsView.{RowsView}
@@ -47,7 +48,7 @@ AreRowsOf-replaced w lines new rows others start count h k =
     (AreRowsOf-append w new (drop (start + count) lines) others (drop (start + count) rows) k (AreRowsOf-drop w (start + count) lines rows h))
 
 -- one line more
-pub AreRowsOf-more : {Z : Type 0} (w : Wrapping) (before : List (List ℕ)) (items : List (String Z)) (i : ℕ) (line : String Z) (text : List ℕ) (rows : List RowsView) (cut : RowsView) → i < length items → line ≡ get_or items i line → text ≡ string_bytes line → AreRowsOf w (before ++ take i (lines_of items)) rows → IsWrapped w.mode w.tab_len (max w.width 1) text cut.ranges → length text < 2 ^ 48 → AreRowsOf w (before ++ take (i + 1) (lines_of items)) (rows ++ cut ∷ [])
+pub AreRowsOf-more : {Z : Type 0} (w : Wrapping) (before : List (List ℕ)) (items : List (String Z)) (i : ℕ) (line : String Z) (text : List ℕ) (rows : List RowsView) (cut : RowsView) → i < length items → line ≡ get_or items i line → text ≡ string_bytes line → AreRowsOf w (before ++ take i (lines_of items)) rows → IsWrapped w.mode w.tab_len (max w.width 1) text cut.ranges → length text < size_limit → AreRowsOf w (before ++ take (i + 1) (lines_of items)) (rows ++ cut ∷ [])
 AreRowsOf-more w before items i line text rows cut within read same h k short =
     let bytes = bytes_of_line items i line text within read same in
     let here : AreRowsOfLine w (get_or (lines_of items) i []) cut =

@@ -1,6 +1,7 @@
 pub mod RowColumns
 pub mod Layouts
 pub mod Numbers
+pub mod Marks
 pub mod Parts
 pub mod Holding
 pub mod VisualRows

@@ -56,7 +56,7 @@ exchange total rows going new row count sum is =
 abbrev pub going : List RowsView → ℕ → ℕ → List RowsView
 going kept row count = take (row + count - row) (drop row kept)
 
-going_are : (rows kept : List RowsView) (row count : ℕ) → kept ≡ rows → going kept row count ≡ take count (drop row rows)
+pub going_are : (rows kept : List RowsView) (row count : ℕ) → kept ≡ rows → going kept row count ≡ take count (drop row rows)
 going_are rows kept row count is =
     let size : row + count - row ≡ count = omega arith in rw (size, is)
 

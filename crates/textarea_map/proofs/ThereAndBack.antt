@@ -1,7 +1,8 @@
 -- From a place to its visual row and column, and back.
-use Rattle.std.proofs.Common.{ap₂, ◌≡◌, ℕ, ◌+◌, ◌-◌, ◌<◌, ◌≤◌, ◌^◌, inl, inr, min, false, true, Bool, cond, List, [], length, get_or, sym, ap, refl, subst, ◌∙◌, arith}
+use Rattle.std.proofs.Common.{ap₂, ◌≡◌, ℕ, ◌+◌, ◌-◌, ◌<◌, ◌≤◌, inl, inr, min, false, true, Bool, cond, List, [], length, get_or, sym, ap, refl, subst, ◌∙◌, arith}
 use Rattle.std.proofs.lemmas.Bool.{cases_lt}
 use Rattle.std.proofs.Math.Seq.{take-length}
+use Rattle.textarea_size.specs.Limit.{size_limit}
 use Rattle.textarea_text.specs.Place.{Place, IsPlaceOf}
 use Rattle.textarea_wrap.specs.Columns.{display_end_column}
 use Rattle.textarea_wrap.specs.RowsView.{RowsView}
@@ -105,7 +106,7 @@ seen_near w lines rows seen place h p =
     (found.0, omega (arith, found.1), found.2)
 
 -- the place that the code finds, from the row's line, its first column and its characters
-pub place_found : (w : Wrapping) (lines : List (List ℕ)) (rows : List RowsView) (seen : Place) (line first index : ℕ) (text : List ℕ) → AreRowsOf w lines rows → seen.0 < row_total rows → line ≡ (row_at lines rows seen.0).line → first ≡ (row_at lines rows seen.0).first → text ≡ (row_at lines rows seen.0).text → LeadsTo w.tab_len text seen.1 index → (first + index < 2 ^ 48) × IsPlaceAt w.tab_len lines rows seen (line, first + index)
+pub place_found : (w : Wrapping) (lines : List (List ℕ)) (rows : List RowsView) (seen : Place) (line first index : ℕ) (text : List ℕ) → AreRowsOf w lines rows → seen.0 < row_total rows → line ≡ (row_at lines rows seen.0).line → first ≡ (row_at lines rows seen.0).first → text ≡ (row_at lines rows seen.0).text → LeadsTo w.tab_len text seen.1 index → (first + index < size_limit) × IsPlaceAt w.tab_len lines rows seen (line, first + index)
 place_found w lines rows seen line first index text h below line_is first_is text_is leads =
     let there : seen.0 < length (visual_rows lines rows) = omega (arith, below, row_count w lines rows h) in
     let known = row_of w lines rows seen.0 h there in

@@ -1,10 +1,11 @@
 -- The visual rows of all lines, each found by its line and its number there.
-use Rattle.std.proofs.Common.{◌≡◌, ℕ, zero, suc, ◌+◌, ◌-◌, ◌<◌, ◌≤◌, ◌^◌, inl, inr, true, false, nat_eq, Bool, List, [], ◌∷◌, length, take, drop, get_or, sym, ap, refl, ◌∙◌, arith, encode_utf8_all, String, string_bytes}
+use Rattle.std.proofs.Common.{◌≡◌, ℕ, zero, suc, ◌+◌, ◌-◌, ◌<◌, ◌≤◌, inl, inr, true, false, nat_eq, Bool, List, [], ◌∷◌, length, take, drop, get_or, sym, ap, refl, ◌∙◌, arith, encode_utf8_all, String, string_bytes}
 use Rattle.std.proofs.lemmas.Bool.{cases_lt}
 use Rattle.std.proofs.lemmas.List.{get_or-append-add, get_or_append_left, length-append, length-map}
 use Rattle.std.proofs.lemmas.Bool.Decides.{nat_tests}
 use Rattle.std.proofs.lemmas.Str.{length-le-encodes}
 use Rattle.std.specs.Str.{IsUtf8, chars}
+use Rattle.textarea_size.specs.Limit.{size_limit}
 use Rattle.textarea_text.specs.Place.{Place, IsPlaceOf}
 use Rattle.textarea_text.specs.Text.{characters_of, lines_of}
 use Rattle.textarea_text.proofs.Columns.{offset_in}
@@ -143,7 +144,7 @@ cut_out w lines rows row h below =
 pub record IsRowOfLines (lines : List (List ℕ)) (row : VisualRow) : Type 0 where
   pub within : row.line < length lines
   pub inside : row.first + length row.text ≤ length (get_or lines row.line [])
-  pub short : row.first + length row.text < 2 ^ 48
+  pub short : row.first + length row.text < size_limit
   pub some : row.is_last ≡ false → 0 < length row.text
 
 some_from_bytes : (cs : List ℕ) → 0 < length (encode_utf8_all cs) → 0 < length cs
@@ -225,7 +226,7 @@ number_there (r ∷ rows) (suc line) number row within e below =
 
 pub record IsTextOfRow (row : VisualRow) (line number : ℕ) (ranges : List (ℕ × ℕ)) (text : List ℕ) : Type 0 where
   pub placed : IsRowRange text (range_at ranges number)
-  pub short : length text < 2 ^ 48
+  pub short : length text < size_limit
   pub line_is : line ≡ row.line
   pub start_is : (range_at ranges number).0 ≡ row.start
   pub first_is : length (chars (take (range_at ranges number).0 text)) ≡ row.first

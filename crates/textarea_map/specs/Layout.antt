@@ -1,7 +1,8 @@
 -- The rows of the lines of a text.
-use Rattle.std.specs.Prelude.{◌≡◌, ℕ, ◌+◌, ◌<◌, ◌^◌, max, true, length, map, List, [], ◌∷◌, encode_utf8_all}
+use Rattle.std.specs.Prelude.{◌≡◌, ℕ, ◌+◌, ◌<◌, max, true, length, map, List, [], ◌∷◌, encode_utf8_all}
 use Rattle.std.specs.List.{range_with_len}
 use Rattle.std.specs.Str.{all_scalars}
+use Rattle.textarea_size.specs.Limit.{size_limit}
 use Rattle.textarea_wrap.specs.RowsView.{RowsView}
 use Rattle.textarea_wrap.specs.Wrapped.{IsWrapped}
 use Rattle.textarea_map.specs.declared.layout.Wrapping.{Wrapping}
@@ -11,7 +12,7 @@ use Rattle.textarea_map.specs.declared.layout.Wrapping.{Wrapping}
 -- of 0 counts as 1.
 pub record AreRowsOfLine (wrapping : Wrapping) (line : List ℕ) (rows : RowsView) : Type 0 where
   pub characters : all_scalars line ≡ true
-  pub short : length (encode_utf8_all line) < 2 ^ 48
+  pub short : length (encode_utf8_all line) < size_limit
   pub cut : IsWrapped wrapping.mode wrapping.tab_len (max wrapping.width 1) (encode_utf8_all line) rows.ranges
 
 -- lines are cut so, with so many columns between tab stops

@@ -1,5 +1,6 @@
 pub mod Layout
 pub mod Map
+pub mod Marks
 pub mod Rows
 pub mod Seen
 pub mod Shown

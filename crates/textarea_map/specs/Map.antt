@@ -1,5 +1,6 @@
 -- What clauses see of a screen map.
-use Rattle.std.specs.Prelude.{◌≡◌, ℕ, ◌+◌, ◌-◌, ◌≤◌, ◌^◌, List, [], ◌∷◌, map, length, get_or, vec_len}
+use Rattle.std.specs.Prelude.{◌≡◌, ℕ, ◌+◌, ◌-◌, ◌≤◌, List, [], ◌∷◌, map, length, get_or, vec_len}
+use Rattle.textarea_size.specs.Limit.{size_limit}
 use Rattle.textarea_text.specs.Replaced.{replaced}
 use Rattle.textarea_wrap.specs.RowsView.{RowsView}
 use Rattle.textarea_map.specs.declared.layout.Wrapping.{Wrapping}
@@ -21,11 +22,6 @@ row_total (rows ∷ rest) = length rows.ranges + row_total rest
 abbrev pub IsRowCount : Wrapping → List (List ℕ) → ℕ → Type 0
 IsRowCount wrapping lines count = (rows : List RowsView) × AreRowsOf wrapping lines rows × (count ≡ row_total rows)
 
--- the number of the first visual row of each line, where the first line begins at this one
-abbrev pub firsts_from : ℕ → List RowsView → List ℕ
-firsts_from first [] = []
-firsts_from first (rows ∷ rest) = first ∷ firsts_from (first + length rows.ranges) rest
-
 -- the byte ranges of a line's rows; none where there is no such line
 abbrev pub ranges_at : List RowsView → ℕ → List (ℕ × ℕ)
 ranges_at rows line = get_or (map (λ (r : RowsView). r.ranges) rows) line []
@@ -46,16 +42,8 @@ size_total (rows ∷ rest) = line_bytes rows.ranges + 1 + size_total rest
 -- The lines that have these rows are within the limit: at most 2^48 bytes and lines together, and no more rows than that. Right
 -- rows are never more than bytes and lines together (`laws::few_rows`), so of them the first says the second.
 pub record IsWithinLimit (rows : List RowsView) : Type 0 where
-  pub size : size_total rows ≤ 2 ^ 48
-  pub few : row_total rows ≤ 2 ^ 48
-
--- What each map keeps: its lines are numbered by the visual rows before them, their rows and their size are known, and they are
--- within the limit, so that no sum of rows leaves a machine word.
-pub record IsNumbered (rows : List RowsView) (firsts : List ℕ) (total size : ℕ) : Type 0 where
-  pub numbers : firsts ≡ firsts_from 0 rows
-  pub all : total ≡ row_total rows
-  pub size_is : size ≡ size_total rows
-  pub limit : IsWithinLimit rows
+  pub size : size_total rows ≤ size_limit
+  pub few : row_total rows ≤ size_limit
 
 -- all rows after a preparation has taken its place among these
 abbrev pub rows_with : List RowsView → PreparedRows → List RowsView

@@ -1,5 +1,6 @@
 //! The display columns of the characters of one row.
-ghost use Rattle.std.specs.Prelude.{◌≡◌, ◌-◌, ◌<◌, ◌^◌, chars, length, if◌then◌else◌};
+ghost use Rattle.std.specs.Prelude.{◌≡◌, ◌-◌, ◌<◌, chars, length, if◌then◌else◌};
+ghost use Rattle.textarea_size.specs.Limit.{size_limit};
 ghost use Rattle.textarea_wrap.specs.Columns.{display_end_column};
 ghost use Rattle.textarea_map.specs.Rows.{column_at};
 ghost use Rattle.textarea_map.specs.Seen.{LeadsTo};
@@ -9,7 +10,7 @@ use textarea_wrap::wrap::columns::{display_column_behind, display_column_behind_
 
 /// The display column at which the last character of a row begins; 0 for an empty row.
 pub fn last_character_column(text: &str, tab_len: u8) -> usize
-    requires { length text.now < 2 ^ 48 }
+    requires { length text.now < size_limit }
     ensures { result ≡ column_at tab_len (chars text.now) (length (chars text.now) - 1) }
 {
     let last = column_count(text).saturating_sub(1);
@@ -19,7 +20,7 @@ pub fn last_character_column(text: &str, tab_len: u8) -> usize
 /// The greatest display column of a row at which a cursor can stand: the row's width in its line's last row, else the display
 /// column of its last character.
 pub fn greatest_cursor_column(text: &str, is_last: bool, tab_len: u8) -> usize
-    requires { length text.now < 2 ^ 48 }
+    requires { length text.now < size_limit }
     ensures { result ≡ (if is_last then display_end_column tab_len 0 (chars text.now)
         else column_at tab_len (chars text.now) (length (chars text.now) - 1)) }
 {
@@ -33,7 +34,7 @@ pub fn greatest_cursor_column(text: &str, is_last: bool, tab_len: u8) -> usize
 /// How many characters of a row stand before the place that a display column leads back to: the first place at that column, else
 /// the character that covers it, else the row's end.
 pub fn character_at_column(text: &str, column: usize, tab_len: u8) -> usize
-    requires { length text.now < 2 ^ 48 }
+    requires { length text.now < size_limit }
     ensures { LeadsTo tab_len (chars text.now) column result }
 {
     let mut index = 0;

@@ -1,5 +1,6 @@
 //! The rows of several lines.
-ghost use Rattle.std.specs.Prelude.{◌≡◌, ◌+◌, ◌≤◌, ◌++◌, ◌^◌, ℕ, List, length, min, IfOk, OnOk};
+ghost use Rattle.std.specs.Prelude.{◌≡◌, ◌+◌, ◌≤◌, ◌++◌, ℕ, List, length, min, IfOk, OnOk};
+ghost use Rattle.textarea_size.specs.Limit.{size_limit};
 ghost use Rattle.textarea_text.specs.Size.{size_of};
 ghost use Rattle.textarea_text.specs.Text.{lines_of};
 ghost use Rattle.textarea_map.specs.Layout.{AreRowsOf, ticks_behind, ticks_of};
@@ -103,7 +104,7 @@ fn line_bytes(ranges: &[(usize, usize)]) -> usize
 /// are out of memory.
 pub fn rows_in(alloc: Global, lines: &[String], wrapping: Wrapping) -> Result<usize, AllocError>
     ensures rows { IfOk result (IsRowCount wrapping (lines_of lines.now)) }
-    ensures limit { OnOk result (size_of lines.now ≤ 2 ^ 48) }
+    ensures limit { OnOk result (size_of lines.now ≤ size_limit) }
 {
     size_within_limit(lines)?;
     let Wrapping {

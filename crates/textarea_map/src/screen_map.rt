@@ -1,37 +1,42 @@
-//! The rows of each line of a text, kept line by line with the number of the line's first visual row. Visual rows are counted
-//! from 0 over all lines.
-ghost use Rattle.std.specs.Prelude.{◌≡◌, ◌+◌, ◌<◌, ◌≤◌, ◌^◌, ◌↔◌, ℕ, List, length, take, drop, vec_len, vec_capacity, IfOk, IsOk, OnOk};
+//! The rows of each line of a text, kept line by line, with the number of the first visual row of each stretch of lines. Visual
+//! rows are counted from 0 over all lines.
+ghost use Rattle.std.specs.Prelude.{◌≡◌, ◌+◌, ◌<◌, ◌≤◌, ◌↔◌, ℕ, List, length, take, drop, vec_len, vec_capacity, IfOk, IsOk, OnOk};
+ghost use Rattle.textarea_size.specs.Limit.{size_limit};
 ghost use Rattle.textarea_text.specs.Replaced.{replaced};
 ghost use Rattle.textarea_text.specs.Size.{size_of};
 ghost use Rattle.textarea_text.specs.Text.{lines_of};
 ghost use Rattle.textarea_wrap.specs.declared.wrap.WrapMode.TheVariants as mode;
 ghost use Rattle.textarea_map.specs.Layout.{AreRowsOf, ticks_behind, ticks_of, with_tab_len};
-ghost use Rattle.textarea_map.specs.Map.{IsReady, IsWithinLimit, firsts_from, ranges_at, row_total, rows_with, size_total};
+ghost use Rattle.textarea_map.specs.Map.{IsReady, IsWithinLimit, ranges_at, row_total, rows_with, size_total};
 
 use crate::layout::{Wrapping, count_rows, rows_of, size_of_rows};
 pub use look_up::RowText;
+use marks::{Exchanged, STRETCH, marks_of, rows_before, stretch_of_row, turn_marks};
 use std::alloc::{AllocError, Global};
 use std::marker::Model;
+use textarea_size::limit::within_limit;
 use textarea_text::replace::replace_items;
-use textarea_text::rows::within_limit;
 use textarea_wrap::wrap::{Rows, WrapCount};
 
 mod look_up;
+mod marks;
 
 /// The rows of all lines. They change in two steps: `prepare`, which may find no memory and leaves them as they are, and
 /// `replace`, which takes no memory and wraps nothing.
 #[derive(Drop)]
 pub struct ScreenMap {
     rows: Vec<Rows>,
-    firsts: Vec<usize>,
+    marks: Vec<usize>,
     total: usize,
     size: usize,
     wrapping: Wrapping,
 }
 
 impl Model for ScreenMap {
-    ghost use Rattle.std.specs.Prelude.{◌-◌, min, vec_len, vec_capacity};
-    ghost use Rattle.textarea_map.specs.Map.{MapView, IsNumbered};
+    ghost use Rattle.std.specs.Prelude.{◌-◌, ◌*◌, min, vec_len, vec_capacity};
+    ghost use Rattle.textarea_map.specs.declared.screen_map.marks.TheConstants.{STRETCH};
+    ghost use Rattle.textarea_map.specs.Map.{MapView};
+    ghost use Rattle.textarea_map.specs.Marks.{IsCounted};
 
     ghost Value = { MapView };
 
@@ -40,10 +45,10 @@ impl Model for ScreenMap {
       wrapping = map.wrapping;
       room = min
           (vec_capacity map.rows - vec_len map.rows)
-          (vec_capacity map.firsts - vec_len map.firsts);
+          ((vec_capacity map.marks - vec_len map.marks) * STRETCH);
     } };
 
-    ghost invariant = { λ map. IsNumbered map.rows.items map.firsts.items map.total map.size };
+    ghost invariant = { λ map. IsCounted map.rows.items map.marks.items map.total map.size };
 }
 
 /// Rows that are to take the place of those of the `count` lines from `row` on, how many they are in all, the bytes and the
@@ -65,7 +70,7 @@ impl Clone for ScreenMap {
     fn clone(&self) -> Result<ScreenMap, AllocError> {
         Ok(ScreenMap {
             rows: self.rows.clone()?,
-            firsts: self.firsts.clone()?,
+            marks: self.marks.clone()?,
             total: self.total,
             size: self.size,
             wrapping: self.wrapping,
@@ -87,18 +92,29 @@ impl ScreenMap {
             ticks_of map.rows ≡ ticks_behind counter.old (length lines.now)) }
         ensures counted { OnOk result (counter.new ≡ counter.old + length lines.now) }
         ensures never_less { counter.old ≤ counter.new }
-        ensures limit { OnOk result (size_of lines.now ≤ 2 ^ 48) }
+        ensures limit { OnOk result (size_of lines.now ≤ size_limit) }
     {
-        let mut map = ScreenMap {
-            rows: Vec::new(alloc),
-            firsts: Vec::new(alloc),
-            total: 0,
-            size: 0,
+        let rows = rows_of(alloc, lines, wrapping, counter)?;
+        ScreenMap::of_rows(alloc, rows, wrapping)
+    }
+
+    // The map that holds these rows, which are cut so. More than 2^48 bytes and lines together are out of memory.
+    fn of_rows(alloc: Global, rows: Vec<Rows>, wrapping: Wrapping) -> Result<ScreenMap, AllocError>
+        ensures rows { IfOk result (λ map. map.rows ≡ rows.items) }
+        ensures wrapping { IfOk result (λ map. map.wrapping ≡ wrapping) }
+        ensures limit { OnOk result (IsWithinLimit rows.items) }
+    {
+        let (total, size) = (count_rows(rows.as_slice()), size_of_rows(rows.as_slice()));
+        within_limit(size)?;
+        within_limit(total)?;
+        let marks = marks_of(alloc, rows.as_slice())?;
+        Ok(ScreenMap {
+            rows,
+            marks,
+            total,
+            size,
             wrapping,
-        };
-        let prepared = map.prepare(alloc, 0, 0, lines, wrapping, counter)?;
-        map.replace(prepared);
-        Ok(map)
+        })
     }
 
     /// Cuts the lines that are to take the place of the `count` lines from `row` on, each once, and makes room for their rows.
@@ -151,7 +167,7 @@ impl ScreenMap {
         let (total, size) = self.within_limit_with(row, count, rows.as_slice())?;
         let more = rows.len().saturating_sub(count);
         self.rows.reserve(more)?;
-        self.firsts.reserve(more)?;
+        self.marks.reserve(more.div_ceil(STRETCH))?;
         Ok(PreparedRows {
             row,
             count,
@@ -182,8 +198,8 @@ impl ScreenMap {
         Ok((total, size))
     }
 
-    /// Has the rows take their place, without memory; no line is cut. Where lines and rows stay as many as they were, no other line is
-    /// touched; otherwise the lines behind are numbered anew.
+    /// Has the rows take their place, without memory; no line is cut. Where lines and rows stay as many as they were, nothing else
+    /// is touched; otherwise the marks behind are turned.
     pub fn replace(&mut self, prepared: PreparedRows)
         requires { IsReady self.old prepared }
         ensures rows { self.new.rows ≡ rows_with self.old.rows prepared }
@@ -197,20 +213,20 @@ impl ScreenMap {
             size,
             wrapping,
         } = prepared;
-        let len = rows.len();
-        let first = self.first_row(row);
-        let old = self.first_row(row + count) - first;
-        let old_size = size_of_rows(&self.rows.as_slice()[row..row + count]);
+        let going = &self.rows.as_slice()[row..row + count];
+        let (old, old_size) = (count_rows(going), size_of_rows(going));
+        let exchanged = Exchanged {
+            line: row,
+            lines_gone: count,
+            lines_come: rows.len(),
+            rows_gone: old,
+            rows_come: total,
+        };
         replace_items(&mut self.rows, row, count, rows);
         self.total = self.total - old + total;
         self.size = self.size - old_size + size;
         self.wrapping = wrapping;
-        let lines = self.rows.as_slice();
-        if len == count && old == total {
-            number(self.firsts.as_mut_slice(), lines, row, row + len, first);
-        } else {
-            number_from(&mut self.firsts, lines, row, first);
-        }
+        turn_marks(&mut self.marks, self.rows.as_slice(), exchanged);
     }
 
     /// Sets the columns between tab stops, where lines aren't wrapped: no line is cut, since the rows of lines that aren't
@@ -244,11 +260,7 @@ impl ScreenMap {
         requires { line ≤ length self.now.rows }
         ensures { result ≡ row_total (take line self.now.rows) }
     {
-        if line < self.firsts.len() {
-            self.firsts[line]
-        } else {
-            self.total
-        }
+        rows_before(self.marks.as_slice(), self.rows.as_slice(), line)
     }
 
     // The line of the visual row, and the row's number among the rows of that line.
@@ -258,17 +270,14 @@ impl ScreenMap {
         ensures row { row_total (take result.0 self.now.rows) + result.1 ≡ row }
         ensures inside { row < row_total (take (result.0 + 1) self.now.rows) }
     {
-        let mut low = 0;
-        let mut high = self.firsts.len();
-        'halving: while 1 < high - low {
-            let middle = low + (high - low) / 2;
-            if self.firsts[middle] <= row {
-                low = middle;
-            } else {
-                high = middle;
-            }
+        let stretch = stretch_of_row(self.marks.as_slice(), row);
+        let mut line = stretch * STRETCH;
+        let mut left = row - self.marks[stretch];
+        'walking: while self.rows[line].as_slice().len() <= left {
+            left -= self.rows[line].as_slice().len();
+            line += 1;
         }
-        (low, row - self.firsts[low])
+        (line, left)
     }
 
     // For each row of the line the offset in bytes of its first byte, and the offset behind its last one.
@@ -277,37 +286,5 @@ impl ScreenMap {
         ensures { result.now ≡ ranges_at self.now.rows line }
     {
         self.rows[line].as_slice()
-    }
-}
-
-// Numbers all lines from `from` on, however many lines had numbers before. There is room for them.
-fn number_from(firsts: &mut Vec<usize>, rows: &[Rows], from: usize, first: usize)
-    requires room { length rows.now ≤ vec_capacity firsts.old }
-    requires within { from ≤ length rows.now }
-    requires before { from ≤ vec_len firsts.old }
-    requires first { first ≡ row_total (take from rows.now) }
-    requires small { row_total rows.now ≤ 2 ^ 48 }
-    requires above { take from firsts.old.items ≡ take from (firsts_from 0 rows.now) }
-    ensures { firsts.new.items ≡ firsts_from 0 rows.now }
-{
-    let _ = firsts.resize(rows.len(), 0);
-    number(firsts.as_mut_slice(), rows, from, rows.len(), first);
-}
-
-// Numbers the lines from `from` up to `to` by the rows before them, where the others have their numbers.
-fn number(firsts: &mut [usize], rows: &[Rows], from: usize, to: usize, first: usize)
-    requires ordered { from ≤ to }
-    requires within { to ≤ length rows.now }
-    requires len { length firsts.old ≡ length rows.now }
-    requires first { first ≡ row_total (take from rows.now) }
-    requires small { row_total rows.now ≤ 2 ^ 48 }
-    requires above { take from firsts.old ≡ take from (firsts_from 0 rows.now) }
-    requires below { drop to firsts.old ≡ drop to (firsts_from 0 rows.now) }
-    ensures { firsts.new ≡ firsts_from 0 rows.now }
-{
-    let mut at = first;
-    for i in from..to {
-        firsts[i] = at;
-        at += rows[i].as_slice().len();
     }
 }

@@ -6,7 +6,7 @@ ghost use Rattle.textarea_text.specs.Place.{IsPlaceOf, index_of};
 ghost use Rattle.textarea_pieces.specs.Part.{part};
 
 use std::alloc::{AllocError, Global};
-use textarea_text::rows::byte_offset;
+use textarea_text::rows::{byte_offset, byte_offset_from};
 
 /// The text between two places as pieces: one for each row that it touches.
 pub fn between(
@@ -27,8 +27,7 @@ pub fn between(
         pieces.push(text_behind(alloc, line.as_str(), start)?)?;
         start = 0;
     }
-    let last = text_before(lines[to.0].as_str(), to.1);
-    pieces.push(text_behind(alloc, last, start)?)?;
+    pieces.push(text_between(alloc, lines[to.0].as_str(), start, to.1)?)?;
     Ok(pieces)
 }
 
@@ -46,4 +45,16 @@ fn text_behind(alloc: Global, line: &str, column: usize) -> Result<String, Alloc
     ensures { IfOk result (λ s. chars (string_bytes s) ≡ drop column (chars line.now)) }
 {
     String::from_str(alloc, &line[byte_offset(line, column)..])
+}
+
+// What stands between two columns of a line, as a text of its own.
+fn text_between(alloc: Global, line: &str, start: usize, end: usize) -> Result<String, AllocError>
+    requires start { start ≤ end }
+    requires end { end ≤ length (chars line.now) }
+    ensures { IfOk result (λ s.
+        chars (string_bytes s) ≡ drop start (take end (chars line.now))) }
+{
+    let from = byte_offset(line, start);
+    let to = byte_offset_from(line, (start, from), end);
+    String::from_str(alloc, &line[from..to])
 }

@@ -1,5 +1,6 @@
 -- Where atomic ranges go with the text that they stand in.
-use Rattle.std.specs.Prelude.{◌≡◌, ℕ, ◌≤◌, ◌^◌, ◌-◌, Bool, true, false, List, filter_map, take, drop, Option, Some, None, if◌then◌else◌}
+use Rattle.std.specs.Prelude.{◌≡◌, ℕ, ◌≤◌, ◌-◌, Bool, true, false, List, filter_map, take, drop, Option, Some, None, if◌then◌else◌}
+use Rattle.textarea_size.specs.Limit.{size_limit}
 use Rattle.textarea_text.specs.Text.{Symbol, lines}
 use Rattle.textarea_text.specs.Place.{Place, end, line_of}
 use Rattle.textarea_text.specs.Splice.{Splice, place_after, place_before}
@@ -35,8 +36,8 @@ moved_ranges ranges splice = filter_map (moved_range splice) ranges
 -- the range starts by its end, and its row and columns are those of a text, which are at most 2^48
 pub record IsMovable (range : AtomicRange) : Type 0 where
   pub ordered : range.start_col ≤ range.end_col
-  pub row : range.row ≤ 2 ^ 48
-  pub column : range.end_col ≤ 2 ^ 48
+  pub row : range.row ≤ size_limit
+  pub column : range.end_col ≤ size_limit
 
 -- ---- what holds of the ranges that are left, and of those that are dropped
 

@@ -1,5 +1,6 @@
 //! Ranges that go with the text that they stand in.
-ghost use Rattle.std.specs.Prelude.{◌≡◌, ◌≤◌, ◌^◌, All, filter_map, length, take};
+ghost use Rattle.std.specs.Prelude.{◌≡◌, ◌≤◌, All, filter_map, length, take};
+ghost use Rattle.textarea_size.specs.Limit.{size_limit};
 ghost use Rattle.textarea_ranges.specs.Moved.{IsMovable, moved_by};
 
 use crate::atomic::AtomicRange;
@@ -15,7 +16,7 @@ pub fn move_ranges(
     new: (usize, usize),
 )
     requires movable { All IsMovable ranges.old.items }
-    requires small { (new.0 ≤ 2 ^ 48) × (new.1 ≤ 2 ^ 48) }
+    requires small { (new.0 ≤ size_limit) × (new.1 ≤ size_limit) }
     ensures { ranges.new.items ≡ filter_map (moved_by start old new) ranges.old.items }
 {
     let kept = close_up(ranges.as_mut_slice(), start, old, new);
@@ -30,7 +31,7 @@ fn close_up(
     new: (usize, usize),
 ) -> usize
     requires movable { All IsMovable ranges.old }
-    requires small { (new.0 ≤ 2 ^ 48) × (new.1 ≤ 2 ^ 48) }
+    requires small { (new.0 ≤ size_limit) × (new.1 ≤ size_limit) }
     ensures within { result ≤ length ranges.old }
     ensures kept { take result ranges.new ≡ filter_map (moved_by start old new) ranges.old }
 {
@@ -52,7 +53,7 @@ fn moved(
     new: (usize, usize),
 ) -> Option<AtomicRange>
     requires movable { IsMovable range }
-    requires small { (new.0 ≤ 2 ^ 48) × (new.1 ≤ 2 ^ 48) }
+    requires small { (new.0 ≤ size_limit) × (new.1 ≤ size_limit) }
     ensures { result ≡ moved_by start old new range }
 {
     let first = (range.row, range.start_col);

@@ -1,5 +1,6 @@
 //! The test of a list of ranges against some lines.
-ghost use Rattle.std.specs.Prelude.{◌≡◌, ◌++◌, None, IfOk, MatchResult, OnOk};
+ghost use Rattle.std.specs.Prelude.{◌≡◌, ◌++◌, length, None, IfOk, MatchResult, OnOk};
+ghost use Rattle.textarea_text.specs.Place.{line_of};
 ghost use Rattle.textarea_text.specs.Text.{lines_of};
 ghost use Rattle.textarea_ranges.specs.Rejected.{AreAccepted, AreRefused, free_from, last_valid, reason, rejected_of, with_reason};
 
@@ -29,7 +30,14 @@ pub fn validate(
     }
 }
 
-// The rejected ranges of those that are in order.
+// A row, and how many characters its line has: 0 where there is no such row.
+#[derive(Clone, Copy)]
+struct Counted {
+    row: usize,
+    columns: usize,
+}
+
+// The rejected ranges of those that are in order. The ranges of a row stand together, so its line is counted once.
 fn rejected_of(
     alloc: Global,
     ranges: &[AtomicRange],
@@ -40,25 +48,50 @@ fn rejected_of(
 {
     let mut rejected = Vec::new(alloc);
     let mut last = None;
+    // The row behind the last one.
+    let mut counted = Counted {
+        row: lines.len(),
+        columns: 0,
+    };
     for range in ranges {
-        last = judge(&mut rejected, last, *range, lines)?;
+        counted = counted_row(lines, counted, range.row);
+        last = judge(&mut rejected, last, *range, lines, counted.columns)?;
     }
     Ok(rejected)
 }
 
-// Lists the range where it is rejected. Gives the last valid range after it: this one, where it is not.
+// The row with its columns. Its line is counted where that isn't known yet.
+fn counted_row(lines: &[String], known: Counted, row: usize) -> Counted
+    requires { known.columns ≡ length (line_of (lines_of lines.now) known.row) }
+    ensures row { result.row ≡ row }
+    ensures columns { result.columns ≡ length (line_of (lines_of lines.now) result.row) }
+{
+    if known.row == row {
+        return known;
+    }
+    let columns = match lines.get(row) {
+        Some(line) => column_count(line.as_str()),
+        None => 0,
+    };
+    Counted { row, columns }
+}
+
+// Lists the range, whose line has so many columns, where it is rejected. Gives the last valid range after it: this one, where it
+// is not.
 fn judge(
     rejected: &mut Vec<RejectedAtomicRange>,
     last: Option<AtomicRange>,
     range: AtomicRange,
     lines: &[String],
+    columns: usize,
 ) -> Result<Option<AtomicRange>, AllocError>
+    requires { columns ≡ length (line_of (lines_of lines.now) range.row) }
     ensures last { IfOk result (λ after.
         after ≡ last_valid last range (reason (lines_of lines.now) last range)) }
     ensures listed { OnOk result (rejected.new.items
         ≡ rejected.old.items ++ with_reason range (reason (lines_of lines.now) last range)) }
 {
-    match reason(lines, last, range) {
+    match reason(lines, columns, last, range) {
         Some(reason) => {
             rejected.push(RejectedAtomicRange { range, reason })?;
             Ok(last)
@@ -67,12 +100,14 @@ fn judge(
     }
 }
 
-// Why the range is rejected behind the last valid one.
+// Why the range, whose line has so many columns, is rejected behind the last valid one.
 fn reason(
     lines: &[String],
+    columns: usize,
     last: Option<AtomicRange>,
     range: AtomicRange,
 ) -> Option<AtomicRangeRejectReason>
+    requires { columns ≡ length (line_of (lines_of lines.now) range.row) }
     ensures { result ≡ reason (lines_of lines.now) last range }
 {
     if range.start_col == range.end_col {
@@ -81,7 +116,7 @@ fn reason(
     if lines.len() <= range.row {
         return Some(AtomicRangeRejectReason::RowOutOfBounds);
     }
-    if range.end_col < range.start_col || column_count(lines[range.row].as_str()) < range.end_col {
+    if range.end_col < range.start_col || columns < range.end_col {
         return Some(AtomicRangeRejectReason::ColumnOutOfBounds);
     }
     if range.start_col < free_from(last, range.row) {

@@ -380,3 +380,26 @@ fn a_width_is_prepared_and_put_in(rt: HostRuntime) -> Result<(), Fail> {
     expect_rows(&rt, &laid.view_with(&prepared), &["ab", "cd", "ef", "gh"]);
     Ok(())
 }
+
+#[test]
+fn rows_that_were_measured_are_put_in(rt: HostRuntime) -> Result<(), Fail> {
+    let alloc = rt.alloc();
+    let settings = LayoutSettings {
+        mode: WrapMode::Glyph,
+        tab_len: 4,
+        line_numbers: false,
+        inner_width: 0,
+    };
+    let mut laid = LaidOutLines::new(alloc, strings(alloc, &["abcdef", "gh"])?, settings)?;
+    expect_rows_at(&rt, &mut laid, 4, 3)?;
+    set_width(&rt, &mut laid, 4, &["abc", "def", "gh"])?;
+    // Another width than the one that was measured.
+    expect_rows_at(&rt, &mut laid, 3, 4)?;
+    set_width(&rt, &mut laid, 5, &["abcd", "ef", "gh"])?;
+    expect_rows_at(&rt, &mut laid, 3, 4)?;
+    // Another text than the one that was measured.
+    let place = place_of(&rt, &laid, (0, 1));
+    insert_break(&mut laid, place)?;
+    set_width(&rt, &mut laid, 3, &["a", "bc", "de", "f", "gh"])?;
+    Ok(())
+}

@@ -21,7 +21,7 @@ use textarea_highlight::highlight::CursorCellRender;
 use textarea_lines::view::LaidOutView;
 use textarea_look::look::{CursorRenderMode, CustomHighlight, Look};
 use textarea_paint::paint::row::{RowArea, draw_row, row_start};
-use textarea_screen::screen::{Alignment, Buffer, Rect};
+use textarea_screen::screen::{Alignment, Buffer, Line, Rect, Style};
 use textarea_search::search::Search;
 
 /// What a frame is drawn from, lent.
@@ -73,6 +73,11 @@ impl<'a> Scene<'a> {
     {
         let frame = Frame::new(self);
         let mut matches = FoundMatches::new(alloc, self.search, self.rows.lines())?;
+        let mut highlighter = frame.highlighter(alloc);
+        let mut line = Line {
+            spans: Vec::new(alloc),
+            style: Style::new(),
+        };
         let room = rows_above_end(rows.area, buffer.area());
         let count = self
             .rows
@@ -80,7 +85,7 @@ impl<'a> Scene<'a> {
             .saturating_sub(top)
             .min(usize::from(room));
         for i in 0..count {
-            let line = frame.line(alloc, top + i, &mut matches)?;
+            frame.show_in(&mut line, top + i, &mut matches, &mut highlighter)?;
             draw_row(buffer, rows, rows.area.y() + i as u16, &line)?;
         }
         Ok(())
@@ -119,7 +124,12 @@ impl<'a> Scene<'a> {
     {
         let frame = Frame::new(self);
         let mut matches = FoundMatches::new(alloc, self.search, self.rows.lines())?;
-        let line = frame.line(alloc, row, &mut matches)?;
+        let mut highlighter = frame.highlighter(alloc);
+        let mut line = Line {
+            spans: Vec::new(alloc),
+            style: Style::new(),
+        };
+        frame.show_in(&mut line, row, &mut matches, &mut highlighter)?;
         Ok(row_start(rows, &line))
     }
 }

@@ -89,6 +89,24 @@ fn ranks_of_one_row(rt: HostRuntime) -> Result<(), Fail> {
 }
 
 #[test]
+fn one_row_behind_another(rt: HostRuntime) -> Result<(), Fail> {
+    let mut rows = highlighter(rt.alloc(), "abcdef");
+    let mut line = Line {
+        spans: Vec::new(rt.alloc()),
+        style: shade(CUSTOM),
+    };
+    rows.custom(0, ((0, 1), (0, 3)), shade(CUSTOM), 5)?;
+    rows.show_in(&mut line)?;
+    let wanted = [("a", PLAIN), ("bc", CUSTOM), ("def", PLAIN)];
+    assert!(rt; shows(&line, &wanted) && line.style == Style::new());
+    rows.restart("xyz", CursorCellRender::Hidden, 4, None, shade(SELECTION));
+    rows.selection_segment(2, 3, true)?;
+    rows.show_in(&mut line)?;
+    assert!(rt; shows(&line, &[("xy", PLAIN), ("z", SELECTION), (" ", SELECTION)]));
+    Ok(())
+}
+
+#[test]
 fn selections(rt: HostRuntime) -> Result<(), Fail> {
     let mut row = highlighter(rt.alloc(), "abc");
     row.cursor_line(1, shade(LINE))?;

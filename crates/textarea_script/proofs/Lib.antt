@@ -1,6 +1,7 @@
 mod Worked
 pub mod Cuts
 pub mod Escapes
+pub mod Fronts
 pub mod Going
 pub mod Lines
 pub mod Numbers

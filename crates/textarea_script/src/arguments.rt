@@ -329,13 +329,15 @@ pub fn unescape(alloc: Global, text: &str) -> Result<String, Unread>
 {
     let mut plain = String::new(alloc);
     let mut rest = text;
-    while !rest.is_empty() {
-        let Some((c, behind)) = first_character(rest) else {
+    while let Some((front, escaped)) = rest.split_once('\\') {
+        let Some((c, behind)) = escaped_character(escaped) else {
             return Err(Unread::NoCommand);
         };
+        plain.push_str(front)?;
         plain.push(c)?;
         rest = behind;
     }
+    plain.push_str(rest)?;
     Ok(plain)
 }
 
@@ -363,16 +365,18 @@ fn first_line(alloc: Global, text: &str) -> Result<(String, Option<&str>), Unrea
 {
     let mut line = String::new(alloc);
     let mut rest = text;
-    while !rest.is_empty() {
-        if let Some(behind) = rest.strip_prefix("\\n") {
+    while let Some((front, escaped)) = rest.split_once('\\') {
+        line.push_str(front)?;
+        if let Some(behind) = escaped.strip_prefix('n') {
             return Ok((line, Some(behind)));
         }
-        let Some((c, behind)) = first_character(rest) else {
+        let Some((c, behind)) = escaped_character(escaped) else {
             return Err(Unread::NoCommand);
         };
         line.push(c)?;
         rest = behind;
     }
+    line.push_str(rest)?;
     Ok((line, None))
 }
 

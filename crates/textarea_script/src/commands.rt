@@ -112,7 +112,7 @@ pub fn calls(alloc: Global, commands: &[Command]) -> Result<Vec<Call<'_>>, Alloc
     ensures each { IfOk result (λ calls.
         AreCallsOf (map (λ command. command.content) commands.now) calls.items) }
 {
-    let mut calls = Vec::new(alloc);
+    let mut calls = Vec::with_capacity(alloc, commands.len())?;
     for command in commands {
         calls.push(command.call())?;
     }

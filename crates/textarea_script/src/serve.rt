@@ -1,10 +1,10 @@
 // The whole work of `tascript`, over any reader and two writers.
-ghost use Rattle.std.specs.Prelude.{◌≡◌, ◌≤◌, ◌<◌, ◌≢◌, All, IfErr};
-ghost use Rattle.textarea_script.specs.Calls.{CanBeMade};
+ghost use Rattle.std.specs.Prelude.{◌≡◌, ◌≤◌, ◌<◌, ◌≢◌, IfErr};
 
+use crate::answer::Answer;
 use crate::call::Call;
 use crate::commands;
-use crate::commands::ReadError;
+use crate::commands::{Command, ReadError};
 use crate::printing::{Report, Screen};
 use crate::run::run;
 use std::alloc::{AllocError, Global};
@@ -94,49 +94,79 @@ fn run_script<R: Read, W: Write>(
 ) -> Result<(), Failure>
     ensures { IfErr result (λ failure. failure ≢ Failure.Stream → output.new ≡ output.old) }
 {
-    let mut script = Vec::new(alloc);
-    if reader.read_to_end(&mut script).is_err() {
-        return Err(Failure::Stream);
-    }
-    let text = printed_of(alloc, script.as_slice())?;
+    let commands = read_script(alloc, reader)?;
+    let text = printed_of(alloc, commands)?;
     if output.write_all(text.as_bytes()).is_err() || output.flush().is_err() {
         return Err(Failure::Stream);
     }
     Ok(())
 }
 
-// What is printed of a script.
-fn printed_of(alloc: Global, script: &[u8]) -> Result<String, Failure> {
-    let commands = commands::read(alloc, script)?;
-    let calls = commands::calls(alloc, commands.as_slice())?;
-    let mut area = TextArea::try_default(alloc)?;
-    printed_behind(alloc, &mut area, calls.as_slice())
+// The commands of a script, which itself is let go.
+fn read_script<R: Read>(alloc: Global, reader: &mut R) -> Result<Vec<Command>, Failure> {
+    let mut script = Vec::new(alloc);
+    if reader.read_to_end(&mut script).is_err() {
+        return Err(Failure::Stream);
+    }
+    Ok(commands::read(alloc, script.as_slice())?)
 }
 
-// What is printed of a run of calls.
+// What is printed of a script of these commands.
+fn printed_of(alloc: Global, commands: Vec<Command>) -> Result<String, Failure> {
+    let mut area = TextArea::try_default(alloc)?;
+    printed_behind(alloc, &mut area, commands)
+}
+
+// What is printed of a run of the commands' calls.
 fn printed_behind(
     alloc: Global,
     area: &mut TextArea<'_>,
-    calls: &[Call<'_>],
-) -> Result<String, Failure>
-    requires { All CanBeMade calls.now }
-{
+    commands: Vec<Command>,
+) -> Result<String, Failure> {
     let mut buffer = Buffer::empty(alloc, Rect::new(0, 0, COLUMNS, ROWS))?;
-    let end = run(area, calls, &mut buffer);
-    if end.refused.is_some() {
-        return Err(Failure::Memory);
-    }
-    let answers = end.answers.as_slice();
-    let screen = last_drawn(calls).map(|area| Screen {
-        buffer: &buffer,
-        area,
-    });
+    let ran = run_commands(alloc, area, commands, &mut buffer)?;
+    printed_end(alloc, area, &buffer, &ran)
+}
+
+// What a run leaves beside the text area: the calls' answers, and the area that was drawn last, if one was.
+#[derive(Drop)]
+struct Ran {
+    answers: Vec<Answer>,
+    drawn: Option<Rect>,
+}
+
+// What is printed of a run that left this.
+fn printed_end(
+    alloc: Global,
+    area: &TextArea<'_>,
+    buffer: &Buffer,
+    ran: &Ran,
+) -> Result<String, Failure> {
+    let screen = ran.drawn.map(|area| Screen { buffer, area });
     let report = Report {
-        answers,
+        answers: ran.answers.as_slice(),
         area,
         screen,
     };
     Ok(report.to_string(alloc)?)
+}
+
+// Makes the calls of the commands, which are let go before anything is printed.
+fn run_commands(
+    alloc: Global,
+    area: &mut TextArea<'_>,
+    commands: Vec<Command>,
+    buffer: &mut Buffer,
+) -> Result<Ran, Failure> {
+    let calls = commands::calls(alloc, commands.as_slice())?;
+    let end = run(area, calls.as_slice(), buffer);
+    if end.refused.is_some() {
+        return Err(Failure::Memory);
+    }
+    Ok(Ran {
+        answers: end.answers,
+        drawn: last_drawn(calls.as_slice()),
+    })
 }
 
 // The area that the last of the calls that draw drew into, if one of them does.

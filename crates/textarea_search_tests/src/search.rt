@@ -74,6 +74,19 @@ fn expect_places(
 }
 
 #[test]
+fn line_after_line(rt: HostRuntime) -> Result<(), Fail> {
+    let search = search_for(&rt, "fo+");
+    let mut spans = Vec::new(rt.alloc());
+    if let Some(mut matcher) = search.line_matcher()? {
+        matcher.spans_into("foo bar fo", &mut spans)?;
+        assert!(rt; spans.as_slice() == [(0, 3), (8, 10)].as_slice());
+        matcher.spans_into("a fo", &mut spans)?;
+    }
+    assert!(rt; spans.as_slice() == [(2, 4)].as_slice());
+    Ok(())
+}
+
+#[test]
 fn from_start_to_start(rt: HostRuntime) -> Result<(), Fail> {
     expect_places(
         &rt,

@@ -1,10 +1,12 @@
 -- One line of some lines, of which a part gives place to a text.
-use Rattle.std.proofs.Common.{◌≡◌, ℕ, ◌≤◌, List, [], ◌∷◌, ◌++◌, length, take, drop, set, sym, ap, ◌∙◌, arith, add-one, get_or, subst, encode_utf8_all, String, Result, Ok, Err}
+use Rattle.std.proofs.Common.{◌≡◌, ℕ, ◌≤◌, ◌<◌, List, [], ◌∷◌, ◌++◌, length, take, drop, set, refl, sym, ap, ◌∙◌, arith, add-one, get_or, subst, encode_utf8_all, String, string_bytes, Result, Ok, Err}
 use Rattle.std.specs.Result.{OnOk, OnErr}
 use Rattle.std.specs.Str.{chars, IsUtf8, IsCharBoundary}
-use Rattle.std.proofs.lemmas.List.{append-nil, append_assoc, set_split}
+use Rattle.std.proofs.lemmas.List.{append-nil, append_assoc, length-append, length-map, length-set, length-take-le, set_split, take_at}
+use Rattle.std.proofs.lemmas.Grind.{get_or-set_at}
 use Rattle.std.proofs.lemmas.Str.{encodes-append, encodes-chars}
 use Rattle.textarea_text.specs.Text.{characters, characters_of, joined, lines_of, text_of}
+use Rattle.textarea_text.specs.Offset.{offset_at}
 use Rattle.textarea_text.specs.Place.{Place, IsPlaceOf, changed}
 use Rattle.textarea_text.proofs.Columns.{offset_in, take_offset, drop_offset, chars_from_bytes, IsCharBoundary-column}
 use Rattle.textarea_text.proofs.Splices.{characters-append}
@@ -41,6 +43,32 @@ line_changed items line new start later more h h' read e =
     ∙ ap (λ l. characters (take start.1 l) ++ (characters more ++ characters (drop later l))) (sym here) in
     ap text_of (set_split items start.0 new within ∙ ap (λ n. take start.0 items ++ new ∷ drop n items) (sym (add-one start.0)))
     ∙ rows_in_place items (new ∷ []) start (start.0, later) start.0 1 (characters more) h h' (omega arith) (omega arith) (omega arith, is)
+
+-- the byte of a place, as `byte_offset` gives it, of the line that was read
+pub offset_read : {Z : Type 0} (items : List (String Z)) (place : Place) (line : String Z) (text : List ℕ) (offset : ℕ) → IsPlaceOf (lines_of items) place → line ≡ get_or items place.0 line → text ≡ string_bytes line → offset ≡ length (encode_utf8_all (take place.1 (chars text))) → offset ≡ offset_at (lines_of items) place
+offset_read items place line text offset h read same e =
+    e ∙ ap (λ t. offset_in (chars t) place.1) same ∙ ap (λ t. offset_in t place.1) (sym (line_at items place.0 line (row_within items place h) read))
+
+-- the byte of a place, of the line that was read
+pub offset_given : {Z : Type 0} (items : List (String Z)) (place : Place) (line : String Z) (offset : ℕ) → IsPlaceOf (lines_of items) place → line ≡ get_or items place.0 line → offset ≡ offset_at (lines_of items) place → offset ≡ offset_in (characters_of line) place.1
+offset_given items place line offset h read e =
+    e ∙ ap (λ t. offset_in t place.1) (line_at items place.0 line (row_within items place h) read)
+
+-- the place where the part began stays one, behind as many bytes
+pub place_kept : {Z : Type 0} (items : List (String Z)) (line new : String Z) (start : Place) (later : ℕ) (more : List ℕ) (offset : ℕ) → IsPlaceOf (lines_of items) start → line ≡ get_or items start.0 line → offset ≡ offset_at (lines_of items) start → characters_of new ≡ take start.1 (characters_of line) ++ (more ++ drop later (characters_of line)) → IsPlaceOf (lines_of (set items start.0 new)) start × (offset ≡ offset_at (lines_of (set items start.0 new)) start)
+place_kept items line new start later more offset h read e is =
+    let now = set items start.0 new in
+    let within = row_within items start h in
+    let within' : start.0 < length now = omega (arith, within, length-set items start.0 new) in
+    let here : get_or (lines_of now) start.0 [] ≡ characters_of new = line_at now start.0 new within' (sym (get_or-set_at items start.0 start.0 new new refl within)) in
+    let head = take start.1 (characters_of line) in
+    let rest = more ++ drop later (characters_of line) in
+    let size : length head ≡ start.1 = length-take-le start.1 (characters_of line) (column_within items start line h read) in
+    let front : take start.1 (get_or (lines_of now) start.0 []) ≡ head =
+    ap (take start.1) (here ∙ is) ∙ take_at head rest start.1 size in (
+      (omega (arith, within', length-map now characters_of), omega (arith, ap length here, ap length is, length-append head rest, size)),
+      offset_given items start line offset h read e ∙ ap (λ t. length (encode_utf8_all t)) (sym front),
+    )
 
 -- what the calls of `String` require
 pub split_point : (bs : List ℕ) (column offset : ℕ) → IsUtf8 bs → offset ≡ offset_in (chars bs) column → IsCharBoundary bs offset

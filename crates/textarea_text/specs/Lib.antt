@@ -5,3 +5,4 @@ pub mod Replaced
 pub mod Size
 pub mod Touched
 pub mod Carried
+pub mod Offset

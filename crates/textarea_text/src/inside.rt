@@ -2,28 +2,31 @@
 ghost use Rattle.std.specs.Prelude.{◌≡◌, ◌+◌, ◌^◌, ◌<◌, ◌≤◌, [], length, take, encode_utf8_all, string_bytes, string_capacity, string_len, vec_len, OnOk, OnErr};
 ghost use Rattle.std.specs.Str.{chars};
 ghost use Rattle.textarea_text.specs.Text.{characters, lines_of, text_of};
+ghost use Rattle.textarea_text.specs.Offset.{offset_at};
 ghost use Rattle.textarea_text.specs.Place.{IsPlaceOf, changed, inserted};
 
-use crate::rows::byte_offset;
 use std::alloc::AllocError;
 
-/// Puts the text into its line at the place, in place: only what stands behind the place in the line is moved, and the
-/// whole line where it has to grow. Where there is no memory for that the lines stay.
+/// Puts the text into its line at the place, which stands behind so many bytes of that line, in place: only what stands behind
+/// the place in the line is moved, and the whole line where it has to grow. Where there is no memory for that the lines stay.
 pub fn insert_inside(
     lines: &mut Vec<String>,
     place: (usize, usize),
+    offset: usize,
     text: &str,
 ) -> Result<(), AllocError>
-    requires { IsPlaceOf (lines_of lines.old.items) place }
+    requires place { IsPlaceOf (lines_of lines.old.items) place }
+    requires offset { offset ≡ offset_at (lines_of lines.old.items) place }
     ensures ok { OnOk result
         (text_of lines.new.items
         ≡ inserted (text_of lines.old.items) place (characters (chars text.now))) }
     ensures err { OnErr result (lines.new.items ≡ lines.old.items) }
     ensures len { vec_len lines.new ≡ vec_len lines.old }
+    ensures place { IsPlaceOf (lines_of lines.new.items) place }
+    ensures offset { offset ≡ offset_at (lines_of lines.new.items) place }
 {
     let line = &mut lines[place.0];
     make_room(line, text.len())?;
-    let offset = byte_offset(line.as_str(), place.1);
     let _ = line.insert_str(offset, text);
     Ok(())
 }
@@ -47,31 +50,26 @@ fn make_room(line: &mut String, additional: usize) -> Result<(), AllocError>
     Ok(())
 }
 
-/// Removes, in place and without memory, what stands between two columns of a line.
-pub fn remove_inside(lines: &mut Vec<String>, start: (usize, usize), end_column: usize)
+/// Removes, in place and without memory, what stands between two columns of a line, which stand behind so many bytes of it.
+pub fn remove_inside(
+    lines: &mut Vec<String>,
+    start: (usize, usize),
+    offset: usize,
+    end_column: usize,
+    end_offset: usize,
+)
     requires start { IsPlaceOf (lines_of lines.old.items) start }
+    requires offset { offset ≡ offset_at (lines_of lines.old.items) start }
     requires end { IsPlaceOf (lines_of lines.old.items) (start.0, end_column) }
+    requires end_offset { end_offset
+        ≡ offset_at (lines_of lines.old.items) (start.0, end_column) }
     requires ordered { start.1 ≤ end_column }
     ensures text { text_of lines.new.items
         ≡ changed (text_of lines.old.items) start (start.0, end_column) [] }
     ensures len { vec_len lines.new ≡ vec_len lines.old }
+    ensures start { IsPlaceOf (lines_of lines.new.items) start }
+    ensures offset { offset ≡ offset_at (lines_of lines.new.items) start }
 {
     let line = &mut lines[start.0];
-    let to = byte_offset(line.as_str(), end_column);
-    let from = earlier_offset(line.as_str(), start.1, end_column, to);
-    let _ = line.replace_range(from..to, "");
-}
-
-// The byte at which a column begins, of the byte at which a later one does: the same number where the columns before the
-// later one take one byte each.
-fn earlier_offset(line: &str, column: usize, later: usize, to: usize) -> usize
-    requires ordered { column ≤ later }
-    requires within { later ≤ length (chars line.now) }
-    requires to { to ≡ length (encode_utf8_all (take later (chars line.now))) }
-    ensures { result ≡ length (encode_utf8_all (take column (chars line.now))) }
-{
-    if to == later {
-        return column;
-    }
-    byte_offset(line, column)
+    let _ = line.replace_range(offset..end_offset, "");
 }

@@ -1,7 +1,9 @@
 //! Lines that take the place of others: made ready while the old lines stand, and put there without memory.
-ghost use Rattle.std.specs.Prelude.{◌≡◌, ◌+◌, ◌-◌, ◌<◌, ◌≤◌, ◌++◌, ◌∷◌, ◌^◌, ◌↔◌, length, take, drop, MatchOption, encode_utf8_all, vec_len, vec_capacity, min, IfOk, IsOk, OnOk, OnErr};
+ghost use Rattle.std.specs.Prelude.{◌≡◌, ◌+◌, ◌-◌, ◌<◌, ◌≤◌, ◌++◌, ◌∷◌, ◌↔◌, length, take, drop, MatchOption, encode_utf8_all, vec_len, vec_capacity, min, IfOk, IsOk, OnOk, OnErr};
 ghost use Rattle.std.specs.Str.{chars};
+ghost use Rattle.textarea_size.specs.Limit.{size_limit};
 ghost use Rattle.textarea_text.specs.Text.{characters, following, lines_of, symbol_in, text_of};
+ghost use Rattle.textarea_text.specs.Offset.{offset_at};
 ghost use Rattle.textarea_text.specs.Place.{IsPlaceOf, IsSymbolBefore, ReplacesRows, changed, index_of};
 ghost use Rattle.textarea_text.specs.Replaced.{replaced};
 ghost use Rattle.textarea_text.specs.Size.{size_of};
@@ -9,6 +11,7 @@ ghost use Rattle.textarea_text.specs.Touched.{ReplacesPart};
 
 use crate::replace::replace_items;
 use std::alloc::{AllocError, Global};
+use textarea_size::limit::within_limit;
 
 /// The byte at which the column of a line begins; a column counts characters, and the line's length is one. The line is
 /// not walked where the column is its length in bytes, since then each character is one byte.
@@ -26,6 +29,54 @@ pub fn byte_offset(line: &str, column: usize) -> usize
     line.len() - rest.as_str().len()
 }
 
+/// The byte at which the column of a line begins, told from another column and its byte: no more than what stands between the
+/// two is walked, and nothing where the column is the line's length in bytes.
+pub fn byte_offset_from(line: &str, known: (usize, usize), column: usize) -> usize
+    requires known { known.0 ≤ length (chars line.now) }
+    requires offset { known.1 ≡ length (encode_utf8_all (take known.0 (chars line.now))) }
+    requires column { column ≤ length (chars line.now) }
+    ensures { result ≡ length (encode_utf8_all (take column (chars line.now))) }
+{
+    let (from, offset) = known;
+    if line.len() == column {
+        return column;
+    }
+    if column < from {
+        return offset_back(line, from, offset, column);
+    }
+    offset_ahead(line, from, offset, column)
+}
+
+// The same for a column from the known one on.
+fn offset_ahead(line: &str, from: usize, offset: usize, column: usize) -> usize
+    requires ordered { from ≤ column }
+    requires offset { offset ≡ length (encode_utf8_all (take from (chars line.now))) }
+    requires column { column ≤ length (chars line.now) }
+    ensures { result ≡ length (encode_utf8_all (take column (chars line.now))) }
+{
+    let mut rest = line[offset..].chars();
+    for _index in from..column {
+        rest.next();
+    }
+    line.len() - rest.as_str().len()
+}
+
+// The same for a column up to the known one.
+fn offset_back(line: &str, from: usize, offset: usize, column: usize) -> usize
+    requires ordered { column ≤ from }
+    requires from { from ≤ length (chars line.now) }
+    requires offset { offset ≡ length (encode_utf8_all (take from (chars line.now))) }
+    ensures { result ≡ length (encode_utf8_all (take column (chars line.now))) }
+{
+    let mut at = from;
+    let mut bytes = offset;
+    'walking: while column < at {
+        bytes -= character_before(line, at, bytes).len_utf8();
+        at -= 1;
+    }
+    bytes
+}
+
 /// How many characters the line has.
 #[tactic(auto, using(std::proofs::lemmas::Str::chars_from_encodes))]
 pub fn column_count(line: &str) -> usize
@@ -34,13 +85,14 @@ pub fn column_count(line: &str) -> usize
     line.chars().count()
 }
 
-// The character that ends at the column of a line.
-fn character_before(line: &str, column: usize) -> char
+// The character that ends at the column of a line, which begins behind so many bytes.
+fn character_before(line: &str, column: usize, offset: usize) -> char
     requires some { 0 < column }
     requires within { column ≤ length (chars line.now) }
+    requires offset { offset ≡ length (encode_utf8_all (take column (chars line.now))) }
     ensures { drop (column - 1) (chars line.now) ≡ result ∷ drop (column - 1 + 1) (chars line.now) }
 {
-    let mut before = line[..byte_offset(line, column)].chars();
+    let mut before = line[..offset].chars();
     before.next_back().unwrap()
 }
 
@@ -51,9 +103,10 @@ pub struct SymbolBefore {
     pub character: Option<char>,
 }
 
-/// The symbol before the place; none at the start of the text.
-pub fn symbol_before(lines: &[String], place: (usize, usize)) -> Option<SymbolBefore>
-    requires { IsPlaceOf (lines_of lines.now) place }
+/// The symbol before the place, which stands behind so many bytes of its line; none at the start of the text.
+pub fn symbol_before(lines: &[String], place: (usize, usize), offset: usize) -> Option<SymbolBefore>
+    requires place { IsPlaceOf (lines_of lines.now) place }
+    requires offset { offset ≡ offset_at (lines_of lines.now) place }
     ensures { MatchOption result (index_of (text_of lines.now) place ≡ 0)
         (λ before. IsSymbolBefore (text_of lines.now) place before.start
         (symbol_in before.character)) }
@@ -62,7 +115,7 @@ pub fn symbol_before(lines: &[String], place: (usize, usize)) -> Option<SymbolBe
     if 0 < column {
         return Some(SymbolBefore {
             start: (row, column - 1),
-            character: Some(character_before(lines[row].as_str(), column)),
+            character: Some(character_before(lines[row].as_str(), column, offset)),
         });
     }
     if row == 0 {
@@ -183,9 +236,6 @@ fn end_offset(line: &str, end: (usize, usize), start: (usize, usize), offset: us
     byte_offset(line, end.1)
 }
 
-// The most bytes and lines together that a text may have: what would be more is answered as out of memory.
-const MAX_SIZE: usize = 0x1_0000_0000_0000;
-
 /// The bytes of the lines and their number, summed, or the greatest `usize` where that is less.
 pub fn size_of(lines: &[String]) -> usize
     ensures { result ≡ min (size_of lines.now) usize.MAX }
@@ -197,21 +247,10 @@ pub fn size_of(lines: &[String]) -> usize
     size
 }
 
-/// The size, where a text may have so many bytes and lines together; a larger one is out of memory.
-pub fn within_limit(size: usize) -> Result<usize, AllocError>
-    ensures size { IfOk result (λ same. same ≡ size) }
-    ensures limit { IsOk result ↔ (size ≤ 2 ^ 48) }
-{
-    if MAX_SIZE < size {
-        return Err(AllocError);
-    }
-    Ok(size)
-}
-
 /// The bytes of the lines and their number, summed; more than a text may have are out of memory.
 pub fn size_within_limit(lines: &[String]) -> Result<usize, AllocError>
     ensures size { IfOk result (λ size. size ≡ size_of lines.now) }
-    ensures limit { IsOk result ↔ (size_of lines.now ≤ 2 ^ 48) }
+    ensures limit { IsOk result ↔ (size_of lines.now ≤ size_limit) }
 {
     within_limit(size_of(lines))
 }

@@ -1,5 +1,6 @@
 //! The rows of one line.
-ghost use Rattle.std.specs.Prelude.{◌≡◌, ◌+◌, ◌^◌, ◌<◌, ◌≤◌, ◌↔◌, max, length, IsTrue, IsOk, IfOk, OnOk};
+ghost use Rattle.std.specs.Prelude.{◌≡◌, ◌+◌, ◌<◌, ◌≤◌, ◌↔◌, max, length, IsTrue, IsOk, IfOk, OnOk};
+ghost use Rattle.textarea_size.specs.Limit.{size_limit};
 ghost use Rattle.textarea_wrap.specs.Wrapped.{HasFewestRows, IsWrapped, TakesOneRow};
 
 use self::columns::fits_width;
@@ -11,6 +12,7 @@ use serde::{Deserialize, Serialize};
 use smallvec::SmallVec;
 use std::alloc::{AllocError, Global};
 use std::marker::Model;
+use textarea_size::limit::MAX_SIZE;
 
 pub mod columns;
 mod count;
@@ -74,14 +76,11 @@ impl Clone for Rows {
     }
 }
 
-/// The most bytes that a line may have: the bytes of a text and its lines together are at most 2^48.
-const MAX_LINE_BYTES: usize = 0xFFFF_FFFF_FFFF;
-
 /// Whether a line is short enough to be cut into rows and to be drawn.
 pub fn is_short(line: &str) -> bool
-    ensures { IsTrue result ↔ (length line.now < 2 ^ 48) }
+    ensures { IsTrue result ↔ (length line.now < size_limit) }
 {
-    line.len() <= MAX_LINE_BYTES
+    line.len() < MAX_SIZE
 }
 
 /// Cuts a line into the rows that it takes at a width in columns, where a width of 0 counts as 1. A tab reaches to the next
@@ -103,8 +102,8 @@ pub fn line_ranges(
     ensures fewest { 0 < length line.now
         → IfOk result
         (λ rows. HasFewestRows mode tab_len (max width 1) line.now (length rows.ranges)) }
-    ensures short { OnOk result (length line.now < 2 ^ 48) }
-    ensures one_row { length line.now < 2 ^ 48 → TakesOneRow mode tab_len (max width 1) line.now
+    ensures short { OnOk result (length line.now < size_limit) }
+    ensures one_row { length line.now < size_limit → TakesOneRow mode tab_len (max width 1) line.now
         → IsOk result }
 {
     count.tick();
@@ -123,8 +122,8 @@ fn cut_line(
     tab_len: u8,
 ) -> Result<Ranges, AllocError>
     ensures rows { IfOk result (λ ranges. IsWrapped mode tab_len width line.now ranges.items) }
-    ensures short { OnOk result (length line.now < 2 ^ 48) }
-    ensures one_row { length line.now < 2 ^ 48 → TakesOneRow mode tab_len width line.now
+    ensures short { OnOk result (length line.now < size_limit) }
+    ensures one_row { length line.now < size_limit → TakesOneRow mode tab_len width line.now
         → IsOk result }
 {
     if !is_short(line) {

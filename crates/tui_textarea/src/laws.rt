@@ -1,5 +1,6 @@
 //! Laws of text areas and their visual rows, each the contract of a function that does nothing.
 ghost use Rattle.std.specs.Prelude.{◌≡◌, ◌<◌, ◌^◌, ℕ, Bool, List, true, false, length};
+ghost use Rattle.textarea_size.specs.Limit.{size_limit};
 ghost use Rattle.textarea_data.specs.declared.cursor.CursorMove.{CursorMove};
 ghost use Rattle.textarea_data.specs.declared.scroll.Scrolling.{Scrolling};
 ghost use Rattle.textarea_document.specs.Goes.{GoesUncut};
@@ -218,7 +219,7 @@ pub fn ranges_go_behind_calls()
 pub fn carets_are_kept()
     ensures back { (old new : State) (area : Rect) → IsSound new.document →
         IsRendered old area new → IsHitBack (parts_of new) }
-    ensures shown { (old new : State) (area : Rect) → weight new.document.text < 2 ^ 48 →
+    ensures shown { (old new : State) (area : Rect) → weight new.document.text < size_limit →
         new.document.layout.settings.tab_len < 2 ^ 8 →
         IsRendered old area new → IsCaretShown (parts_of new) }
 {

@@ -16,7 +16,8 @@ mod selection;
 pub mod settings;
 mod surround;
 
-ghost use Rattle.std.specs.Prelude.{◌≡◌, ◌<◌, ◌≤◌, ◌^◌, ◌↔◌, length, OnErr, OnOk, IfOk, IsTrue, [], vec_len};
+ghost use Rattle.std.specs.Prelude.{◌≡◌, ◌<◌, ◌≤◌, ◌↔◌, length, OnErr, OnOk, IfOk, IsTrue, [], vec_len};
+ghost use Rattle.textarea_size.specs.Limit.{size_limit};
 ghost use Rattle.textarea_text.specs.Text.{lines, lines_of, text_of};
 ghost use Rattle.textarea_text.specs.Place.{IsPlace};
 ghost use Rattle.textarea_text.specs.Size.{size_of};
@@ -148,7 +149,7 @@ impl<'a> TextArea<'a> {
     pub fn lines(&self) -> &[String]
         ensures lines { lines_of result.now ≡ lines self.now.document.text }
         ensures some { 0 < length result.now }
-        ensures limit { size_of result.now ≤ 2 ^ 48 }
+        ensures limit { size_of result.now ≤ size_limit }
     {
         self.document.lines()
     }

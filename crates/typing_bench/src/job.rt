@@ -1,4 +1,4 @@
-//! A text of many wrapped lines, and how many keys are typed into it.
+//! A text of many lines, or of one long line, and what is done with it again and again.
 use std::alloc::{AllocError, Global};
 use std::time::Duration;
 use textarea_document::Document;
@@ -12,47 +12,172 @@ const PARAGRAPH: &str =
     was there and who was not, and what is to be done tomorrow; and at the end, as so often, a remark that has little to do \
     with all of that, but had to be written down somewhere before it was forgotten. ";
 
-const VIEW: LayoutSettings = LayoutSettings {
-    mode: WrapMode::WordOrGlyph,
-    tab_len: 4,
-    line_numbers: false,
-    inner_width: 81,
-};
+// One row of 80 columns, full of text: a character more makes it two.
+const FULL_ROW: &str =
+    "A line that is as wide as the screen, so that one character more takes a row mor";
 
-/// How many lines the text has, and how many keys are typed into its first one.
+/// What is done.
+#[derive(Clone, Copy, Debug)]
+enum Work {
+    /// Typing into a long wrapped line: by turns a hundred characters and a hundred times Backspace.
+    Text,
+    /// By turns a character that makes one row two, and Backspace, which makes them one again.
+    Rows,
+    /// By turns a line break and Backspace.
+    Breaks,
+    /// Typing into one line that isn't wrapped: by turns a hundred characters and a hundred times Backspace.
+    Line(Line),
+    /// By turns a narrower and the old inner width.
+    Width,
+    /// The same, each width behind a measuring of the rows at it.
+    Measured,
+}
+
+/// A long line, and where in it is typed.
+#[derive(Clone, Copy, Debug)]
+enum Line {
+    /// Characters of one byte, at the end.
+    Ascii,
+    /// Characters of two bytes, at the end.
+    Wide,
+    /// Characters of two bytes, in the middle.
+    Middle,
+}
+
+impl Line {
+    // The character that the line is made of.
+    fn character(self) -> char {
+        match self {
+            Line::Ascii => 'e',
+            Line::Wide | Line::Middle => 'é',
+        }
+    }
+}
+
+/// What is done, how large the text is (its lines, or the characters of its one line), and how many times.
 #[derive(Clone, Copy, Debug)]
 pub struct Job {
-    lines: usize,
-    keys: usize,
+    work: Work,
+    size: usize,
+    times: usize,
 }
 
 impl Job {
-    /// Reads the two numbers of a job.
+    /// Reads the parts of a job.
     pub fn parse(line: &str) -> Option<Job> {
-        let (lines, keys) = line.split_once(' ')?;
+        let (work, numbers) = line.split_once(' ')?;
+        let (size, times) = numbers.split_once(' ')?;
         Some(Job {
-            lines: lines.parse().ok()?,
-            keys: keys.parse().ok()?,
+            work: match work {
+                "text" => Work::Text,
+                "rows" => Work::Rows,
+                "breaks" => Work::Breaks,
+                "ascii" => Work::Line(Line::Ascii),
+                "wide" => Work::Line(Line::Wide),
+                "middle" => Work::Line(Line::Middle),
+                "width" => Work::Width,
+                "measured" => Work::Measured,
+                _ => return None,
+            },
+            size: size.parse().ok()?,
+            times: times.parse().ok()?,
         })
     }
 
-    /// Types the keys, and answers with the number of visual rows.
-    pub fn run(&self, alloc: Global) -> Result<usize, AllocError> {
-        let mut lines = Vec::new(alloc);
-        for _ in 0..self.lines {
-            let mut line = String::from_str(alloc, PARAGRAPH)?;
-            line.push_str(PARAGRAPH)?;
-            lines.push(line)?;
+    /// Does the work, and answers with the number of visual rows and the cursor's column.
+    pub fn run(&self, alloc: Global) -> Result<(usize, usize), AllocError> {
+        let view = LayoutSettings {
+            mode: match self.work {
+                Work::Line(_) => WrapMode::None,
+                _ => WrapMode::WordOrGlyph,
+            },
+            tab_len: 4,
+            line_numbers: false,
+            inner_width: 81,
+        };
+        let mut document = Document::new(alloc, self.lines(alloc)?, view, 50)?;
+        if let Work::Line(line) = self.work {
+            self.put_line(alloc, &mut document, line)?;
         }
-        let mut document = Document::new(alloc, lines, VIEW, 50)?;
-        for key in 0..self.keys {
-            if key / 100 % 2 == 0 {
-                let c = if key % 6 == 5 { ' ' } else { 'x' };
-                document.insert_character(c, true, Duration::ZERO)?;
-            } else {
-                document.remove_before(true, Duration::ZERO)?;
+        for time in 0..self.times {
+            self.work_once(&mut document, time)?;
+        }
+        Ok((
+            document.rows_at_width(view.inner_width)?,
+            document.cursor().1,
+        ))
+    }
+
+    // The lines of the text; none where it gets one long line.
+    fn lines(&self, alloc: Global) -> Result<Vec<String>, AllocError> {
+        let mut lines = Vec::new(alloc);
+        for index in 0..self.size {
+            match self.work {
+                Work::Text if index == 0 => {
+                    let mut line = String::from_str(alloc, PARAGRAPH)?;
+                    line.push_str(PARAGRAPH)?;
+                    lines.push(line)?;
+                }
+                Work::Line(_) => {}
+                _ => lines.push(String::from_str(alloc, FULL_ROW)?)?,
             }
         }
-        document.rows_at_width(VIEW.inner_width)
+        Ok(lines)
     }
+
+    // Sets one long line, with the cursor where is typed.
+    fn put_line(
+        &self,
+        alloc: Global,
+        document: &mut Document,
+        line: Line,
+    ) -> Result<(), AllocError> {
+        let mut text = String::new(alloc);
+        for _ in 0..self.size {
+            text.push(line.character())?;
+        }
+        let column = match line {
+            Line::Ascii | Line::Wide => self.size,
+            Line::Middle => self.size / 2,
+        };
+        document.set_lines(vec![in alloc; text]?, (0, column))
+    }
+
+    // Does the work one time more.
+    fn work_once(&self, document: &mut Document, time: usize) -> Result<(), AllocError> {
+        match self.work {
+            Work::Text if time / 100 % 2 == 0 => {
+                type_character(document, if time % 6 == 5 { ' ' } else { 'x' })
+            }
+            Work::Rows if time % 2 == 0 => type_character(document, 'x'),
+            Work::Breaks if time % 2 == 0 => document.insert_break(Duration::ZERO),
+            Work::Line(line) if time / 100 % 2 == 0 => type_character(document, line.character()),
+            Work::Text | Work::Rows | Work::Breaks | Work::Line(_) => {
+                document.remove_before(true, Duration::ZERO)?;
+                Ok(())
+            }
+            Work::Width => set_width(document, width_of(time)),
+            Work::Measured => {
+                document.rows_at_width(width_of(time))?;
+                set_width(document, width_of(time))
+            }
+        }
+    }
+}
+
+// Types a character.
+fn type_character(document: &mut Document, c: char) -> Result<(), AllocError> {
+    document.insert_character(c, true, Duration::ZERO)
+}
+
+// The inner width that is set then.
+fn width_of(time: usize) -> u16 {
+    if time % 2 == 0 { 61 } else { 81 }
+}
+
+// Sets the inner width, for which the lines are cut anew.
+fn set_width(document: &mut Document, inner_width: u16) -> Result<(), AllocError> {
+    let prepared = document.prepare_width(inner_width)?;
+    document.put_width(prepared);
+    Ok(())
 }

@@ -1,7 +1,12 @@
-//! Types into a text of many wrapped lines, and prints how many visual rows it has then.
+//! Works on a text again and again, and prints how many visual rows it has then, and the cursor's column.
 //!
-//! Each line of standard input is a job of two numbers with one space between them: how many lines the text has, and how many
-//! keys are typed into its first one, by turns a hundred characters and a hundred times Backspace.
+//! Each line of standard input is a job of a word and two numbers with one space between each two: what is done, how large the
+//! text is, and how many times it is done. In a text of that many lines `text` types into a long wrapped line, by turns a hundred
+//! characters and a hundred times Backspace, `rows` by turns a character with which the first line has a row more, and Backspace,
+//! `breaks` by turns a line break and Backspace; `width` sets by turns a narrower and the old inner width, and `measured` does
+//! that with the rows at each width measured before. In one line of that many characters, which isn't wrapped, `ascii` types
+//! and removes in the same way characters of one byte at its end, `wide` and `middle` characters of two bytes, at its end and in
+//! its middle.
 #![tactic(auto)]
 
 mod job;
@@ -14,8 +19,8 @@ fn main(rt: HostRuntime) -> Result<()> {
     for input in rt.lines(alloc) {
         let input = input?;
         let job = Job::parse(input.as_str()).context("a line that is no job")?;
-        let rows = job.run(alloc)?;
-        println!(rt; "{rows}")?;
+        let (rows, column) = job.run(alloc)?;
+        println!(rt; "{rows} {column}")?;
     }
     Ok(())
 }

@@ -1,6 +1,7 @@
 //! Insertions at the cursor of a document, or at the end of the atomic range that strictly holds it.
-ghost use Rattle.std.specs.Prelude.{◌≡◌, ◌<◌, ◌≤◌, ◌^◌, true, OnOk, OnErr, IsOk, IfOk, All, []};
+ghost use Rattle.std.specs.Prelude.{◌≡◌, ◌<◌, ◌≤◌, true, OnOk, OnErr, IsOk, IfOk, All, []};
 ghost use Rattle.std.specs.Duration.{as_nanos};
+ghost use Rattle.textarea_size.specs.Limit.{size_limit};
 ghost use Rattle.textarea_text.specs.Text.{text_of};
 ghost use Rattle.textarea_text.specs.Place.{IsPlace};
 ghost use Rattle.textarea_text.specs.Size.{size_of};
@@ -22,7 +23,7 @@ impl Document {
     pub fn insertion_place(&self) -> (usize, usize)
         ensures value { result ≡ insertion_place self.now }
         ensures place { IsPlace self.now.text result }
-        ensures small { (result.0 < 2 ^ 48) × (result.1 ≤ 2 ^ 48) }
+        ensures small { (result.0 < size_limit) × (result.1 ≤ size_limit) }
         ensures outside { All (λ range. ¬ IsInside result range) self.now.ranges }
     {
         let _lines = self.laid.lines();
@@ -83,7 +84,7 @@ impl Document {
             (self.new ≡ symbols_inserted self.old (text_of pieces.items) (as_nanos now)) }
         ensures err { OnErr result (self.new ≡ self.old) }
         ensures nothing { text_of pieces.items ≡ [] → IsOk result }
-        ensures limit { IfOk result (λ inserted. inserted ≡ true → size_of pieces.items ≤ 2 ^ 48) }
+        ensures limit { IfOk result (λ inserted. inserted ≡ true → size_of pieces.items ≤ size_limit) }
     {
         if !has_symbol(pieces.as_slice()) {
             self.insert_nothing();

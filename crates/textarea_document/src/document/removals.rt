@@ -1,7 +1,8 @@
 //! Removals from a document.
-ghost use Rattle.std.specs.Prelude.{◌≡◌, ◌<◌, ◌≤◌, OnOk, OnErr, IsOk, IfOk, IfSome, MatchOption, not, true, false, ◌==◌, ◌++◌, ◌∷◌, ◌+◌, None, [], drop, length, vec_len};
+ghost use Rattle.std.specs.Prelude.{◌≡◌, ◌<◌, ◌≤◌, OnOk, OnErr, IsOk, IfOk, IfSome, MatchOption, not, true, false, ◌==◌, ◌++◌, ◌∷◌, ◌+◌, None, [], drop, take, encode_utf8_all, length, vec_len};
 ghost use Rattle.std.specs.Str.{chars};
 ghost use Rattle.std.specs.Duration.{as_nanos};
+ghost use Rattle.textarea_text.specs.Offset.{offset_at};
 ghost use Rattle.textarea_text.specs.Text.{lines_of, symbol_in, text_of};
 ghost use Rattle.textarea_text.specs.Place.{IsPlace, IsPlaceOf, index_of};
 ghost use Rattle.textarea_pieces.specs.Part.{part};
@@ -179,7 +180,8 @@ impl Document {
         ensures nothing { is_at_start self.old ≡ true → IsOk result }
     {
         let cursor = self.cursor();
-        let Some(before) = rows::symbol_before(self.lines(), cursor) else {
+        let offset = self.laid.offset_of(cursor);
+        let Some(before) = rows::symbol_before(self.lines(), cursor, offset) else {
             self.set_anchor(None);
             return Ok(false);
         };
@@ -198,7 +200,8 @@ impl Document {
         ensures nothing { is_at_end self.old ≡ true → IsOk result }
     {
         let cursor = self.cursor();
-        let Some(behind) = symbol_behind(self.lines(), cursor) else {
+        let offset = self.laid.offset_of(cursor);
+        let Some(behind) = symbol_behind(self.lines(), cursor, offset) else {
             self.set_anchor(None);
             return Ok(false);
         };
@@ -236,15 +239,16 @@ struct SymbolBehind {
     character: Option<char>,
 }
 
-// The symbol behind the place; none at the end of the text.
-fn symbol_behind(lines: &[String], place: (usize, usize)) -> Option<SymbolBehind>
-    requires { IsPlaceOf (lines_of lines.now) place }
+// The symbol behind the place, which stands behind so many bytes of its line; none at the end of the text.
+fn symbol_behind(lines: &[String], place: (usize, usize), offset: usize) -> Option<SymbolBehind>
+    requires place { IsPlaceOf (lines_of lines.now) place }
+    requires offset { offset ≡ offset_at (lines_of lines.now) place }
     ensures { MatchOption result (index_of (text_of lines.now) place ≡ length (text_of lines.now))
         (λ behind.
         IsSymbolBehind (text_of lines.now) place behind.end (symbol_in behind.character)) }
 {
     let (row, column) = place;
-    if let Some(c) = character_behind(lines[row].as_str(), column) {
+    if let Some(c) = character_behind(lines[row].as_str(), column, offset) {
         return Some(SymbolBehind {
             end: (row, column + 1),
             character: Some(c),
@@ -259,11 +263,12 @@ fn symbol_behind(lines: &[String], place: (usize, usize)) -> Option<SymbolBehind
     })
 }
 
-// The character behind the column of a line; none at the line's end.
-fn character_behind(line: &str, column: usize) -> Option<char>
-    requires { column ≤ length (chars line.now) }
+// The character behind the column of a line, which begins behind so many bytes; none at the line's end.
+fn character_behind(line: &str, column: usize, offset: usize) -> Option<char>
+    requires column { column ≤ length (chars line.now) }
+    requires offset { offset ≡ length (encode_utf8_all (take column (chars line.now))) }
     ensures { MatchOption result (column ≡ length (chars line.now))
         (λ c. drop column (chars line.now) ≡ c ∷ drop (column + 1) (chars line.now)) }
 {
-    line[rows::byte_offset(line, column)..].chars().next()
+    line[offset..].chars().next()
 }

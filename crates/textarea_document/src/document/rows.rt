@@ -64,11 +64,13 @@ impl Document {
     }
 
     /// Makes the lines ready for an inner width, in columns. They are cut for it, each once, only where they are cut in another
-    /// way at it, and only then memory is taken. The document stays as it is.
-    pub fn prepare_width(&self, inner_width: u16) -> Result<PreparedWidth, AllocError>
-        ensures prepared { IfOk result (IsPrepared (laid_out_of self.now)) }
+    /// way at it, and only then memory is taken; where they were measured so last, they aren't cut again. Nothing that is seen
+    /// of the document changes.
+    pub fn prepare_width(&mut self, inner_width: u16) -> Result<PreparedWidth, AllocError>
+        ensures same { self.new ≡ self.old }
+        ensures prepared { IfOk result (IsPrepared (laid_out_of self.old)) }
         ensures width { IfOk result (λ prepared. prepared.inner_width ≡ inner_width) }
-        ensures no_memory { let laid = laid_out_of self.now in
+        ensures no_memory { let laid = laid_out_of self.old in
             stays_cut laid (at_width laid inner_width) ≡ true → IsOk result }
     {
         self.laid.prepare_width(inner_width)

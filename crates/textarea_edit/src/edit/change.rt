@@ -3,7 +3,8 @@ ghost use Rattle.std.specs.Prelude.{◌≡◌, ◌<◌, ◌≤◌, ◌+◌, ◌+
 ghost use Rattle.std.specs.Str.{chars};
 ghost use Rattle.textarea_text.specs.Text.{characters, following, lines_of, text_of};
 ghost use Rattle.textarea_text.specs.Size.{weight};
-ghost use Rattle.textarea_text.specs.Place.{end};
+ghost use Rattle.textarea_text.specs.Offset.{offset_at};
+ghost use Rattle.textarea_text.specs.Place.{IsPlaceOf, end};
 ghost use Rattle.textarea_text.specs.Splice.{Fits, place_after, place_before};
 ghost use Rattle.textarea_text.specs.Touched.{IsReplacementFor, breaks_of};
 ghost use Rattle.textarea_edit.specs.Change.{IsRemovalInLine, Makes};
@@ -13,7 +14,7 @@ use crate::texts::reverse_text;
 use std::alloc::{AllocError, Global};
 use std::marker::Model;
 use textarea_text::inside::{insert_inside, remove_inside};
-use textarea_text::rows::{Replacement, prepare_replacement, size_of};
+use textarea_text::rows::{Replacement, byte_offset, prepare_replacement, size_of};
 
 /// A well-formed edit with the direction in which it goes: as it was made, or taken back. Clauses see it as its splice.
 #[derive(Drop)]
@@ -111,70 +112,87 @@ impl<'a> Change<'a> {
         ensures no_memory { IsRemovalInLine self.now → IsOk result }
     {
         if self.is_inside_line() {
-            return self.apply_inside(lines);
+            let (row, column) = self.start();
+            let offset = byte_offset(lines[row].as_str(), column);
+            return self.apply_inside(lines, offset);
         }
         let replacement = self.prepare(*lines.allocator(), lines.as_slice())?;
         replacement.apply(lines)
     }
 
-    // Makes a change without a line break, in place.
-    fn apply_inside(&self, lines: &mut Vec<String>) -> Result<(), AllocError>
+    /// Makes a change without a line break, in place. Its start stands behind so many bytes of its line, before the change and
+    /// behind it.
+    pub fn apply_inside(&self, lines: &mut Vec<String>, offset: usize) -> Result<(), AllocError>
         requires inside { breaks_of self.now.symbols ≡ 0 }
         requires nonempty { 0 < vec_len lines.old }
         requires fits { Fits (text_of lines.old.items) self.now }
+        requires offset { offset ≡ offset_at (lines_of lines.old.items) self.now.place }
         ensures ok { OnOk result (Makes self.now lines.old.items lines.new.items) }
         ensures err { OnErr result (lines.new.items ≡ lines.old.items) }
         ensures len { vec_len lines.new ≡ vec_len lines.old }
         ensures no_memory { self.now.inserts ≡ false → IsOk result }
+        ensures start { IsPlaceOf (lines_of lines.new.items) self.now.place }
+        ensures offset { offset ≡ offset_at (lines_of lines.new.items) self.now.place }
     {
         if !self.inserts {
-            self.remove_inside(lines);
+            self.remove_inside(lines, offset);
             return Ok(());
         }
         let edit = self.edit;
         match &edit.content {
             Content::Character(c) => {
                 let mut buffer = [0u8; 4];
-                self.insert_inside(lines, c.encode_utf8(&mut buffer))
+                self.insert_inside(lines, offset, c.encode_utf8(&mut buffer))
             }
-            Content::Text(text) => self.insert_inside(lines, text.as_str()),
+            Content::Text(text) => self.insert_inside(lines, offset, text.as_str()),
             Content::Typed(text) => {
                 if edit.inserts {
-                    self.insert_inside(lines, text.as_str())
+                    self.insert_inside(lines, offset, text.as_str())
                 } else {
                     let restored = reverse_text(*lines.allocator(), text.as_str())?;
-                    self.insert_inside(lines, restored.as_str())
+                    self.insert_inside(lines, offset, restored.as_str())
                 }
             }
             Content::Break | Content::Chunk(_) => unreachable!(),
         }
     }
 
-    // Removes its symbols, in place and without memory.
-    fn remove_inside(&self, lines: &mut Vec<String>)
+    // Removes its symbols, in place and without memory; they begin behind so many bytes of their line.
+    fn remove_inside(&self, lines: &mut Vec<String>, offset: usize)
         requires removes { self.now.inserts ≡ false }
         requires inside { breaks_of self.now.symbols ≡ 0 }
         requires nonempty { 0 < vec_len lines.old }
         requires fits { Fits (text_of lines.old.items) self.now }
+        requires offset { offset ≡ offset_at (lines_of lines.old.items) self.now.place }
         ensures text { Makes self.now lines.old.items lines.new.items }
         ensures len { vec_len lines.new ≡ vec_len lines.old }
+        ensures start { IsPlaceOf (lines_of lines.new.items) self.now.place }
+        ensures offset { offset ≡ offset_at (lines_of lines.new.items) self.now.place }
     {
         let start = self.start();
         let end = self.end();
-        remove_inside(lines, start, end.1);
+        remove_inside(lines, start, offset, end.1, offset + self.weight());
     }
 
-    // Inserts its symbols, which are this text, in place.
-    fn insert_inside(&self, lines: &mut Vec<String>, text: &str) -> Result<(), AllocError>
+    // Inserts its symbols, which are this text, in place, behind so many bytes of their line.
+    fn insert_inside(
+        &self,
+        lines: &mut Vec<String>,
+        offset: usize,
+        text: &str,
+    ) -> Result<(), AllocError>
         requires inserts { self.now.inserts ≡ true }
         requires symbols { characters (chars text.now) ≡ self.now.symbols }
         requires nonempty { 0 < vec_len lines.old }
         requires fits { Fits (text_of lines.old.items) self.now }
+        requires offset { offset ≡ offset_at (lines_of lines.old.items) self.now.place }
         ensures ok { OnOk result (Makes self.now lines.old.items lines.new.items) }
         ensures err { OnErr result (lines.new.items ≡ lines.old.items) }
         ensures len { vec_len lines.new ≡ vec_len lines.old }
+        ensures start { IsPlaceOf (lines_of lines.new.items) self.now.place }
+        ensures offset { offset ≡ offset_at (lines_of lines.new.items) self.now.place }
     {
-        insert_inside(lines, self.start(), text)
+        insert_inside(lines, self.start(), offset, text)
     }
 
     /// The lines that take the place of others when the change is made; the lines stay.

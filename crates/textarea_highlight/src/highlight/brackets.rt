@@ -27,6 +27,15 @@ impl OpenStyles {
         }
     }
 
+    /// No style is open any more, and another base style holds.
+    pub fn restart(&mut self, base: Style)
+        ensures base { base_of self.new ≡ base }
+        ensures none { IsBehind self.new [] }
+    {
+        self.base = base;
+        self.started.clear();
+    }
+
     /// Goes on behind one more mark.
     pub fn pass(&mut self, mark: Mark) -> Result<(), AllocError>
         ensures base { base_of self.new ≡ base_of self.old }

@@ -21,10 +21,11 @@ pub struct RowStyle {
 }
 
 /// Cuts a row at each border, and adds the pieces to the spans, each in the style that the borders
-/// before it leave.
+/// before it leave, which is kept in `styles` on the way.
 pub fn cut<'a>(
     alloc: Global,
     spans: &mut Vec<Span<'a>>,
+    styles: &mut OpenStyles,
     row: &'a str,
     borders: &[Border],
     row_style: RowStyle,
@@ -43,14 +44,14 @@ pub fn cut<'a>(
         mask: row_style.mask,
         column: 0,
     };
-    let mut styles = OpenStyles::new(alloc, row_style.base);
+    styles.restart(row_style.base);
     let mut start = 0;
     for border in borders {
-        cut_to(row, &mut display, &styles, spans, start, border.offset)?;
+        cut_to(row, &mut display, styles, spans, start, border.offset)?;
         styles.pass(border.mark)?;
         start = border.offset;
     }
-    cut_to(row, &mut display, &styles, spans, start, row.len())?;
+    cut_to(row, &mut display, styles, spans, start, row.len())?;
     Ok(())
 }
 

@@ -2,15 +2,18 @@
 ghost use Rattle.std.specs.Prelude.{◌≡◌, ◌+◌, ◌^◌, ◌<◌, ◌≤◌, ℕ, List, length, chars, IfOk, IfNone, IfSome, OnOk, OnErr, IsErr, IsOk};
 ghost use Rattle.std.specs.Fmt.{decimal};
 ghost use Rattle.std.specs.Iterator.{IsFinite, Drains};
+ghost use Rattle.textarea_size.specs.Limit.{size_limit};
 ghost use Rattle.textarea_screen.specs.Text.{shown_line};
 ghost use Rattle.textarea_highlight.specs.Highlights.{byte_of, plain_row, with_number, with_placeholder, with_base, with_cursor_line, with_matches, with_range, with_selection, with_segment, end_style};
 ghost use Rattle.textarea_highlight.specs.Row.{ShowsNothing, ShowsRow};
 
 use super::borders::{Border, borders_of_matches, push_highlight, sort};
+use super::brackets::OpenStyles;
 use super::cut::{RowStyle, cut, push_end_cell};
 use super::numbers::{push_number, push_placeholder};
 use std::alloc::{AllocError, Global};
 use std::marker::Model;
+use std::mem;
 use textarea_screen::screen::{Line, Span, Style};
 use textarea_wrap::wrap::is_short;
 
@@ -49,6 +52,7 @@ pub struct LineHighlighter<'a> {
     row: &'a str,
     spans: Vec<Span<'a>>,
     borders: Vec<Border>,
+    styles: OpenStyles,
     base: Style,
     cursor_at_end: bool,
     cursor_cell: CursorCellRender,
@@ -100,6 +104,7 @@ impl<'a> LineHighlighter<'a> {
             row: line,
             spans: Vec::new(alloc),
             borders: Vec::new(alloc),
+            styles: OpenStyles::new(alloc, Style::new()),
             base: Style::new(),
             cursor_at_end: false,
             cursor_cell,
@@ -108,6 +113,29 @@ impl<'a> LineHighlighter<'a> {
             break_is_selected: false,
             select_style,
         }
+    }
+
+    /// Begins with another row, as `new` does. It is cut in the memory that the rows before it took.
+    pub fn restart(
+        &mut self,
+        line: &'a str,
+        cursor_cell: CursorCellRender,
+        tab_len: u8,
+        mask: Option<char>,
+        select_style: Style,
+    )
+        ensures { self.new ≡ plain_row line.now cursor_cell tab_len mask select_style }
+    {
+        self.row = line;
+        self.spans.clear();
+        self.borders.clear();
+        self.base = Style::new();
+        self.cursor_at_end = false;
+        self.cursor_cell = cursor_cell;
+        self.tab_len = tab_len;
+        self.mask = mask;
+        self.break_is_selected = false;
+        self.select_style = select_style;
     }
 
     /// Puts the number of the line with this index in front of the row: `row + 1` at the right of
@@ -275,8 +303,24 @@ impl<'a> LineHighlighter<'a> {
     /// bytes or more is answered as out of memory, as `line_ranges` answers a line.
     pub fn into_spans(self) -> Result<Line<'a>, AllocError>
         ensures shown { IfOk result (λ line. ShowsRow self.entry (shown_line line)) }
-        ensures too_long { 2 ^ 48 ≤ length self.entry.row → IsErr result }
+        ensures too_long { size_limit ≤ length self.entry.row → IsErr result }
         ensures nothing { ShowsNothing self.entry → IsOk result }
+    {
+        let mut highlighter = self;
+        let mut line = Line {
+            spans: Vec::new(highlighter.alloc),
+            style: Style::new(),
+        };
+        highlighter.show_in(&mut line)?;
+        Ok(line)
+    }
+
+    /// Puts the spans that `into_spans` gives into a line, in the place of those that it holds and in
+    /// their memory. What the highlighter holds then is open: it goes on with `restart`.
+    pub fn show_in(&mut self, line: &mut Line<'a>) -> Result<(), AllocError>
+        ensures shown { OnOk result (ShowsRow self.old (shown_line line.new)) }
+        ensures too_long { size_limit ≤ length self.old.row → IsErr result }
+        ensures nothing { ShowsNothing self.old → IsOk result }
     {
         if !is_short(self.row) {
             return Err(AllocError);
@@ -287,20 +331,21 @@ impl<'a> LineHighlighter<'a> {
             tab_len: self.tab_len,
             mask: self.mask,
         };
-        let LineHighlighter {
-            alloc,
-            row,
-            mut spans,
-            mut borders,
-            ..
-        } = self;
-        sort(&mut borders)?;
-        cut(alloc, &mut spans, row, borders.as_slice(), row_style)?;
-        push_end_cell(&mut spans, end_style)?;
-        Ok(Line {
-            spans,
-            style: Style::new(),
-        })
+        sort(&mut self.borders)?;
+        mem::swap(&mut line.spans, &mut self.spans);
+        line.style = Style::new();
+        let borders = self.borders.as_slice();
+        let styles = &mut self.styles;
+        cut(
+            self.alloc,
+            &mut line.spans,
+            styles,
+            self.row,
+            borders,
+            row_style,
+        )?;
+        push_end_cell(&mut line.spans, end_style)?;
+        Ok(())
     }
 
     /// The style of the cell behind the row, if it is drawn.

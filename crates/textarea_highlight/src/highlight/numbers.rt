@@ -7,6 +7,7 @@ ghost use Rattle.textarea_highlight.specs.Numbers.{number_text, number_span, pla
 use std::alloc::{AllocError, Global};
 use textarea_screen::screen::{Span, SpanText, Style};
 use textarea_text::util::spaces;
+use textarea_wrap::layout::num_digits;
 
 /// Adds the number of the line with the index `row`, at the right of `width` columns.
 pub fn push_number(
@@ -50,10 +51,10 @@ fn number_text(alloc: Global, number: usize, width: u8) -> Result<String, AllocE
     requires room { width ≤ 253 }
     ensures { IfOk result (λ text. string_bytes text ≡ number_text number width) }
 {
-    let digits = format!(in alloc; "{number}")?;
-    let before = spaces(width + 1 - digits.len() as u8);
-    let mut text = String::from_str(alloc, before)?;
-    text.push_str(digits.as_str())?;
+    let before = spaces(width + 1 - num_digits(number));
+    let mut text = String::with_capacity(alloc, usize::from(width) + 2)?;
+    text.push_str(before)?;
+    write!(text, "{number}")?;
     text.push(' ')?;
     Ok(text)
 }

@@ -1,7 +1,7 @@
 //! A change of the inner width, in two steps: what takes memory first, which leaves the lines as they are.
-ghost use Rattle.std.specs.Prelude.{◌≡◌, true, IfOk, IsOk};
+ghost use Rattle.std.specs.Prelude.{◌≡◌, true, IfOk, IfSome, IsOk};
 ghost use Rattle.textarea_lines.specs.Layout.{at_width, laid_out_with, stays_cut};
-ghost use Rattle.textarea_lines.specs.View.{IsCutWhereOther, IsPrepared, IsViewOf};
+ghost use Rattle.textarea_lines.specs.View.{IsCutWhereOther, IsPrepared, IsViewOf, IsWholeCut};
 
 use super::LaidOutLines;
 use crate::cut::CutAnew;
@@ -9,6 +9,7 @@ use crate::settings::{LayoutSettings, is_same, is_wrapped, wrapping_for};
 use crate::view::LaidOutView;
 use std::alloc::AllocError;
 use std::marker::Model;
+use textarea_map::layout::Wrapping;
 use textarea_map::screen_map::ScreenMap;
 
 /// An inner width for which lines are ready. It fits the lines only as they stand where it was made.
@@ -37,21 +38,47 @@ impl LaidOutLines {
         LaidOutView::new(self.lines.as_slice(), &self.map)
     }
 
-    // All lines, each cut once for these settings, where they are cut in another way under them; otherwise none, and no memory
-    // is taken.
-    pub(super) fn cut_for(&self, settings: LayoutSettings) -> Result<Option<CutAnew>, AllocError>
-        ensures cut { IfOk result (IsCutWhereOther self.now settings) }
-        ensures no_memory { stays_cut self.now settings ≡ true → IsOk result }
+    // All lines, each cut once for these settings, where they are cut in another way under them, by what was kept when they were
+    // measured, if it is that; otherwise none, and no memory is taken.
+    pub(super) fn cut_for(
+        &mut self,
+        settings: LayoutSettings,
+    ) -> Result<Option<CutAnew>, AllocError>
+        ensures same { self.new ≡ self.old }
+        ensures cut { IfOk result (IsCutWhereOther self.old settings) }
+        ensures no_memory { stays_cut self.old settings ≡ true → IsOk result }
     {
         let before = self.map.wrapping();
         let after = wrapping_for(settings, self.lines.len());
         if is_same(after, before) {
             return Ok(None);
         }
+        if let Some(kept) = self.take_kept(after) {
+            return Ok(Some(kept));
+        }
+        Ok(Some(self.cut_anew(after)?))
+    }
+
+    // All lines as they were cut when they were measured, if that was so. Nothing is kept any more.
+    pub(super) fn take_kept(&mut self, wrapping: Wrapping) -> Option<CutAnew>
+        ensures same { self.new ≡ self.old }
+        ensures kept { IfSome result (IsWholeCut self.old wrapping) }
+    {
+        let kept = self.kept.take()?;
+        if kept.map.wrapping() != wrapping {
+            return None;
+        }
+        Some(kept)
+    }
+
+    // All lines, each cut once.
+    pub(super) fn cut_anew(&self, wrapping: Wrapping) -> Result<CutAnew, AllocError>
+        ensures { IfOk result (IsWholeCut self.now wrapping) }
+    {
         let mut count = self.count.clone()?;
         let alloc = *self.lines.allocator();
-        let map = ScreenMap::new(alloc, self.lines.as_slice(), after, &mut count)?;
-        Ok(Some(CutAnew { map, count }))
+        let map = ScreenMap::new(alloc, self.lines.as_slice(), wrapping, &mut count)?;
+        Ok(CutAnew { map, count })
     }
 
     // Sets what decides how the lines are cut and seen, with what was cut for it, without memory.
@@ -64,6 +91,7 @@ impl LaidOutLines {
                 let CutAnew { map, count } = cut;
                 self.map = map;
                 self.count = count;
+                self.kept = None;
             }
             None => {
                 if !is_wrapped(settings) {
@@ -75,16 +103,19 @@ impl LaidOutLines {
     }
 
     /// Makes the lines ready for an inner width, in columns. They are cut for it, each once, only where they are cut in another
-    /// way at it, and only then memory is taken. They stay as they are.
-    pub fn prepare_width(&self, inner_width: u16) -> Result<PreparedWidth, AllocError>
-        ensures prepared { IfOk result (IsPrepared self.now) }
+    /// way at it, and only then memory is taken; where they were measured so last, they aren't cut again. What is seen of them
+    /// stays as it is.
+    pub fn prepare_width(&mut self, inner_width: u16) -> Result<PreparedWidth, AllocError>
+        ensures same { self.new ≡ self.old }
+        ensures prepared { IfOk result (IsPrepared self.old) }
         ensures width { IfOk result (λ prepared. prepared.inner_width ≡ inner_width) }
-        ensures no_memory { stays_cut self.now (at_width self.now inner_width) ≡ true
+        ensures no_memory { stays_cut self.old (at_width self.old inner_width) ≡ true
             → IsOk result }
     {
+        let settings = self.layout_settings();
         let cut = self.cut_for(LayoutSettings {
             inner_width,
-            ..self.settings
+            ..settings
         })?;
         Ok(PreparedWidth { inner_width, cut })
     }

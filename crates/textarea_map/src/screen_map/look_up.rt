@@ -1,7 +1,8 @@
 //! Look-ups of a screen map: where a place is seen, which place a visual row and a display column lead back to, and where a
 //! cursor goes up and down. None of them takes memory. The lines that the map was made for are lent. A tab reaches to the next
 //! tab stop, and takes one column where there are none.
-ghost use Rattle.std.specs.Prelude.{◌≡◌, ◌+◌, ◌<◌, ◌≤◌, ◌^◌, length, min, take, MatchOption};
+ghost use Rattle.std.specs.Prelude.{◌≡◌, ◌+◌, ◌<◌, ◌≤◌, length, min, take, MatchOption};
+ghost use Rattle.textarea_size.specs.Limit.{size_limit};
 ghost use Rattle.textarea_text.specs.Text.{lines_of};
 ghost use Rattle.textarea_text.specs.Place.{IsPlaceOf};
 ghost use Rattle.textarea_map.specs.Layout.{AreRowsOf};
@@ -56,8 +57,8 @@ impl ScreenMap {
         ensures shown { shown_row result ≡ row_at (lines_of lines.now) self.now.rows row }
         ensures number { row_total (take result.line self.now.rows) + result.number ≡ row }
         ensures line { result.line < length self.now.rows }
-        ensures before { length result.before.now < 2 ^ 48 }
-        ensures short { length result.text.now < 2 ^ 48 }
+        ensures before { length result.before.now < size_limit }
+        ensures short { length result.text.now < size_limit }
     {
         let (line, number) = self.line_of_row(row);
         let ranges = self.rows_of(line);
@@ -109,7 +110,7 @@ impl ScreenMap {
         let row = row_holding(ranges, offset);
         let start = ranges[row].0;
         let column = display_column_behind_text(&line[start..offset], 0, self.wrapping.tab_len);
-        (self.firsts[place.0] + row, column)
+        (self.first_row(place.0) + row, column)
     }
 
     /// The place that a visual row and a display column lead back to: the row's first place at that column, else the character

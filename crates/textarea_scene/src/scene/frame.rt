@@ -1,5 +1,5 @@
 //! One visual row after another, cut into spans.
-ghost use Rattle.std.specs.Prelude.{◌≡◌, ◌<◌, chars, encode_utf8_all, IfOk};
+ghost use Rattle.std.specs.Prelude.{◌≡◌, ◌<◌, chars, encode_utf8_all, OnOk};
 ghost use Rattle.textarea_highlight.specs.Highlights.{plain_row};
 ghost use Rattle.textarea_highlight.specs.Row.{ShowsRow};
 ghost use Rattle.textarea_map.specs.Map.{row_total};
@@ -54,39 +54,52 @@ impl<'f, 'a> Frame<'f, 'a> {
         }
     }
 
-    /// The spans of a visual row.
-    pub(super) fn line(
+    /// What cuts one row after another into spans.
+    pub(super) fn highlighter(&self, alloc: Global) -> LineHighlighter<'a> {
+        let scene = self.scene;
+        LineHighlighter::new(
+            alloc,
+            "",
+            scene.cursor_cell(),
+            scene.rows.tab_len(),
+            scene.look.mask,
+            scene.look.selection_style,
+        )
+    }
+
+    /// Puts the spans of a visual row into a line.
+    pub(super) fn show_in(
         &self,
-        alloc: Global,
+        line: &mut Line<'a>,
         row: usize,
         matches: &mut FoundMatches<'_>,
-    ) -> Result<Line<'a>, AllocError>
+        highlighter: &mut LineHighlighter<'a>,
+    ) -> Result<(), AllocError>
         requires row { row < row_total self.now.rows.rows }
         requires matches { matches.old.searched ≡ searched self.now }
-        ensures shown { IfOk result (λ line.
-            ShowsRow (row_highlights self.now row) (shown_line line)) }
+        ensures shown { OnOk result (ShowsRow (row_highlights self.now row) (shown_line line.new)) }
         ensures same { matches.new.searched ≡ matches.old.searched }
     {
         let scene = self.scene;
         let shown = scene.rows.row_at(row);
         matches.turn_to(shown.line)?;
-        let mut highlighter = self.bare(alloc, shown.text);
-        self.add_number(&mut highlighter, shown)?;
-        self.add_cursor(&mut highlighter, row, shown)?;
-        self.add_matches(&mut highlighter, shown, matches.as_slice())?;
-        self.add_selection(&mut highlighter, shown)?;
-        self.add_customs(&mut highlighter, shown)?;
-        highlighter.into_spans()
+        self.begin(highlighter, shown.text);
+        self.add_number(highlighter, shown)?;
+        self.add_cursor(highlighter, row, shown)?;
+        self.add_matches(highlighter, shown, matches.as_slice())?;
+        self.add_selection(highlighter, shown)?;
+        self.add_customs(highlighter, shown)?;
+        highlighter.show_in(line)
     }
 
-    // A row of this text with no highlight.
-    fn bare<'t>(&self, alloc: Global, text: &'t str) -> LineHighlighter<'t>
-        ensures { result ≡ plain_row (encode_utf8_all (chars text.now)) (cursor_cell self.now.look)
-            self.now.rows.wrapping.tab_len self.now.look.mask self.now.look.selection_style }
+    // Begins with a row of this text, with no highlight.
+    fn begin<'t>(&self, highlighter: &mut LineHighlighter<'t>, text: &'t str)
+        ensures { highlighter.new ≡ plain_row (encode_utf8_all (chars text.now))
+            (cursor_cell self.now.look) self.now.rows.wrapping.tab_len self.now.look.mask
+            self.now.look.selection_style }
     {
         let scene = self.scene;
-        LineHighlighter::new(
-            alloc,
+        highlighter.restart(
             text,
             scene.cursor_cell(),
             scene.rows.tab_len(),

@@ -1,5 +1,5 @@
 //! The matches of one line after another, looked for once a line.
-ghost use Rattle.std.specs.Prelude.{◌≡◌, ◌<◌, [], length, IfOk, OnOk};
+ghost use Rattle.std.specs.Prelude.{◌≡◌, ◌<◌, [], length, IfOk, None, OnOk};
 ghost use Rattle.std.specs.Option.{option_map_or};
 ghost use Rattle.textarea_text.specs.Text.{lines_of};
 ghost use Rattle.textarea_search.specs.Matches.{match_spans};
@@ -12,7 +12,6 @@ use textarea_search::search::{LineMatcher, Search};
 /// The matches of the line that was asked for last, found by one matcher.
 #[derive(Drop)]
 pub(super) struct FoundMatches<'a> {
-    alloc: Global,
     matcher: Option<LineMatcher<'a>>,
     lines: &'a [String],
     line: Option<usize>,
@@ -44,7 +43,6 @@ impl<'a> FoundMatches<'a> {
             ≡ record { pattern = search.now; lines = lines_of lines.now }) }
     {
         Ok(FoundMatches {
-            alloc,
             matcher: search.line_matcher()?,
             lines,
             line: None,
@@ -63,7 +61,7 @@ impl<'a> FoundMatches<'a> {
         }
         self.line = None;
         let text = self.lines[line].as_str();
-        self.found = spans_in(self.alloc, &mut self.matcher, text)?;
+        find_in(&mut self.matcher, text, &mut self.found)?;
         self.line = Some(line);
         Ok(())
     }
@@ -76,18 +74,22 @@ impl<'a> FoundMatches<'a> {
     }
 }
 
-// The matches of a text; none without a matcher.
-fn spans_in(
-    alloc: Global,
+// Puts the matches of a text into a vector, in the place of those that it holds; none without a matcher.
+fn find_in(
     matcher: &mut Option<LineMatcher<'_>>,
     text: &str,
-) -> Result<Vec<(usize, usize)>, AllocError>
-    ensures found { IfOk result (λ spans. spans.items
+    found: &mut Vec<(usize, usize)>,
+) -> Result<(), AllocError>
+    ensures found { OnOk result (found.new.items
         ≡ option_map_or (λ pattern. match_spans pattern text.now) matcher.old []) }
+    ensures none { matcher.old ≡ None → found.new.items ≡ [] }
     ensures same { matcher.new ≡ matcher.old }
 {
     match matcher {
-        Some(matcher) => matcher.spans(text),
-        None => Ok(Vec::new(alloc)),
+        Some(matcher) => matcher.spans_into(text, found),
+        None => {
+            found.clear();
+            Ok(())
+        }
     }
 }

@@ -1,9 +1,9 @@
-ghost use Rattle.std.specs.Prelude.{◌≡◌, IfOk};
+ghost use Rattle.std.specs.Prelude.{◌≡◌, IfOk, OnOk};
 ghost use Rattle.regex.specs.Strings.{matcher_pattern};
 ghost use Rattle.textarea_search.specs.Matches.{match_spans};
 ghost use Rattle.textarea_search.specs.Spans.{ListsMatchesOf};
 
-use crate::search::listed::listed_spans;
+use crate::search::listed::{list_spans, listed_spans};
 use regex::Matcher;
 use std::alloc::{AllocError, Global};
 use std::marker::Model;
@@ -47,5 +47,17 @@ impl<'a> LineMatcher<'a> {
         ensures same { self.new ≡ self.old }
     {
         listed_spans(self.alloc, &mut self.matcher, line)
+    }
+
+    /// The same, put into a vector in the place of what it holds and in its memory.
+    pub fn spans_into(
+        &mut self,
+        line: &str,
+        spans: &mut Vec<(usize, usize)>,
+    ) -> Result<(), AllocError>
+        ensures found { OnOk result (spans.new.items ≡ match_spans self.old line.now) }
+        ensures same { self.new ≡ self.old }
+    {
+        list_spans(&mut self.matcher, line, spans)
     }
 }

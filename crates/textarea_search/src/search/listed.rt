@@ -1,6 +1,6 @@
 //! The matches that `regex` lists for a line, one after another, by a matcher whose pattern stays known, so that one
 //! serves line after line.
-ghost use Rattle.std.specs.Prelude.{◌≡◌, ◌+◌, ◌≤◌, ◌<◌, [], ◌∷◌, length, take, find, reverse, slice_get, option_map, encode_utf8_all, IsCharBoundary, IsUtf8, IfOk, IfSome, MatchOption};
+ghost use Rattle.std.specs.Prelude.{◌≡◌, ◌+◌, ◌≤◌, ◌<◌, [], ◌∷◌, length, take, find, reverse, slice_get, option_map, encode_utf8_all, IsCharBoundary, IsUtf8, IfOk, IfSome, MatchOption, OnOk};
 ghost use Rattle.std.specs.Str.{chars};
 ghost use Rattle.regex.specs.Strings.{matcher_pattern, match_span, match_haystack};
 ghost use Rattle.textarea_search.specs.Columns.{column_at};
@@ -39,12 +39,28 @@ pub(crate) fn listed_spans(
     ensures same { matcher_pattern matcher.new ≡ matcher_pattern matcher.old }
 {
     let mut spans = Vec::new(alloc);
+    list_spans(matcher, line, &mut spans)?;
+    Ok(spans)
+}
+
+/// The same, put into a vector in the place of what it holds.
+pub(crate) fn list_spans(
+    matcher: &mut Matcher<'_>,
+    line: &str,
+    spans: &mut Vec<(usize, usize)>,
+) -> Result<(), AllocError>
+    ensures found { OnOk result (spans.new.items
+        ≡ spans_after (matcher_pattern matcher.old) line.now 0) }
+    ensures utf8 { IsUtf8 line.now }
+    ensures same { matcher_pattern matcher.new ≡ matcher_pattern matcher.old }
+{
+    spans.clear();
     let mut after = 0;
     while let Some(found) = next_listed(matcher, line, after) {
         spans.push((found.start(), found.end()))?;
         after = found.end() + 1;
     }
-    Ok(spans)
+    Ok(())
 }
 
 /// Whether a place of a line is behind the mark or, where that counts, at it.

@@ -46,18 +46,16 @@ loop-line-preserved c =
       later = omega arith;
     }
 
-pub text_behind-requires-2 : goal.text_behind-requires-2
-text_behind-requires-2 c =
+pub text_between-requires-clause-start : goal.text_between-requires-clause-start
+text_between-requires-clause-start c =
     let up = up_to_from_index (lines_of c.args.lines.now) c.args.from c.args.to c.requires.from c.requires.to c.requires.ordered in
     let ordered = up.0 in
+    column_within_last c.args.from c.args.to c.loop-line.line-index c.loop-line.start up (omega arith) c.loop-line.invariant.first c.loop-line.invariant.later
+
+pub text_between-requires-clause-end : goal.text_between-requires-clause-end
+text_between-requires-clause-end c =
     let here = line_at c.args.lines.now c.args.to.0 c.index-lines-to.result (row_within c.args.lines.now c.args.to c.requires.to) c.index-lines-to.is in
-    let within = c.requires.to.1 in
-    omega (
-      arith,
-      column_within_last c.args.from c.args.to c.loop-line.line-index c.loop-line.start up (omega arith) c.loop-line.invariant.first c.loop-line.invariant.later,
-      ap length c.text_before-last.ensures,
-      length-take-le c.args.to.1 (chars c.as_str-2.result.now) (omega (arith, ap length here, ap (λ t. length (chars t)) c.as_str-2.ensures.value)),
-    )
+    omega (arith, c.requires.to.1, ap length here, ap (λ t. length (chars t)) c.as_str-2.ensures.value)
 
 pub returns-clause-len : goal.returns-clause-len
 returns-clause-len c =
@@ -71,7 +69,7 @@ returns-clause-text c =
     let up = up_to_from_index (lines_of c.args.lines.now) c.args.from c.args.to c.requires.from c.requires.to c.requires.ordered in
     let ordered = up.0 in
     let here = line_at c.args.lines.now c.args.to.0 c.index-lines-to.result (row_within c.args.lines.now c.args.to c.requires.to) c.index-lines-to.is in
-    let last = c.text_before-last.ensures ∙ ap (λ t. take c.args.to.1 (chars t)) c.as_str-2.ensures.value ∙ ap (take c.args.to.1) (sym here) in
+    let last = ap (λ t. take c.args.to.1 (chars t)) c.as_str-2.ensures.value ∙ ap (take c.args.to.1) (sym here) in
     part_from_lines c.args.lines.now c.push-2.new.self.items c.args.from c.args.to c.requires.from c.requires.to up
-    (pieces_done c.loop-line.pieces.items c.push-2.new.self.items c.in_ok-text_behind-2.field-0 rows c.args.from c.args.to (c.args.from.0 + c.loop-line.line-index) c.loop-line.start c.requires.to.0 (omega arith) c.loop-line.invariant.cut c.in_ok-push-2.ensures.items
-    (c.in_ok-text_behind-2.ensures ∙ ap (drop c.loop-line.start) last))
+    (pieces_done c.loop-line.pieces.items c.push-2.new.self.items c.in_ok-text_between.field-0 rows c.args.from c.args.to (c.args.from.0 + c.loop-line.line-index) c.loop-line.start c.requires.to.0 (omega arith) c.loop-line.invariant.cut c.in_ok-push-2.ensures.items
+    (c.in_ok-text_between.ensures ∙ ap (drop c.loop-line.start) last))

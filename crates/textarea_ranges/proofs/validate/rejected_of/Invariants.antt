@@ -1,9 +1,12 @@
-use Rattle.std.proofs.Common.{◌≡◌, ◌++◌, drop}
+use Rattle.std.proofs.Common.{◌≡◌, ◌++◌, drop, length}
+use Rattle.textarea_text.specs.Place.{line_of}
 use Rattle.textarea_text.specs.Text.{lines_of}
 use Rattle.textarea_ranges.specs.Rejected.{rejected_behind, rejected_of}
 use Rattle.textarea_ranges.proofs.validate.rejected_of.Given as goal
 
--- those listed so far, and those that the rest gives behind the last valid range, are all
+-- those listed so far, and those that the rest gives behind the last valid range, are all; and the columns of the row that was
+-- counted last are its line's
 abbrev pub invariant-loop-range : goal.invariant-loop-range
 invariant-loop-range l =
-    l.rejected.items ++ rejected_behind (lines_of l.lines) l.last (drop l.range-index l.ranges) ≡ rejected_of (lines_of l.lines) l.ranges
+    (l.rejected.items ++ rejected_behind (lines_of l.lines) l.last (drop l.range-index l.ranges) ≡ rejected_of (lines_of l.lines) l.ranges)
+    × (l.counted.columns ≡ length (line_of (lines_of l.lines) l.counted.row))

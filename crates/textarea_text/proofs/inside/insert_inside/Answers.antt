@@ -1,25 +1,41 @@
-use Rattle.std.proofs.Common.{◌∙◌, ◌++◌, ap, arith, length, take, drop, string_bytes}
+use Rattle.std.proofs.Common.{◌≡◌, ◌∙◌, ◌++◌, ap, arith, length, sym, take, drop, string_bytes}
 use Rattle.std.specs.Str.{chars}
 use Rattle.std.proofs.lemmas.Result.{on_err_weaker}
 use Rattle.std.proofs.lemmas.Str.{IsUtf8-string_bytes}
-use Rattle.textarea_text.proofs.StringRows.{offset_of_line}
-use Rattle.textarea_text.proofs.Insides.{always_ok, chars_between, line_changed, split_point}
+use Rattle.textarea_text.specs.Text.{characters_of}
+use Rattle.textarea_text.proofs.Columns.{offset_in}
+use Rattle.textarea_text.proofs.Insides.{always_ok, chars_between, line_changed, offset_given, place_kept, split_point}
 use Rattle.textarea_text.proofs.inside.insert_inside.Goals as goal
+use Rattle.textarea_text.proofs.inside.insert_inside.Goals.{After-insert_str}
 
 pub insert_str-requires : goal.insert_str-requires
 insert_str-requires c =
     let line = c.make_room.new.line in
-    let at = split_point (string_bytes line) c.args.place.1 c.byte_offset-offset.result (IsUtf8-string_bytes line) (offset_of_line line c.as_str.result.now c.args.place.1 c.byte_offset-offset.result c.as_str.ensures.value c.byte_offset-offset.ensures) in
+    let here = offset_given c.args.lines.now.items c.args.place c.index_mut-line.result.now c.args.offset c.requires.place c.index_mut-line.ensures.value c.requires.offset in
+    let at = split_point (string_bytes line) c.args.place.1 c.args.offset (IsUtf8-string_bytes line) (here ∙ ap (λ t. offset_in (chars t) c.args.place.1) (sym c.in_ok-make_room.ensures.bytes)) in
     (at.0, λ _ below lead. at.1 below lead)
 
-pub returns-clause-ok : goal.returns-clause-ok
-returns-clause-ok c =
+-- the line's characters afterwards
+now : (c : After-insert_str) → characters_of c.insert_str.new.self ≡ take c.args.place.1 (characters_of c.index_mut-line.result.now) ++ (chars c.args.text.now ++ drop c.args.place.1 (characters_of c.index_mut-line.result.now))
+now c =
     let line = c.make_room.new.line in
     let new = c.insert_str.new.self in
     let column = c.args.place.1 in
     let more = chars c.args.text.now in
-    let at = offset_of_line line c.as_str.result.now column c.byte_offset-offset.result c.as_str.ensures.value c.byte_offset-offset.ensures in
+    let here = offset_given c.args.lines.now.items c.args.place c.index_mut-line.result.now c.args.offset c.requires.place c.index_mut-line.ensures.value c.requires.offset in
+    let at : c.args.offset ≡ offset_in (chars (string_bytes line)) column = here ∙ ap (λ t. offset_in (chars t) column) (sym c.in_ok-make_room.ensures.bytes) in
     let bytes = always_ok c.insert_str.result _ c.insert_str.ensures.bytes (on_err_weaker c.insert_str.result (λ full. omega (arith, full, c.in_ok-make_room.ensures.ok, ap length c.in_ok-make_room.ensures.bytes, line.bytes.ok.0, c.index_mut-line.result.now.bytes.ok.0)) c.insert_str.ensures.full) in
-    line_changed c.args.lines.now.items c.index_mut-line.result.now new c.args.place column more c.requires c.requires c.index_mut-line.ensures.value
-    (chars_between (string_bytes line) c.args.text.now (string_bytes new) column column c.byte_offset-offset.result c.byte_offset-offset.result (IsUtf8-string_bytes line) c.utf8.text (IsUtf8-string_bytes new) at at bytes
-    ∙ ap (λ t. take column (chars t) ++ (more ++ drop column (chars t))) c.in_ok-make_room.ensures.bytes)
+    chars_between (string_bytes line) c.args.text.now (string_bytes new) column column c.args.offset c.args.offset (IsUtf8-string_bytes line) c.utf8.text (IsUtf8-string_bytes new) at at bytes
+    ∙ ap (λ t. take column (chars t) ++ (more ++ drop column (chars t))) c.in_ok-make_room.ensures.bytes
+
+pub returns-clause-ok : goal.returns-clause-ok
+returns-clause-ok c =
+    line_changed c.args.lines.now.items c.index_mut-line.result.now c.insert_str.new.self c.args.place c.args.place.1 (chars c.args.text.now) c.requires.place c.requires.place c.index_mut-line.ensures.value (now (goal.at.returns-clause-ok c).After-insert_str)
+
+pub returns-clause-place : goal.returns-clause-place
+returns-clause-place c =
+    (place_kept c.args.lines.now.items c.index_mut-line.result.now c.insert_str.new.self c.args.place c.args.place.1 (chars c.args.text.now) c.args.offset c.requires.place c.index_mut-line.ensures.value c.requires.offset (now (goal.at.returns-clause-place c).After-insert_str)).0
+
+pub returns-clause-offset : goal.returns-clause-offset
+returns-clause-offset c =
+    (place_kept c.args.lines.now.items c.index_mut-line.result.now c.insert_str.new.self c.args.place c.args.place.1 (chars c.args.text.now) c.args.offset c.requires.place c.index_mut-line.ensures.value c.requires.offset (now (goal.at.returns-clause-offset c).After-insert_str)).1

@@ -6,10 +6,10 @@ use Rattle.textarea_text.proofs.rows.symbol_before.Goals as goal
 pub returns-then-column-gt0 : goal.returns-then-column-gt0
 returns-then-column-gt0 c =
     let column = c.args.place.1 - 1 in
-    character_before c.args.lines.now c.args.place c.index-lines-row.result c.character_before.result c.requires c.if-column-gt0.true c.index-lines-row.is
+    character_before c.args.lines.now c.args.place c.index-lines-row.result c.character_before.result c.requires.place c.if-column-gt0.true c.index-lines-row.is
     (subst (λ (t : List ℕ). drop column (chars t) ≡ c.character_before.result ∷ drop (column + 1) (chars t)) c.as_str.ensures.value c.character_before.ensures)
 
 pub returns : goal.returns
 returns c =
-    break_before c.args.lines.now c.args.place c.index-lines-row-2.result c.column_count.result c.requires (omega arith) (omega arith) c.index-lines-row-2.is
+    break_before c.args.lines.now c.args.place c.index-lines-row-2.result c.column_count.result c.requires.place (omega arith) (omega arith) c.index-lines-row-2.is
     (c.column_count.ensures ∙ ap (λ (t : List ℕ). length (chars t)) c.as_str-2.ensures.value)

@@ -8,24 +8,24 @@ use Rattle.textarea_document.proofs.Behinds.{break_is_behind, character_is_behin
 use Rattle.textarea_document.proofs.document.removals.symbol_behind.Goals as goal
 
 pub overflow_add-result : goal.overflow_add-result
-overflow_add-result c = omega (arith, column_in_string c.args.lines.now c.args.place c.requires)
+overflow_add-result c = omega (arith, column_in_string c.args.lines.now c.args.place c.requires.place)
 
 pub returns-in-Some : goal.returns-in-Some
 returns-in-Some c =
     let rows = lines_of c.args.lines.now in
-    let line = ap chars c.as_str.ensures.value ∙ sym (line_at c.args.lines.now c.args.place.0 c.index-lines-row.result (row_within c.args.lines.now c.args.place c.requires) c.index-lines-row.is) in
-    character_is_behind rows c.args.place.0 c.args.place.1 c.in-Some.c c.requires
+    let line = ap chars c.as_str.ensures.value ∙ sym (line_at c.args.lines.now c.args.place.0 c.index-lines-row.result (row_within c.args.lines.now c.args.place c.requires.place) c.index-lines-row.is) in
+    character_is_behind rows c.args.place.0 c.args.place.1 c.in-Some.c c.requires.place
     (subst (λ l. drop c.args.place.1 l ≡ c.in-Some.c ∷ drop (c.args.place.1 + 1) l) line c.in-Some.ensures)
 
 pub returns-then-row-lines : goal.returns-then-row-lines
 returns-then-row-lines c =
     let rows = lines_of c.args.lines.now in
-    let line = ap chars c.as_str.ensures.value ∙ sym (line_at c.args.lines.now c.args.place.0 c.index-lines-row.result (row_within c.args.lines.now c.args.place c.requires) c.index-lines-row.is) in
+    let line = ap chars c.as_str.ensures.value ∙ sym (line_at c.args.lines.now c.args.place.0 c.index-lines-row.result (row_within c.args.lines.now c.args.place c.requires.place) c.index-lines-row.is) in
     let column : c.args.place.1 ≡ length (get_or rows c.args.place.0 []) = c.in_default.ensures ∙ ap length line in
     (is_at_end rows c.args.place.0 c.args.place.1 (omega (arith, c.if-row-lines.true, length-map c.args.lines.now characters_of)) column).index_is
 
 pub returns : goal.returns
 returns c =
     let rows = lines_of c.args.lines.now in
-    let line = ap chars c.as_str.ensures.value ∙ sym (line_at c.args.lines.now c.args.place.0 c.index-lines-row.result (row_within c.args.lines.now c.args.place c.requires) c.index-lines-row.is) in
-    break_is_behind rows c.args.place.0 c.args.place.1 (omega (arith, c.if-row-lines.false, c.requires.0, length-map c.args.lines.now characters_of)) (c.in_default.ensures ∙ ap length line)
+    let line = ap chars c.as_str.ensures.value ∙ sym (line_at c.args.lines.now c.args.place.0 c.index-lines-row.result (row_within c.args.lines.now c.args.place c.requires.place) c.index-lines-row.is) in
+    break_is_behind rows c.args.place.0 c.args.place.1 (omega (arith, c.if-row-lines.false, c.requires.place.0, length-map c.args.lines.now characters_of)) (c.in_default.ensures ∙ ap length line)

@@ -12,8 +12,8 @@ loop-border-init c = record {
   masked = refl;
   column = column_at_start c.args.row_style.tab_len;
   room = omega arith;
-  base_is = c.new-styles.ensures.base;
-  behind = c.new-styles.ensures.none;
+  base_is = c.restart.ensures.base;
+  behind = c.restart.ensures.none;
   cut = cut_at_start _ _ _ _ _ _;
 }
 

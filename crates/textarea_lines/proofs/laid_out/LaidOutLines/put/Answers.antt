@@ -6,15 +6,18 @@ use Rattle.textarea_lines.specs.declared.cut.CutAnew.{CutAnew}
 use Rattle.textarea_lines.specs.declared.laid_out.LaidOutLines.TheInside.{Inside}
 use Rattle.textarea_lines.specs.declared.settings.LayoutSettings.{LayoutSettings}
 use Rattle.textarea_lines.specs.Layout.{LaidOut, laid_out_with}
+use Rattle.textarea_lines.specs.Stored.{IsFound, IsNextCut}
 use Rattle.textarea_lines.specs.View.{IsCutWhereOther}
 use Rattle.textarea_lines.proofs.Widths.{Holds, holds_cut, holds_kept_whole, holds_kept_wrapped}
 use Rattle.textarea_lines.proofs.laid_out.LaidOutLines.put.Goals as goal
-use Rattle.textarea_lines.proofs.laid_out.LaidOutLines.put.Goals.{in-Some, in-None+else-not-is_wrapped, in-None+then-not-is_wrapped}
+use Rattle.textarea_lines.proofs.laid_out.LaidOutLines.put.Goals.{in-Some+in-Some-1, in-Some+in-None-1, in-None+else-not-is_wrapped, in-None+then-not-is_wrapped}
 
 -- the lines as they are held under the settings, and what was measured of them
 record HoldsAll (inside : Inside) (settings : LayoutSettings) (laid : LaidOut) : Type 0 where
   pub rows : Holds settings inside.lines.items inside.size inside.count inside.map (laid_out_with laid settings)
   pub measured : IfSome inside.measured (λ last. IsRowCount last.wrapping (lines_of inside.lines.items) last.rows)
+  pub kept : IfSome inside.kept (IsNextCut inside.count inside.lines.items)
+  pub place : IsFound inside.lines.items inside.found
 
 held : (c : goal.After-settings-1) → HoldsAll c.match-cut.self-inside c.args.settings c.args.self.now
 held c =
@@ -24,14 +27,18 @@ held c =
     let laid = c.args.self.now in
     let before : Holds inside.settings items inside.size inside.count inside.map laid = record { rows = c.self.invariant.held; is = c.self.view_is } in
     elim c.match-cut.branch [
-      | in-Some w ↦
+      | in-Some+in-Some-1 w ↦
           let cut = subst (λ (o : Option CutAnew). IsCutWhereOther laid settings o) w.in-Some.is c.requires in
           subst (λ (v : Inside). HoldsAll v settings laid) (sym w.self-inside-is)
-          (record { rows = holds_cut inside.settings settings items inside.size inside.count inside.map laid w.in-Some.cut before cut; measured = c.self.invariant.measured })
+          (record { rows = holds_cut inside.settings settings items inside.size inside.count inside.map laid w.in-Some.cut before cut; measured = c.self.invariant.measured; kept = tt; place = c.self.invariant.place })
+      | in-Some+in-None-1 w ↦
+          let cut = subst (λ (o : Option CutAnew). IsCutWhereOther laid settings o) w.in-Some.is c.requires in
+          subst (λ (v : Inside). HoldsAll v settings laid) (sym w.self-inside-is)
+          (record { rows = holds_cut inside.settings settings items inside.size inside.count inside.map laid w.in-Some.cut before cut; measured = c.self.invariant.measured; kept = tt; place = c.self.invariant.place })
       | in-None+else-not-is_wrapped w ↦
           let stays = subst (λ (o : Option CutAnew). IsCutWhereOther laid settings o) w.in-None.is c.requires in
           subst (λ (v : Inside). HoldsAll v settings laid) (sym w.self-inside-is)
-          (record { rows = holds_kept_wrapped inside.settings settings items inside.size inside.count inside.map laid before (sym w.is_wrapped.ensures ∙ w.if-not-is_wrapped.false) stays; measured = c.self.invariant.measured })
+          (record { rows = holds_kept_wrapped inside.settings settings items inside.size inside.count inside.map laid before (sym w.is_wrapped.ensures ∙ w.if-not-is_wrapped.false) stays; measured = c.self.invariant.measured; kept = c.self.invariant.kept; place = c.self.invariant.place })
       | in-None+then-not-is_wrapped w ↦
           let stays = subst (λ (o : Option CutAnew). IsCutWhereOther laid settings o) w.in-None.is c.requires in
           let set = w.set_tab_len.ensures in
@@ -39,11 +46,13 @@ held c =
           (record {
             rows = holds_kept_whole inside.settings settings items inside.size inside.count inside.map w.set_tab_len.new.self laid before (sym w.is_wrapped.ensures ∙ w.if-not-is_wrapped.true) stays set.same set.wrapping (set.right (lines_of items) c.self.invariant.held.laid_out);
             measured = c.self.invariant.measured;
+            kept = c.self.invariant.kept;
+            place = c.self.invariant.place;
           })
     ]
 
 pub invariant_of-self : goal.invariant_of-self
-invariant_of-self c = record { held = (held c).rows.rows; measured = (held c).measured }
+invariant_of-self c = record { held = (held c).rows.rows; measured = (held c).measured; kept = (held c).kept; place = (held c).place }
 
 pub returns : goal.returns
 returns c = (held c).rows.is

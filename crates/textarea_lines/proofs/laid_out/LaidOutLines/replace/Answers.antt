@@ -1,6 +1,7 @@
 use Rattle.std.proofs.Common.{ap, arith, length}
 use Rattle.textarea_lines.proofs.Stores.{count_held}
-use Rattle.textarea_lines.proofs.Changes.{Replacing, holds_replaced, layout_replaced}
+use Rattle.textarea_lines.proofs.Founds.{found_first}
+use Rattle.textarea_lines.proofs.Changes.{Replacing, holds_replaced, layout_replaced, some_now}
 use Rattle.textarea_lines.proofs.laid_out.LaidOutLines.replace.Goals as goal
 use Rattle.textarea_lines.proofs.laid_out.LaidOutLines.replace.Goals.{After-replace}
 
@@ -27,6 +28,8 @@ invariant_of-self-2 c = record {
   held = holds_replaced _ _ _ _ _ _ _ _ _ _ _ _ _ (steps (goal.at.invariant_of-self-2 c).After-replace) c.args.replacement.lines.ok.0 c.in_ok-prepared.ensures.wrapping c.in_ok-prepared.ensures.rows
       (cc (c.replace.ensures.rows, c.in_ok-prepared.ensures.same)) c.replace.ensures.wrapping (rw (← c.self.view_is) at c.requires.size) c.requires.limit;
   measured = tt;
+  kept = tt;
+  place = found_first c.replace_in.new.lines.items c.new-self-inside.result c.new-self-inside.ensures (some_now _ _ _ _ _ _ _ (steps (goal.at.invariant_of-self-2 c).After-replace));
 }
 
 pub returns-clause-ok : goal.returns-clause-ok

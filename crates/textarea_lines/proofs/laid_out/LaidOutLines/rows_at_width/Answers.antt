@@ -1,6 +1,10 @@
-use Rattle.std.proofs.Common.{◌∙◌, ap, length, sym}
+use Rattle.std.proofs.Common.{◌≡◌, ◌∙◌, ℕ, List, ap, length, subst, sym}
+use Rattle.textarea_text.specs.Text.{lines, lines_of}
+use Rattle.textarea_map.specs.Map.{IsRowCount}
+use Rattle.textarea_lines.specs.Layout.{LaidOut}
 use Rattle.textarea_lines.specs.Wrappings.{wrapping_for}
-use Rattle.textarea_lines.proofs.Measuring.{Measuring, counted_as_kept, counted_as_measured, counted_in_text, same_as_kept}
+use Rattle.textarea_lines.proofs.Measuring.{Measuring, counted_anew, counted_as_kept, counted_as_measured, counted_in_text, same_as_kept}
+use Rattle.textarea_lines.proofs.Stores.{lines_held}
 use Rattle.textarea_lines.proofs.laid_out.LaidOutLines.rows_at_width.Goals as goal
 use Rattle.textarea_lines.proofs.laid_out.LaidOutLines.rows_at_width.Goals.{After-wrapping}
 
@@ -12,6 +16,18 @@ steps c = record {
   wrapping_is = c.wrapping_at-wrapping.ensures;
   now_is = c.wrapping.ensures ∙ c.self.invariant.held.wrapping_is ∙ ap (λ t. wrapping_for c.self.inside.settings (length t)) (sym c.as_slice-lines.ensures.value);
 }
+
+pub invariant_of-self : goal.invariant_of-self
+invariant_of-self c =
+    let items = c.self-2.inside.lines.items in
+    let same : lines c.args.self.now.text ≡ lines_of items =
+    ap (λ (l : LaidOut). lines l.text) (sym (c.self-2.view_is ∙ c.measure_anew.ensures.same)) ∙ lines_held items c.self-2.invariant.held.stored.some in
+    record {
+      held = c.self-2.invariant.held;
+      measured = subst (λ (t : List (List ℕ)). IsRowCount c.wrapping_at-wrapping.result t c.in_ok-rows.rows) same c.in_ok-rows.ensures.rows;
+      kept = c.self-2.invariant.kept;
+      place = c.self-2.invariant.place;
+    }
 
 pub returns-then-is_same-clause-rows : goal.returns-then-is_same-clause-rows
 returns-then-is_same-clause-rows c =
@@ -29,4 +45,4 @@ returns-in_err-rows-clause-no_memory c = λ yes.
     absurd (cc (test, yes, c.is_same.ensures, c.if-is_same.false))
 
 pub returns-clause-rows : goal.returns-clause-rows
-returns-clause-rows c = counted_in_text _ _ _ _ _ _ _ _ _ _ _ (steps (goal.at.returns-clause-rows c).After-wrapping) c.in_ok-rows.ensures.rows
+returns-clause-rows c = counted_anew _ _ _ _ _ _ _ _ _ _ _ (steps (goal.at.returns-clause-rows c).After-wrapping) c.in_ok-rows.ensures.rows

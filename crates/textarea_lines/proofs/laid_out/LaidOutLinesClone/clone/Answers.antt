@@ -1,5 +1,6 @@
 use Rattle.std.proofs.Common.{◌∙◌}
 use Rattle.textarea_text.proofs.Copies.{lines_copied}
+use Rattle.textarea_lines.proofs.Founds.{found_copied}
 use Rattle.textarea_lines.proofs.Stores.{holds_copied, seen_copied}
 use Rattle.textarea_lines.proofs.laid_out.LaidOutLinesClone.clone.Goals as goal
 
@@ -11,6 +12,8 @@ invariant_of-result c =
     record {
       held = holds_copied inside.settings inside.lines.items copies inside.size inside.map c.in_ok-clone-2.field-0 c.self.invariant.held same c.in_ok-clone-2.ensures.cases;
       measured = rw same c.self.invariant.measured;
+      kept = tt;
+      place = found_copied inside.lines.items copies inside.found _ same c.new.ensures c.self.invariant.place;
     }
 
 pub returns : goal.returns

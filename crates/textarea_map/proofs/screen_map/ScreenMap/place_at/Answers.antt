@@ -1,5 +1,6 @@
-use Rattle.std.proofs.Common.{◌+◌, ◌<◌, ◌^◌, ◌∙◌, ap, arith, subst}
+use Rattle.std.proofs.Common.{◌+◌, ◌<◌, ◌∙◌, ap, arith, subst}
 use Rattle.std.specs.Str.{chars}
+use Rattle.textarea_size.specs.Limit.{size_limit}
 use Rattle.textarea_text.specs.Text.{lines_of}
 use Rattle.textarea_map.specs.Map.{MapView}
 use Rattle.textarea_map.specs.Rows.{VisualRow}
@@ -8,7 +9,7 @@ use Rattle.textarea_map.proofs.ThereAndBack.{is_place, place_found}
 use Rattle.textarea_map.proofs.screen_map.ScreenMap.place_at.Goals as goal
 use Rattle.textarea_map.proofs.screen_map.ScreenMap.place_at.Goals.{After-column_count}
 
-found : (c : After-column_count) → (c.column_count.result + c.character_at_column-index.result < 2 ^ 48) × IsPlaceAt c.args.self.now.wrapping.tab_len (lines_of c.args.lines.now) c.args.self.now.rows c.args.seen (c.row_at-shown.result.line, c.column_count.result + c.character_at_column-index.result)
+found : (c : After-column_count) → (c.column_count.result + c.character_at_column-index.result < size_limit) × IsPlaceAt c.args.self.now.wrapping.tab_len (lines_of c.args.lines.now) c.args.self.now.rows c.args.seen (c.row_at-shown.result.line, c.column_count.result + c.character_at_column-index.result)
 found c =
     let row_is = c.row_at-shown.ensures.shown in
     let leads = subst (λ (v : MapView). LeadsTo v.wrapping.tab_len (chars c.row_at-shown.result.text.now) c.args.seen.1 c.character_at_column-index.result) c.self.view_is c.character_at_column-index.ensures in

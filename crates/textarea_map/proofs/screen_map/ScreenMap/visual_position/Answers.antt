@@ -9,7 +9,6 @@ use Rattle.textarea_wrap.specs.Wrapped.{IsWrapped}
 use Rattle.textarea_map.specs.Map.{MapView, range_at, ranges_at, row_total}
 use Rattle.textarea_map.proofs.Holding.{bytes_of_line, cut_of, first_begins, offset_within, range_is, rows_at, some_rows}
 use Rattle.textarea_map.proofs.Layouts.{length-AreRowsOf}
-use Rattle.textarea_map.proofs.Numbers.{length-firsts, number_at}
 use Rattle.textarea_map.proofs.VisualRows.{rows_below, seen_in}
 use Rattle.textarea_map.proofs.screen_map.ScreenMap.visual_position.Goals as goal
 use Rattle.textarea_map.proofs.screen_map.ScreenMap.visual_position.Goals.{After-rows_of-ranges, After-display_column_behind_text-column}
@@ -53,16 +52,16 @@ display_column_behind_text-column-requires c =
     let known = (goal.at.display_column_behind_text-column-requires c).After-rows_of-ranges in
     omega (arith, (rows_at _ _ _ _ c.requires.rows c.requires.place.0).short, ap length (bytes known), c.range.ensures.len, short known)
 
-pub index-requires : goal.index-requires
-index-requires c =
-    omega (arith, there (goal.at.index-requires c).After-display_column_behind_text-column, ap length c.self.invariant.numbers, length-firsts 0 c.self.inside.rows.items)
+pub first_row-requires : goal.first_row-requires
+first_row-requires c =
+    omega (arith, c.requires.place.0, length-AreRowsOf c.args.self.now.wrapping (lines_of c.args.lines.now) c.args.self.now.rows c.requires.rows)
 
 pub overflow_add-result : goal.overflow_add-result
 overflow_add-result c =
     let rows = c.self.inside.rows.items in
     let within = there (goal.at.overflow_add-result c).After-display_column_behind_text-column in
     let held : c.row_holding-row.result < length (ranges_at rows c.args.place.0) = omega (arith, c.row_holding-row.ensures.within, ap length c.rows_of-ranges.ensures, ap (λ (v : MapView). length (ranges_at v.rows c.args.place.0)) c.self.view_is) in
-    omega (arith, number_at _ _ _ _ c.self.invariant.numbers within c.index.ensures, rows_below rows c.args.place.0 c.row_holding-row.result within held, c.self.invariant.all, c.self.invariant.limit.few)
+    omega (arith, c.first_row.ensures, ap (λ (v : MapView). row_total (take c.args.place.0 v.rows)) c.self.view_is, rows_below rows c.args.place.0 c.row_holding-row.result within held, c.self.invariant.all, c.self.invariant.limit.few)
 
 pub returns : goal.returns
 returns c =
@@ -70,13 +69,12 @@ returns c =
     let known = at.After-rows_of-ranges in
     let row = c.row_holding-row.result in
     let offset = c.byte_offset-offset.result in
-    let number = number_at _ _ _ _ c.self.invariant.numbers (there at.After-display_column_behind_text-column) c.index.ensures ∙ ap (λ (v : MapView). row_total (take c.args.place.0 v.rows)) c.self.view_is in
     let same = offset_of_line c.index-lines-place.result _ c.args.place.1 offset c.as_str-line.ensures.value c.byte_offset-offset.ensures ∙ ap (λ (t : List ℕ). offset_in t c.args.place.1) (sym (line_at _ _ c.index-lines-place.result (within known) c.index-lines-place.is)) in
     let start = ap (λ (t : List (ℕ × ℕ)). (range_at t row).0) c.rows_of-ranges.ensures in
     let seen = seen_in c.args.self.now.wrapping (lines_of c.args.lines.now) c.args.self.now.rows c.args.place row offset _ _ c.range.result.now c.requires.rows c.requires.place
     (omega (arith, c.row_holding-row.ensures.within, ap length c.rows_of-ranges.ensures))
     (omega (arith, c.row_holding-row.ensures.from, start))
     (λ more. omega (arith, c.row_holding-row.ensures.next (omega (arith, more, ap length c.rows_of-ranges.ensures)), ap (λ (t : List (ℕ × ℕ)). (range_at t (row + 1)).0) c.rows_of-ranges.ensures))
-    same (omega (arith, short known, ap length (bytes known))) number c.range.utf8 (cc (c.range.ensures.value, start, bytes known))
+    same (omega (arith, short known, ap length (bytes known))) c.first_row.ensures c.range.utf8 (cc (c.range.ensures.value, start, bytes known))
     (c.display_column_behind_text-column.ensures.value ∙ ap (λ (v : MapView). display_end_column v.wrapping.tab_len 0 (chars c.range.result.now)) c.self.view_is) in
     record { row = seen.0; seen = seen.1 }

@@ -6,7 +6,7 @@ use Rattle.textarea_screen.specs.Buffer.{Changes}
 use Rattle.textarea_screen.specs.Text.{shown_line}
 use Rattle.textarea_scene.specs.Rows.{row_highlights}
 use Rattle.textarea_scene.specs.Scene.{SceneState}
-use Rattle.textarea_scene.proofs.Drawing.{drawn_inside, drawn_more, failed_inside}
+use Rattle.textarea_scene.proofs.Drawing.{drawn_inside, drawn_more, drawn_none, failed_inside}
 use Rattle.textarea_scene.proofs.scene.Scene.draw.Goals as goal
 
 -- what holds holds on an error too
@@ -14,9 +14,9 @@ also_on_err : {T E : Type 0} {Fact : Type 0} (r : Result T E) → Fact → OnErr
 also_on_err (Ok x) fact = tt
 also_on_err (Err e) fact = fact
 
-pub returns-in_err-line-clause-err : goal.returns-in_err-line-clause-err
-returns-in_err-line-clause-err c =
-    also_on_err c.from_residual-in_err-line.result
+pub returns-in_err-show_in-clause-err : goal.returns-in_err-show_in-clause-err
+returns-in_err-show_in-clause-err c =
+    also_on_err c.from_residual-in_err-show_in.result
     (drawn_inside c.args.self.now c.args.top c.args.rows c.args.buffer.now c.loop-i.buffer c.loop-i.i c.loop-i.invariant.2)
 
 pub returns-in_err-draw_row-clause-err : goal.returns-in_err-draw_row-clause-err
@@ -24,14 +24,21 @@ returns-in_err-draw_row-clause-err c =
     also_on_err c.from_residual-in_err-draw_row.result
     (failed_inside c.args.self.now c.args.top c.args.rows c.args.buffer.now c.loop-i.buffer c.draw_row.new.buffer c.loop-i.i _ c.loop-i.invariant.2 c.in_err-draw_row.ensures.err)
 
+pub loop-i-init : goal.loop-i-init
+loop-i-init c = (
+  rw (c.new-frame.ensures, ← c.self.view_is, ← c.lines.ensures.lines) c.in_ok-matches.ensures,
+  c.new-frame.ensures,
+  drawn_none c.args.self.now c.args.top c.args.rows c.args.buffer.now,
+)
+
 pub loop-i-preserved : goal.loop-i-preserved
 loop-i-preserved c =
     let known = c.loop-i.invariant in
-    let line = shown_line c.in_ok-line.line in
+    let line = shown_line c.show_in.new.line in
     let y : c.y.result ≡ c.args.rows.area.y = c.y.ensures in (
-      c.in_ok-line.ensures.same ∙ known.0,
+      c.in_ok-show_in.ensures.same ∙ known.0,
       known.1,
       drawn_more c.args.self.now c.args.top c.args.rows c.args.buffer.now c.loop-i.buffer c.draw_row.new.buffer c.loop-i.i line known.2
-          (subst (λ (s : SceneState). ShowsRow (row_highlights s (c.args.top + c.loop-i.i)) line) known.1 c.in_ok-line.ensures.shown)
+          (subst (λ (s : SceneState). ShowsRow (row_highlights s (c.args.top + c.loop-i.i)) line) known.1 c.in_ok-show_in.ensures.shown)
           (subst (λ (n : ℕ). Changes c.loop-i.buffer c.draw_row.new.buffer (row_cell c.args.rows n line)) (ap (λ n. n + c.loop-i.i) y) c.in_ok-draw_row.ensures.ok),
     )

@@ -7,5 +7,5 @@ use Rattle.textarea_scene.proofs.scene.Scene.shown_start.Goals as goal
 
 pub returns : goal.returns
 returns c =
-    let line = shown_line c.in_ok-line.line in
-    (line, subst (λ (s : SceneState). ShowsRow (row_highlights s c.args.row) line) c.new-frame.ensures c.in_ok-line.ensures.shown, c.row_start.ensures)
+    let line = shown_line c.show_in.new.line in
+    (line, subst (λ (s : SceneState). ShowsRow (row_highlights s c.args.row) line) c.new-frame.ensures c.in_ok-show_in.ensures.shown, c.row_start.ensures)

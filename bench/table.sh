@@ -1,0 +1,236 @@
+#!/bin/bash
+# Prints one table of what keys, frames, cuts and scripts cost, in markdown: the time at 1,000, 10,000, 100,000 and 1,000,000
+# lines, characters or commands, and the last time in the first ones. Times are the best of some runs; of each that of the same
+# program on the same text, with nothing done to it, is taken away.
+# - A key in a text of lines of 80 columns, wrapped: into a line of some 1,000 characters, which it cuts anew; one that gives a
+#   line a second row, or takes it away; and by turns a line break and Backspace, behind which the lines are moved.
+# - A character that is typed, or removed by Backspace, in a line that isn't wrapped, by the line's length in characters: of one
+#   byte and of two, at the line's end and in its middle, where what stands behind it in the line is moved.
+# - A width that changes, and one whose rows were measured before: the time for each line.
+# - A key and the frame of 80 by 24 behind it; a frame alone; and one with line numbers, all lines selected and a match in each
+#   row. Where valgrind is there, also how often a frame asks for memory for each of its rows.
+# - Scripts of `tascript`: edits all over a text, a quarter of them line breaks, each undone and made again; all lines cut, and
+#   put back by an undo; a run of characters typed and removed by Backspace, reading and printing included.
+# - Reading alone: scripts whose last line isn't read, so that nothing is run. A `set_lines` of that many lines of 100 bytes,
+#   and that many short commands. Where GNU time is there, also how many bytes are held at the most for each byte of the script,
+#   and the same where the `set_lines` is run and printed.
+# CRATES is the folder with the crates in which `rt run` built typing_bench, frame_bench and tascript; without it, that of this
+# repository. Rows whose program isn't there are left out. It takes some eight minutes.
+# usage: bench/table.sh [CRATES]
+set -e
+crates=${1:-$(dirname "$0")/../crates}
+sizes=(1000 10000 100000 1000000)
+script=$(mktemp /tmp/bench_table.XXXXXX)
+trap 'rm -f "$script" "$script.held"' EXIT
+
+program() { echo "$crates/$1/out/$1"; }
+
+# the nanoseconds of the fastest of so many runs of a program on the script
+best() {
+    local fastest= begin end
+    for (( turn = 0; turn < $2; turn++ )); do
+        begin=$(date +%s%N)
+        "$1" < "$script" > /dev/null 2>&1 || true
+        end=$(date +%s%N)
+        if [ -z "$fastest" ] || [ $(( end - begin )) -lt "$fastest" ]; then fastest=$(( end - begin )); fi
+    done
+    echo "$fastest"
+}
+
+# how many runs are made at a size
+turns() { if [ "$1" -ge 1000000 ]; then echo 2; else echo 4; fi; }
+
+# a row: what it is, its unit, and a value for each size
+row() {
+    local what=$1 unit=$2 first= last=
+    shift 2
+    printf '| %s | %s |' "$what" "$unit"
+    for value in "$@"; do
+        printf ' %s |' "$value"
+        if [ "$value" != - ]; then first=${first:-$value}; last=$value; fi
+    done
+    awk -v first="$first" -v last="$last" 'BEGIN { if (first > 0) printf " %.2f |\n", last / first; else print " - |" }'
+}
+
+quotient() { awk -v n="$1" -v d="$2" 'BEGIN { printf "%.2f", n / d }'; }
+
+# the time of one job of a program in microseconds: its word, the size, and how many times it is done
+once() {
+    local path none
+    path=$(program "$1")
+    echo "$2 $3 0" > "$script"
+    none=$(best "$path" "$(turns "$3")")
+    echo "$2 $3 $4" > "$script"
+    quotient $(( $(best "$path" "$(turns "$3")") - none )) $(( $4 * 1000 ))
+}
+
+# a row of a job: what it is, the program, the word, and how many times it is done at each size
+jobs_row() {
+    local what=$1 name=$2 word=$3 values=()
+    shift 3
+    [ -x "$(program "$name")" ] || return 0
+    for size in "${sizes[@]}"; do values+=("$(once "$name" "$word" "$size" "$1")"); shift; done
+    row "$what" microseconds "${values[@]}"
+}
+
+# the same for each line, in nanoseconds
+lines_row() {
+    local what=$1 name=$2 word=$3 values=()
+    shift 3
+    [ -x "$(program "$name")" ] || return 0
+    for size in "${sizes[@]}"; do
+        values+=("$(quotient "$(once "$name" "$word" "$size" "$1")" "$(quotient "$size" 1000)")")
+        shift
+    done
+    row "$what" "nanoseconds a line" "${values[@]}"
+}
+
+# how often a frame asks for memory, for each of its 24 rows
+requests_row() {
+    local path values=()
+    path=$(program frame_bench)
+    [ -x "$path" ] && command -v valgrind > /dev/null || return 0
+    for size in 1000 10000; do
+        values+=("$(quotient $(( $(requests "$path" "$2 $size 60") - $(requests "$path" "$2 $size 10") )) $(( 50 * 24 )))")
+    done
+    row "$1" "requests a row" "${values[@]}" - -
+}
+
+requests() {
+    echo "$2" | valgrind "$1" 2>&1 > /dev/null | sed -n 's/.*heap usage: \([0-9,]*\) allocs.*/\1/p' | tr -d ,
+}
+
+# ---- scripts: each is written by a function, for a size and for how many times
+
+some_lines() {
+    awk -v lines="$1" 'BEGIN {
+        print "set_max_histories 40000"
+        printf "set_lines 0 0 a line of some text, as it is written"
+        for (i = 1; i < lines; i++) printf "\\na line of some text, as it is written"
+        print ""
+    }'
+}
+
+edits() {
+    some_lines "$1"
+    awk -v lines="$1" -v edits="$2" 'BEGIN {
+        for (i = 0; i < edits; i++) {
+            print "jump " (i * 7919) % (lines < 65536 ? lines : 65536) " " i % 19
+            print (i % 4 == 0 ? "insert_newline" : (i % 4 == 1 ? "delete_char" : "insert_str word"))
+        }
+        for (i = 0; i < edits; i++) print "undo"
+        for (i = 0; i < edits; i++) print "redo"
+    }'
+}
+
+cuts() {
+    some_lines "$1"
+    awk -v cuts="$2" 'BEGIN { for (i = 0; i < cuts; i++) print "select_all\ncut\nundo" }'
+}
+
+a_run() {
+    awk -v keys="$1" -v times="$2" 'BEGIN {
+        print "set_undo_coalescing true"
+        for (t = 0; t < times; t++) {
+            for (i = 0; i < keys; i++) print "insert_char a"
+            for (i = 0; i < keys; i++) print "delete_char"
+        }
+    }'
+}
+
+long_lines() {
+    awk -v lines="$1" 'BEGIN {
+        line = "a line of some text, of which there are a hundred characters, so that it is as long as lines are, no"
+        line = substr(line, 1, 98)
+        printf "set_lines 0 0 %s", line
+        for (i = 1; i < lines; i++) printf "\\n%s", line
+        print ""
+    }'
+}
+
+short_commands() {
+    awk -v commands="$1" 'BEGIN { for (i = 0; i < commands; i++) print (i % 2 ? "jump 3 4" : "insert_char a") }'
+}
+
+unread() { "$1" "$2"; echo x; }
+
+# a row of a script: what it is, its unit, how much of the time is counted, the function that writes it, and for each size how
+# many times it does what it does
+script_row() {
+    local what=$1 unit=$2 per=$3 write=$4 values=() path none
+    path=$(program tascript)
+    shift 4
+    [ -x "$path" ] || return 0
+    for size in "${sizes[@]}"; do
+        "$write" "$size" 0 > "$script"
+        none=$(best "$path" "$(turns "$size")")
+        "$write" "$size" "$1" > "$script"
+        values+=("$(quotient $(( $(best "$path" "$(turns "$size")") - none )) $(( $1 * ($per) )))")
+        shift
+    done
+    row "$what" "$unit" "${values[@]}"
+}
+
+# rows of a script that is only read: the time, and what is held. A small one takes less time than the start of the program
+reading_rows() {
+    local what=$1 unit=$2 write=$3 times=() held=() path none
+    path=$(program tascript)
+    [ -x "$path" ] || return 0
+    echo > "$script"
+    none=$(best "$path" 8)
+    for size in "${sizes[@]}"; do
+        unread "$write" "$size" > "$script"
+        if [ "$size" -lt 10000 ]; then
+            times+=(-)
+        else
+            times+=("$(quotient $(( $(best "$path" 8) - none )) "$size")")
+        fi
+        held+=("$(bytes_held "$path" "$size")")
+    done
+    row "$what" "nanoseconds $unit" "${times[@]}"
+    row "$what, held" "bytes a byte" "${held[@]}"
+}
+
+# what a program holds on the script at the most, for each byte of the script; of small ones it says nothing
+bytes_held() {
+    if [ "$2" -lt 100000 ] || [ ! -x /usr/bin/time ]; then echo -; return; fi
+    quotient $(( ($(kilobytes "$1" "$script") - $(kilobytes "$1" /dev/null)) * 1024 )) "$(wc -c < "$script")"
+}
+
+kilobytes() {
+    /usr/bin/time -o "$script.held" -f %M "$1" < "$2" > /dev/null 2>&1 || true
+    tail -n 1 "$script.held"
+}
+
+run_row() {
+    local path held=()
+    path=$(program tascript)
+    [ -x "$path" ] || return 0
+    for size in "${sizes[@]}"; do
+        long_lines "$size" > "$script"
+        held+=("$(bytes_held "$path" "$size")")
+    done
+    row "$1" "bytes a byte" "${held[@]}"
+}
+
+printf '| what | unit | 1,000 | 10,000 | 100,000 | 1,000,000 | last to first |\n|---|---|---:|---:|---:|---:|---:|\n'
+jobs_row "a key into a long wrapped line, by lines" typing_bench text 100000 100000 100000 200000
+jobs_row "a key that changes a line's rows, by lines" typing_bench rows 200000 200000 400000 1000000
+jobs_row "a line break, by lines" typing_bench breaks 100000 50000 4000 200
+jobs_row "a character of one byte at a line's end, by its length" typing_bench ascii 1000000 1000000 1000000 1000000
+jobs_row "a character of two bytes at a line's end, by its length" typing_bench wide 1000000 1000000 1000000 1000000
+jobs_row "a character of two bytes in a line's middle, by its length" typing_bench middle 100000 100000 20000 4000
+lines_row "another width, by lines" typing_bench width 400 40 6 2
+lines_row "another width, measured before, by lines" typing_bench measured 400 40 6 2
+jobs_row "a key and a frame, wrapped at words, by lines" frame_bench Word 10000 10000 10000 40000
+jobs_row "a key and a frame, not wrapped, by lines" frame_bench None 10000 10000 10000 20000
+jobs_row "a plain frame, by lines" frame_bench plain 10000 10000 10000 40000
+jobs_row "a frame with numbers, selection and matches, by lines" frame_bench full 10000 10000 10000 40000
+requests_row "a plain frame" plain
+requests_row "a frame with numbers, selection and matches" full
+script_row "an edit, undone and made again, by lines" microseconds 1000 edits 4000 4000 2000 200
+script_row "all lines cut, and an undo" "nanoseconds a line" 'size' cuts 1000 100 10 2
+script_row "a key of a run that is typed and removed, by its length" nanoseconds '2 * size' a_run 400 40 4 1
+reading_rows "a \`set_lines\` is read, by lines of 100 bytes" "a line" long_lines
+run_row "the same, run and printed"
+reading_rows "short commands are read" "a command" short_commands

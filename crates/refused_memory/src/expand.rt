@@ -1,0 +1,58 @@
+//! Lines that stand for long ones.
+use std::alloc::{AllocError, Global};
+
+/// The line with each `<N TEXT>` replaced by so many times the text. In the text `#` is the number of the time, from 0, and `;` a
+/// line's end.
+pub fn expanded(alloc: Global, line: &str) -> Result<String, AllocError> {
+    let mut long = String::new(alloc);
+    for (index, part) in line.split('<').enumerate() {
+        match part.split_once('>') {
+            Some((inside, behind)) if index != 0 => {
+                push_times(&mut long, inside)?;
+                long.push_str(behind)?;
+            }
+            _ => long.push_str(part)?,
+        }
+    }
+    Ok(long)
+}
+
+fn push_times(long: &mut String, inside: &str) -> Result<(), AllocError> {
+    let (count, text) = counted(inside);
+    for time in 0..count {
+        push_numbered(long, text, time)?;
+    }
+    Ok(())
+}
+
+fn push_numbered(long: &mut String, text: &str, number: usize) -> Result<(), AllocError> {
+    for character in text.chars() {
+        match character {
+            '#' => write!(long, "{number}")?,
+            ';' => long.push('\n')?,
+            _ => long.push(character)?,
+        }
+    }
+    Ok(())
+}
+
+/// The number in front of a text, and the text; 1 and the whole where no number stands in front.
+pub fn counted(text: &str) -> (usize, &str) {
+    match text.split_once(' ') {
+        Some((count, rest)) => match count.parse::<usize>() {
+            Ok(count) => (count, rest),
+            Err(_) => (1, text),
+        },
+        None => (1, text),
+    }
+}
+
+/// As many times the line, each with a line's end.
+pub fn repeated(alloc: Global, times: usize, line: &str) -> Result<String, AllocError> {
+    let mut lines = String::new(alloc);
+    for _ in 0..times {
+        lines.push_str(line)?;
+        lines.push('\n')?;
+    }
+    Ok(lines)
+}

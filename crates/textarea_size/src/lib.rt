@@ -1,0 +1,4 @@
+//! How large a text may be.
+#![tactic(auto)]
+
+pub mod limit;
