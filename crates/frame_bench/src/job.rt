@@ -10,7 +10,12 @@ const PARAGRAPH: &str =
 
 const WIDTH: u16 = 80;
 
-const HEIGHT: u16 = 24;
+const AREA: Rect = Rect {
+    x: 0,
+    y: 0,
+    width: WIDTH,
+    height: 24,
+};
 
 /// Words of six letters or more: each row of the paragraphs has some.
 const PATTERN: &str = "[a-z]{6,}";
@@ -54,20 +59,35 @@ impl Job {
 
     /// Draws a frame and then as many as the job has, and answers with the first row of the last one.
     pub fn run(&self, alloc: Global) -> Result<String> {
+        let mut buffer = Buffer::empty(alloc, AREA)?;
+        self.draw_text(alloc, &mut buffer)?;
+        Ok(first_row(alloc, &buffer)?)
+    }
+
+    // Makes the text area, and draws the frames of it.
+    fn draw_text(&self, alloc: Global, buffer: &mut Buffer) -> Result<()> {
+        let mut text_area = TextArea::new(self.paragraphs(alloc)?)?;
+        self.draw_frames(&mut text_area, buffer)
+    }
+
+    // The lines of the text.
+    fn paragraphs(&self, alloc: Global) -> Result<Vec<String>, AllocError> {
         let mut lines = Vec::new(alloc);
         for _ in 0..self.lines {
             lines.push(String::from_str(alloc, PARAGRAPH)?)?;
         }
-        let area = Rect::new(0, 0, WIDTH, HEIGHT);
-        let mut buffer = Buffer::empty(alloc, area)?;
-        let mut text_area = TextArea::new(lines)?;
-        self.prepare(&mut text_area)?;
-        text_area.render(area, &mut buffer)?;
+        Ok(lines)
+    }
+
+    // Draws a frame, and one behind each key.
+    fn draw_frames(&self, text_area: &mut TextArea<'_>, buffer: &mut Buffer) -> Result<()> {
+        self.prepare(text_area)?;
+        text_area.render(AREA, buffer)?;
         for frame in 0..self.frames {
-            self.type_key(&mut text_area, frame)?;
-            text_area.render(area, &mut buffer)?;
+            self.type_key(text_area, frame)?;
+            text_area.render(AREA, buffer)?;
         }
-        Ok(first_row(alloc, &buffer)?)
+        Ok(())
     }
 
     // Lays the text area out, and puts on it what the frames are to show.

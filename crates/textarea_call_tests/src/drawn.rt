@@ -46,11 +46,22 @@ fn check_drawn<'a>(
     block: &'a Block<'static>,
     placeholder: &'a Text<'static>,
 ) -> Result<(), Fail> {
-    let mut area = TextArea::try_default(rt.alloc())?;
-    make(rt, &mut area, drawn.script)?;
     let mut buffer = Buffer::empty(rt.alloc(), Rect::new(0, 0, 12, 6))?;
-    make_asked(rt, &mut area, drawn, block, placeholder, &mut buffer)?;
-    check_frame(rt, &mut area, drawn, &mut buffer)
+    let mut area = TextArea::try_default(rt.alloc())?;
+    make_and_draw(rt, &mut area, drawn, block, placeholder, &mut buffer)
+}
+
+fn make_and_draw<'a>(
+    rt: &(impl Abort + AllocGlobal),
+    area: &mut TextArea<'_>,
+    drawn: &Drawn,
+    block: &'a Block<'static>,
+    placeholder: &'a Text<'static>,
+    buffer: &mut Buffer,
+) -> Result<(), Fail> {
+    make(rt, area, drawn.script)?;
+    make_asked(rt, area, drawn, block, placeholder, buffer)?;
+    check_frame(rt, area, drawn, buffer)
 }
 
 // Makes the calls that no script says.

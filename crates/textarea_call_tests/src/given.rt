@@ -29,17 +29,32 @@ fn compare_given(rt: &impl Abort, area: TextArea<'_>, wanted: &[&str]) {
 }
 
 #[test]
-fn text_areas_of_lines(rt: HostRuntime) -> Result<(), Fail> {
-    let of_lines = TextArea::new(strings(&rt, &["a", "b"])?)?;
-    compare_given(&rt, of_lines, &["a", "b"]);
-    let of_texts = TextArea::from_strs(rt.alloc(), ["a", "b"].into_iter())?;
-    compare_given(&rt, of_texts, &["a", "b"]);
-    let given = strings(&rt, &["x"])?;
-    let of_strings = TextArea::from_strings(rt.alloc(), given.into_iter())?;
-    compare_given(&rt, of_strings, &["x"]);
-    let none = strings(&rt, &[])?;
-    let of_no_line = TextArea::from_strings(rt.alloc(), none.into_iter())?;
-    compare_given(&rt, of_no_line, &[""]);
+fn a_text_area_of_lines(rt: HostRuntime) -> Result<(), Fail> {
+    let area = TextArea::new(strings(&rt, &["a", "b"])?)?;
+    compare_given(&rt, area, &["a", "b"]);
+    Ok(())
+}
+
+#[test]
+fn a_text_area_of_texts(rt: HostRuntime) -> Result<(), Fail> {
+    let area = TextArea::from_strs(rt.alloc(), ["a", "b"].into_iter())?;
+    compare_given(&rt, area, &["a", "b"]);
+    Ok(())
+}
+
+#[test]
+fn text_areas_of_strings(rt: HostRuntime) -> Result<(), Fail> {
+    compare_of_strings(&rt, &["x"], &["x"])?;
+    compare_of_strings(&rt, &[], &[""])
+}
+
+fn compare_of_strings(
+    rt: &(impl Abort + AllocGlobal),
+    texts: &[&str],
+    wanted: &[&str],
+) -> Result<(), Fail> {
+    let area = TextArea::from_strings(rt.alloc(), strings(rt, texts)?.into_iter())?;
+    compare_given(rt, area, wanted);
     Ok(())
 }
 

@@ -96,8 +96,8 @@ fn hostile_places(rt: HostRuntime) -> Result<(), Fail> {
 // More lines than a height counts.
 #[test]
 fn many_lines(rt: HostRuntime) -> Result<(), Fail> {
-    let mut area = TextArea::new(lines_of_x(rt.alloc(), 70_000)?)?;
     let mut buffer = Buffer::empty(rt.alloc(), Rect::new(0, 0, 10, 5))?;
+    let mut area = TextArea::new(lines_of_x(rt.alloc(), 70_000)?)?;
     check_shown(&rt, &mut area, &mut buffer);
     check_scrolled(&rt, &mut area, &mut buffer);
     Ok(())

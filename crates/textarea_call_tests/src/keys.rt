@@ -27,6 +27,10 @@ fn pressed(key: Key, held: Held, shift: bool) -> Input {
 #[test]
 fn a_paragraph_forward(rt: HostRuntime) -> Result<(), Fail> {
     let mut area = TextArea::from_strs(rt.alloc(), ["a", "", "b"].into_iter())?;
+    go_a_paragraph_forward(&rt, &mut area)
+}
+
+fn go_a_paragraph_forward(rt: &impl Abort, area: &mut TextArea<'_>) -> Result<(), Fail> {
     let answer = area.input(pressed(Key::Char(']'), (false, true), false))?;
     assert!(rt; !answer && area.cursor() == (2, 0));
     Ok(())
@@ -35,6 +39,10 @@ fn a_paragraph_forward(rt: HostRuntime) -> Result<(), Fail> {
 #[test]
 fn nowhere_to_select(rt: HostRuntime) -> Result<(), Fail> {
     let mut area = TextArea::from_strs(rt.alloc(), ["ab"].into_iter())?;
+    select_nothing(&rt, &mut area)
+}
+
+fn select_nothing(rt: &impl Abort, area: &mut TextArea<'_>) -> Result<(), Fail> {
     let answer = area.input(pressed(Key::Left, (false, false), true))?;
     assert!(rt; !answer && !area.is_selecting());
     Ok(())
@@ -98,8 +106,7 @@ fn check_row(
     shift: bool,
 ) -> Result<(), Fail> {
     let mut area = TextArea::from_strs(rt.alloc(), ["ab"].into_iter())?;
-    press_and_compare(rt, &mut area, row, held, shift)?;
-    Ok(())
+    press_and_compare(rt, &mut area, row, held, shift)
 }
 
 fn press_and_compare(
@@ -108,16 +115,25 @@ fn press_and_compare(
     row: &Row,
     held: Held,
     shift: bool,
-) -> Result<(), AllocError> {
-    let (key, _, answer, lines, cursor) = *row;
+) -> Result<(), Fail> {
+    let found = press_between(area, pressed(row.0, held, shift))?;
+    compare(rt, area, found, row, held);
+    Ok(())
+}
+
+// Presses a key between the two characters, where `k` is yanked.
+fn press_between(area: &mut TextArea<'_>, input: Input) -> Result<bool, AllocError> {
     area.set_yank_text("k")?;
     area.move_cursor(CursorMove::Forward);
-    let found = area.input_without_shortcuts(pressed(key, held, shift))?;
+    area.input_without_shortcuts(input)
+}
+
+fn compare(rt: &impl Abort, area: &TextArea<'_>, found: bool, row: &Row, held: Held) {
+    let (key, _, answer, lines, cursor) = *row;
     assert!(rt; found == answer, "{key:?} {held:?}");
     compare_lines(rt, area.lines(), lines);
     assert!(rt; area.cursor() == cursor, "{key:?} {held:?}");
     assert!(rt; !area.is_selecting(), "{key:?} {held:?}");
-    Ok(())
 }
 
 // Keys that stand for no character, and aren't F1, F2 and so on.

@@ -5,7 +5,7 @@ use std::process::Abort;
 use std::test::Fail;
 use textarea_script::run::run;
 use textarea_script::{Answer, Call};
-use tui_textarea::{Alignment, Buffer, CursorRenderMode, Rect, TextArea};
+use tui_textarea::{Alignment, Buffer, CursorRenderMode, Rect, TextArea, Viewport};
 
 /// What reads the looks.
 pub const READERS: [Call<'static>; 9] = [
@@ -33,8 +33,16 @@ const SETTERS: [Call<'static>; 8] = [
 
 #[test]
 fn looks(rt: HostRuntime) -> Result<(), Fail> {
-    let mut area = TextArea::try_default(rt.alloc())?;
     let mut buffer = Buffer::empty(rt.alloc(), Rect::default())?;
+    let mut area = TextArea::try_default(rt.alloc())?;
+    check_first_looks(&rt, &mut area, &mut buffer);
+    change_looks(&rt, &mut area, &mut buffer);
+    check_changed_looks(&rt, &mut area, &mut buffer);
+    clear_mask(&rt, &mut area, &mut buffer);
+    Ok(())
+}
+
+fn check_first_looks(rt: &impl Abort, area: &mut TextArea<'_>, buffer: &mut Buffer) {
     let at_first = [
         Answer::Style(PLAIN),
         Answer::Style(CURSOR),
@@ -46,7 +54,10 @@ fn looks(rt: HostRuntime) -> Result<(), Fail> {
         Answer::Alignment(Alignment::Left),
         Answer::Position(None),
     ];
-    check_answers(&rt, &mut area, &mut buffer, &READERS, &at_first);
+    check_answers(rt, area, buffer, &READERS, &at_first);
+}
+
+fn change_looks(rt: &impl Abort, area: &mut TextArea<'_>, buffer: &mut Buffer) {
     let made = [
         Answer::Done,
         Answer::Done,
@@ -57,7 +68,10 @@ fn looks(rt: HostRuntime) -> Result<(), Fail> {
         Answer::Done,
         Answer::Done,
     ];
-    check_answers(&rt, &mut area, &mut buffer, &SETTERS, &made);
+    check_answers(rt, area, buffer, &SETTERS, &made);
+}
+
+fn check_changed_looks(rt: &impl Abort, area: &mut TextArea<'_>, buffer: &mut Buffer) {
     let set = [
         Answer::Style(ON_YELLOW),
         Answer::Style(RED),
@@ -69,15 +83,13 @@ fn looks(rt: HostRuntime) -> Result<(), Fail> {
         Answer::Alignment(Alignment::Right),
         Answer::Position(None),
     ];
-    check_answers(&rt, &mut area, &mut buffer, &READERS, &set);
-    check_answers(
-        &rt,
-        &mut area,
-        &mut buffer,
-        &[Call::ClearMaskChar, Call::MaskChar],
-        &[Answer::Done, Answer::Character(None)],
-    );
-    Ok(())
+    check_answers(rt, area, buffer, &READERS, &set);
+}
+
+fn clear_mask(rt: &impl Abort, area: &mut TextArea<'_>, buffer: &mut Buffer) {
+    let calls = [Call::ClearMaskChar, Call::MaskChar];
+    let answers = [Answer::Done, Answer::Character(None)];
+    check_answers(rt, area, buffer, &calls, &answers);
 }
 
 /// Makes the calls, which must give these answers.
@@ -98,14 +110,27 @@ pub fn check_answers(
 #[test]
 fn viewports(rt: HostRuntime) -> Result<(), Fail> {
     let mut area = TextArea::try_default(rt.alloc())?;
+    check_viewports(&rt, &mut area)
+}
+
+fn check_viewports(rt: &(impl Abort + AllocGlobal), area: &mut TextArea<'_>) -> Result<(), Fail> {
     for (script, top, rect, position) in VIEWPORTS {
-        make(&rt, &mut area, script)?;
-        let viewport = area.viewport();
-        assert_eq!(rt; viewport.scroll_top(), top, "{script}");
-        assert_eq!(rt; viewport.rect(), rect, "{script}");
-        assert_eq!(rt; viewport.position(), position, "{script}");
+        make(rt, area, script)?;
+        compare_viewport(rt, script, area.viewport(), (top, rect, position));
     }
     Ok(())
+}
+
+fn compare_viewport(
+    rt: &impl Abort,
+    script: &str,
+    viewport: &Viewport,
+    wanted: ((usize, usize), Numbers, Numbers),
+) {
+    let (top, rect, position) = wanted;
+    assert_eq!(rt; viewport.scroll_top(), top, "{script}");
+    assert_eq!(rt; viewport.rect(), rect, "{script}");
+    assert_eq!(rt; viewport.position(), position, "{script}");
 }
 
 type Numbers = (usize, usize, usize, usize);

@@ -7,8 +7,12 @@ use tui_textarea::{CursorMove, Input, Key, TextArea, WrapMode};
 #[test]
 fn quick_start(rt: HostRuntime) -> Result<(), Fail> {
     let mut area = TextArea::try_default(rt.alloc())?;
-    edit(&rt, &mut area)?;
-    measure_and_paste(&rt, &mut area)?;
+    make_calls(&rt, &mut area)
+}
+
+fn make_calls(rt: &impl Abort, area: &mut TextArea<'_>) -> Result<(), Fail> {
+    edit(rt, area)?;
+    measure_and_paste(rt, area)?;
     Ok(())
 }
 

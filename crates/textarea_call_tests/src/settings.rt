@@ -2,6 +2,7 @@
 // printed for whoever looks for what went wrong.
 use crate::looks::check_answers;
 use crate::styles::{GRAY, RED};
+use std::process::Abort;
 use std::test::Fail;
 use textarea_script::{Answer, Call};
 use tui_textarea::{Buffer, Rect, TextArea, WrapMode};
@@ -39,8 +40,13 @@ const SETTERS: [Call<'static>; 11] = [
 
 #[test]
 fn settings_at_first(rt: HostRuntime) -> Result<(), Fail> {
-    let mut area = TextArea::try_default(rt.alloc())?;
     let mut buffer = Buffer::empty(rt.alloc(), Rect::default())?;
+    let mut area = TextArea::try_default(rt.alloc())?;
+    check_first_settings(&rt, &mut area, &mut buffer);
+    Ok(())
+}
+
+fn check_first_settings(rt: &impl Abort, area: &mut TextArea<'_>, buffer: &mut Buffer) {
     let at_first = [
         Answer::Cursor((0, 0)),
         Answer::Flag(true),
@@ -56,14 +62,20 @@ fn settings_at_first(rt: HostRuntime) -> Result<(), Fail> {
         Answer::Number(1),
         Answer::Number(65535),
     ];
-    check_answers(&rt, &mut area, &mut buffer, &READERS, &at_first);
-    Ok(())
+    check_answers(rt, area, buffer, &READERS, &at_first);
 }
 
 #[test]
 fn settings_that_were_set(rt: HostRuntime) -> Result<(), Fail> {
-    let mut area = TextArea::try_default(rt.alloc())?;
     let mut buffer = Buffer::empty(rt.alloc(), Rect::default())?;
+    let mut area = TextArea::try_default(rt.alloc())?;
+    change_settings(&rt, &mut area, &mut buffer);
+    check_changed_settings(&rt, &mut area, &mut buffer);
+    indent_by_tabs(&rt, &mut area, &mut buffer);
+    Ok(())
+}
+
+fn change_settings(rt: &impl Abort, area: &mut TextArea<'_>, buffer: &mut Buffer) {
     let made = [
         Answer::Flag(true),
         Answer::Done,
@@ -77,7 +89,10 @@ fn settings_that_were_set(rt: HostRuntime) -> Result<(), Fail> {
         Answer::Done,
         Answer::Done,
     ];
-    check_answers(&rt, &mut area, &mut buffer, &SETTERS, &made);
+    check_answers(rt, area, buffer, &SETTERS, &made);
+}
+
+fn check_changed_settings(rt: &impl Abort, area: &mut TextArea<'_>, buffer: &mut Buffer) {
     let set = [
         Answer::Cursor((0, 1)),
         Answer::Flag(false),
@@ -93,11 +108,13 @@ fn settings_that_were_set(rt: HostRuntime) -> Result<(), Fail> {
         Answer::Number(3),
         Answer::Number(9),
     ];
-    check_answers(&rt, &mut area, &mut buffer, &READERS, &set);
+    check_answers(rt, area, buffer, &READERS, &set);
+}
+
+fn indent_by_tabs(rt: &impl Abort, area: &mut TextArea<'_>, buffer: &mut Buffer) {
     let tabs = [Call::SetHardTabIndent(true), Call::HardTabIndent];
     let answers = [Answer::Done, Answer::Flag(true)];
-    check_answers(&rt, &mut area, &mut buffer, &tabs, &answers);
-    Ok(())
+    check_answers(rt, area, buffer, &tabs, &answers);
 }
 
 // No text of these is promised.

@@ -240,11 +240,22 @@ pub fn check(
 ) -> Result<(), Fail> {
     let mut area = TextArea::try_default(rt.alloc())?;
     make(rt, &mut area, script)?;
-    let found = printed_behind(rt, &mut area, calls)?;
+    compare_behind(rt, &mut area, script, calls, printed, wanted)
+}
+
+fn compare_behind(
+    rt: &(impl Abort + AllocGlobal),
+    area: &mut TextArea<'_>,
+    script: &str,
+    calls: &[Call<'_>],
+    printed: Option<&str>,
+    wanted: &Unprinted<'static>,
+) -> Result<(), Fail> {
+    let found = printed_behind(rt, area, calls)?;
     if let Some(printed) = printed {
         assert_eq!(rt; found.as_str(), printed, "{script}");
     }
-    compare_read(rt, script, &area, wanted);
+    compare_read(rt, script, area, wanted);
     Ok(())
 }
 

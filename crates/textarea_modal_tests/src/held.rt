@@ -153,26 +153,49 @@ static RUNS: [(&str, &str); 11] = [
 #[test]
 fn held_keys(rt: HostRuntime) -> Result<(), Fail> {
     for (keys, shown) in &RUNS {
-        let wanted = lines_of(&rt, shown)?;
-        let end = end_of(rt.alloc(), keys)?;
-        assert_eq!(rt; end.as_str(), wanted.as_str(), "{keys}");
+        check_runs(&rt, keys, shown)?;
     }
     Ok(())
 }
 
-// The end of the runs of these keys, where the pattern is a small o.
+fn check_runs(rt: &(impl Abort + AllocGlobal), keys: &str, shown: &str) -> Result<(), Fail> {
+    let wanted = lines_of(rt, shown)?;
+    check_told(rt, keys, wanted.as_str())
+}
+
+fn check_told(rt: &(impl Abort + AllocGlobal), keys: &str, wanted: &str) -> Result<(), Fail> {
+    let end = end_of(rt.alloc(), keys)?;
+    assert_eq!(rt; end.as_str(), wanted, "{keys}");
+    Ok(())
+}
+
+// The end of the runs of these keys, where the pattern is a small o. What is drawn into and the text area have an owner each.
 fn end_of(alloc: Global, keys: &str) -> Result<String, Fail> {
-    let mut area = TextArea::try_default(alloc)?;
-    area.set_search_pattern("o")?;
     let mut buffer = Buffer::empty(alloc, Rect::new(0, 0, 20, 4))?;
+    end_drawn_into(alloc, &mut buffer, keys)
+}
+
+fn end_drawn_into(alloc: Global, buffer: &mut Buffer, keys: &str) -> Result<String, Fail> {
+    let mut area = TextArea::try_default(alloc)?;
+    end_in(alloc, &mut area, buffer, keys)
+}
+
+// The same, in a text area that is still empty.
+fn end_in(
+    alloc: Global,
+    area: &mut TextArea<'_>,
+    buffer: &mut Buffer,
+    keys: &str,
+) -> Result<String, Fail> {
+    area.set_search_pattern("o")?;
     let mut modal = Modal::new();
     let mut runs = keys.split('%');
-    let mut end = run(alloc, &mut modal, &mut area, runs.next().unwrap_or(""))?;
+    let mut end = run(alloc, &mut modal, area, runs.next().unwrap_or(""))?;
     for keys in runs {
-        area.render(Rect::new(0, 0, 20, 4), &mut buffer)?;
-        end = run(alloc, &mut modal, &mut area, keys)?;
+        area.render(Rect::new(0, 0, 20, 4), buffer)?;
+        end = run(alloc, &mut modal, area, keys)?;
     }
-    let text = told(alloc, &modal, end, &area)?;
+    let text = told(alloc, &modal, end, area)?;
     Ok(text)
 }
 

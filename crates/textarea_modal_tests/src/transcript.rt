@@ -10,7 +10,7 @@ use textarea_script::serve::DONE;
 pub fn check(rt: &(impl Abort + AllocGlobal), sessions: &[(&str, &str)]) -> Result<(), Fail> {
     for (keys, shown) in sessions {
         let printed = lines_of(rt, shown)?;
-        check_end(rt, keys.as_bytes(), DONE, printed.as_str(), "")?;
+        check_end(rt, keys.as_bytes(), DONE, printed.as_str(), "");
     }
     Ok(())
 }
@@ -34,18 +34,35 @@ pub fn check_end(
     status: u8,
     output: &str,
     errors: &str,
-) -> Result<(), Fail> {
+) {
     let mut reader = keys;
     let mut printed = Vec::new(rt.alloc());
     let mut told = Vec::new(rt.alloc());
     let ended = serve(rt.alloc(), &mut reader, &mut printed, &mut told);
-    assert_eq!(rt; text_of(printed.as_slice()), output, "{}", text_of(keys));
-    assert_eq!(rt; text_of(told.as_slice()), errors, "{}", text_of(keys));
-    assert_eq!(rt; ended, status, "{}", text_of(keys));
-    Ok(())
+    let answer = (ended, printed.as_slice(), told.as_slice());
+    check_answer(rt, text_of(keys), answer, (status, output, errors));
 }
 
-/// The text, where it is one.
-pub fn text_of(bytes: &[u8]) -> &str {
+/// Of this text came a status, an output and errors, which must be the wanted ones.
+pub fn check_answer(
+    rt: &impl Abort,
+    given: &str,
+    answer: (u8, &[u8], &[u8]),
+    wanted: (u8, &str, &str),
+) {
+    let (ended, printed, told) = answer;
+    let (status, output, errors) = wanted;
+    check_text(rt, given, printed, output);
+    check_text(rt, given, told, errors);
+    assert_eq!(rt; ended, status, "{given}");
+}
+
+/// Of this text came these bytes, which must be the wanted text.
+pub fn check_text(rt: &impl Abort, given: &str, bytes: &[u8], wanted: &str) {
+    assert_eq!(rt; text_of(bytes), wanted, "{given}");
+}
+
+// The text, where it is one.
+fn text_of(bytes: &[u8]) -> &str {
     from_utf8(bytes).unwrap_or("no UTF-8")
 }

@@ -1,5 +1,5 @@
 // What the words behind the program's name ask for.
-use crate::transcript::text_of;
+use crate::transcript::{check_answer, check_text};
 use std::alloc::{AllocError, Global};
 use std::io;
 use std::io::ErrorKind;
@@ -23,23 +23,25 @@ fn check_words(
     given: &str,
     ended: (u8, &str, &str, &str),
 ) -> Result<(), Fail> {
-    let (status, output, errors, left) = ended;
     let words = strings(rt.alloc(), words)?;
+    check_strings(rt, words.as_slice(), given, ended);
+    Ok(())
+}
+
+fn check_strings(
+    rt: &(impl Abort + AllocGlobal),
+    words: &[String],
+    given: &str,
+    ended: (u8, &str, &str, &str),
+) {
+    let (status, output, errors, left) = ended;
     let mut reader = given.as_bytes();
     let mut printed = Vec::new(rt.alloc());
     let mut told = Vec::new(rt.alloc());
-    let answered = serve_words(
-        rt.alloc(),
-        words.as_slice(),
-        &mut reader,
-        &mut printed,
-        &mut told,
-    );
-    assert_eq!(rt; text_of(printed.as_slice()), output, "{given}");
-    assert_eq!(rt; text_of(told.as_slice()), errors, "{given}");
-    assert_eq!(rt; text_of(reader), left, "{given}");
-    assert_eq!(rt; answered, status, "{given}");
-    Ok(())
+    let answered = serve_words(rt.alloc(), words, &mut reader, &mut printed, &mut told);
+    let answer = (answered, printed.as_slice(), told.as_slice());
+    check_answer(rt, given, answer, (status, output, errors));
+    check_text(rt, given, reader, left);
 }
 
 #[test]

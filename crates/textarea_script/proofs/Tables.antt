@@ -1,7 +1,7 @@
--- The table of commands: names that it doesn't have.
-use Rattle.std.proofs.Common.{◌≡◌, ◌≢◌, ℕ, Bool, true, false, List, [], ◌∷◌, ◌++◌, Option, Some, None, ◌⊎◌, inl, inr, refl, if◌then◌else◌, ◌∙◌}
+-- The table of commands: names that it doesn't have, and what a name that it has means.
+use Rattle.std.proofs.Common.{◌≡◌, ◌≢◌, ℕ, Bool, true, false, List, [], ◌∷◌, ◌++◌, Option, Some, None, ◌⊎◌, inl, inr, refl, if◌then◌else◌, ◌∙◌, ap, sym}
 use Rattle.std.proofs.lemmas.Slice.Eq.{bytes_eq-Decides}
-use Rattle.std.specs.Prelude.{bytes_eq, option_and_then}
+use Rattle.std.specs.Prelude.{bytes_eq, option_and_then, option_map}
 use Rattle.textarea_script.specs.Arguments.{named}
 use Rattle.textarea_script.specs.Commands.{Meaning, borrowing_commands, plain_commands, meant, meant_by, plain_meant}
 
@@ -43,3 +43,12 @@ meant_by-behind name arguments (row ∷ rows) more others =
 pub meant-plain : (name : List ℕ) (arguments : Option (List ℕ)) → IsOther name borrowing_commands → meant name arguments ≡ plain_meant name arguments
 unfolding meant plain_meant
 meant-plain name arguments others = meant_by-behind name arguments borrowing_commands plain_commands others
+
+-- what a name means by arguments that are read as a value
+pub meant-read : {A : Type 0} (means : A → Meaning) (name row : List ℕ) (arguments : List ℕ) (reading read : Option A) (value : A) (meaning : Meaning) → name ≡ row → plain_meant row (Some arguments) ≡ option_map means reading → read ≡ reading → read ≡ Some value → meaning ≡ means value → Some meaning ≡ plain_meant name (Some arguments)
+meant-read means name row arguments reading read value meaning named by_row so found told =
+    let valued : reading ≡ Some value = sym so ∙ found in
+    ap Some told
+    ∙ sym (ap (option_map means) valued)
+    ∙ sym by_row
+    ∙ sym (ap (λ given. plain_meant given (Some arguments)) named)
