@@ -1,7 +1,7 @@
 #!/bin/bash
 # Prints one table of what keys, frames, cuts and scripts cost, in markdown: the time at 1,000, 10,000, 100,000 and 1,000,000
-# lines, characters or commands, and the last time in the first ones. Times are the best of some runs; of each that of the same
-# program on the same text, with nothing done to it, is taken away.
+# lines, characters or commands, and the last time in the first ones. Times are processor time, the best of some runs; of each
+# that of the same program on the same text, with nothing done to it, is taken away.
 # - A key in a text of lines of 80 columns, wrapped: into a line of some 1,000 characters, which it cuts anew; one that gives a
 #   line a second row, or takes it away; and by turns a line break and Backspace, behind which the lines are moved.
 # - A character that is typed, or removed by Backspace, in a line that isn't wrapped, by the line's length in characters: of one
@@ -15,7 +15,7 @@
 #   and that many short commands. Where GNU time is there, also how many bytes are held at the most for each byte of the script,
 #   and the same where the `set_lines` is run and printed.
 # CRATES is the folder with the crates in which `rt run` built typing_bench, frame_bench and tascript; without it, that of this
-# repository. Rows whose program isn't there are left out. It takes some eight minutes.
+# repository. Rows whose program isn't there are left out. It takes some twelve minutes.
 # usage: bench/table.sh [CRATES]
 set -e
 crates=${1:-$(dirname "$0")/../crates}
@@ -25,20 +25,18 @@ trap 'rm -f "$script" "$script.held"' EXIT
 
 program() { echo "$crates/$1/out/$1"; }
 
-# the nanoseconds of the fastest of so many runs of a program on the script
+# the nanoseconds of processor time that the fastest of so many runs of a program on the script takes
 best() {
-    local fastest= begin end
+    local fastest= taken TIMEFORMAT='%U %S'
     for (( turn = 0; turn < $2; turn++ )); do
-        begin=$(date +%s%N)
-        "$1" < "$script" > /dev/null 2>&1 || true
-        end=$(date +%s%N)
-        if [ -z "$fastest" ] || [ $(( end - begin )) -lt "$fastest" ]; then fastest=$(( end - begin )); fi
+        taken=$( { time "$1" < "$script" > /dev/null 2>&1; } 2>&1 | awk '{ printf "%.0f", ($1 + $2) * 1e9 }')
+        if [ -z "$fastest" ] || [ "$taken" -lt "$fastest" ]; then fastest=$taken; fi
     done
     echo "$fastest"
 }
 
 # how many runs are made at a size
-turns() { if [ "$1" -ge 1000000 ]; then echo 2; else echo 4; fi; }
+turns() { if [ "$1" -ge 1000000 ]; then echo 3; else echo 8; fi; }
 
 # a row: what it is, its unit, and a value for each size
 row() {
@@ -222,10 +220,10 @@ jobs_row "a character of two bytes at a line's end, by its length" typing_bench 
 jobs_row "a character of two bytes in a line's middle, by its length" typing_bench middle 100000 100000 20000 4000
 lines_row "another width, by lines" typing_bench width 400 40 6 2
 lines_row "another width, measured before, by lines" typing_bench measured 400 40 6 2
-jobs_row "a key and a frame, wrapped at words, by lines" frame_bench Word 10000 10000 10000 40000
-jobs_row "a key and a frame, not wrapped, by lines" frame_bench None 10000 10000 10000 20000
-jobs_row "a plain frame, by lines" frame_bench plain 10000 10000 10000 40000
-jobs_row "a frame with numbers, selection and matches, by lines" frame_bench full 10000 10000 10000 40000
+jobs_row "a key and a frame, wrapped at words, by lines" frame_bench Word 10000 10000 10000 100000
+jobs_row "a key and a frame, not wrapped, by lines" frame_bench None 10000 10000 10000 100000
+jobs_row "a plain frame, by lines" frame_bench plain 10000 10000 10000 100000
+jobs_row "a frame with numbers, selection and matches, by lines" frame_bench full 10000 10000 10000 100000
 requests_row "a plain frame" plain
 requests_row "a frame with numbers, selection and matches" full
 script_row "an edit, undone and made again, by lines" microseconds 1000 edits 4000 4000 2000 200

@@ -1,5 +1,5 @@
 //! Worked cases of the look-ups, by hand from the rules, and maps that follow hundreds of replacements.
-ghost use Rattle.std.specs.Prelude.{◌≡◌, ◌+◌, ◌<◌, ◌≤◌, vec_len, IsTrue, OnOk};
+ghost use Rattle.std.specs.Prelude.{◌≡◌, ◌+◌, ◌<◌, ◌≤◌, length, vec_len, IfOk, IsTrue, OnOk};
 ghost use Rattle.textarea_text.specs.Text.{lines_of};
 ghost use Rattle.textarea_text.specs.Place.{IsPlaceOf};
 ghost use Rattle.textarea_map.specs.Layout.{AreRowsOf};
@@ -9,7 +9,7 @@ use std::alloc::{AllocError, Global};
 use std::process::Abort;
 use std::test::Fail;
 use textarea_map::layout::Wrapping;
-use textarea_map::screen_map::ScreenMap;
+use textarea_map::screen_map::{RowText, ScreenMap};
 use textarea_text::rows::{Replacement, column_count};
 use textarea_wrap::wrap::{WrapCount, WrapMode};
 
@@ -43,6 +43,15 @@ struct Case {
     below: Option<(usize, usize)>,
 }
 
+fn expect_moves_from(rt: &impl Abort, map: &ScreenMap, lines: &[String], case: Case)
+    requires { AreRowsOf map.now.wrapping (lines_of lines.now) map.now.rows }
+{
+    assert!(rt; is_place(lines, case.place));
+    assert!(rt; map.visual_position(lines, case.place) == case.seen);
+    assert!(rt; map.above(lines, case.place) == case.above);
+    assert!(rt; map.below(lines, case.place) == case.below);
+}
+
 fn expect_moves(
     rt: &(impl Abort + AllocGlobal),
     given: &[&str],
@@ -52,13 +61,7 @@ fn expect_moves(
     let mut counter = WrapCount::new();
     for case in cases {
         let map = ScreenMap::new(rt.alloc(), lines.as_slice(), case.wrapping, &mut counter)?;
-        assert!(rt; is_place(lines.as_slice(), case.place));
-        let seen = map.visual_position(lines.as_slice(), case.place);
-        assert_eq!(rt; seen, case.seen);
-        let above = map.above(lines.as_slice(), case.place);
-        assert_eq!(rt; above, case.above);
-        let below = map.below(lines.as_slice(), case.place);
-        assert_eq!(rt; below, case.below);
+        expect_moves_from(rt, &map, lines.as_slice(), *case);
     }
     Ok(())
 }
@@ -142,7 +145,30 @@ fn tabs(rt: HostRuntime) -> Result<(), Fail> {
     Ok(())
 }
 
+fn map_of(alloc: Global, lines: &[String], wrapping: Wrapping) -> Result<ScreenMap, AllocError>
+    ensures { IfOk result (λ map. AreRowsOf map.wrapping (lines_of lines.now) map.rows) }
+{
+    ScreenMap::new(alloc, lines, wrapping, &mut WrapCount::new())
+}
+
 // The width and the greatest cursor column of each visual row.
+fn expect_columns_of(
+    rt: &impl Abort,
+    map: &ScreenMap,
+    lines: &[String],
+    expected: &[(usize, usize)],
+)
+    requires { AreRowsOf map.now.wrapping (lines_of lines.now) map.now.rows }
+{
+    assert_eq!(rt; map.row_count(), expected.len());
+    for (row, columns) in expected.iter().enumerate() {
+        assert!(rt; row < map.row_count());
+        let width = map.row_width(lines, row);
+        let greatest = map.greatest_column(lines, row);
+        assert!(rt; (width, greatest) == *columns);
+    }
+}
+
 fn expect_columns(
     rt: &(impl Abort + AllocGlobal),
     given: &[&str],
@@ -150,15 +176,8 @@ fn expect_columns(
     expected: &[(usize, usize)],
 ) -> Result<(), AllocError> {
     let lines = strings(rt.alloc(), given)?;
-    let mut counter = WrapCount::new();
-    let map = ScreenMap::new(rt.alloc(), lines.as_slice(), wrapping, &mut counter)?;
-    assert_eq!(rt; map.row_count(), expected.len());
-    for (row, columns) in expected.iter().enumerate() {
-        assert!(rt; row < map.row_count());
-        let width = map.row_width(lines.as_slice(), row);
-        let greatest = map.greatest_column(lines.as_slice(), row);
-        assert_eq!(rt; (width, greatest), *columns);
-    }
+    let map = map_of(rt.alloc(), lines.as_slice(), wrapping)?;
+    expect_columns_of(rt, &map, lines.as_slice(), expected);
     Ok(())
 }
 
@@ -180,7 +199,36 @@ fn widths(rt: HostRuntime) -> Result<(), Fail> {
     Ok(())
 }
 
+fn expect_alike(rt: &impl Abort, one: RowText<'_>, another: RowText<'_>) {
+    assert!(rt; (one.line, one.number) == (another.line, another.number));
+    assert!(rt; one.before == another.before);
+    assert!(rt; one.text == another.text);
+    assert!(rt; one.is_last == another.is_last);
+}
+
 // The visual rows: the line of each, its number there, what stands before it, its own text, and whether it is the last.
+fn expect_rows_of(
+    rt: &impl Abort,
+    map: &ScreenMap,
+    lines: &[String],
+    expected: &[(usize, usize, &str, &str, bool)],
+)
+    requires { AreRowsOf map.now.wrapping (lines_of lines.now) map.now.rows }
+{
+    assert_eq!(rt; map.row_count(), expected.len());
+    for (row, (line, number, before, text, is_last)) in expected.iter().enumerate() {
+        assert!(rt; row < map.row_count());
+        let wanted = RowText {
+            line: *line,
+            number: *number,
+            before: *before,
+            text: *text,
+            is_last: *is_last,
+        };
+        expect_alike(rt, map.row_at(lines, row), wanted);
+    }
+}
+
 fn expect_rows(
     rt: &(impl Abort + AllocGlobal),
     given: &[&str],
@@ -188,16 +236,8 @@ fn expect_rows(
     expected: &[(usize, usize, &str, &str, bool)],
 ) -> Result<(), AllocError> {
     let lines = strings(rt.alloc(), given)?;
-    let mut counter = WrapCount::new();
-    let map = ScreenMap::new(rt.alloc(), lines.as_slice(), wrapping, &mut counter)?;
-    assert_eq!(rt; map.row_count(), expected.len());
-    for (row, (line, number, before, text, is_last)) in expected.iter().enumerate() {
-        assert!(rt; row < map.row_count());
-        let found = map.row_at(lines.as_slice(), row);
-        assert_eq!(rt; (found.line, found.number), (*line, *number));
-        assert_eq!(rt; (found.before, found.text), (*before, *text));
-        assert_eq!(rt; found.is_last, *is_last);
-    }
+    let map = map_of(rt.alloc(), lines.as_slice(), wrapping)?;
+    expect_rows_of(rt, &map, lines.as_slice(), expected);
     Ok(())
 }
 
@@ -227,6 +267,20 @@ fn rows(rt: HostRuntime) -> Result<(), Fail> {
 }
 
 // Which place each visual row and display column lead back to.
+fn expect_places_of(
+    rt: &impl Abort,
+    map: &ScreenMap,
+    lines: &[String],
+    expected: &[((usize, usize), (usize, usize))],
+)
+    requires { AreRowsOf map.now.wrapping (lines_of lines.now) map.now.rows }
+{
+    for (seen, place) in expected {
+        assert!(rt; seen.0 < map.row_count());
+        assert!(rt; map.place_at(lines, *seen) == *place);
+    }
+}
+
 fn expect_places(
     rt: &(impl Abort + AllocGlobal),
     given: &[&str],
@@ -234,13 +288,8 @@ fn expect_places(
     expected: &[((usize, usize), (usize, usize))],
 ) -> Result<(), AllocError> {
     let lines = strings(rt.alloc(), given)?;
-    let mut counter = WrapCount::new();
-    let map = ScreenMap::new(rt.alloc(), lines.as_slice(), wrapping, &mut counter)?;
-    for (seen, place) in expected {
-        assert!(rt; seen.0 < map.row_count());
-        let found = map.place_at(lines.as_slice(), *seen);
-        assert_eq!(rt; found, *place);
-    }
+    let map = map_of(rt.alloc(), lines.as_slice(), wrapping)?;
+    expect_places_of(rt, &map, lines.as_slice(), expected);
     Ok(())
 }
 
@@ -345,12 +394,50 @@ fn expect_same(rt: &impl Abort, map: &ScreenMap, other: &ScreenMap, lines: &[Str
     assert_eq!(rt; map.row_count(), other.row_count());
     for row in 0..map.row_count() {
         assert!(rt; row < other.row_count());
-        let one = map.row_at(lines, row);
-        let another = other.row_at(lines, row);
-        assert_eq!(rt; (one.line, one.number), (another.line, another.number));
-        assert_eq!(rt; (one.before, one.text), (another.before, another.text));
-        assert_eq!(rt; one.is_last, another.is_last);
+        expect_alike(rt, map.row_at(lines, row), other.row_at(lines, row));
     }
+}
+
+// Some lines, and which lines they take the place of.
+fn some_change(
+    alloc: Global,
+    numbers: &mut Numbers,
+    lines: &[String],
+) -> Result<Replacement, AllocError>
+    ensures { IfOk result (λ change. change.row + change.count ≤ length lines.now) }
+{
+    let row = numbers.below(lines.len() + 1);
+    let count = numbers.below(lines.len() - row + 1).min(4);
+    let lines = some_lines(alloc, numbers)?;
+    Ok(Replacement { row, count, lines })
+}
+
+// Lines take the place of others. The map is then as one that is made anew.
+fn follow_one(
+    rt: &(impl Abort + AllocGlobal),
+    map: &mut ScreenMap,
+    lines: &mut Vec<String>,
+    numbers: &mut Numbers,
+    wrapping: Wrapping,
+    counter: &mut WrapCount,
+) -> Result<(), AllocError>
+    requires { AreRowsOf wrapping (lines_of lines.old.items) map.old.rows }
+    ensures rows { OnOk result (AreRowsOf wrapping (lines_of lines.new.items) map.new.rows) }
+    ensures wrapping { OnOk result (map.new.wrapping ≡ wrapping) }
+{
+    let change = some_change(rt.alloc(), numbers, lines.as_slice())?;
+    replace(rt.alloc(), map, lines, change, wrapping, counter)?;
+    let fresh = ScreenMap::new(rt.alloc(), lines.as_slice(), wrapping, counter)?;
+    expect_same(rt, map, &fresh, lines.as_slice());
+    Ok(())
+}
+
+fn expect_copy_same(rt: &impl Abort, map: &ScreenMap, lines: &[String]) -> Result<(), AllocError>
+    requires { AreRowsOf map.now.wrapping (lines_of lines.now) map.now.rows }
+{
+    let copy = map.clone()?;
+    expect_same(rt, map, &copy, lines);
+    Ok(())
 }
 
 fn follow(
@@ -358,26 +445,21 @@ fn follow(
     seed: u64,
     wrapping: Wrapping,
 ) -> Result<(), AllocError> {
-    let alloc = rt.alloc();
     let mut numbers = Numbers { state: seed };
     let mut counter = WrapCount::new();
-    let mut lines = some_lines(alloc, &mut numbers)?;
-    let mut map = ScreenMap::new(alloc, lines.as_slice(), wrapping, &mut counter)?;
+    let mut lines = some_lines(rt.alloc(), &mut numbers)?;
+    let mut map = ScreenMap::new(rt.alloc(), lines.as_slice(), wrapping, &mut counter)?;
     for _step in 0..150 {
-        let row = numbers.below(lines.len() + 1);
-        let count = numbers.below(lines.len() - row + 1).min(4);
-        let change = Replacement {
-            row,
-            count,
-            lines: some_lines(alloc, &mut numbers)?,
-        };
-        replace(alloc, &mut map, &mut lines, change, wrapping, &mut counter)?;
-        let fresh = ScreenMap::new(alloc, lines.as_slice(), wrapping, &mut counter)?;
-        expect_same(rt, &map, &fresh, lines.as_slice());
+        follow_one(
+            rt,
+            &mut map,
+            &mut lines,
+            &mut numbers,
+            wrapping,
+            &mut counter,
+        )?;
     }
-    let copy = map.clone()?;
-    expect_same(rt, &map, &copy, lines.as_slice());
-    Ok(())
+    expect_copy_same(rt, &map, lines.as_slice())
 }
 
 #[test]
