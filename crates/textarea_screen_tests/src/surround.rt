@@ -1,4 +1,5 @@
 use std::alloc::{AllocError, Global};
+use std::process::Abort;
 use std::test::Fail;
 use textarea_screen::screen::{Block, Borders, Color, Line, Padding, Span, SpanText, Style, Text};
 use textarea_surround::{Surround, TextAreaMeasure};
@@ -100,46 +101,81 @@ fn heights_measured(rt: HostRuntime) -> Result<(), Fail> {
 
 #[test]
 fn heights_measured_with_a_block(rt: HostRuntime) -> Result<(), Fail> {
-    let alloc = rt.alloc();
-    let all = Block::new().borders(Borders::ALL);
-    let left = Block::new().borders(Borders::LEFT);
-    let titled = Block::new().title(line(alloc, "title")?);
-    let both = Block::new()
-        .borders(Borders::TOP)
-        .title(line(alloc, "title")?)
-        .padding(Padding::new(1, 2, 3, 4));
-    let high = Block::new().padding(Padding::new(0, 0, 65535, 65535));
-    let mut surround = Surround::new(alloc);
+    let mut surround = Surround::new(rt.alloc());
     assert_eq!(rt; (surround.inner_width(7), surround.chrome(7)), (7, 0));
-    for (block, inner_width, chrome, wanted) in [
-        (all.clone()?, 5, 2, measure(2, 4, 3, 65535)),
-        (left, 6, 0, measure(2, 2, 1, 65535)),
-        (titled, 7, 1, measure(2, 3, 2, 65535)),
-        (both, 4, 8, measure(2, 10, 9, 65535)),
-        (high, 7, 65535, measure(2, 65535, 65535, 65535)),
-    ] {
-        surround.set_block(block);
-        assert_eq!(rt; surround.inner_width(7), inner_width);
-        assert_eq!(rt; surround.chrome(7), chrome);
-        assert_eq!(rt; surround.measure(7, 2, false), wanted);
-    }
-    surround.set_block(all);
+    measure_with_borders(&rt, &mut surround)?;
+    measure_with_titles(&rt, &mut surround)?;
+    measure_with_padding(&rt, &mut surround);
+    measure_within_bounds(&rt, &mut surround);
+    Ok(())
+}
+
+fn measure_with_borders(rt: &impl Abort, surround: &mut Surround<'_>) -> Result<(), AllocError> {
+    let all = Block::new().borders(Borders::ALL);
+    surround.set_block(all.clone()?);
+    expect_around(rt, surround, (5, 2), measure(2, 4, 3, 65535));
+    surround.set_block(Block::new().borders(Borders::LEFT));
+    expect_around(rt, surround, (6, 0), measure(2, 2, 1, 65535));
+    Ok(())
+}
+
+fn measure_with_titles(
+    rt: &(impl Abort + AllocGlobal),
+    surround: &mut Surround<'_>,
+) -> Result<(), AllocError> {
+    surround.set_block(Block::new().title(line(rt.alloc(), "title")?));
+    expect_around(rt, surround, (7, 1), measure(2, 3, 2, 65535));
+    surround.set_block(
+        Block::new()
+            .borders(Borders::TOP)
+            .title(line(rt.alloc(), "title")?)
+            .padding(Padding::new(1, 2, 3, 4)),
+    );
+    expect_around(rt, surround, (4, 8), measure(2, 10, 9, 65535));
+    Ok(())
+}
+
+fn measure_with_padding(rt: &impl Abort, surround: &mut Surround<'_>) {
+    surround.set_block(Block::new().padding(Padding::new(0, 0, 65535, 65535)));
+    expect_around(rt, surround, (7, 65535), measure(2, 65535, 65535, 65535));
+}
+
+fn measure_within_bounds(rt: &impl Abort, surround: &mut Surround<'_>) {
+    surround.set_block(Block::new().borders(Borders::ALL));
     surround.set_max_rows(2);
     assert_eq!(rt; surround.inner_width(1), 0);
     assert_eq!(rt; surround.measure(7, 9, false), measure(9, 3, 3, 3));
     surround.remove_block();
     assert!(rt; surround.block().is_none());
     assert_eq!(rt; surround.measure(7, 9, false), measure(9, 2, 1, 2));
-    Ok(())
+}
+
+// The width inside and the rows around at a width of seven columns, and the height of two rows there.
+fn expect_around(
+    rt: &impl Abort,
+    surround: &Surround<'_>,
+    around: (u16, u16),
+    height: TextAreaMeasure,
+) {
+    assert_eq!(rt; (surround.inner_width(7), surround.chrome(7)), around);
+    assert_eq!(rt; surround.measure(7, 2, false), height);
 }
 
 #[test]
 fn placeholders(rt: HostRuntime) -> Result<(), Fail> {
-    let alloc = rt.alloc();
+    let mut surround = Surround::new(rt.alloc());
+    assert_eq!(rt;
+        surround.placeholder().style,
+        Style::new().fg(Color::DarkGray)
+    );
+    set_placeholder_texts(&rt, &mut surround)?;
+    set_placeholder_styles(&rt, &mut surround)?;
+    set_styled_placeholders(&rt, &mut surround)?;
+    Ok(())
+}
+
+fn set_placeholder_texts(rt: &impl Abort, surround: &mut Surround<'_>) -> Result<(), AllocError> {
     let gray = Style::new().fg(Color::DarkGray);
-    let green = Style::new().fg(Color::Green);
-    let mut surround = Surround::new(alloc);
-    assert_eq!(rt; surround.placeholder().style, gray);
     for (text, rows, style) in [
         ("", 0, None),
         ("hello", 1, Some(gray)),
@@ -147,30 +183,41 @@ fn placeholders(rt: HostRuntime) -> Result<(), Fail> {
         ("", 0, None),
     ] {
         surround.set_placeholder_text(text)?;
-        assert_eq!(rt; surround.placeholder_text(), text);
-        assert_eq!(rt; surround.placeholder_rows(), rows);
-        assert_eq!(rt; surround.placeholder_style(), style);
+        expect_placeholder(rt, surround, text, rows, style);
     }
+    Ok(())
+}
+
+fn set_placeholder_styles(rt: &impl Abort, surround: &mut Surround<'_>) -> Result<(), AllocError> {
+    let green = Style::new().fg(Color::Green);
     surround.set_placeholder_style(green);
     assert_eq!(rt; surround.placeholder_style(), None);
     surround.set_placeholder_text("hello")?;
     assert_eq!(rt; surround.placeholder_style(), Some(green));
-    surround.set_styled_placeholder(lines(alloc, &["a", "b"])?);
-    assert_eq!(rt;
-        (surround.placeholder_text(), surround.placeholder_rows()),
-        ("a", 2)
-    );
-    assert_eq!(rt;
-        surround.placeholder_style(),
-        Some(Style::new().fg(Color::Red))
-    );
-    surround.set_styled_placeholder(lines(alloc, &[])?);
-    assert_eq!(rt;
-        (surround.placeholder_text(), surround.placeholder_rows()),
-        ("", 0)
-    );
-    assert_eq!(rt; surround.placeholder_style(), None);
     Ok(())
+}
+
+fn set_styled_placeholders(
+    rt: &(impl Abort + AllocGlobal),
+    surround: &mut Surround<'_>,
+) -> Result<(), AllocError> {
+    surround.set_styled_placeholder(lines(rt.alloc(), &["a", "b"])?);
+    expect_placeholder(rt, surround, "a", 2, Some(Style::new().fg(Color::Red)));
+    surround.set_styled_placeholder(lines(rt.alloc(), &[])?);
+    expect_placeholder(rt, surround, "", 0, None);
+    Ok(())
+}
+
+fn expect_placeholder(
+    rt: &impl Abort,
+    surround: &Surround<'_>,
+    text: &str,
+    rows: usize,
+    style: Option<Style>,
+) {
+    assert_eq!(rt; surround.placeholder_text(), text);
+    assert_eq!(rt; surround.placeholder_rows(), rows);
+    assert_eq!(rt; surround.placeholder_style(), style);
 }
 
 #[test]
@@ -212,12 +259,22 @@ fn copies_of_surrounds(rt: HostRuntime) -> Result<(), Fail> {
             .borders(Borders::ALL)
             .title(line(alloc, "title")?),
     );
+    copy_and_change(&rt, &mut surround)?;
+    Ok(())
+}
+
+fn copy_and_change(rt: &impl Abort, surround: &mut Surround<'_>) -> Result<(), AllocError> {
     surround.set_placeholder_text("hello")?;
     surround.set_max_rows(9);
     surround.set_min_rows(2);
     let copied = surround.clone()?;
     surround.remove_block();
     surround.set_placeholder_text("")?;
+    expect_copied(rt, &copied);
+    Ok(())
+}
+
+fn expect_copied(rt: &impl Abort, copied: &Surround<'_>) {
     assert_eq!(rt;
         copied.block().map(|block| block.borders),
         Some(Borders::ALL)
@@ -229,5 +286,4 @@ fn copies_of_surrounds(rt: HostRuntime) -> Result<(), Fail> {
     assert_eq!(rt; copied.placeholder_text(), "hello");
     assert_eq!(rt; (copied.min_rows(), copied.max_rows()), (2, 9));
     assert_eq!(rt; copied.measure(7, 2, true), measure(1, 3, 3, 9));
-    Ok(())
 }
