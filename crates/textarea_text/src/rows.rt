@@ -19,14 +19,7 @@ pub fn byte_offset(line: &str, column: usize) -> usize
     requires { column ≤ length (chars line.now) }
     ensures { result ≡ length (encode_utf8_all (take column (chars line.now))) }
 {
-    if line.len() == column {
-        return column;
-    }
-    let mut rest = line.chars();
-    for _index in 0..column {
-        rest.next();
-    }
-    line.len() - rest.as_str().len()
+    byte_offset_from(line, (0, 0), column)
 }
 
 /// The byte at which the column of a line begins, told from another column and its byte: no more than what stands between the
