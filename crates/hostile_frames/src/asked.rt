@@ -1,7 +1,7 @@
 //! The calls of a script, and behind them those that no line of a script makes.
 use std::alloc::{AllocError, Global};
-use textarea_script::Call;
-use textarea_script::commands::{Command, calls};
+use textarea_calls::Call;
+use textarea_commands::commands::{Command, calls};
 use tui_textarea::{
     Alignment, AtomicCursorBias, AtomicDeleteDirection, Block, Borders, Color, CursorRenderMode,
     Input, Key, Line, Style, Text,

@@ -2,8 +2,8 @@
 use crate::caret::{is_caret_promised, is_wide_row};
 use crate::tally::{Tally, count};
 use std::alloc::{AllocError, Global};
-use textarea_script::Call;
-use textarea_script::perform::perform;
+use textarea_calls::Call;
+use textarea_run::perform::perform;
 use tui_textarea::{Buffer, Position, Rect, TextArea};
 
 /// The columns of the buffer: those of the longest tab and of what stands beside it.

@@ -5,9 +5,9 @@ use crate::judge::Judge;
 use crate::setting::Setting;
 use crate::tally::Tally;
 use std::alloc::{AllocError, AllocFailed, Global};
-use textarea_script::Call;
-use textarea_script::commands::{ReadError, calls, read};
-use textarea_script::run::run;
+use textarea_calls::Call;
+use textarea_commands::commands::{ReadError, calls, read};
+use textarea_run::run::run;
 use tui_textarea::{Buffer, CursorMove, Rect, TextArea};
 
 /// The frames in each area, the cursor at another place in each.

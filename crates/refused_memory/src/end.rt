@@ -1,7 +1,7 @@
 //! How a row ends.
 use std::alloc::{AllocError, AllocFailed};
 use std::fmt;
-use textarea_script::commands::ReadError;
+use textarea_commands::commands::ReadError;
 
 /// The status where memory was refused to something else than a call, so that nothing was judged.
 const NOT_JUDGED: u8 = 3;

@@ -1,6 +1,6 @@
 //! The calls of a row, made one after another, and judged.
 ghost use Rattle.std.specs.Prelude.{All};
-ghost use Rattle.textarea_script.specs.Calls.{CanBeMade};
+ghost use Rattle.textarea_calls.specs.Made.{CanBeMade};
 
 use crate::compare::{are_alike_outside, compare, compare_shown};
 use crate::end::{Difference, End, Stop, same};
@@ -8,9 +8,10 @@ use crate::script::run_script;
 use crate::step::{Step, make};
 use crate::words::{Lent, script_of, step_of};
 use std::alloc::{AllocError, Global};
-use textarea_script::commands::{calls, read};
-use textarea_script::run::run;
-use textarea_script::{Answer, Call, RunEnd};
+use textarea_calls::{Answer, Call};
+use textarea_commands::commands::{calls, read};
+use textarea_run::RunEnd;
+use textarea_run::run::run;
 use tui_textarea::{Buffer, Rect, TextArea};
 
 /// The area of the buffer that the calls of a row draw into.

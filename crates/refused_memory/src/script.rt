@@ -1,8 +1,8 @@
 //! The calls of a script, made by one run.
 use crate::end::Stop;
-use textarea_script::RunEnd;
-use textarea_script::commands::{calls, read};
-use textarea_script::run::run;
+use textarea_commands::commands::{calls, read};
+use textarea_run::RunEnd;
+use textarea_run::run::run;
 use tui_textarea::{Buffer, TextArea};
 
 /// Makes the calls of a script by one run, which draws into the buffer.

@@ -2,8 +2,8 @@
 ghost use Rattle.std.specs.Prelude.{◌<◌, length};
 
 use std::alloc::AllocError;
-use textarea_script::perform::perform;
-use textarea_script::{Answer, Call};
+use textarea_calls::{Answer, Call};
+use textarea_run::perform::perform;
 use tui_textarea::{Buffer, Input, Key, TextArea};
 
 /// What is made in one step.

@@ -1,7 +1,7 @@
 //! What the steps of a row with ample memory answered.
 use crate::end::{Difference, Stop};
 use std::fmt;
-use textarea_script::Answer;
+use textarea_calls::Answer;
 
 /// The answers, counted and summed up, and what the steps left.
 #[derive(Default, Clone, Copy)]

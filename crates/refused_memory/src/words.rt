@@ -2,7 +2,7 @@
 //! makes text areas.
 use crate::step::Step;
 use std::alloc::{AllocError, Global};
-use textarea_script::Call;
+use textarea_calls::Call;
 use tui_textarea::{
     Alignment, AtomicDeleteDirection, Block, Borders, Color, Input, Key, Line, Modifier, Style,
     Text,

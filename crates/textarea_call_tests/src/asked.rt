@@ -1,7 +1,7 @@
 // Calls for tables.
 use crate::styles::{GREEN, ON_YELLOW};
 use std::alloc::{AllocError, Global};
-use textarea_script::Call;
+use textarea_calls::Call;
 use tui_textarea::{
     Alignment, AtomicCursorBias, AtomicDeleteDirection, Block, Borders, CursorRenderMode, Line,
     Position, Rect, Style, Text,

@@ -4,7 +4,7 @@ use crate::styles::{GRAY, PLAIN, RED};
 use crate::unprinted::{AT_FIRST, FILLED, Unprinted, check};
 use std::process::Abort;
 use std::test::Fail;
-use textarea_script::Call;
+use textarea_calls::Call;
 use tui_textarea::{Alignment, AtomicCursorBias, AtomicDeleteDirection, Block, Text, WrapMode};
 
 /// A script, calls behind it, what is printed then, and what is read.

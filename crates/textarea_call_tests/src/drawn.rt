@@ -9,9 +9,9 @@ use std::alloc::Global;
 use std::process::Abort;
 use std::string::ToString;
 use std::test::Fail;
+use textarea_calls::{Answer, Call};
+use textarea_run::run::run;
 use textarea_script::printing::Screen;
-use textarea_script::run::run;
-use textarea_script::{Answer, Call};
 use tui_textarea::{
     Alignment, Block, Buffer, Color, CursorRenderMode, Modifier, Position, Rect, Style, Text,
     TextArea,

@@ -8,7 +8,7 @@ use crate::unprinted::{FILLED, Unprinted};
 use std::alloc::{AllocError, Global};
 use std::process::Abort;
 use std::test::Fail;
-use textarea_script::{Answer, Call};
+use textarea_calls::{Answer, Call};
 use tui_textarea::{Buffer, Position, Rect, Scrolling, TextArea, TextAreaMeasure, WrapMode};
 
 static DRAWN: [Drawn; 4] = [

@@ -3,8 +3,8 @@ use crate::styles::{CURSOR, CURSOR_LINE, CYAN, GREEN, MATCHED, ON_YELLOW, PLAIN,
 use crate::unprinted::make;
 use std::process::Abort;
 use std::test::Fail;
-use textarea_script::run::run;
-use textarea_script::{Answer, Call};
+use textarea_calls::{Answer, Call};
+use textarea_run::run::run;
 use tui_textarea::{Alignment, Buffer, CursorRenderMode, Rect, TextArea, Viewport};
 
 /// What reads the looks.

@@ -4,7 +4,7 @@ use crate::looks::check_answers;
 use crate::styles::{GRAY, RED};
 use std::process::Abort;
 use std::test::Fail;
-use textarea_script::{Answer, Call};
+use textarea_calls::{Answer, Call};
 use tui_textarea::{Buffer, Rect, TextArea, WrapMode};
 
 /// What reads the cursor, the selection and the settings.

@@ -3,10 +3,10 @@ use crate::styles::PLAIN;
 use std::process::Abort;
 use std::string::ToString;
 use std::test::Fail;
-use textarea_script::Call;
-use textarea_script::commands::{calls, read};
+use textarea_calls::Call;
+use textarea_commands::commands::{calls, read};
+use textarea_run::run::run;
 use textarea_script::printing::Report;
-use textarea_script::run::run;
 use tui_textarea::{AtomicRange, Buffer, Rect, Style, TextArea, WrapMode};
 
 #[derive(Clone, Copy, Debug, PartialEq, Eq)]

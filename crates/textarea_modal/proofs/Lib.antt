@@ -1,5 +1,3 @@
 pub mod Courses
-pub mod Runs
 pub mod Ends
-pub mod Printed
-pub mod Words
+pub mod Runs

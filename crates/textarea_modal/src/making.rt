@@ -1,16 +1,16 @@
 // Calls of keys, made on a text area.
 ghost use Rattle.std.specs.Prelude.{◌≡◌, ◌∷◌, [], map, IfOk, OnErr, OnOk};
-ghost use Rattle.textarea_script.specs.Calls.{Refused};
-ghost use Rattle.textarea_script.specs.Outcomes.{IsAnswer, IsBehind};
-ghost use Rattle.textarea_script.specs.Said.{said};
-ghost use Rattle.textarea_modal.specs.Calls.{call_of};
+ghost use Rattle.textarea_run.specs.Calls.{Refused};
+ghost use Rattle.textarea_run.specs.Outcomes.{IsAnswer, IsBehind};
+ghost use Rattle.textarea_run.specs.Said.{said};
+ghost use Rattle.textarea_modal_keys.specs.Calls.{call_of};
 ghost use Rattle.textarea_modal.specs.Runs.{AllMade, OneRefused};
-ghost use Rattle.textarea_modal.specs.Table.{handed_on};
+ghost use Rattle.textarea_modal_keys.specs.Table.{handed_on};
 
-use crate::calls::KeyCall;
 use std::alloc::AllocError;
+use textarea_calls::Answer;
 use textarea_data::input::Input;
-use textarea_script::Answer;
+use textarea_modal_keys::calls::KeyCall;
 use tui_textarea::TextArea;
 
 // Makes the calls one after another, up to the first that runs out of memory.

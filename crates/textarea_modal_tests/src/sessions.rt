@@ -1,7 +1,7 @@
 // Sessions by their keys, which hold neither Ctrl nor Alt. U+001B is Esc.
 use crate::transcript::{check, check_end};
 use std::test::Fail;
-use textarea_modal::serve::NOT_READ;
+use textarea_session::serve::NOT_READ;
 
 static WORKED: [(&str, &str); 11] = [
     (

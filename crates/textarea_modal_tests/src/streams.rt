@@ -4,7 +4,7 @@ use std::io;
 use std::io::{ErrorKind, Read, Write};
 use std::process::Abort;
 use std::test::Fail;
-use textarea_modal::serve::{NOT_READ, serve};
+use textarea_session::serve::{NOT_READ, serve};
 use textarea_script::serve::{DONE, STREAM_FAILED};
 
 const KEYS: &str = "i\u{72ac}b\n\u{1b}kA!\u{1b}0vl";

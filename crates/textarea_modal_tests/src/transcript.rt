@@ -3,7 +3,7 @@ use std::alloc::AllocError;
 use std::process::Abort;
 use std::str::from_utf8;
 use std::test::Fail;
-use textarea_modal::serve::serve;
+use textarea_session::serve::serve;
 use textarea_script::serve::DONE;
 
 /// Runs sessions. Each is the text of its keys, and what must be printed of it, line by line, however far in; empty lines don't count.

@@ -1,21 +1,10 @@
-// Scripts of calls on a text area: what a call is and answers, a run of calls with the buffer that it draws into, and the
-// whole work of the program `tascript`, from the bytes that it reads to the bytes that it prints.
+//! The whole work of the program `tascript` on a script, from the bytes that it reads to the bytes that it prints, and the calls, the
+//! commands and the runs that this is made of, each proved in a crate of its own and passed on here.
 #![tactic(auto)]
 
-pub mod answer;
-mod arguments;
-mod asking;
-pub mod call;
-pub mod commands;
-mod drawing;
-mod kind;
-pub mod laws;
-pub mod perform;
-mod pressing;
 pub mod printing;
-pub mod run;
 pub mod serve;
 
-pub use answer::Answer;
-pub use call::Call;
-pub use run::RunEnd;
+pub use textarea_calls::{Answer, Call, answer, call};
+pub use textarea_commands::commands;
+pub use textarea_run::{RunEnd, laws, perform, run};

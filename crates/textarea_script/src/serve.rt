@@ -1,15 +1,14 @@
 // The whole work of `tascript`, over any reader and two writers.
 ghost use Rattle.std.specs.Prelude.{◌≡◌, ◌≤◌, ◌<◌, ◌≢◌, IfErr};
 
-use crate::answer::Answer;
-use crate::call::Call;
-use crate::commands;
-use crate::commands::{Command, ReadError};
 use crate::printing::{Report, Screen};
-use crate::run::run;
 use std::alloc::{AllocError, Global};
 use std::io::{Read, Write};
 use std::string::ToString;
+use textarea_calls::{Answer, Call};
+use textarea_commands::commands;
+use textarea_commands::commands::{Command, ReadError};
+use textarea_run::run::run;
 use textarea_screen::screen::{Buffer, Rect};
 use tui_textarea::TextArea;
 

@@ -1,0 +1,215 @@
+//! The calls of a text area, as data.
+ghost use Rattle.std.specs.Prelude.{◌↔◌, IsTrue};
+ghost use Rattle.textarea_calls.specs.Made.{CanBeMade};
+
+use std::time::Duration;
+use textarea_data::cursor::CursorMove;
+use textarea_data::input::Input;
+use textarea_data::scroll::Scrolling;
+use textarea_look::look::CursorRenderMode;
+use textarea_ranges::atomic::{AtomicCursorBias, AtomicDeleteDirection, AtomicRange};
+use textarea_screen::screen::{Alignment, Block, Position, Rect, Style, Text};
+use textarea_wrap::wrap::WrapMode;
+
+/// One call on a text area, with its arguments.
+#[derive(Clone, Copy, Debug)]
+pub enum Call<'a> {
+    /// `TextArea::insert_char`
+    InsertChar(char),
+    /// `TextArea::insert_str`
+    InsertStr(&'a str),
+    /// `TextArea::insert_tab`
+    InsertTab,
+    /// `TextArea::insert_newline`
+    InsertNewline,
+    /// `TextArea::delete_str`
+    DeleteStr(usize),
+    /// `TextArea::delete_newline`
+    DeleteNewline,
+    /// `TextArea::delete_char`
+    DeleteChar,
+    /// `TextArea::delete_next_char`
+    DeleteNextChar,
+    /// `TextArea::delete_line_by_end`
+    DeleteLineByEnd,
+    /// `TextArea::delete_line_by_head`
+    DeleteLineByHead,
+    /// `TextArea::delete_word`
+    DeleteWord,
+    /// `TextArea::delete_next_word`
+    DeleteNextWord,
+    /// `TextArea::clear`
+    Clear,
+    /// `TextArea::cut`
+    Cut,
+    /// `TextArea::copy`
+    Copy,
+    /// `TextArea::paste`
+    Paste,
+    /// `TextArea::undo`
+    Undo,
+    /// `TextArea::redo`
+    Redo,
+    /// `TextArea::start_selection`
+    StartSelection,
+    /// `TextArea::cancel_selection`
+    CancelSelection,
+    /// `TextArea::select_all`
+    SelectAll,
+    /// `TextArea::set_yank_text`
+    SetYankText(&'a str),
+    /// `TextArea::yank_text`
+    YankText,
+    /// `TextArea::set_tab_length`
+    SetTabLength(u8),
+    /// `TextArea::set_hard_tab_indent`
+    SetHardTabIndent(bool),
+    /// `TextArea::set_max_histories`
+    SetMaxHistories(usize),
+    /// `TextArea::set_undo_coalescing`
+    SetUndoCoalescing(bool),
+    /// `TextArea::set_now`
+    SetNow(Duration),
+    /// `TextArea::move_cursor`
+    Move(CursorMove),
+    /// `TextArea::try_set_atomic_ranges`, with a copy of these ranges
+    TrySetAtomicRanges(&'a [AtomicRange]),
+    /// `TextArea::clear_atomic_ranges`
+    ClearAtomicRanges,
+    /// `TextArea::normalize_cursor_around_atomic_ranges`
+    NormalizeCursorAroundAtomicRanges(AtomicCursorBias),
+    /// `TextArea::atomic_range_at_cursor`
+    AtomicRangeAtCursor(AtomicDeleteDirection),
+    /// `TextArea::delete_atomic_range_at_cursor`
+    DeleteAtomicRangeAtCursor(AtomicDeleteDirection),
+    /// `TextArea::set_lines`, with a copy of these lines, of which there is one at least
+    SetLines {
+        /// The lines that are copied.
+        lines: &'a [String],
+        /// The place whose nearest place of the lines the cursor takes: (row, column).
+        cursor: (usize, usize),
+    },
+    /// `TextArea::set_search_pattern`
+    SetSearchPattern(&'a str),
+    /// `TextArea::search_forward`
+    SearchForward(bool),
+    /// `TextArea::search_back`
+    SearchBack(bool),
+    /// `TextArea::set_wrap_mode`
+    SetWrapMode(WrapMode),
+    /// `TextArea::set_line_number_style`
+    SetLineNumberStyle(Style),
+    /// `TextArea::remove_line_number`
+    RemoveLineNumber,
+    /// `TextArea::measure`
+    Measure(u16),
+    /// `TextArea::set_block`, with a copy of this block
+    SetBlock(&'a Block<'static>),
+    /// `TextArea::remove_block`
+    RemoveBlock,
+    /// `TextArea::set_placeholder_text`
+    SetPlaceholderText(&'a str),
+    /// `TextArea::set_styled_placeholder`, with a copy of this text
+    SetStyledPlaceholder(&'a Text<'static>),
+    /// `TextArea::set_placeholder_style`
+    SetPlaceholderStyle(Style),
+    /// `TextArea::set_min_rows`
+    SetMinRows(u16),
+    /// `TextArea::set_max_rows`
+    SetMaxRows(u16),
+    /// `TextArea::set_style`
+    SetStyle(Style),
+    /// `TextArea::style`
+    Style,
+    /// `TextArea::set_cursor_style`
+    SetCursorStyle(Style),
+    /// `TextArea::cursor_style`
+    CursorStyle,
+    /// `TextArea::set_cursor_line_style`
+    SetCursorLineStyle(Style),
+    /// `TextArea::cursor_line_style`
+    CursorLineStyle,
+    /// `TextArea::set_selection_style`
+    SetSelectionStyle(Style),
+    /// `TextArea::selection_style`
+    SelectionStyle,
+    /// `TextArea::set_search_style`
+    SetSearchStyle(Style),
+    /// `TextArea::search_style`
+    SearchStyle,
+    /// `TextArea::set_mask_char`
+    SetMaskChar(char),
+    /// `TextArea::clear_mask_char`
+    ClearMaskChar,
+    /// `TextArea::mask_char`
+    MaskChar,
+    /// `TextArea::set_cursor_render_mode`
+    SetCursorRenderMode(CursorRenderMode),
+    /// `TextArea::cursor_render_mode`
+    CursorRenderMode,
+    /// `TextArea::set_alignment`
+    SetAlignment(Alignment),
+    /// `TextArea::alignment`
+    Alignment,
+    /// `TextArea::custom_highlight`
+    CustomHighlight {
+        /// Where it starts and where it ends: a row and a byte of it each.
+        range: ((usize, usize), (usize, usize)),
+        /// How it is shown.
+        style: Style,
+        /// Which of the highlights that start at one place is seen: the one of the highest priority.
+        priority: u8,
+    },
+    /// `TextArea::clear_custom_highlight`
+    ClearCustomHighlight,
+    /// `TextArea::render`, into the buffer of the run
+    Render(Rect),
+    /// `TextArea::rendered_cursor_position`
+    RenderedCursorPosition,
+    /// `TextArea::cursor_at_position`
+    CursorAtPosition(Position),
+    /// `TextArea::scroll`
+    Scroll(Scrolling),
+    /// `TextArea::input`, of an input like this one
+    Input(&'a Input),
+    /// `TextArea::input_without_shortcuts`, of an input like this one
+    InputWithoutShortcuts(&'a Input),
+    /// `TextArea::cursor`
+    Cursor,
+    /// `TextArea::is_empty`
+    IsEmpty,
+    /// `TextArea::is_selecting`
+    IsSelecting,
+    /// `TextArea::selection_range`
+    SelectionRange,
+    /// `TextArea::tab_length`
+    TabLength,
+    /// `TextArea::hard_tab_indent`
+    HardTabIndent,
+    /// `TextArea::max_histories`
+    MaxHistories,
+    /// `TextArea::undo_coalescing`
+    UndoCoalescing,
+    /// `TextArea::wrap_mode`
+    WrapMode,
+    /// `TextArea::line_number_style`
+    LineNumberStyle,
+    /// `TextArea::placeholder_style`
+    PlaceholderStyle,
+    /// `TextArea::min_rows`
+    MinRows,
+    /// `TextArea::max_rows`
+    MaxRows,
+}
+
+impl Call<'_> {
+    /// Whether the call can be made: lines that take the place of others are one at least.
+    pub fn can_be_made(&self) -> bool
+        ensures { IsTrue result ↔ CanBeMade self.now }
+    {
+        match self {
+            Call::SetLines { lines, .. } => !lines.is_empty(),
+            _ => true,
+        }
+    }
+}

@@ -1,0 +1,84 @@
+//! The text that is printed of an answer.
+use crate::answer::Answer;
+use std::fmt;
+use textarea_ranges::atomic::{AtomicRange, AtomicRangeRejectReason};
+
+impl fmt::Display for Answer {
+    fn fmt<W: fmt::Write>(&self, f: &mut fmt::Formatter<W>) -> fmt::Result {
+        match self {
+            Answer::Done => write!(f, "ok"),
+            Answer::Flag(flag) => write!(f, "{flag}"),
+            Answer::Text(text) => write!(f, "text {}", Escaped(text.as_str())),
+            Answer::Range(None) => write!(f, "none"),
+            Answer::Range(Some(range)) => write!(f, "{}", Printed(*range)),
+            Answer::Rejected(rejected) => {
+                write!(f, "rejected")?;
+                for item in rejected {
+                    write!(f, " {} {}", Printed(item.range), reason_name(item.reason))?;
+                }
+                Ok(())
+            }
+            Answer::Measured(measure) => write!(
+                f,
+                "{} {} {} {}",
+                measure.content_rows, measure.preferred_rows, measure.min_rows, measure.max_rows
+            ),
+            Answer::PatternRefused => write!(f, "pattern"),
+            Answer::Place(None) | Answer::Position(None) => write!(f, "none"),
+            Answer::Place(Some((row, column))) => write!(f, "{row} {column}"),
+            Answer::Position(Some(position)) => write!(f, "{} {}", position.x, position.y),
+            Answer::Style(style) => write!(f, "{style:?}"),
+            Answer::Character(character) => write!(f, "{character:?}"),
+            Answer::CursorRenderMode(mode) => write!(f, "{mode:?}"),
+            Answer::Alignment(alignment) => write!(f, "{alignment:?}"),
+            Answer::Number(number) => write!(f, "{number}"),
+            Answer::Cursor((row, column)) => write!(f, "{row} {column}"),
+            Answer::Selection(ends) => write!(f, "{ends:?}"),
+            Answer::StyleIfShown(style) => write!(f, "{style:?}"),
+            Answer::WrapMode(mode) => write!(f, "{mode:?}"),
+        }
+    }
+}
+
+// A range, printed as its row, its first column and the column behind its last one.
+#[derive(Clone, Copy)]
+struct Printed(AtomicRange);
+
+impl fmt::Display for Printed {
+    fn fmt<W: fmt::Write>(&self, f: &mut fmt::Formatter<W>) -> fmt::Result {
+        let AtomicRange {
+            row,
+            start_col,
+            end_col,
+        } = self.0;
+        write!(f, "{row}:{start_col}..{end_col}")
+    }
+}
+
+fn reason_name(reason: AtomicRangeRejectReason) -> &'static str {
+    match reason {
+        AtomicRangeRejectReason::Empty => "Empty",
+        AtomicRangeRejectReason::RowOutOfBounds => "RowOutOfBounds",
+        AtomicRangeRejectReason::ColumnOutOfBounds => "ColumnOutOfBounds",
+        AtomicRangeRejectReason::OverlapsPrevious => "OverlapsPrevious",
+    }
+}
+
+/// A text, printed with the escapes `\\`, `\n`, `\r` and `\t` for the four characters.
+#[derive(Clone, Copy)]
+pub struct Escaped<'a>(pub &'a str);
+
+impl fmt::Display for Escaped<'_> {
+    fn fmt<W: fmt::Write>(&self, f: &mut fmt::Formatter<W>) -> fmt::Result {
+        for c in self.0.chars() {
+            match c {
+                '\\' => write!(f, "\\\\")?,
+                '\n' => write!(f, "\\n")?,
+                '\r' => write!(f, "\\r")?,
+                '\t' => write!(f, "\\t")?,
+                _ => write!(f, "{c}")?,
+            }
+        }
+        Ok(())
+    }
+}

@@ -1,0 +1,5 @@
+mod Worked
+pub mod Cuts
+pub mod Going
+pub mod Refusals
+pub mod Runs

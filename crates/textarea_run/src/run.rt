@@ -1,0 +1,94 @@
+// A run: a list of calls, made one after another.
+ghost use Rattle.std.specs.Prelude.{All, IfOk, OnErr};
+ghost use Rattle.textarea_document.specs.Goes.{GoesUncut};
+ghost use Rattle.textarea_document.specs.Sound.{IsSound};
+ghost use Rattle.textarea_calls.specs.Made.{CanBeMade};
+ghost use Rattle.textarea_run.specs.Calls.{Refused};
+ghost use Rattle.textarea_run.specs.Goes.{AllStem, GoesByCall};
+ghost use Rattle.textarea_run.specs.Outcomes.{IsSpared};
+ghost use Rattle.textarea_run.specs.Run.{Makes, Run};
+ghost use Rattle.textarea_run.specs.Said.{said};
+
+use crate::laws::ranges_go_with_each_call;
+use crate::perform::perform;
+use std::alloc::AllocError;
+use textarea_calls::{Answer, Call};
+use textarea_screen::screen::Buffer;
+use tui_textarea::TextArea;
+
+/// How a run of calls ended.
+#[derive(Drop)]
+pub struct RunEnd {
+    /// The answers of the calls that were made, in their order.
+    pub answers: Vec<Answer>,
+    /// The index of the call that ran out of memory and ended the run, if there is one.
+    pub refused: Option<usize>,
+}
+
+/// Makes the calls one after another, up to the first that runs out of memory; a call may be an input. What they draw is drawn
+/// into the buffer, which the other calls leave as it is. The calls and their answers settle the state
+/// that they lead to (`laws::one_end`).
+///
+/// After any list of calls and inputs, the text, cursor, selection, yank, ranges and both history
+/// lists are those of one flat list of characters and breaks changed by nonempty splices, and the
+/// visual rows, measured height, drawn cells, caret and hit tests are those of a layout computed
+/// anew from text, cursor, highlights, settings, viewport and last area.
+///
+/// After any list of calls each range that is held stems from the last ranges that a call of the list set, or without one from the
+/// ranges at the start, and covers the same characters as then, all in one line.
+///
+/// It asks that each `Call::SetLines` holds a line. Room for the answers is reserved first. Where that
+/// is refused, no call is made and the refused index is 0.
+pub fn run(area: &mut TextArea<'_>, calls: &[Call<'_>], buffer: &mut Buffer) -> RunEnd
+    requires { All CanBeMade calls.now }
+    ensures led { Run area.old buffer.old calls.now result.answers.items result.refused area.new
+        buffer.new }
+    ensures ranges { AllStem area.old buffer.old calls.now result.answers.items area.new }
+{
+    area.is_sound();
+    let alloc = *area.lines()[0].allocator();
+    let mut answers = Vec::new(alloc);
+    if answers.try_reserve(calls.len()).is_err() {
+        return RunEnd {
+            answers,
+            refused: Some(0),
+        };
+    }
+    for (index, call) in calls.iter().enumerate() {
+        match make(area, *call, buffer) {
+            Ok(answer) => {
+                let _ = answers.push(answer);
+            }
+            Err(_) => {
+                return RunEnd {
+                    answers,
+                    refused: Some(index),
+                };
+            }
+        }
+    }
+    RunEnd {
+        answers,
+        refused: None,
+    }
+}
+
+// Makes one call, over which the ranges go.
+fn make(area: &mut TextArea<'_>, call: Call<'_>, buffer: &mut Buffer) -> Result<Answer, AllocError>
+    requires { CanBeMade call }
+    ensures made { IfOk result (λ answer.
+        Makes area.old buffer.old call.entry (said answer) area.new buffer.new) }
+    ensures goes { IfOk result (λ answer.
+        GoesByCall area.old call.entry (said answer) area.new) }
+    ensures err { OnErr result (Refused area.old call.entry area.new) }
+    ensures spared { OnErr result (IsSpared call.entry buffer.old buffer.new) }
+    ensures left { OnErr result (GoesUncut area.old.document area.new.document) }
+    ensures before { IsSound area.old.document }
+    ensures behind { IsSound area.new.document }
+{
+    area.is_sound();
+    let outcome = perform(area, call, buffer);
+    area.is_sound();
+    ranges_go_with_each_call();
+    outcome
+}
