@@ -89,12 +89,9 @@ pub struct Lent {
 impl Lent {
     /// A block with a title, a placeholder of one line, and a key.
     pub fn new(alloc: Global) -> Result<Lent, AllocError> {
-        let title = Line::raw(String::from_str(alloc, "a\u{301}犬 title")?)?;
-        let mut lines = Vec::new(alloc);
-        lines.push(Line::raw(String::from_str(alloc, "e\u{301}犬")?)?)?;
         Ok(Lent {
-            block: Block::new().borders(Borders::TOP).title(title),
-            placeholder: Text { lines, style: RED },
+            block: titled(alloc)?,
+            placeholder: one_line(alloc)?,
             letter: Input {
                 key: Key::Char('犬'),
                 ctrl: false,
@@ -115,6 +112,17 @@ impl Lent {
             Call::Undo,
         ]
     }
+}
+
+fn titled(alloc: Global) -> Result<Block<'static>, AllocError> {
+    let title = Line::raw(String::from_str(alloc, "a\u{301}犬 title")?)?;
+    Ok(Block::new().borders(Borders::TOP).title(title))
+}
+
+fn one_line(alloc: Global) -> Result<Text<'static>, AllocError> {
+    let mut lines = Vec::new(alloc);
+    lines.push(Line::raw(String::from_str(alloc, "e\u{301}犬")?)?)?;
+    Ok(Text { lines, style: RED })
 }
 
 /// The calls that the commands stand for, those that no line of a script makes, and those to which something is lent.

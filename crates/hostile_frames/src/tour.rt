@@ -1,4 +1,7 @@
 //! A text in all settings and areas, behind all calls and at all tab lengths.
+ghost use Rattle.std.specs.Prelude.{All};
+ghost use Rattle.textarea_calls.specs.Made.{CanBeMade};
+
 use crate::asked::{Lent, all_calls};
 use crate::caret::has_tab;
 use crate::judge::Judge;
@@ -6,7 +9,7 @@ use crate::setting::Setting;
 use crate::tally::Tally;
 use std::alloc::{AllocError, AllocFailed, Global};
 use textarea_calls::Call;
-use textarea_commands::commands::{ReadError, calls, read};
+use textarea_commands::commands::{Command, ReadError, calls, read};
 use textarea_run::run::run;
 use tui_textarea::{Buffer, CursorMove, Rect, TextArea};
 
@@ -47,14 +50,44 @@ impl From<ReadError> for NotJudged {
 /// calls of another script on it.
 pub fn tour(alloc: Global, lines: &str, widest: usize, script: &str) -> Result<Tally, NotJudged> {
     let mut judge = Judge::new(alloc, widest)?;
-    let lent = Lent::new(alloc)?;
-    let commands = read(alloc, script.as_bytes())?;
-    let asked = all_calls(alloc, commands.as_slice(), &lent)?;
-    for number in 0..Setting::COUNT {
-        let setting = Setting::numbered(number);
-        judge_text(alloc, lines, setting, asked.as_slice(), &mut judge)?;
-    }
+    judge_script(alloc, lines, script, &mut judge)?;
     Ok(judge.tally())
+}
+
+// Judges a text in all settings, behind the calls of a script too.
+fn judge_script(
+    alloc: Global,
+    lines: &str,
+    script: &str,
+    judge: &mut Judge,
+) -> Result<(), NotJudged> {
+    let commands = read(alloc, script.as_bytes())?;
+    judge_commands(alloc, lines, commands.as_slice(), judge)
+}
+
+// Judges a text in all settings, behind the calls of these commands and behind those to which something is lent.
+fn judge_commands(
+    alloc: Global,
+    lines: &str,
+    commands: &[Command],
+    judge: &mut Judge,
+) -> Result<(), NotJudged> {
+    let lent = Lent::new(alloc)?;
+    let asked = all_calls(alloc, commands, &lent)?;
+    judge_settings(alloc, lines, asked.as_slice(), judge)
+}
+
+// Judges a text in all settings, behind these calls too.
+fn judge_settings(
+    alloc: Global,
+    lines: &str,
+    asked: &[Call<'_>],
+    judge: &mut Judge,
+) -> Result<(), NotJudged> {
+    for number in 0..Setting::COUNT {
+        judge_text(alloc, lines, Setting::numbered(number), asked, judge)?;
+    }
+    Ok(())
 }
 
 // Judges the text that the lines of a script make, in a setting.
@@ -90,8 +123,15 @@ fn write(area: &mut TextArea<'_>, script: &str) -> Result<(), NotJudged> {
     let alloc = *area.lines()[0].allocator();
     let commands = read(alloc, script.as_bytes())?;
     let calls = calls(alloc, commands.as_slice())?;
+    make_unseen(alloc, area, calls.as_slice())
+}
+
+// Makes calls on a text area, with a buffer that has no cell.
+fn make_unseen(alloc: Global, area: &mut TextArea<'_>, calls: &[Call<'_>]) -> Result<(), NotJudged>
+    requires { All CanBeMade calls.now }
+{
     let mut nowhere = Buffer::empty(alloc, Rect::default())?;
-    match run(area, calls.as_slice(), &mut nowhere).refused {
+    match run(area, calls, &mut nowhere).refused {
         None => Ok(()),
         Some(_) => Err(NotJudged),
     }

@@ -1,4 +1,5 @@
 -- The kinds of calls, by how they answer.
+use Rattle.std.specs.Prelude.{Bool, true, false}
 use Rattle.textarea_calls.specs.declared.call.Call.{Call}
 use Rattle.textarea_calls.specs.declared.call.Call.TheVariants.{InsertChar, InsertStr, InsertTab, InsertNewline, DeleteStr, DeleteNewline, DeleteChar, DeleteNextChar, DeleteLineByEnd, DeleteLineByHead, DeleteWord, DeleteNextWord, Clear, Cut, Copy, Paste, Undo, Redo, StartSelection, CancelSelection, SelectAll, SetYankText, SetTabLength, SetHardTabIndent, SetMaxHistories, SetUndoCoalescing, SetNow, SetLines, ClearAtomicRanges, SearchForward, SearchBack, SetWrapMode, SetLineNumberStyle, RemoveLineNumber, SetBlock, RemoveBlock, SetPlaceholderText, SetStyledPlaceholder, SetPlaceholderStyle, SetMinRows, SetMaxRows, SetStyle, Style, SetCursorStyle, CursorStyle, SetCursorLineStyle, CursorLineStyle, SetSelectionStyle, SelectionStyle, SetSearchStyle, SearchStyle, SetMaskChar, ClearMaskChar, MaskChar, SetCursorRenderMode, CursorRenderMode, SetAlignment, Alignment, CustomHighlight, ClearCustomHighlight, Render, RenderedCursorPosition, Input, InputWithoutShortcuts, Cursor, IsEmpty, IsSelecting, SelectionRange, TabLength, HardTabIndent, MaxHistories, UndoCoalescing, WrapMode, LineNumberStyle, PlaceholderStyle, MinRows, MaxRows}
 use Rattle.textarea_run.specs.declared.kind.Kind.{Kind}
@@ -95,3 +96,23 @@ kind_of (Input input) = Presses
 kind_of (InputWithoutShortcuts input) = Presses
 kind_of (Render area) = Draws
 kind_of call = kind_without_memory_of call
+
+-- a call of this kind answers whether it found something to do, and may run out of memory
+abbrev pub tries : Kind → Bool
+tries Deletes = true
+tries Edits = true
+tries Searches = true
+tries Presses = true
+tries kind = false
+
+-- a call of this kind has nothing to say, and may run out of memory
+abbrev pub changes : Kind → Bool
+changes Writes = true
+changes Shows = true
+changes kind = false
+
+-- a call of this kind has nothing to say, and takes no memory in any state
+abbrev pub puts : Kind → Bool
+puts Sets = true
+puts Looks = true
+puts kind = false

@@ -1,11 +1,11 @@
 // One call made on a text area.
-ghost use Rattle.std.specs.Prelude.{◌≡◌, ◌<◌, length, OnErr, OnOk, IfOk, Some};
+ghost use Rattle.std.specs.Prelude.{◌≡◌, ◌<◌, length, true, OnErr, OnOk, IfOk, Some};
 ghost use Rattle.textarea_screen.specs.Block.{shown_block};
 ghost use Rattle.textarea_screen.specs.Text.{shown_text};
 ghost use Rattle.tui_textarea.specs.Measure.{with_surround};
 ghost use Rattle.textarea_calls.specs.Made.{CanBeMade};
 ghost use Rattle.textarea_run.specs.Calls.{ranges_answer, rejected_ranges, with_lines, with_ranges_if, Refused};
-ghost use Rattle.textarea_run.specs.Kinds.{kind_of};
+ghost use Rattle.textarea_run.specs.Kinds.{changes, kind_of, puts, tries};
 ghost use Rattle.textarea_run.specs.Outcomes.{behind_pattern, IsAnswer, IsBehind, IsPatternAnswer, IsShown, IsSpared};
 ghost use Rattle.textarea_run.specs.Patterns.{IsNewPattern, IsToldAs};
 ghost use Rattle.textarea_run.specs.Said.{said, Done, Flag};
@@ -42,24 +42,62 @@ pub fn perform(
     ensures spared { OnErr result (IsSpared call.entry buffer.old buffer.new) }
 {
     match kind_of(&call) {
-        Kind::Deletes => delete(area, call).map(Answer::Flag),
-        Kind::Edits => edit(area, call).map(Answer::Flag),
-        Kind::Searches => search(area, call).map(Answer::Flag),
-        Kind::Writes => write(area, call).map(|()| Answer::Done),
-        Kind::Shows => show(area, call).map(|()| Answer::Done),
-        Kind::Sets => {
-            set(area, call);
-            Ok(Answer::Done)
+        Kind::Draws => draw(area, call, buffer).map(|()| Answer::Done),
+        Kind::Tells => tell(area, call),
+        Kind::Deletes | Kind::Edits | Kind::Searches | Kind::Presses => {
+            try_to(area, call).map(Answer::Flag)
         }
-        Kind::Looks => {
-            look(area, call);
+        Kind::Writes | Kind::Shows => change(area, call).map(|()| Answer::Done),
+        Kind::Sets | Kind::Looks => {
+            put(area, call);
             Ok(Answer::Done)
         }
         Kind::Reads => Ok(read(area, call)),
         Kind::Asks => Ok(ask(area, call)),
-        Kind::Presses => press(area, call).map(Answer::Flag),
-        Kind::Draws => draw(area, call, buffer).map(|()| Answer::Done),
-        Kind::Tells => tell(area, call),
+    }
+}
+
+// Makes a call that answers whether it found something to do, and may run out of memory.
+fn try_to(area: &mut TextArea<'_>, call: Call<'_>) -> Result<bool, AllocError>
+    requires { tries (kind_of call) ≡ true }
+    ensures answer { IfOk result (λ done. IsAnswer area.old call.entry (Flag done)) }
+    ensures ok { IfOk result (λ done. IsBehind area.old call.entry (Flag done) area.new) }
+    ensures err { OnErr result (Refused area.old call.entry area.new) }
+{
+    match kind_of(&call) {
+        Kind::Deletes => delete(area, call),
+        Kind::Edits => edit(area, call),
+        Kind::Searches => search(area, call),
+        Kind::Presses => press(area, call),
+        _ => unreachable!(),
+    }
+}
+
+// Makes a call that has nothing to say, and may run out of memory.
+fn change(area: &mut TextArea<'_>, call: Call<'_>) -> Result<(), AllocError>
+    requires kind { changes (kind_of call) ≡ true }
+    requires can { CanBeMade call }
+    ensures answer { OnOk result (IsAnswer area.old call.entry Done) }
+    ensures ok { OnOk result (IsBehind area.old call.entry Done area.new) }
+    ensures err { OnErr result (Refused area.old call.entry area.new) }
+{
+    match kind_of(&call) {
+        Kind::Writes => write(area, call),
+        Kind::Shows => show(area, call),
+        _ => unreachable!(),
+    }
+}
+
+// Makes a call that has nothing to say, and takes no memory in any state.
+fn put(area: &mut TextArea<'_>, call: Call<'_>)
+    requires { puts (kind_of call) ≡ true }
+    ensures answer { IsAnswer area.old call.entry Done }
+    ensures ok { IsBehind area.old call.entry Done area.new }
+{
+    match kind_of(&call) {
+        Kind::Sets => set(area, call),
+        Kind::Looks => look(area, call),
+        _ => unreachable!(),
     }
 }
 
