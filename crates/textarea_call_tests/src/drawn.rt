@@ -4,13 +4,12 @@ use crate::styles::{
     CURSOR, CURSOR_LINE, CYAN, GRAY, GREEN, GREEN_ON_YELLOW, MATCHED, ON_YELLOW, PLAIN, RED,
     RED_ON_YELLOW, SELECTED,
 };
-use crate::unprinted::make;
+use crate::unprinted::{make, make_all};
 use std::alloc::Global;
 use std::process::Abort;
 use std::string::ToString;
 use std::test::Fail;
 use textarea_calls::{Answer, Call};
-use textarea_run::run::run;
 use textarea_script::printing::Screen;
 use tui_textarea::{
     Alignment, Block, Buffer, Color, CursorRenderMode, Modifier, Position, Rect, Style, Text,
@@ -74,9 +73,7 @@ fn make_asked<'a>(
     buffer: &mut Buffer,
 ) -> Result<(), Fail> {
     let calls = calls_of(rt.alloc(), drawn.asked, block, placeholder)?;
-    assert!(rt; calls.iter().all(|call| call.can_be_made()));
-    let end = run(area, calls.as_slice(), buffer);
-    assert!(rt; end.refused == None);
+    let _answers = make_all(rt, area, calls.as_slice(), buffer);
     Ok(())
 }
 
@@ -91,10 +88,9 @@ fn check_frame(
     let (x, y, width, height) = drawn.area;
     let place = Rect::new(x, y, width, height);
     let drawing = [Call::Render(place), Call::RenderedCursorPosition];
-    let end = run(area, &drawing, buffer);
-    assert!(rt; end.refused == None);
+    let answers = make_all(rt, area, &drawing, buffer);
     let wanted = [Answer::Done, Answer::Position(drawn.caret)];
-    assert_eq!(rt; end.answers.as_slice(), wanted.as_slice(), "{script}");
+    assert_eq!(rt; answers.as_slice(), wanted.as_slice(), "{script}");
     check_cells(rt, buffer, place, drawn)
 }
 

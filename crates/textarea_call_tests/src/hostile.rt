@@ -97,9 +97,14 @@ fn hostile_places(rt: HostRuntime) -> Result<(), Fail> {
 #[test]
 fn many_lines(rt: HostRuntime) -> Result<(), Fail> {
     let mut buffer = Buffer::empty(rt.alloc(), Rect::new(0, 0, 10, 5))?;
-    let mut area = TextArea::new(lines_of_x(rt.alloc(), 70_000)?)?;
-    check_shown(&rt, &mut area, &mut buffer);
-    check_scrolled(&rt, &mut area, &mut buffer);
+    check_many(&rt, lines_of_x(rt.alloc(), 70_000)?, &mut buffer)?;
+    Ok(())
+}
+
+fn check_many(rt: &impl Abort, lines: Vec<String>, buffer: &mut Buffer) -> Result<(), AllocError> {
+    let mut area = TextArea::new(lines)?;
+    check_shown(rt, &mut area, buffer);
+    check_scrolled(rt, &mut area, buffer);
     Ok(())
 }
 

@@ -12,13 +12,9 @@ mod given;
 #[cfg(test)]
 mod hostile;
 #[cfg(test)]
-mod keys;
-#[cfg(test)]
 mod looks;
 #[cfg(test)]
 mod moved;
-#[cfg(test)]
-mod quick_start;
 #[cfg(test)]
 mod settings;
 #[cfg(test)]

@@ -1,10 +1,9 @@
 // How a text area looks, at first and as it was set, and which part of it is shown.
 use crate::styles::{CURSOR, CURSOR_LINE, CYAN, GREEN, MATCHED, ON_YELLOW, PLAIN, RED, SELECTED};
-use crate::unprinted::make;
+use crate::unprinted::{make, make_all};
 use std::process::Abort;
 use std::test::Fail;
 use textarea_calls::{Answer, Call};
-use textarea_run::run::run;
 use tui_textarea::{Alignment, Buffer, CursorRenderMode, Rect, TextArea, Viewport};
 
 /// What reads the looks.
@@ -100,10 +99,8 @@ pub fn check_answers(
     calls: &[Call<'_>],
     wanted: &[Answer],
 ) {
-    assert!(rt; calls.iter().all(|call| call.can_be_made()));
-    let end = run(area, calls, buffer);
-    assert!(rt; end.refused == None);
-    assert_eq!(rt; end.answers.as_slice(), wanted);
+    let answers = make_all(rt, area, calls, buffer);
+    assert_eq!(rt; answers.as_slice(), wanted);
 }
 
 // Which rows and columns are shown, where the cursor was drawn last and where something scrolled since.

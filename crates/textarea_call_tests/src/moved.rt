@@ -121,7 +121,16 @@ fn ranges_go_with_the_text(rt: HostRuntime) -> Result<(), Fail> {
 
 fn check_held(rt: &(impl Abort + AllocGlobal), script: &str, wanted: &str) -> Result<(), Fail> {
     let mut area = TextArea::try_default(rt.alloc())?;
-    make(rt, &mut area, script)?;
+    check_held_by(rt, &mut area, script, wanted)
+}
+
+fn check_held_by(
+    rt: &(impl Abort + AllocGlobal),
+    area: &mut TextArea<'_>,
+    script: &str,
+    wanted: &str,
+) -> Result<(), Fail> {
+    make(rt, area, script)?;
     check_ranges(rt, area.atomic_ranges(), script, wanted)
 }
 

@@ -3,7 +3,7 @@ use crate::styles::PLAIN;
 use std::process::Abort;
 use std::string::ToString;
 use std::test::Fail;
-use textarea_calls::Call;
+use textarea_calls::{Answer, Call};
 use textarea_commands::commands::{calls, read};
 use textarea_run::run::run;
 use textarea_script::printing::Report;
@@ -239,8 +239,19 @@ pub fn check(
     wanted: &Unprinted<'static>,
 ) -> Result<(), Fail> {
     let mut area = TextArea::try_default(rt.alloc())?;
-    make(rt, &mut area, script)?;
-    compare_behind(rt, &mut area, script, calls, printed, wanted)
+    check_area(rt, &mut area, script, calls, printed, wanted)
+}
+
+fn check_area(
+    rt: &(impl Abort + AllocGlobal),
+    area: &mut TextArea<'_>,
+    script: &str,
+    calls: &[Call<'_>],
+    printed: Option<&str>,
+    wanted: &Unprinted<'static>,
+) -> Result<(), Fail> {
+    make(rt, area, script)?;
+    compare_behind(rt, area, script, calls, printed, wanted)
 }
 
 fn compare_behind(
@@ -278,10 +289,31 @@ pub fn make(
 ) -> Result<(), Fail> {
     let commands = read(rt.alloc(), script.as_bytes())?;
     let calls = calls(rt.alloc(), commands.as_slice())?;
-    let mut buffer = Buffer::empty(rt.alloc(), Rect::default())?;
-    let end = run(area, calls.as_slice(), &mut buffer);
-    assert!(rt; end.refused == None);
+    let _answers = make_unseen(rt, area, calls.as_slice())?;
     Ok(())
+}
+
+// Makes calls with a buffer that has no cell, and gives their answers.
+fn make_unseen(
+    rt: &(impl Abort + AllocGlobal),
+    area: &mut TextArea<'_>,
+    calls: &[Call<'_>],
+) -> Result<Vec<Answer>, Fail> {
+    let mut buffer = Buffer::empty(rt.alloc(), Rect::default())?;
+    Ok(make_all(rt, area, calls, &mut buffer))
+}
+
+/// Makes calls, of which none may be refused, and gives their answers.
+pub fn make_all(
+    rt: &impl Abort,
+    area: &mut TextArea<'_>,
+    calls: &[Call<'_>],
+    buffer: &mut Buffer,
+) -> Vec<Answer> {
+    assert!(rt; calls.iter().all(|call| call.can_be_made()));
+    let end = run(area, calls, buffer);
+    assert!(rt; end.refused == None);
+    end.answers
 }
 
 // Makes the calls, and prints their answers and the text area then.
@@ -290,12 +322,9 @@ fn printed_behind(
     area: &mut TextArea<'_>,
     calls: &[Call<'_>],
 ) -> Result<String, Fail> {
-    assert!(rt; calls.iter().all(|call| call.can_be_made()));
-    let mut buffer = Buffer::empty(rt.alloc(), Rect::default())?;
-    let end = run(area, calls, &mut buffer);
-    assert!(rt; end.refused == None);
+    let answers = make_unseen(rt, area, calls)?;
     let report = Report {
-        answers: end.answers.as_slice(),
+        answers: answers.as_slice(),
         area,
         screen: None,
     };
