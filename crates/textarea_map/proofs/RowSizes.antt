@@ -33,7 +33,7 @@ size_total-more rows i r within e =
 abbrev pub Sum : Type 0
 Sum = List RowsView → ℕ
 
-abbrev IsSum : Sum → Type 0
+abbrev pub IsSum : Sum → Type 0
 IsSum total = (rows more : List RowsView) → total (rows ++ more) ≡ total rows + total more
 
 -- what the lines that go have is part of the whole, and with what comes in its place it is what all have afterwards
