@@ -15,12 +15,12 @@ use Rattle.textarea_map.proofs.RowSizes.{IsSum, Sum}
 -- the block in which a number falls, by a search
 pub found_at : (total : Sum) → IsSum total → (blocks : List (List RowsView)) (numbers : List ℕ) (number block : ℕ) → AreTotals total blocks numbers → block < length numbers → get_or numbers block 0 ≤ number → (block + 1 < length numbers → number < get_or numbers (block + 1) 0) → number < total (all_rows blocks) → (total_before total blocks block ≤ number) × (number < total_before total blocks (block + 1))
 found_at total sum blocks numbers number block h within from next there = (
-      omega (arith, h.right block (omega (arith, h.len)), from),
-      elim (cases_lt (block + 1) (length numbers)) [
-        | inl more ↦ omega (arith, h.right (block + 1) (omega (arith, h.len)), next more)
-        | inr most ↦ omega (arith, before_all total blocks (block + 1) (omega (arith, h.len)), there)
-      ],
-    )
+  omega (arith, h.right block (omega (arith, h.len)), from),
+  elim (cases_lt (block + 1) (length numbers)) [
+    | inl more ↦ omega (arith, h.right (block + 1) (omega (arith, h.len)), next more)
+    | inr most ↦ omega (arith, before_all total blocks (block + 1) (omega (arith, h.len)), there)
+  ],
+)
 
 -- the total before the block behind one
 pub number_behind : (total : Sum) → IsSum total → (blocks : List (List RowsView)) (numbers : List ℕ) (block number : ℕ) (rows : List RowsView) → AreTotals total blocks numbers → block < length blocks → number ≡ get_or numbers block number → rows ≡ get_or blocks block [] → number + total rows ≡ total_before total blocks (block + 1)

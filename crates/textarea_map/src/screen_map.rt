@@ -31,7 +31,7 @@ pub struct ScreenMap {
 }
 
 impl Model for ScreenMap {
-        ghost use Rattle.textarea_map.specs.Blocks.{all_rows};
+    ghost use Rattle.textarea_map.specs.Blocks.{all_rows};
     ghost use Rattle.textarea_map.specs.Map.{MapView};
     ghost use Rattle.textarea_map.specs.Numbered.{IsCounted};
 
@@ -109,10 +109,7 @@ fn sums_of(rows: &NewRows) -> (usize, usize)
     ensures size { result.1 ≡ min (size_total (rows_in rows.now)) usize.MAX }
 {
     match rows {
-        NewRows::Few(rows) => (
-            count_rows(rows.as_slice()),
-            size_of_rows(rows.as_slice()),
-        ),
+        NewRows::Few(rows) => (count_rows(rows.as_slice()), size_of_rows(rows.as_slice())),
         NewRows::Many(rows) => rows.sums_of(0, rows.line_count()),
     }
 }

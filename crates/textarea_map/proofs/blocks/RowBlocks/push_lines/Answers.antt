@@ -35,5 +35,5 @@ cutting-preserved c =
           (append_assoc before (lines_of (take from items)) (lines_of part) ∙ ap (λ t. before ++ t) (sym (map-append characters_of (take from items) part) ∙ ap lines_of lines))
           (AreRowsOf-append c.args.wrapping (before ++ lines_of (take from items)) (lines_of part) old rows (c.cutting.invariant.2 before h) c.in_ok-rows.ensures.rows)),
       ap ticks_of now ∙ map-append (λ (r : RowsView). r.tick) old rows
-      ∙ ticks_further (ticks_of (all_rows c.args.self.now.blocks)) (ticks_of old) (ticks_of rows) c.args.count.now c.cutting.count from (length part) to c.cutting.invariant.3 c.cutting.invariant.1 c.in_ok-rows.ensures.ticks count,
+          ∙ ticks_further (ticks_of (all_rows c.args.self.now.blocks)) (ticks_of old) (ticks_of rows) c.args.count.now c.cutting.count from (length part) to c.cutting.invariant.3 c.cutting.invariant.1 c.in_ok-rows.ensures.ticks count,
     )

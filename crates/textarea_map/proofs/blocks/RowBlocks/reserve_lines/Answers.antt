@@ -42,22 +42,22 @@ returns-clause-room c =
     let size : c.len.result ≡ length (get_or blocks block []) = omega (arith, c.len.ensures, c.index.result.now.ok.0, ap length (rows_are items block c.index.result.now there c.index.ensures)) in
     on_ok_weaker c.reserve.result
     (λ (room : vec_len c.reserve.new.self + c.saturating_sub.result ≤ vec_capacity c.reserve.new.self).
-        λ k h.
-            let one : k ≡ block = one_block (rows_of_each now) c.args.row k block h inside in
-            omega (
-              arith,
-              room,
-              c.saturating_sub.ensures,
-              c.min-shared.ensures,
-              size,
-              spare,
-              ap (λ n. get_or (spare_of_each now) n 0) one,
-              ap (λ n. lines_before (rows_of_each now) (n + 1)) one,
-              ap (λ t. lines_before t (block + 1)) same,
-              before_more length lines_sum blocks block (omega (arith, there, block_count items)),
-              at,
-              ap (λ t. lines_before t block) seen,
-              c.place_of-block.ensures.within,
-              ap (λ t. length (get_or t block [])) seen,
-            ))
+    λ k h.
+    let one : k ≡ block = one_block (rows_of_each now) c.args.row k block h inside in
+    omega (
+      arith,
+      room,
+      c.saturating_sub.ensures,
+      c.min-shared.ensures,
+      size,
+      spare,
+      ap (λ n. get_or (spare_of_each now) n 0) one,
+      ap (λ n. lines_before (rows_of_each now) (n + 1)) one,
+      ap (λ t. lines_before t (block + 1)) same,
+      before_more length lines_sum blocks block (omega (arith, there, block_count items)),
+      at,
+      ap (λ t. lines_before t block) seen,
+      c.place_of-block.ensures.within,
+      ap (λ t. length (get_or t block [])) seen,
+    ))
     c.reserve.ensures.ok

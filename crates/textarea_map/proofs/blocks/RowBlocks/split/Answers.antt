@@ -87,8 +87,7 @@ returns-clause-edge c =
     let now = c.take_behind.new.self.blocks in
     let new = c.put_first.new.self.blocks in
     let size : length now ≡ length blocks = ap length known.now_is ∙ length-set blocks block (take c.args.at here) in
-    let within : next ≤ length now = omega (arith, size, c.requires.block) in
-    (
+    let within : next ≤ length now = omega (arith, size, c.requires.block) in (
       next,
       omega (arith, ap length c.exchange_blocks.ensures, length-replaced now next (next - next) new (omega (arith, within)), within),
       omega (

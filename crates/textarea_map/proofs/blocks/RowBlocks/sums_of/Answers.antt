@@ -34,8 +34,7 @@ counted c =
     let below = drop c.args.line rows in
     let most = row_total-take_le (c.args.count - (c.walking.left - c.min-taken.result)) below in
     let sum = further c row_total rows_sum in
-    let whole = row_total-take_drop c.args.line rows in
-    (
+    let whole = row_total-take_drop c.args.line rows in (
       omega (arith, c.walking.invariant.1, c.count_rows-rows.ensures, sum, most, whole, c.self.invariant.few_rows),
       omega (arith, c.walking.invariant.1, c.count_rows-rows.ensures, sum, most, whole),
     )
