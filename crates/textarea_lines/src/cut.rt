@@ -2,15 +2,17 @@
 ghost use Rattle.std.specs.Prelude.{◌≡◌, ◌+◌, ◌-◌, ◌^◌, ◌<◌, ◌≤◌, ◌++◌, List, ℕ, [], encode_utf8_all, get_or, length, vec_capacity, vec_len, IfOk, OnOk};
 ghost use Rattle.textarea_text.specs.Text.{lines_of};
 ghost use Rattle.textarea_map.specs.Layout.{AreRowsOf, ticks_behind, ticks_of};
-ghost use Rattle.textarea_map.specs.Map.{IsReady, rows_with};
+ghost use Rattle.textarea_map.specs.Blocks.{all_rows};
+ghost use Rattle.textarea_map.specs.Prepared.{IsReady, rows_with};
 ghost use Rattle.textarea_lines.specs.Rows.{CanStayWhole, HasWholeLine};
 ghost use Rattle.textarea_lines.specs.Layout.{after_replacement, count_after, layout_of, lines_after};
 ghost use Rattle.textarea_lines.specs.Wrappings.{wrapping_for};
 
 use crate::settings::{LayoutSettings, is_same, wrapping_for};
 use std::alloc::{AllocError, Global};
-use textarea_map::layout::{Wrapping, push_rows, rows_of};
-use textarea_map::screen_map::{PreparedRows, ScreenMap};
+use textarea_map::blocks::RowBlocks;
+use textarea_map::layout::Wrapping;
+use textarea_map::screen_map::{NewRows, PreparedRows, ScreenMap, new_rows};
 use textarea_text::rows::Replacement;
 use textarea_wrap::wrap::{Rows, WrapCount, WrapMode, line_ranges};
 
@@ -28,22 +30,21 @@ pub(crate) fn rows_after(
     replacement: &Replacement,
     wrapping: Wrapping,
     count: &mut WrapCount,
-) -> Result<Vec<Rows>, AllocError>
+) -> Result<RowBlocks, AllocError>
     requires { replacement.now.row + replacement.now.count ≤ length lines.now }
     ensures counted { OnOk result
         (count.new ≡ count.old + count_after (length lines.now) replacement.now) }
     ensures never_less { count.old ≤ count.new }
     ensures rows { IfOk result (λ rows.
-        AreRowsOf wrapping (lines_after lines.now replacement.now) rows.items) }
-    ensures ticks { IfOk result (λ rows. ticks_of rows.items
+        AreRowsOf wrapping (lines_after lines.now replacement.now) (all_rows rows.blocks)) }
+    ensures ticks { IfOk result (λ rows. ticks_of (all_rows rows.blocks)
         ≡ ticks_behind count.old (count_after (length lines.now) replacement.now)) }
 {
-    let new = replacement.lines.as_slice();
-    let mut rows = Vec::with_capacity(alloc, lines.len() - replacement.count + new.len())?;
-    push_rows(alloc, &mut rows, &lines[..replacement.row], wrapping, count)?;
-    push_rows(alloc, &mut rows, new, wrapping, count)?;
+    let mut rows = RowBlocks::new(alloc);
+    rows.push_lines(&lines[..replacement.row], wrapping, count)?;
+    rows.push_lines(replacement.lines.as_slice(), wrapping, count)?;
     let below = &lines[replacement.row + replacement.count..];
-    push_rows(alloc, &mut rows, below, wrapping, count)?;
+    rows.push_lines(below, wrapping, count)?;
     Ok(rows)
 }
 
@@ -78,11 +79,11 @@ pub(crate) fn prepare_rows(
     let before = map.wrapping();
     let after = wrapping_for(settings, lines.len() - replacement.count + new.len());
     if is_same(after, before) {
-        let rows = rows_of(alloc, new, after, count)?;
+        let rows = new_rows(alloc, new, after, count)?;
         return map.make_room(replacement.row, replacement.count, rows, after);
     }
     let rows = rows_after(alloc, lines, replacement, after, count)?;
-    map.make_room(0, lines.len(), rows, after)
+    map.make_room(0, lines.len(), NewRows::Many(rows), after)
 }
 
 // Cuts a line that isn't wrapped, and puts its row in the place of the one that it had; `rows` has room for it, so this takes
@@ -110,7 +111,7 @@ pub(crate) fn put_whole_line(
     map.replace(PreparedRows {
         row,
         count: 1,
-        rows,
+        rows: NewRows::Few(rows),
         total: 1,
         size: line.len() + 1,
         wrapping,

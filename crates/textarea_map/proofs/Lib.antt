@@ -1,7 +1,6 @@
 pub mod RowColumns
 pub mod Layouts
 pub mod Numbers
-pub mod Marks
 pub mod Parts
 pub mod Holding
 pub mod VisualRows
@@ -9,3 +8,6 @@ pub mod ThereAndBack
 pub mod Once
 pub mod RowSizes
 pub mod FittingRows
+pub mod InBlocks
+pub mod Totals
+pub mod Exchanging

@@ -33,7 +33,7 @@ size_total-more rows i r within e =
 abbrev pub Sum : Type 0
 Sum = List RowsView → ℕ
 
-abbrev IsSum : Sum → Type 0
+abbrev pub IsSum : Sum → Type 0
 IsSum total = (rows more : List RowsView) → total (rows ++ more) ≡ total rows + total more
 
 -- what the lines that go have is part of the whole, and with what comes in its place it is what all have afterwards
@@ -41,7 +41,7 @@ pub record Exchange (total : Sum) (rows going new : List RowsView) (row count : 
   pub part : total going ≤ total rows
   pub after : total rows - total going + total new ≡ total (replaced rows row count new)
 
-exchange : (total : Sum) (rows going new : List RowsView) (row count : ℕ) → IsSum total → going ≡ take count (drop row rows) → Exchange total rows going new row count
+pub exchange : (total : Sum) (rows going new : List RowsView) (row count : ℕ) → IsSum total → going ≡ take count (drop row rows) → Exchange total rows going new row count
 exchange total rows going new row count sum is =
     let below = drop (row + count) rows in
     let whole : total rows ≡ total (take row rows) + (total going + total below) =
@@ -122,3 +122,8 @@ some_row w [] rows h some = absurd (omega (arith, some))
 some_row w (line ∷ lines) [] h some = absurd h
 some_row w (line ∷ lines) (r ∷ rest) h some =
     omega (arith, some_rows w.mode w.tab_len (max w.width 1) (encode_utf8_all line) r.ranges h.0.cut)
+
+-- a line is one of its size at least
+pub lines_few : (rows : List RowsView) → length rows ≤ size_total rows
+lines_few [] = omega arith
+lines_few (r ∷ rows) = omega (arith, lines_few rows)

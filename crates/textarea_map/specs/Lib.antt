@@ -1,6 +1,8 @@
+pub mod Blocks
 pub mod Layout
 pub mod Map
-pub mod Marks
+pub mod Numbered
+pub mod Prepared
 pub mod Rows
 pub mod Seen
 pub mod Shown

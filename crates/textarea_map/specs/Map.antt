@@ -1,17 +1,17 @@
 -- What clauses see of a screen map.
-use Rattle.std.specs.Prelude.{◌≡◌, ℕ, ◌+◌, ◌-◌, ◌≤◌, List, [], ◌∷◌, map, length, get_or, vec_len}
+use Rattle.std.specs.Prelude.{◌≡◌, ℕ, ◌+◌, ◌-◌, ◌≤◌, List, [], ◌∷◌, map, length, get_or}
 use Rattle.textarea_size.specs.Limit.{size_limit}
-use Rattle.textarea_text.specs.Replaced.{replaced}
 use Rattle.textarea_wrap.specs.RowsView.{RowsView}
 use Rattle.textarea_map.specs.declared.layout.Wrapping.{Wrapping}
-use Rattle.textarea_map.specs.declared.screen_map.PreparedRows.{PreparedRows}
+use Rattle.textarea_map.specs.Blocks.{BlocksView}
 use Rattle.textarea_map.specs.Layout.{AreRowsOf}
 
--- the rows of each line, how the lines are cut, and how many lines more the map can take without memory
+-- the rows of each line, how the lines are cut, and what can be put in without memory: how the rows stand in blocks, and how much
+-- more these can take
 pub record MapView : Type 0 where
   pub rows : List RowsView
   pub wrapping : Wrapping
-  pub room : ℕ
+  pub room : BlocksView
 
 -- how many visual rows these lines have in all
 abbrev pub row_total : List RowsView → ℕ
@@ -44,16 +44,3 @@ size_total (rows ∷ rest) = line_bytes rows.ranges + 1 + size_total rest
 pub record IsWithinLimit (rows : List RowsView) : Type 0 where
   pub size : size_total rows ≤ size_limit
   pub few : row_total rows ≤ size_limit
-
--- all rows after a preparation has taken its place among these
-abbrev pub rows_with : List RowsView → PreparedRows → List RowsView
-rows_with rows prepared = replaced rows prepared.row prepared.count prepared.rows.items
-
--- The rows can be put into the map without memory: they take the place of those of lines that are there, there is room for
--- them, their number and the size of their lines are known, and the map is within the limit afterwards.
-pub record IsReady (map : MapView) (prepared : PreparedRows) : Type 0 where
-  pub within : prepared.row + prepared.count ≤ length map.rows
-  pub room : vec_len prepared.rows ≤ prepared.count + map.room
-  pub total : prepared.total ≡ row_total prepared.rows.items
-  pub size : prepared.size ≡ size_total prepared.rows.items
-  pub limit : IsWithinLimit (rows_with map.rows prepared)

@@ -1,54 +1,57 @@
-//! The rows of each line of a text, kept line by line, with the number of the first visual row of each stretch of lines. Visual
-//! rows are counted from 0 over all lines.
-ghost use Rattle.std.specs.Prelude.{◌≡◌, ◌+◌, ◌<◌, ◌≤◌, ◌↔◌, ℕ, List, length, take, drop, vec_len, vec_capacity, IfOk, IsOk, OnOk};
+//! The rows of each line of a text, kept line by line in blocks of lines. Visual rows are counted from 0 over all lines.
+ghost use Rattle.std.specs.Prelude.{◌≡◌, ◌+◌, ◌<◌, ◌≤◌, ◌↔◌, ℕ, List, length, min, take, IfOk, IsOk, OnOk};
 ghost use Rattle.textarea_size.specs.Limit.{size_limit};
 ghost use Rattle.textarea_text.specs.Replaced.{replaced};
 ghost use Rattle.textarea_text.specs.Size.{size_of};
 ghost use Rattle.textarea_text.specs.Text.{lines_of};
 ghost use Rattle.textarea_wrap.specs.declared.wrap.WrapMode.TheVariants as mode;
 ghost use Rattle.textarea_map.specs.Layout.{AreRowsOf, ticks_behind, ticks_of, with_tab_len};
-ghost use Rattle.textarea_map.specs.Map.{IsReady, IsWithinLimit, ranges_at, row_total, rows_with, size_total};
+ghost use Rattle.textarea_map.specs.Blocks.{all_rows};
+ghost use Rattle.textarea_map.specs.Map.{IsWithinLimit, ranges_at, row_total, size_total};
+ghost use Rattle.textarea_map.specs.Prepared.{HasRoom, IsReady, rows_in, rows_with};
 
+use crate::blocks::{BLOCK, RowBlocks};
 use crate::layout::{Wrapping, count_rows, rows_of, size_of_rows};
 pub use look_up::RowText;
-use marks::{Exchanged, STRETCH, marks_of, rows_before, stretch_of_row, turn_marks};
 use std::alloc::{AllocError, Global};
 use std::marker::Model;
 use textarea_size::limit::within_limit;
-use textarea_text::replace::replace_items;
 use textarea_wrap::wrap::{Rows, WrapCount};
 
 mod look_up;
-mod marks;
 
 /// The rows of all lines. They change in two steps: `prepare`, which may find no memory and leaves them as they are, and
 /// `replace`, which takes no memory and wraps nothing.
 #[derive(Drop)]
 pub struct ScreenMap {
-    rows: Vec<Rows>,
-    marks: Vec<usize>,
+    blocks: RowBlocks,
     total: usize,
     size: usize,
     wrapping: Wrapping,
 }
 
 impl Model for ScreenMap {
-    ghost use Rattle.std.specs.Prelude.{◌-◌, ◌*◌, min, vec_len, vec_capacity};
-    ghost use Rattle.textarea_map.specs.declared.screen_map.marks.TheConstants.{STRETCH};
+    ghost use Rattle.textarea_map.specs.Blocks.{all_rows};
     ghost use Rattle.textarea_map.specs.Map.{MapView};
-    ghost use Rattle.textarea_map.specs.Marks.{IsCounted};
+    ghost use Rattle.textarea_map.specs.Numbered.{IsCounted};
 
     ghost Value = { MapView };
 
     ghost view = { λ map. record {
-      rows = map.rows.items;
+      rows = all_rows map.blocks.blocks;
       wrapping = map.wrapping;
-      room = min
-          (vec_capacity map.rows - vec_len map.rows)
-          ((vec_capacity map.marks - vec_len map.marks) * STRETCH);
+      room = map.blocks;
     } };
 
-    ghost invariant = { λ map. IsCounted map.rows.items map.marks.items map.total map.size };
+    ghost invariant = { λ map. IsCounted (all_rows map.blocks.blocks) map.total map.size };
+}
+
+/// Rows that are to be put in: those of a few lines, which are put beside others into a block, or those of many, in blocks of
+/// their own.
+#[derive(Drop)]
+pub enum NewRows {
+    Few(Vec<Rows>),
+    Many(RowBlocks),
 }
 
 /// Rows that are to take the place of those of the `count` lines from `row` on, how many they are in all, the bytes and the
@@ -57,7 +60,7 @@ impl Model for ScreenMap {
 pub struct PreparedRows {
     pub row: usize,
     pub count: usize,
-    pub rows: Vec<Rows>,
+    pub rows: NewRows,
     pub total: usize,
     pub size: usize,
     pub wrapping: Wrapping,
@@ -69,12 +72,45 @@ impl Clone for ScreenMap {
     /// A map with the same rows, ticks included, for the same wrapping, or an error where there is no memory for them. No line is cut.
     fn clone(&self) -> Result<ScreenMap, AllocError> {
         Ok(ScreenMap {
-            rows: self.rows.clone()?,
-            marks: self.marks.clone()?,
+            blocks: self.blocks.clone()?,
             total: self.total,
             size: self.size,
             wrapping: self.wrapping,
         })
+    }
+}
+
+/// The rows of all these lines, ready to be put in: in blocks where they are more than 512. Each line adds one to `count`. More than
+/// 2^48 lines or rows are out of memory.
+pub fn new_rows(
+    alloc: Global,
+    lines: &[String],
+    wrapping: Wrapping,
+    count: &mut WrapCount,
+) -> Result<NewRows, AllocError>
+    ensures counted { OnOk result (count.new ≡ count.old + length lines.now) }
+    ensures never_less { count.old ≤ count.new }
+    ensures rows { IfOk result (λ rows. AreRowsOf wrapping (lines_of lines.now) (rows_in rows)) }
+    ensures ticks { IfOk result (λ rows.
+        ticks_of (rows_in rows) ≡ ticks_behind count.old (length lines.now)) }
+{
+    if lines.len() <= BLOCK {
+        let rows = rows_of(alloc, lines, wrapping, count)?;
+        return Ok(NewRows::Few(rows));
+    }
+    let mut blocks = RowBlocks::new(alloc);
+    blocks.push_lines(lines, wrapping, count)?;
+    Ok(NewRows::Many(blocks))
+}
+
+// How many rows these are, and the bytes and the number of their lines, summed, or the greatest `usize` where that is less.
+fn sums_of(rows: &NewRows) -> (usize, usize)
+    ensures rows { result.0 ≡ min (row_total (rows_in rows.now)) usize.MAX }
+    ensures size { result.1 ≡ min (size_total (rows_in rows.now)) usize.MAX }
+{
+    match rows {
+        NewRows::Few(rows) => (count_rows(rows.as_slice()), size_of_rows(rows.as_slice())),
+        NewRows::Many(rows) => rows.sums_of(0, rows.line_count()),
     }
 }
 
@@ -94,23 +130,22 @@ impl ScreenMap {
         ensures never_less { counter.old ≤ counter.new }
         ensures limit { OnOk result (size_of lines.now ≤ size_limit) }
     {
-        let rows = rows_of(alloc, lines, wrapping, counter)?;
-        ScreenMap::of_rows(alloc, rows, wrapping)
+        let mut blocks = RowBlocks::new(alloc);
+        blocks.push_lines(lines, wrapping, counter)?;
+        ScreenMap::of_blocks(blocks, wrapping)
     }
 
     // The map that holds these rows, which are cut so. More than 2^48 bytes and lines together are out of memory.
-    fn of_rows(alloc: Global, rows: Vec<Rows>, wrapping: Wrapping) -> Result<ScreenMap, AllocError>
-        ensures rows { IfOk result (λ map. map.rows ≡ rows.items) }
+    fn of_blocks(blocks: RowBlocks, wrapping: Wrapping) -> Result<ScreenMap, AllocError>
+        ensures rows { IfOk result (λ map. map.rows ≡ all_rows blocks.blocks) }
         ensures wrapping { IfOk result (λ map. map.wrapping ≡ wrapping) }
-        ensures limit { OnOk result (IsWithinLimit rows.items) }
+        ensures limit { OnOk result (IsWithinLimit (all_rows blocks.blocks)) }
     {
-        let (total, size) = (count_rows(rows.as_slice()), size_of_rows(rows.as_slice()));
+        let (total, size) = blocks.sums_of(0, blocks.line_count());
         within_limit(size)?;
         within_limit(total)?;
-        let marks = marks_of(alloc, rows.as_slice())?;
         Ok(ScreenMap {
-            rows,
-            marks,
+            blocks,
             total,
             size,
             wrapping,
@@ -136,23 +171,23 @@ impl ScreenMap {
         ensures count { IfOk result (λ prepared. prepared.count ≡ count) }
         ensures wrapping { IfOk result (λ prepared. prepared.wrapping ≡ wrapping) }
         ensures rows { IfOk result (λ prepared.
-            AreRowsOf wrapping (lines_of lines.now) prepared.rows.items) }
+            AreRowsOf wrapping (lines_of lines.now) (rows_in prepared.rows)) }
         ensures ticks { IfOk result (λ prepared.
-            ticks_of prepared.rows.items ≡ ticks_behind counter.old (length lines.now)) }
+            ticks_of (rows_in prepared.rows) ≡ ticks_behind counter.old (length lines.now)) }
         ensures counted { OnOk result (counter.new ≡ counter.old + length lines.now) }
         ensures never_less { counter.old ≤ counter.new }
     {
-        let rows = rows_of(alloc, lines, wrapping, counter)?;
+        let rows = new_rows(alloc, lines, wrapping, counter)?;
         self.make_room(row, count, rows, wrapping)
     }
 
-    /// Makes room for rows that are to take the place of those of the `count` lines from `row` on, and are cut so. The map
-    /// stays as it is. More than 2^48 bytes and lines together would be out of memory.
+    /// Makes room for rows that are to take the place of those of the `count` lines from `row` on, and are cut so. The map's
+    /// rows stay as they are. More than 2^48 bytes and lines together would be out of memory.
     pub fn make_room(
         &mut self,
         row: usize,
         count: usize,
-        rows: Vec<Rows>,
+        rows: NewRows,
         wrapping: Wrapping,
     ) -> Result<PreparedRows, AllocError>
         requires { row + count ≤ length self.old.rows }
@@ -162,12 +197,10 @@ impl ScreenMap {
         ensures row { IfOk result (λ prepared. prepared.row ≡ row) }
         ensures count { IfOk result (λ prepared. prepared.count ≡ count) }
         ensures wrapping { IfOk result (λ prepared. prepared.wrapping ≡ wrapping) }
-        ensures rows { IfOk result (λ prepared. prepared.rows.items ≡ rows.items) }
+        ensures rows { IfOk result (λ prepared. rows_in prepared.rows ≡ rows_in rows) }
     {
-        let (total, size) = self.within_limit_with(row, count, rows.as_slice())?;
-        let more = rows.len().saturating_sub(count);
-        self.rows.reserve(more)?;
-        self.marks.reserve(more.div_ceil(STRETCH))?;
+        let (total, size) = self.within_limit_with(row, count, &rows)?;
+        let rows = self.reserve(row, count, rows)?;
         Ok(PreparedRows {
             row,
             count,
@@ -178,28 +211,55 @@ impl ScreenMap {
         })
     }
 
+    // Makes room for the rows in the place of those of the `count` lines from `row` on: for a few in a block that is there, and
+    // for others beside the blocks, one of which is cut in two where `row` lies inside of it.
+    fn reserve(&mut self, row: usize, count: usize, rows: NewRows) -> Result<NewRows, AllocError>
+        requires { row + count ≤ length self.old.rows }
+        ensures same { self.new.rows ≡ self.old.rows }
+        ensures same_wrapping { self.new.wrapping ≡ self.old.wrapping }
+        ensures room { IfOk result (HasRoom self.new row count) }
+        ensures rows { IfOk result (λ same. rows_in same ≡ rows_in rows) }
+    {
+        let blocks = match rows {
+            NewRows::Few(rows) => {
+                if row < self.blocks.line_count() {
+                    self.blocks.reserve_lines(row, count, rows.len())?;
+                    return Ok(NewRows::Few(rows));
+                }
+                let mut blocks = RowBlocks::new(*rows.allocator());
+                blocks.push(rows)?;
+                blocks
+            }
+            NewRows::Many(blocks) => blocks,
+        };
+        self.blocks.make_edge(row)?;
+        self.blocks.reserve(blocks.block_count())?;
+        Ok(NewRows::Many(blocks))
+    }
+
     // How many rows these are, and how large their lines; out of memory where the map wouldn't be within the limit with them
     // in the place of those of the `count` lines from `row` on.
     fn within_limit_with(
         &self,
         row: usize,
         count: usize,
-        rows: &[Rows],
+        rows: &NewRows,
     ) -> Result<(usize, usize), AllocError>
         requires { row + count ≤ length self.now.rows }
-        ensures total { IfOk result (λ coming. coming.0 ≡ row_total rows.now) }
-        ensures size { IfOk result (λ coming. coming.1 ≡ size_total rows.now) }
-        ensures limit { IsOk result ↔ IsWithinLimit (replaced self.now.rows row count rows.now) }
+        ensures total { IfOk result (λ coming. coming.0 ≡ row_total (rows_in rows.now)) }
+        ensures size { IfOk result (λ coming. coming.1 ≡ size_total (rows_in rows.now)) }
+        ensures limit { IsOk result
+            ↔ IsWithinLimit (replaced self.now.rows row count (rows_in rows.now)) }
     {
-        let going = &self.rows.as_slice()[row..row + count];
-        let (total, size) = (count_rows(rows), size_of_rows(rows));
-        within_limit((self.size - size_of_rows(going)).saturating_add(size))?;
-        within_limit((self.total - count_rows(going)).saturating_add(total))?;
+        let (old, old_size) = self.blocks.sums_of(row, count);
+        let (total, size) = sums_of(rows);
+        within_limit((self.size - old_size).saturating_add(size))?;
+        within_limit((self.total - old).saturating_add(total))?;
         Ok((total, size))
     }
 
-    /// Has the rows take their place, without memory; no line is cut. Where lines and rows stay as many as they were, nothing else
-    /// is touched; otherwise the marks behind are turned.
+    /// Has the rows take their place, without memory; no line is cut. Of what lies behind them in other blocks, only the numbers of
+    /// lines and rows before each block change.
     pub fn replace(&mut self, prepared: PreparedRows)
         requires { IsReady self.old prepared }
         ensures rows { self.new.rows ≡ rows_with self.old.rows prepared }
@@ -213,20 +273,14 @@ impl ScreenMap {
             size,
             wrapping,
         } = prepared;
-        let going = &self.rows.as_slice()[row..row + count];
-        let (old, old_size) = (count_rows(going), size_of_rows(going));
-        let exchanged = Exchanged {
-            line: row,
-            lines_gone: count,
-            lines_come: rows.len(),
-            rows_gone: old,
-            rows_come: total,
-        };
-        replace_items(&mut self.rows, row, count, rows);
+        let (old, old_size) = self.blocks.sums_of(row, count);
+        match rows {
+            NewRows::Few(rows) => self.blocks.replace_few(row, count, rows),
+            NewRows::Many(rows) => self.blocks.replace_many(row, count, rows),
+        }
         self.total = self.total - old + total;
         self.size = self.size - old_size + size;
         self.wrapping = wrapping;
-        turn_marks(&mut self.marks, self.rows.as_slice(), exchanged);
     }
 
     /// Sets the columns between tab stops, where lines aren't wrapped: no line is cut, since the rows of lines that aren't
@@ -255,12 +309,12 @@ impl ScreenMap {
         self.total
     }
 
-    // The first visual row of the line, or the number of visual rows behind the last line.
+    // The first visual row of the line.
     fn first_row(&self, line: usize) -> usize
-        requires { line ≤ length self.now.rows }
+        requires { line < length self.now.rows }
         ensures { result ≡ row_total (take line self.now.rows) }
     {
-        rows_before(self.marks.as_slice(), self.rows.as_slice(), line)
+        self.blocks.first_row(line)
     }
 
     // The line of the visual row, and the row's number among the rows of that line.
@@ -270,14 +324,7 @@ impl ScreenMap {
         ensures row { row_total (take result.0 self.now.rows) + result.1 ≡ row }
         ensures inside { row < row_total (take (result.0 + 1) self.now.rows) }
     {
-        let stretch = stretch_of_row(self.marks.as_slice(), row);
-        let mut line = stretch * STRETCH;
-        let mut left = row - self.marks[stretch];
-        'walking: while self.rows[line].as_slice().len() <= left {
-            left -= self.rows[line].as_slice().len();
-            line += 1;
-        }
-        (line, left)
+        self.blocks.line_of_row(row)
     }
 
     // For each row of the line the offset in bytes of its first byte, and the offset behind its last one.
@@ -285,6 +332,6 @@ impl ScreenMap {
         requires { line < length self.now.rows }
         ensures { result.now ≡ ranges_at self.now.rows line }
     {
-        self.rows[line].as_slice()
+        self.blocks.rows_of(line)
     }
 }

@@ -351,9 +351,12 @@ fn some_line(alloc: Global, numbers: &mut Numbers) -> Result<String, AllocError>
     Ok(line)
 }
 
-fn some_lines(alloc: Global, numbers: &mut Numbers) -> Result<Vec<String>, AllocError> {
+// Fewer lines than the limit.
+fn some_lines(alloc: Global, numbers: &mut Numbers, limit: usize) -> Result<Vec<String>, AllocError>
+    requires { 0 < limit }
+{
     let mut lines = Vec::new(alloc);
-    for _line in 0..numbers.below(5) {
+    for _line in 0..numbers.below(limit) {
         let line = some_line(alloc, numbers)?;
         lines.push(line)?;
     }
@@ -398,17 +401,19 @@ fn expect_same(rt: &impl Abort, map: &ScreenMap, other: &ScreenMap, lines: &[Str
     }
 }
 
-// Some lines, and which lines they take the place of.
+// Some lines, and which lines they take the place of, both fewer than the limit.
 fn some_change(
     alloc: Global,
     numbers: &mut Numbers,
     lines: &[String],
+    limit: usize,
 ) -> Result<Replacement, AllocError>
+    requires { 0 < limit }
     ensures { IfOk result (λ change. change.row + change.count ≤ length lines.now) }
 {
     let row = numbers.below(lines.len() + 1);
-    let count = numbers.below(lines.len() - row + 1).min(4);
-    let lines = some_lines(alloc, numbers)?;
+    let count = numbers.below(lines.len() - row + 1).min(limit - 1);
+    let lines = some_lines(alloc, numbers, limit)?;
     Ok(Replacement { row, count, lines })
 }
 
@@ -417,15 +422,15 @@ fn follow_one(
     rt: &(impl Abort + AllocGlobal),
     map: &mut ScreenMap,
     lines: &mut Vec<String>,
-    numbers: &mut Numbers,
+    change: Replacement,
     wrapping: Wrapping,
     counter: &mut WrapCount,
 ) -> Result<(), AllocError>
-    requires { AreRowsOf wrapping (lines_of lines.old.items) map.old.rows }
+    requires rows { AreRowsOf wrapping (lines_of lines.old.items) map.old.rows }
+    requires within { change.row + change.count ≤ vec_len lines.old }
     ensures rows { OnOk result (AreRowsOf wrapping (lines_of lines.new.items) map.new.rows) }
     ensures wrapping { OnOk result (map.new.wrapping ≡ wrapping) }
 {
-    let change = some_change(rt.alloc(), numbers, lines.as_slice())?;
     replace(rt.alloc(), map, lines, change, wrapping, counter)?;
     let fresh = ScreenMap::new(rt.alloc(), lines.as_slice(), wrapping, counter)?;
     expect_same(rt, map, &fresh, lines.as_slice());
@@ -440,34 +445,74 @@ fn expect_copy_same(rt: &impl Abort, map: &ScreenMap, lines: &[String]) -> Resul
     Ok(())
 }
 
+// So many changes, each of fewer lines than the limit.
 fn follow(
     rt: &(impl Abort + AllocGlobal),
     seed: u64,
     wrapping: Wrapping,
-) -> Result<(), AllocError> {
+    limit: usize,
+    steps: usize,
+) -> Result<(), AllocError>
+    requires { 0 < limit }
+{
     let mut numbers = Numbers { state: seed };
     let mut counter = WrapCount::new();
-    let mut lines = some_lines(rt.alloc(), &mut numbers)?;
+    let mut lines = some_lines(rt.alloc(), &mut numbers, limit)?;
     let mut map = ScreenMap::new(rt.alloc(), lines.as_slice(), wrapping, &mut counter)?;
-    for _step in 0..150 {
-        follow_one(
-            rt,
-            &mut map,
-            &mut lines,
-            &mut numbers,
-            wrapping,
-            &mut counter,
-        )?;
+    for _step in 0..steps {
+        let change = some_change(rt.alloc(), &mut numbers, lines.as_slice(), limit)?;
+        follow_one(rt, &mut map, &mut lines, change, wrapping, &mut counter)?;
     }
     expect_copy_same(rt, &map, lines.as_slice())
 }
 
 #[test]
 fn follows_replacements(rt: HostRuntime) -> Result<(), Fail> {
-    follow(&rt, 1, ONE_ROW_A_LINE)?;
-    follow(&rt, 2, wrapped(WrapMode::Word, 9))?;
-    follow(&rt, 3, wrapped(WrapMode::Glyph, 5))?;
-    follow(&rt, 4, wrapped(WrapMode::WordOrGlyph, 1))?;
-    follow(&rt, 5, wrapped(WrapMode::Word, 200))?;
+    follow(&rt, 1, ONE_ROW_A_LINE, 5, 150)?;
+    follow(&rt, 2, wrapped(WrapMode::Word, 9), 5, 150)?;
+    follow(&rt, 3, wrapped(WrapMode::Glyph, 5), 5, 150)?;
+    follow(&rt, 4, wrapped(WrapMode::WordOrGlyph, 1), 5, 150)?;
+    follow(&rt, 5, wrapped(WrapMode::Word, 200), 5, 150)?;
+    Ok(())
+}
+
+// Changes of more lines than a block of the map has.
+#[test]
+fn follows_large_replacements(rt: HostRuntime) -> Result<(), Fail> {
+    follow(&rt, 6, ONE_ROW_A_LINE, 1500, 5)?;
+    follow(&rt, 7, wrapped(WrapMode::Word, 9), 1500, 3)?;
+    Ok(())
+}
+
+// So many times, two lines take the place of one, in the same row. The map is then as one that is made anew.
+fn break_often(
+    rt: &(impl Abort + AllocGlobal),
+    lines: &mut Vec<String>,
+    row: usize,
+    times: usize,
+) -> Result<(), AllocError> {
+    let wrapping = wrapped(WrapMode::Word, 9);
+    let mut counter = WrapCount::new();
+    let mut map = ScreenMap::new(rt.alloc(), lines.as_slice(), wrapping, &mut counter)?;
+    for _time in 0..times {
+        assert!(rt; row < lines.len());
+        let change = Replacement {
+            row,
+            count: 1,
+            lines: strings(rt.alloc(), &["one line of many", "and its other part"])?,
+        };
+        replace(rt.alloc(), &mut map, lines, change, wrapping, &mut counter)?;
+    }
+    let fresh = ScreenMap::new(rt.alloc(), lines.as_slice(), wrapping, &mut counter)?;
+    expect_same(rt, &map, &fresh, lines.as_slice());
+    Ok(())
+}
+
+// A block that is filled up is halved.
+#[test]
+fn follows_many_breaks(rt: HostRuntime) -> Result<(), Fail> {
+    let mut lines = strings(rt.alloc(), &["above", "here", "below"])?;
+    break_often(&rt, &mut lines, 1, 3000)?;
+    break_often(&rt, &mut lines, 1500, 1500)?;
     Ok(())
 }

@@ -1,4 +1,5 @@
 //! A text of many lines, or of one long line, and what is done with it again and again.
+use crate::parts::{break_headers, break_in_map};
 use std::alloc::{AllocError, Global};
 use std::time::Duration;
 use textarea_document::Document;
@@ -25,6 +26,10 @@ enum Work {
     Rows,
     /// By turns a line break and Backspace.
     Breaks,
+    /// The same in the screen map of the lines alone.
+    Map,
+    /// The same move of the lines' headers alone.
+    Headers,
     /// Typing into one line that isn't wrapped: by turns a hundred characters and a hundred times Backspace.
     Line(Line),
     /// By turns a narrower and the old inner width.
@@ -72,6 +77,8 @@ impl Job {
                 "text" => Work::Text,
                 "rows" => Work::Rows,
                 "breaks" => Work::Breaks,
+                "map" => Work::Map,
+                "headers" => Work::Headers,
                 "ascii" => Work::Line(Line::Ascii),
                 "wide" => Work::Line(Line::Wide),
                 "middle" => Work::Line(Line::Middle),
@@ -86,6 +93,20 @@ impl Job {
 
     /// Does the work, and answers with the number of visual rows and the cursor's column.
     pub fn run(&self, alloc: Global) -> Result<(usize, usize), AllocError> {
+        let mut lines = self.lines(alloc)?;
+        match self.work {
+            Work::Map => Ok((break_in_map(alloc, lines.as_slice(), self.times / 2)?, 0)),
+            Work::Headers => Ok((break_headers(alloc, &mut lines, self.times / 2)?, 0)),
+            _ => self.run_document(alloc, lines),
+        }
+    }
+
+    // Does the work on a document of these lines.
+    fn run_document(
+        &self,
+        alloc: Global,
+        lines: Vec<String>,
+    ) -> Result<(usize, usize), AllocError> {
         let view = LayoutSettings {
             mode: match self.work {
                 Work::Line(_) => WrapMode::None,
@@ -95,7 +116,7 @@ impl Job {
             line_numbers: false,
             inner_width: 81,
         };
-        let mut document = Document::new(alloc, self.lines(alloc)?, view, 50)?;
+        let mut document = Document::new(alloc, lines, view, 50)?;
         if let Work::Line(line) = self.work {
             self.put_line(alloc, &mut document, line)?;
         }
@@ -152,6 +173,7 @@ impl Job {
             Work::Rows if time % 2 == 0 => type_character(document, 'x'),
             Work::Breaks if time % 2 == 0 => document.insert_break(Duration::ZERO),
             Work::Line(line) if time / 100 % 2 == 0 => type_character(document, line.character()),
+            Work::Map | Work::Headers => Ok(()),
             Work::Text | Work::Rows | Work::Breaks | Work::Line(_) => {
                 document.remove_before(true, Duration::ZERO)?;
                 Ok(())

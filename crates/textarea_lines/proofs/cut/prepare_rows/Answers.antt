@@ -2,6 +2,8 @@ use Rattle.std.proofs.Common.{◌≡◌, ◌+◌, ◌-◌, ◌∙◌, ap, refl, 
 use Rattle.std.proofs.lemmas.List.{length-map}
 use Rattle.std.proofs.lemmas.Result.{IfOk-weaker}
 use Rattle.textarea_text.specs.Text.{characters_of, lines_of}
+use Rattle.textarea_map.specs.Blocks.{all_rows}
+use Rattle.textarea_map.specs.Prepared.{rows_in}
 use Rattle.textarea_map.proofs.Layouts.{length-AreRowsOf}
 use Rattle.textarea_lines.specs.Layout.{count_after, lines_after}
 use Rattle.textarea_lines.specs.Wrappings.{is_same, wrapping_for}
@@ -34,7 +36,7 @@ returns-then-is_same-clause-rows c =
     let new = c.args.replacement.now in
     let same = test (goal.at.returns-then-is_same-clause-rows c).After-is_same ∙ c.if-is_same.true in
     IfOk-from_four c.make_room.result _ _ _ _ _
-    (λ p row count rows wrapping. rows_of_some _ _ c.wrapping_for-after.result items new.lines.items c.as_slice-new.result.now new.row new.count p.row p.count c.args.map.now.rows c.in_ok-rows.rows.items p.rows.items same (sym wrapping) c.requires.rows c.as_slice-new.ensures.value c.in_ok-rows.ensures.rows row count rows)
+    (λ p row count rows wrapping. rows_of_some _ _ c.wrapping_for-after.result items new.lines.items c.as_slice-new.result.now new.row new.count p.row p.count c.args.map.now.rows (rows_in c.in_ok-rows.rows) (rows_in p.rows) same (sym wrapping) c.requires.rows c.as_slice-new.ensures.value c.in_ok-rows.ensures.rows row count rows)
     c.make_room.ensures.row c.make_room.ensures.count c.make_room.ensures.rows c.make_room.ensures.wrapping
 
 pub returns-then-is_same-clause-layout : goal.returns-then-is_same-clause-layout
@@ -42,7 +44,7 @@ returns-then-is_same-clause-layout c =
     let new = c.args.replacement.now in
     let same = settled (goal.at.returns-then-is_same-clause-layout c).After-is_same ∙ c.if-is_same.true in
     IfOk-from_four c.make_room.result _ _ _ _ _
-    (λ p row count rows wrapping. screen_of_some c.args.settings c.args.count.now c.rows_of.new.count (length c.args.lines.now) new.row new.count _ (length c.as_slice-new.result.now) p.row p.count c.args.map.now.rows c.in_ok-rows.rows.items p.rows.items same c.in_ok-rows.ensures.counted c.as_slice-new.ensures.len c.in_ok-rows.ensures.ticks row count rows)
+    (λ p row count rows wrapping. screen_of_some c.args.settings c.args.count.now c.new_rows.new.count (length c.args.lines.now) new.row new.count _ (length c.as_slice-new.result.now) p.row p.count c.args.map.now.rows (rows_in c.in_ok-rows.rows) (rows_in p.rows) same c.in_ok-rows.ensures.counted c.as_slice-new.ensures.len c.in_ok-rows.ensures.ticks row count rows)
     c.make_room.ensures.row c.make_room.ensures.count c.make_room.ensures.rows c.make_room.ensures.wrapping
 
 pub make_room-requires-2 : goal.make_room-requires-2
@@ -56,7 +58,7 @@ pub returns-clause-rows : goal.returns-clause-rows
 returns-clause-rows c =
     let items = c.args.lines.now in
     IfOk-from_four c.make_room-2.result _ _ _ _ _
-    (λ p row count rows wrapping. rows_of_all _ c.wrapping_for-after.result (lines_after items c.args.replacement.now) (length items) p.row p.count c.args.map.now.rows c.in_ok-rows-2.rows.items p.rows.items (long (goal.at.returns-clause-rows c).After-is_same) (sym wrapping) c.in_ok-rows-2.ensures.rows row count rows)
+    (λ p row count rows wrapping. rows_of_all _ c.wrapping_for-after.result (lines_after items c.args.replacement.now) (length items) p.row p.count c.args.map.now.rows (all_rows c.in_ok-rows-2.rows.blocks) (rows_in p.rows) (long (goal.at.returns-clause-rows c).After-is_same) (sym wrapping) c.in_ok-rows-2.ensures.rows row count rows)
     c.make_room-2.ensures.row c.make_room-2.ensures.count c.make_room-2.ensures.rows c.make_room-2.ensures.wrapping
 
 pub returns-clause-layout : goal.returns-clause-layout
@@ -64,5 +66,5 @@ returns-clause-layout c =
     let new = c.args.replacement.now in
     let known = (goal.at.returns-clause-layout c).After-is_same in
     IfOk-from_four c.make_room-2.result _ _ _ _ _
-    (λ p row count rows wrapping. screen_of_all c.args.settings c.args.count.now c.rows_after.new.count (length c.args.lines.now) new.row new.count _ _ p.row p.count c.args.map.now.rows c.in_ok-rows-2.rows.items p.rows.items (settled known ∙ c.if-is_same.false) (long known) c.in_ok-rows-2.ensures.counted refl c.in_ok-rows-2.ensures.ticks row count rows)
+    (λ p row count rows wrapping. screen_of_all c.args.settings c.args.count.now c.rows_after.new.count (length c.args.lines.now) new.row new.count _ _ p.row p.count c.args.map.now.rows (all_rows c.in_ok-rows-2.rows.blocks) (rows_in p.rows) (settled known ∙ c.if-is_same.false) (long known) c.in_ok-rows-2.ensures.counted refl c.in_ok-rows-2.ensures.ticks row count rows)
     c.make_room-2.ensures.row c.make_room-2.ensures.count c.make_room-2.ensures.rows c.make_room-2.ensures.wrapping

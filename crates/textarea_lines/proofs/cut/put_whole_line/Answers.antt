@@ -29,7 +29,7 @@ replace-requires c =
     let size = size_of_one c.args.map.now.rows c.push.new.self.items c.unwrap-cut.result c.args.row (length c.as_str-line.result.now) items (size_of_line mode.None c.wrapping-wrapping.result.tab_len 1 c.as_str-line.result.now c.unwrap-cut.result.ranges right).0 in
     record {
       within = omega (arith, c.requires.whole.within, c.requires.whole.same);
-      room = omega (arith, ap length items, c.push.new.self.ok.0);
+      room = (omega (arith, c.requires.whole.within, c.requires.whole.same), λ block h. omega (arith, ap length items, c.push.new.self.ok.0, h.to));
       total = total.0;
       size = size.0;
       limit = record { size = omega (arith, size.1, c.requires.whole.size, ap length bytes); few = total.1 };

@@ -2,6 +2,7 @@ use Rattle.std.proofs.Common.{◌≡◌, ◌+◌, ◌-◌, ◌++◌, ◌∙◌, 
 use Rattle.std.proofs.lemmas.List.{length-drop, length-take-le, take_rest}
 use Rattle.textarea_text.specs.Text.{lines_of}
 use Rattle.textarea_wrap.specs.RowsView.{RowsView}
+use Rattle.textarea_map.specs.Blocks.{all_rows}
 use Rattle.textarea_map.specs.Layout.{AreRowsOf, ticks_behind, ticks_of}
 use Rattle.textarea_lines.proofs.Layouts.{rows_together, ticks_together}
 use Rattle.textarea_lines.proofs.cut.rows_after.Goals as goal
@@ -13,11 +14,11 @@ returns-clause-rows c =
     let at = new.row + new.count in
     let above = take new.row items in
     let below = take (length items - at) (drop at items) in
-    let none = subst (λ (t : List RowsView). AreRowsOf c.args.wrapping [] t) (sym c.in_ok-rows.ensures.items) tt in
-    let first = c.in_ok-push_rows.ensures.rows [] none in
-    let second = c.in_ok-push_rows-2.ensures.rows (lines_of above) first in
-    let third = c.in_ok-push_rows-3.ensures.rows (lines_of above ++ lines_of c.as_slice-new.result.now) second in
-    rows_together c.args.wrapping items new.lines.items above c.as_slice-new.result.now below new.row new.count c.push_rows-3.new.rows.items refl c.as_slice-new.ensures.value (take_rest items at) third
+    let none = subst (λ (t : List (List RowsView)). AreRowsOf c.args.wrapping [] (all_rows t)) (sym c.new-rows.ensures) tt in
+    let first = c.in_ok-push_lines.ensures.rows [] none in
+    let second = c.in_ok-push_lines-2.ensures.rows (lines_of above) first in
+    let third = c.in_ok-push_lines-3.ensures.rows (lines_of above ++ lines_of c.as_slice.result.now) second in
+    rows_together c.args.wrapping items new.lines.items above c.as_slice.result.now below new.row new.count (all_rows c.push_lines-3.new.self.blocks) refl c.as_slice.ensures.value (take_rest items at) third
 
 pub returns-clause-ticks : goal.returns-clause-ticks
 returns-clause-ticks c =
@@ -26,8 +27,8 @@ returns-clause-ticks c =
     let at = new.row + new.count in
     let above = take new.row items in
     let below = take (length items - at) (drop at items) in
-    let size : length above + length c.as_slice-new.result.now + length below ≡ length items - new.count + length c.as_slice-new.result.now =
+    let size : length above + length c.as_slice.result.now + length below ≡ length items - new.count + length c.as_slice.result.now =
     omega (arith, c.requires, length-take-le new.row items (omega arith), ap length (take_rest items at), length-drop at items) in
-    ticks_together (ticks_of c.in_ok-rows.rows.items) (ticks_of c.push_rows.new.rows.items) (ticks_of c.push_rows-2.new.rows.items) (ticks_of c.push_rows-3.new.rows.items) c.args.count.now c.push_rows.new.count c.push_rows-2.new.count (length above) (length c.as_slice-new.result.now) (length below) (length items - new.count + length c.as_slice-new.result.now) (ap ticks_of c.in_ok-rows.ensures.items)
-    c.in_ok-push_rows.ensures.ticks c.in_ok-push_rows.ensures.counted c.in_ok-push_rows-2.ensures.ticks c.in_ok-push_rows-2.ensures.counted c.in_ok-push_rows-3.ensures.ticks size
-    ∙ ap (λ n. ticks_behind c.args.count.now (length items - new.count + n)) c.as_slice-new.ensures.len
+    ticks_together (ticks_of (all_rows c.new-rows.result.blocks)) (ticks_of (all_rows c.push_lines.new.self.blocks)) (ticks_of (all_rows c.push_lines-2.new.self.blocks)) (ticks_of (all_rows c.push_lines-3.new.self.blocks)) c.args.count.now c.push_lines.new.count c.push_lines-2.new.count (length above) (length c.as_slice.result.now) (length below) (length items - new.count + length c.as_slice.result.now) (ap (λ t. ticks_of (all_rows t)) c.new-rows.ensures)
+    c.in_ok-push_lines.ensures.ticks c.in_ok-push_lines.ensures.counted c.in_ok-push_lines-2.ensures.ticks c.in_ok-push_lines-2.ensures.counted c.in_ok-push_lines-3.ensures.ticks size
+    ∙ ap (λ n. ticks_behind c.args.count.now (length items - new.count + n)) c.as_slice.ensures.len

@@ -6,6 +6,7 @@ use Rattle.textarea_text.proofs.Columns.{offset_in}
 use Rattle.textarea_text.proofs.StringRows.{boundary_at, line_at, offset_of_line}
 use Rattle.textarea_wrap.specs.Columns.{display_end_column}
 use Rattle.textarea_wrap.specs.Wrapped.{IsWrapped}
+use Rattle.textarea_map.specs.Blocks.{all_rows}
 use Rattle.textarea_map.specs.Map.{MapView, range_at, ranges_at, row_total}
 use Rattle.textarea_map.proofs.Holding.{bytes_of_line, cut_of, first_begins, offset_within, range_is, rows_at, some_rows}
 use Rattle.textarea_map.proofs.Layouts.{length-AreRowsOf}
@@ -25,7 +26,7 @@ bytes c = bytes_of_line _ _ _ _ (within c) c.index-lines-place.is c.as_str-line.
 short : (c : After-rows_of-ranges) → c.byte_offset-offset.result ≤ length c.as_str-line.result.now
 short c = offset_within c.index-lines-place.result _ _ _ c.as_str-line.ensures.value c.byte_offset-offset.ensures
 
-there : (c : After-display_column_behind_text-column) → c.args.place.0 < length c.self.inside.rows.items
+there : (c : After-display_column_behind_text-column) → c.args.place.0 < length (all_rows c.self.inside.blocks.blocks)
 there c =
     omega (arith, c.requires.place.0, length-AreRowsOf c.args.self.now.wrapping (lines_of c.args.lines.now) c.args.self.now.rows c.requires.rows, ap (λ (v : MapView). length v.rows) c.self.view_is)
 
@@ -58,7 +59,7 @@ first_row-requires c =
 
 pub overflow_add-result : goal.overflow_add-result
 overflow_add-result c =
-    let rows = c.self.inside.rows.items in
+    let rows = (all_rows c.self.inside.blocks.blocks) in
     let within = there (goal.at.overflow_add-result c).After-display_column_behind_text-column in
     let held : c.row_holding-row.result < length (ranges_at rows c.args.place.0) = omega (arith, c.row_holding-row.ensures.within, ap length c.rows_of-ranges.ensures, ap (λ (v : MapView). length (ranges_at v.rows c.args.place.0)) c.self.view_is) in
     omega (arith, c.first_row.ensures, ap (λ (v : MapView). row_total (take c.args.place.0 v.rows)) c.self.view_is, rows_below rows c.args.place.0 c.row_holding-row.result within held, c.self.invariant.all, c.self.invariant.limit.few)

@@ -1,44 +1,78 @@
-use Rattle.std.proofs.Common.{◌∙◌, ap, arith, refl, Result, Ok, Err}
+use Rattle.std.proofs.Common.{◌≡◌, ◌+◌, ◌-◌, ◌≤◌, List, ap, arith, drop, min, refl, take, ℕ, Result, Ok, Err}
 use Rattle.std.specs.Result.{IsErr, IsOk}
+use Rattle.textarea_text.specs.Replaced.{replaced}
+use Rattle.textarea_wrap.specs.RowsView.{RowsView}
 use Rattle.textarea_map.specs.Map.{MapView, row_total, size_total}
-use Rattle.textarea_map.proofs.RowSizes.{rows_exchanged, sizes_exchanged}
+use Rattle.textarea_map.specs.Prepared.{rows_in}
+use Rattle.textarea_map.proofs.InBlocks.{rows_sum}
+use Rattle.textarea_map.proofs.RowSizes.{exchange, size_total-append}
 use Rattle.textarea_map.proofs.screen_map.ScreenMap.within_limit_with.Goals as goal
+use Rattle.textarea_map.proofs.screen_map.ScreenMap.within_limit_with.Goals.{After-sums_of-total}
 
 not_both : {T E : Type 0} (r : Result T E) → IsErr r → IsOk r → ⊥
 not_both (Ok v) err ok = absurd cc
 not_both (Err e) err ok = absurd cc
 
+-- how many rows and how large lines there would be
+record Sums (rows new : List RowsView) (row count gone gone_size total size come come_size : ℕ) : Type 0 where
+  gone_is : gone ≤ total
+  few : total ≤ 281474976710656
+  total_is : total - gone + row_total new ≡ row_total (replaced rows row count new)
+  come_is : come ≡ min (row_total new) 18446744073709551615
+  gone_size_is : gone_size ≤ size
+  small : size ≤ 281474976710656
+  size_is : size - gone_size + size_total new ≡ size_total (replaced rows row count new)
+  come_size_is : come_size ≡ min (size_total new) 18446744073709551615
+
+sums : (c : After-sums_of-total) → Sums c.args.self.now.rows (rows_in c.args.rows.now) c.args.row c.args.count c.sums_of-old.result.0 c.sums_of-old.result.1 c.self.inside.total c.self.inside.size c.sums_of-total.result.0 c.sums_of-total.result.1
+sums c =
+    let rows = c.args.self.now.rows in
+    let new = rows_in c.args.rows.now in
+    let row = c.args.row in
+    let count = c.args.count in
+    let visual = exchange row_total rows (take count (drop row rows)) new row count rows_sum refl in
+    let sizes = exchange size_total rows (take count (drop row rows)) new row count size_total-append refl in
+    let gone = ap (λ (v : MapView). row_total (take count (drop row v.rows))) c.self.view_is in
+    let gone_size = ap (λ (v : MapView). size_total (take count (drop row v.rows))) c.self.view_is in
+    let total = ap (λ (v : MapView). row_total v.rows) c.self.view_is in
+    let size = ap (λ (v : MapView). size_total v.rows) c.self.view_is in
+    record {
+      gone_is = omega (arith, c.sums_of-old.ensures.rows, visual.part, gone, total, c.self.invariant.all);
+      few = omega (arith, c.self.invariant.all, c.self.invariant.limit.few);
+      total_is = omega (arith, c.sums_of-old.ensures.rows, visual.after, gone, total, c.self.invariant.all);
+      come_is = c.sums_of-total.ensures.rows;
+      gone_size_is = omega (arith, c.sums_of-old.ensures.size, sizes.part, gone_size, size, c.self.invariant.size_is);
+      small = omega (arith, c.self.invariant.size_is, c.self.invariant.limit.size);
+      size_is = omega (arith, c.sums_of-old.ensures.size, sizes.part, sizes.after, gone_size, size, c.self.invariant.size_is, c.self.invariant.limit.size);
+      come_size_is = c.sums_of-total.ensures.size;
+    }
+
 pub overflow_sub-self-inside : goal.overflow_sub-self-inside
-overflow_sub-self-inside c =
-    let sizes = sizes_exchanged c.args.self.now.rows c.as_slice.result.now c.args.rows.now c.args.row c.args.count (c.as_slice.ensures.value ∙ ap (λ (v : MapView). v.rows) c.self.view_is) in
-    omega (arith, sizes.part, c.size_of_rows.ensures, c.self.invariant.size_is, ap (λ (v : MapView). size_total v.rows) c.self.view_is, c.self.invariant.limit.size)
+overflow_sub-self-inside c = (sums (goal.at.overflow_sub-self-inside c).After-sums_of-total).gone_size_is
 
 pub returns-in_err-within_limit-clause-limit : goal.returns-in_err-within_limit-clause-limit
 returns-in_err-within_limit-clause-limit c =
-    let sizes = sizes_exchanged c.args.self.now.rows c.as_slice.result.now c.args.rows.now c.args.row c.args.count (c.as_slice.ensures.value ∙ ap (λ (v : MapView). v.rows) c.self.view_is) in (
+    let known = sums (goal.at.returns-in_err-within_limit-clause-limit c).After-sums_of-total in (
       λ yes. absurd (not_both c.from_residual.result c.from_residual.ensures.0 yes),
-      λ within. absurd (cc (c.in_err-within_limit.ensures.limit.1 (omega (arith, within.size, sizes.after, sizes.part, c.size_of_rows.ensures, c.size_of_rows-size.ensures, c.saturating_add.ensures, c.self.invariant.size_is, ap (λ (v : MapView). size_total v.rows) c.self.view_is, c.self.invariant.limit.size)))),
+      λ within. absurd (cc (c.in_err-within_limit.ensures.limit.1 (omega (arith, within.size, known.size_is, known.gone_size_is, known.come_size_is, known.small, c.saturating_add.ensures)))),
     )
 
 pub overflow_sub-self-inside-2 : goal.overflow_sub-self-inside-2
-overflow_sub-self-inside-2 c =
-    let counts = rows_exchanged c.args.self.now.rows c.as_slice.result.now c.args.rows.now c.args.row c.args.count (c.as_slice.ensures.value ∙ ap (λ (v : MapView). v.rows) c.self.view_is) in
-    omega (arith, counts.part, c.count_rows.ensures, c.self.invariant.all, ap (λ (v : MapView). row_total v.rows) c.self.view_is, c.self.invariant.limit.few)
+overflow_sub-self-inside-2 c = (sums (goal.at.overflow_sub-self-inside-2 c).After-sums_of-total).gone_is
 
 pub returns-in_err-within_limit-2-clause-limit : goal.returns-in_err-within_limit-2-clause-limit
 returns-in_err-within_limit-2-clause-limit c =
-    let counts = rows_exchanged c.args.self.now.rows c.as_slice.result.now c.args.rows.now c.args.row c.args.count (c.as_slice.ensures.value ∙ ap (λ (v : MapView). v.rows) c.self.view_is) in (
+    let known = sums (goal.at.returns-in_err-within_limit-2-clause-limit c).After-sums_of-total in (
       λ yes. absurd (not_both c.from_residual-in_err-within_limit-2.result c.from_residual-in_err-within_limit-2.ensures.0 yes),
-      λ within. absurd (cc (c.in_err-within_limit-2.ensures.limit.1 (omega (arith, within.few, counts.after, counts.part, c.count_rows.ensures, c.count_rows-total.ensures, c.saturating_add-2.ensures, c.self.invariant.all, ap (λ (v : MapView). row_total v.rows) c.self.view_is, c.self.invariant.limit.few)))),
+      λ within. absurd (cc (c.in_err-within_limit-2.ensures.limit.1 (omega (arith, within.few, known.total_is, known.gone_is, known.come_is, known.few, c.saturating_add-2.ensures)))),
     )
 
 pub returns-clause-limit : goal.returns-clause-limit
 returns-clause-limit c =
-    let sizes = sizes_exchanged c.args.self.now.rows c.as_slice.result.now c.args.rows.now c.args.row c.args.count (c.as_slice.ensures.value ∙ ap (λ (v : MapView). v.rows) c.self.view_is) in
-    let counts = rows_exchanged c.args.self.now.rows c.as_slice.result.now c.args.rows.now c.args.row c.args.count (c.as_slice.ensures.value ∙ ap (λ (v : MapView). v.rows) c.self.view_is) in (
+    let known = sums (goal.at.returns-clause-limit c).After-sums_of-total in (
       λ yes. record {
-        size = omega (arith, c.in_ok-within_limit.ensures.limit.0 yes, sizes.after, sizes.part, c.size_of_rows.ensures, c.size_of_rows-size.ensures, c.saturating_add.ensures, c.self.invariant.size_is, ap (λ (v : MapView). size_total v.rows) c.self.view_is, c.self.invariant.limit.size);
-        few = omega (arith, c.in_ok-within_limit-2.ensures.limit.0 yes, counts.after, counts.part, c.count_rows.ensures, c.count_rows-total.ensures, c.saturating_add-2.ensures, c.self.invariant.all, ap (λ (v : MapView). row_total v.rows) c.self.view_is, c.self.invariant.limit.few);
+        size = omega (arith, c.in_ok-within_limit.ensures.limit.0 yes, known.size_is, known.gone_size_is, known.come_size_is, known.small, c.saturating_add.ensures);
+        few = omega (arith, c.in_ok-within_limit-2.ensures.limit.0 yes, known.total_is, known.gone_is, known.come_is, known.few, c.saturating_add-2.ensures);
       },
       λ within. refl,
     )

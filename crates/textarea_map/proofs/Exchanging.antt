@@ -1,0 +1,34 @@
+-- Rows that take the place of others in two steps.
+use Rattle.std.proofs.Common.{◌≡◌, ℕ, ◌+◌, ◌-◌, ◌≤◌, List, [], ◌++◌, length, take, drop, sym, ap, ◌∙◌, arith}
+use Rattle.std.proofs.lemmas.List.{append_assoc, drop_at, drop-drop, length-take-le, take-append-drop, take-append-le, take-take}
+use Rattle.textarea_text.specs.Replaced.{replaced}
+use Rattle.textarea_text.proofs.Replacing.{drop_two, take_two}
+
+-- first the first of the lines that go, then those behind them
+pub rest_removed : {X : Type 0} (items new : List X) (row first rest : ℕ) → row ≤ length items → replaced (replaced items row first new) (row + length new) rest [] ≡ replaced items row (first + rest) new
+rest_removed items new row first rest within =
+    let above = take row items in
+    let below = drop (row + first) items in
+    let size : length above ≡ row = length-take-le row items within in
+    let end : row + length new + rest ≡ row + length new + rest = omega arith in
+    let seam : length above + length new ≡ row + length new = omega arith in
+    let sum : row + first + rest ≡ row + (first + rest) = omega arith in
+    ap (λ t. t ++ drop (row + length new + rest) (above ++ (new ++ below))) (take_two above new below (row + length new) seam)
+    ∙ ap (λ t. (above ++ new) ++ t) (sym (drop-drop rest (row + length new) (above ++ (new ++ below))) ∙ ap (drop rest) (drop_two above new below (row + length new) seam) ∙ drop-drop rest (row + first) items ∙ ap (λ n. drop n items) sum)
+    ∙ append_assoc above new (drop (row + (first + rest)) items)
+
+-- first the last of the lines that go, then those before them
+pub first_removed : {X : Type 0} (items : List X) (row first rest : ℕ) → row + first ≤ length items → replaced (replaced items (row + first) rest []) row first [] ≡ replaced items row (first + rest) []
+first_removed items row first rest within =
+    let above = take (row + first) items in
+    let below = drop (row + first + rest) items in
+    let size : length above ≡ row + first = length-take-le (row + first) items within in
+    let sum : row + first + rest ≡ row + (first + rest) = omega arith in
+    ap (λ t. t ++ drop (row + first) (above ++ below)) (take-append-le row above below (omega (arith, size)) ∙ take-take row (row + first) items (omega arith))
+    ∙ ap (λ t. take row items ++ t) (drop_at above below (row + first) size ∙ ap (λ n. drop n items) sum)
+
+-- nothing goes, and nothing comes
+pub none_removed : {X : Type 0} (items : List X) (n : ℕ) → replaced items n 0 [] ≡ items
+none_removed items n =
+    let same : n + 0 ≡ n = omega arith in
+    ap (λ m. take n items ++ drop m items) same ∙ take-append-drop n items

@@ -1,0 +1,103 @@
+//! The parts of a line break alone, in the middle of many lines: in their screen map, and among their headers.
+ghost use Rattle.std.specs.Prelude.{◌≡◌, ◌+◌, ◌<◌, ◌≤◌, length, vec_len, IfOk, OnOk};
+
+use std::alloc::{AllocError, Global};
+use textarea_map::layout::Wrapping;
+use textarea_map::screen_map::ScreenMap;
+use textarea_text::replace::replace_items;
+use textarea_wrap::wrap::{WrapCount, WrapMode};
+
+const WRAPPED: Wrapping = Wrapping {
+    mode: WrapMode::WordOrGlyph,
+    width: 80,
+    tab_len: 4,
+};
+
+/// Breaks a line in the screen map of the lines, and takes the break back, so many times. Answers with the number of visual rows.
+pub fn break_in_map(alloc: Global, lines: &[String], times: usize) -> Result<usize, AllocError> {
+    let mut counter = WrapCount::new();
+    let mut map = ScreenMap::new(alloc, lines, WRAPPED, &mut counter)?;
+    if !lines.is_empty() {
+        break_rows(alloc, &mut map, lines.len() / 2, times, &mut counter)?;
+    }
+    Ok(map.row_count())
+}
+
+// Two lines take the place of one, and one of these two, so many times.
+fn break_rows(
+    alloc: Global,
+    map: &mut ScreenMap,
+    row: usize,
+    times: usize,
+    counter: &mut WrapCount,
+) -> Result<(), AllocError>
+    requires { row < length map.old.rows }
+{
+    let parts = texts(
+        alloc,
+        &[
+            "A line that is as wide as the screen,",
+            " so that one character more takes a row mor",
+        ],
+    )?;
+    let whole = texts(
+        alloc,
+        &["A line that is as wide as the screen, so that one character more takes a row mor"],
+    )?;
+    for _ in 0..times {
+        put_rows(alloc, map, row, 1, parts.as_slice(), counter)?;
+        put_rows(alloc, map, row, 2, whole.as_slice(), counter)?;
+    }
+    Ok(())
+}
+
+// The rows of lines take the place of those of others.
+fn put_rows(
+    alloc: Global,
+    map: &mut ScreenMap,
+    row: usize,
+    count: usize,
+    lines: &[String],
+    counter: &mut WrapCount,
+) -> Result<(), AllocError>
+    requires { row + count ≤ length map.old.rows }
+    ensures { OnOk result (length map.new.rows + count ≡ length map.old.rows + length lines.now) }
+{
+    let prepared = map.prepare(alloc, row, count, lines, WRAPPED, counter)?;
+    map.replace(prepared);
+    Ok(())
+}
+
+fn texts(alloc: Global, given: &[&str]) -> Result<Vec<String>, AllocError>
+    ensures { IfOk result (λ lines. vec_len lines ≡ length given.now) }
+{
+    let mut lines = Vec::new(alloc);
+    for text in given {
+        lines.push(String::from_str(alloc, *text)?)?;
+    }
+    Ok(lines)
+}
+
+/// Moves the headers of the lines as a line break in their middle does, and back, so many times. Answers with their number.
+pub fn break_headers(
+    alloc: Global,
+    lines: &mut Vec<String>,
+    times: usize,
+) -> Result<usize, AllocError> {
+    for _ in 0..times {
+        move_headers(alloc, lines)?;
+    }
+    Ok(lines.len())
+}
+
+fn move_headers(alloc: Global, lines: &mut Vec<String>) -> Result<(), AllocError> {
+    if lines.is_empty() {
+        return Ok(());
+    }
+    let middle = lines.len() / 2;
+    let (two, one) = (texts(alloc, &["", ""])?, texts(alloc, &[""])?);
+    lines.reserve(1)?;
+    replace_items(lines, middle, 1, two);
+    replace_items(lines, middle, 2, one);
+    Ok(())
+}
