@@ -1,78 +1,148 @@
+//! Rectangles, blocks, styles, sets of bits, texts and cells, as tables.
+
+use crate::blocks::{Sides, block, line};
 use bitflags::Flags;
 use std::alloc::{AllocError, Global};
 use std::test::Fail;
 use textarea_screen::screen::{
-    Alignment, Block, Borders, Buffer, Cell, Color, Line, Modifier, Padding, Position, Rect, Span,
-    SpanText, Style, Text,
+    Alignment, Borders, Buffer, Cell, Color, Line, Modifier, Position, Rect, Span, SpanText, Style,
+    Text,
 };
 
-fn title(alloc: Global) -> Result<Line<'static>, AllocError> {
-    Line::raw(String::from_str(alloc, "title")?)
+/// Four numbers of a rectangle: where it begins, its width and its height.
+type Numbers = (u16, u16, u16, u16);
+
+/// Areas that are asked for, and their width and height.
+static AREAS: [(Numbers, (u16, u16)); 4] = [
+    ((0, 0, 65535, 65535), (65535, 65535)),
+    ((65535, 65535, 1, 1), (0, 0)),
+    ((65534, 1, 5, 65535), (1, 65534)),
+    ((10, 20, 30, 40), (30, 40)),
+];
+
+/// Places, and whether the rectangle of four columns and two rows from (2, 3) on has a cell there.
+static CELLS: [(u16, u16, bool); 6] = [
+    (2, 3, true),
+    (5, 4, true),
+    (1, 3, false),
+    (6, 3, false),
+    (2, 2, false),
+    (2, 5, false),
+];
+
+const PLAIN: Sides = Sides {
+    borders: Borders::NONE,
+    has_title: false,
+    padding: (0, 0, 0, 0),
+};
+
+const ALL: Sides = Sides {
+    borders: Borders::ALL,
+    has_title: false,
+    padding: (0, 0, 0, 0),
+};
+
+const TITLED: Sides = Sides {
+    borders: Borders::NONE,
+    has_title: true,
+    padding: (0, 0, 0, 0),
+};
+
+const CORNERED: Sides = Sides {
+    borders: Borders(9),
+    has_title: true,
+    padding: (1, 2, 3, 4),
+};
+
+const WIDE: Sides = Sides {
+    borders: Borders::ALL,
+    has_title: false,
+    padding: (65535, 65535, 65535, 65535),
+};
+
+/// Blocks, areas, and what the block leaves of the area.
+static INNER: [(Sides, Numbers, Numbers); 7] = [
+    (PLAIN, (3, 4, 10, 5), (3, 4, 10, 5)),
+    (ALL, (0, 0, 10, 5), (1, 1, 8, 3)),
+    (TITLED, (0, 0, 10, 5), (0, 1, 10, 4)),
+    (ALL, (0, 0, 1, 5), (1, 1, 0, 3)),
+    (CORNERED, (10, 20, 30, 40), (12, 24, 26, 32)),
+    (WIDE, (10, 20, 30, 40), (40, 60, 0, 0)),
+    (TITLED, (0, 0, 10, 0), (0, 0, 10, 0)),
+];
+
+static MODIFIERS: [(&str, u16); 9] = [
+    ("BOLD", 1),
+    ("DIM", 2),
+    ("ITALIC", 4),
+    ("UNDERLINED", 8),
+    ("SLOW_BLINK", 16),
+    ("RAPID_BLINK", 32),
+    ("REVERSED", 64),
+    ("HIDDEN", 128),
+    ("CROSSED_OUT", 256),
+];
+
+static BORDERS: [(&str, u8); 4] = [("TOP", 1), ("RIGHT", 2), ("BOTTOM", 4), ("LEFT", 8)];
+
+/// Places, and whether the buffer from (65533, 7) on has a cell there.
+static BUFFERED: [(u16, u16, bool); 6] = [
+    (65533, 7, true),
+    (65534, 9, true),
+    (65535, 7, false),
+    (65532, 7, false),
+    (65533, 6, false),
+    (65533, 10, false),
+];
+
+/// Whether a rectangle has these numbers, and is empty where it has no column or no row.
+fn is_area(area: Rect, (x, y, width, height): Numbers) -> bool {
+    (area.x(), area.y()) == (x, y)
+        && (area.width(), area.height()) == (width, height)
+        && area.is_empty() == (width == 0 || height == 0)
 }
 
 #[test]
 fn rectangles_end_at_the_greatest_column_and_row(rt: HostRuntime) {
-    for ((x, y, width, height), (kept_width, kept_height)) in [
-        ((0, 0, 65535, 65535), (65535, 65535)),
-        ((65535, 65535, 1, 1), (0, 0)),
-        ((65534, 1, 5, 65535), (1, 65534)),
-        ((10, 20, 30, 40), (30, 40)),
-    ] {
+    for ((x, y, width, height), kept) in AREAS {
         let area = Rect::new(x, y, width, height);
-        assert_eq!(rt; (area.x(), area.y()), (x, y));
-        assert_eq!(rt;
-            (area.width(), area.height()),
-            (kept_width, kept_height),
-            "at {x}, {y}"
-        );
-        assert_eq!(rt;
-            area.is_empty(),
-            kept_width == 0 || kept_height == 0,
-            "at {x}, {y}"
-        );
+        assert!(rt; is_area(area, (x, y, kept.0, kept.1)));
     }
 }
 
 #[test]
 fn a_rectangle_contains_its_cells(rt: HostRuntime) {
     let area = Rect::new(2, 3, 4, 2);
-    for (x, y, inside) in [
-        (2, 3, true),
-        (5, 4, true),
-        (1, 3, false),
-        (6, 3, false),
-        (2, 2, false),
-        (2, 5, false),
-    ] {
-        assert_eq!(rt; area.contains(Position { x, y }), inside, "at {x}, {y}");
+    for (x, y, inside) in CELLS {
+        assert!(rt; area.contains(Position { x, y }) == inside);
     }
+}
+
+fn inner(
+    alloc: Global,
+    sides: Sides,
+    (x, y, width, height): Numbers,
+) -> Result<Numbers, AllocError> {
+    let inner = block(alloc, sides)?.inner(Rect::new(x, y, width, height));
+    Ok((inner.x, inner.y, inner.width, inner.height))
+}
+
+/// The first of the blocks that leaves something else of its area.
+fn first_other_inner(
+    alloc: Global,
+    blocks: &[(Sides, Numbers, Numbers)],
+) -> Result<Option<usize>, AllocError> {
+    for (n, (sides, area, wanted)) in blocks.iter().enumerate() {
+        if inner(alloc, *sides, *area)? != *wanted {
+            return Ok(Some(n));
+        }
+    }
+    Ok(None)
 }
 
 #[test]
 fn inside_of_a_block(rt: HostRuntime) -> Result<(), Fail> {
-    let alloc = rt.alloc();
-    let none = Block::new();
-    let all = Block::new().borders(Borders::ALL);
-    let titled = Block::new().title(title(alloc)?);
-    let both = Block::new()
-        .borders(Borders::TOP.union(Borders::LEFT))
-        .title(title(alloc)?)
-        .padding(Padding::new(1, 2, 3, 4));
-    let wide = Block::new()
-        .borders(Borders::ALL)
-        .padding(Padding::new(65535, 65535, 65535, 65535));
-    for (block, (x, y, width, height), wanted) in [
-        (&none, (3, 4, 10, 5), (3, 4, 10, 5)),
-        (&all, (0, 0, 10, 5), (1, 1, 8, 3)),
-        (&titled, (0, 0, 10, 5), (0, 1, 10, 4)),
-        (&all, (0, 0, 1, 5), (1, 1, 0, 3)),
-        (&both, (10, 20, 30, 40), (12, 24, 26, 32)),
-        (&wide, (10, 20, 30, 40), (40, 60, 0, 0)),
-        (&titled, (0, 0, 10, 0), (0, 0, 10, 0)),
-    ] {
-        let inner = block.inner(Rect::new(x, y, width, height));
-        assert_eq!(rt; (inner.x, inner.y, inner.width, inner.height), wanted);
-    }
+    assert_eq!(rt; first_other_inner(rt.alloc(), &INNER)?, None);
     Ok(())
 }
 
@@ -95,91 +165,134 @@ fn styles_over_one_another(rt: HostRuntime) {
             bold.add_modifier(Modifier::DIM),
         ),
     ] {
-        assert_eq!(rt; under.patch(over), wanted);
+        assert!(rt; under.patch(over) == wanted);
     }
     let both = bold.remove_modifier(Modifier::BOLD);
-    assert_eq!(rt; (both.add_modifier.0, both.sub_modifier.0), (0, 1));
+    assert!(rt; (both.add_modifier.0, both.sub_modifier.0) == (0, 1));
+}
+
+fn modifier_bits(name: &str) -> Option<u16> {
+    match Modifier::from_name(name) {
+        Some(set) => Some(set.bits()),
+        None => None,
+    }
+}
+
+fn borders_bits(name: &str) -> Option<u8> {
+    match Borders::from_name(name) {
+        Some(set) => Some(set.bits()),
+        None => None,
+    }
+}
+
+/// The first of the names that has other bits.
+fn first_other_modifier(names: &[(&str, u16)]) -> Option<usize> {
+    for (n, (name, bits)) in names.iter().enumerate() {
+        if modifier_bits(name) != Some(*bits) {
+            return Some(n);
+        }
+    }
+    None
+}
+
+/// The first of the names that has other bits.
+fn first_other_border(names: &[(&str, u8)]) -> Option<usize> {
+    for (n, (name, bits)) in names.iter().enumerate() {
+        if borders_bits(name) != Some(*bits) {
+            return Some(n);
+        }
+    }
+    None
+}
+
+fn are_whole_sets_right() -> bool {
+    (Borders::NONE.bits(), Borders::ALL.bits()) == (0, 15)
+        && Borders::all() == Borders::ALL
+        && Borders::TOP.union(Borders::LEFT) == CORNERED.borders
 }
 
 #[test]
 fn bits_of_the_sets(rt: HostRuntime) {
-    for (name, bits) in [
-        ("BOLD", 1),
-        ("DIM", 2),
-        ("ITALIC", 4),
-        ("UNDERLINED", 8),
-        ("SLOW_BLINK", 16),
-        ("RAPID_BLINK", 32),
-        ("REVERSED", 64),
-        ("HIDDEN", 128),
-        ("CROSSED_OUT", 256),
-    ] {
-        assert_eq!(rt;
-            Modifier::from_name(name).map(|set| set.bits()),
-            Some(bits),
-            "{name}"
-        );
-    }
-    for (name, bits) in [("TOP", 1), ("RIGHT", 2), ("BOTTOM", 4), ("LEFT", 8)] {
-        assert_eq!(rt;
-            Borders::from_name(name).map(|set| set.bits()),
-            Some(bits),
-            "{name}"
-        );
-    }
-    assert_eq!(rt; (Borders::NONE.bits(), Borders::ALL.bits()), (0, 15));
-    assert_eq!(rt; Borders::all(), Borders::ALL);
+    let others = (
+        first_other_modifier(&MODIFIERS),
+        first_other_border(&BORDERS),
+    );
+    assert!(rt; others == (None, None) && are_whole_sets_right());
 }
 
-#[test]
-fn copies_of_texts(rt: HostRuntime) -> Result<(), Fail> {
-    let alloc = rt.alloc();
-    let mut line = title(alloc)?;
+fn two_spans(alloc: Global) -> Result<Line<'static>, AllocError> {
+    let mut line = line(alloc, "title")?;
     line.spans.push(Span {
         content: SpanText::Borrowed("lent"),
         style: Style::new().fg(Color::Green),
     })?;
+    Ok(line)
+}
+
+fn one_line(alloc: Global) -> Result<Text<'static>, AllocError> {
     let mut text = Text {
         lines: Vec::new(alloc),
         style: Style::new().bg(Color::Indexed(7)),
     };
-    text.lines.push(line)?;
-    let copied = text.clone()?;
-    assert_eq!(rt; (copied.lines.len(), copied.style), (1, text.style));
-    for line in &copied.lines {
-        assert_eq!(rt; (line.spans.len(), line.style), (2, Style::new()));
-        for span in &line.spans {
-            let wanted = match span.content {
-                SpanText::Owned(_) => ("title", Style::new()),
-                SpanText::Borrowed(_) => ("lent", Style::new().fg(Color::Green)),
-            };
-            assert_eq!(rt; (span.content.as_str(), span.style), wanted);
+    text.lines.push(two_spans(alloc)?)?;
+    Ok(text)
+}
+
+fn copy_of_one_line(alloc: Global) -> Result<Text<'static>, AllocError> {
+    one_line(alloc)?.clone()
+}
+
+fn is_span(span: &Span<'_>) -> bool {
+    let wanted = match span.content {
+        SpanText::Owned(_) => ("title", Style::new()),
+        SpanText::Borrowed(_) => ("lent", Style::new().fg(Color::Green)),
+    };
+    (span.content.as_str(), span.style) == wanted
+}
+
+fn are_two_spans(line: &Line<'_>) -> bool {
+    for span in &line.spans {
+        if !is_span(span) {
+            return false;
         }
     }
-    Ok(())
+    (line.spans.len(), line.style) == (2, Style::new())
+}
+
+fn is_one_line(text: &Text<'_>) -> bool {
+    for line in &text.lines {
+        if !are_two_spans(line) {
+            return false;
+        }
+    }
+    (text.lines.len(), text.style) == (1, Style::new().bg(Color::Indexed(7)))
 }
 
 #[test]
-fn cells_of_a_buffer(rt: HostRuntime) -> Result<(), Fail> {
-    let alloc = rt.alloc();
-    let area = Rect::new(65533, 7, 4, 3);
-    let buffer = Buffer::empty(alloc, area)?;
-    assert_eq!(rt; buffer.area(), area);
-    for (x, y, inside) in [
-        (65533, 7, true),
-        (65534, 9, true),
-        (65535, 7, false),
-        (65532, 7, false),
-        (65533, 6, false),
-        (65533, 10, false),
-    ] {
-        let symbol = buffer.cell(x, y).map(|cell| cell.symbol());
-        assert_eq!(rt;
-            symbol,
-            if inside { Some(" ") } else { None },
-            "at {x}, {y}"
-        );
+fn copies_of_texts(rt: HostRuntime) -> Result<(), Fail> {
+    assert!(rt; is_one_line(&copy_of_one_line(rt.alloc())?));
+    Ok(())
+}
+
+fn symbol(buffer: &Buffer, x: u16, y: u16) -> Option<&str> {
+    match buffer.cell(x, y) {
+        Some(cell) => Some(cell.symbol()),
+        None => None,
     }
+}
+
+/// The first of the places where the buffer has a cell that it is not to have, or none that it is to have.
+fn first_other_place(buffer: &Buffer, places: &[(u16, u16, bool)]) -> Option<usize> {
+    for (n, (x, y, inside)) in places.iter().enumerate() {
+        let wanted = if *inside { Some(" ") } else { None };
+        if symbol(buffer, *x, *y) != wanted {
+            return Some(n);
+        }
+    }
+    None
+}
+
+fn styled_cell() -> Cell {
     let mut cell = Cell::fresh();
     cell.modifier = Modifier::DIM;
     cell.set_style(
@@ -188,11 +301,24 @@ fn cells_of_a_buffer(rt: HostRuntime) -> Result<(), Fail> {
             .add_modifier(Modifier::REVERSED)
             .remove_modifier(Modifier::DIM),
     );
-    assert_eq!(rt;
-        (cell.symbol(), cell.fg, cell.bg),
-        (" ", Color::White, Color::Reset)
-    );
-    assert_eq!(rt; cell.modifier, Modifier::REVERSED);
-    assert!(rt; Alignment::Left != Alignment::Right);
+    cell
+}
+
+fn is_styled(cell: &Cell) -> bool {
+    (cell.symbol(), cell.fg, cell.bg) == (" ", Color::White, Color::Reset)
+        && cell.modifier == Modifier::REVERSED
+}
+
+#[test]
+fn cells_of_a_buffer(rt: HostRuntime) -> Result<(), Fail> {
+    let area = Rect::new(65533, 7, 4, 3);
+    let buffer = Buffer::empty(rt.alloc(), area)?;
+    assert!(rt; buffer.area() == area && first_other_place(&buffer, &BUFFERED) == None);
     Ok(())
+}
+
+#[test]
+fn cells(rt: HostRuntime) {
+    assert!(rt; is_styled(&styled_cell()));
+    assert!(rt; Alignment::Left != Alignment::Right);
 }

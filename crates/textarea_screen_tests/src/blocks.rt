@@ -1,0 +1,27 @@
+//! Blocks of the cases.
+
+use std::alloc::{AllocError, Global};
+use textarea_screen::screen::{Block, Borders, Line, Padding};
+
+/// What a block has at its sides: their lines, whether a title, and the padding at the left, right, top and bottom.
+#[derive(Clone, Copy)]
+pub struct Sides {
+    pub borders: Borders,
+    pub has_title: bool,
+    pub padding: (u16, u16, u16, u16),
+}
+
+pub fn line(alloc: Global, text: &str) -> Result<Line<'static>, AllocError> {
+    Line::raw(String::from_str(alloc, text)?)
+}
+
+pub fn block(alloc: Global, sides: Sides) -> Result<Block<'static>, AllocError> {
+    let (left, right, top, bottom) = sides.padding;
+    let block = if sides.has_title {
+        Block::new().title(line(alloc, "title")?)
+    } else {
+        Block::new()
+    };
+    let padding = Padding::new(left, right, top, bottom);
+    Ok(block.borders(sides.borders).padding(padding))
+}
