@@ -4,8 +4,8 @@ use std::io;
 use std::io::{ErrorKind, Read, Write};
 use std::process::Abort;
 use std::test::Fail;
-use textarea_session::serve::{NOT_READ, serve};
 use textarea_script::serve::{DONE, STREAM_FAILED};
+use textarea_session::serve::{NOT_READ, serve};
 
 const KEYS: &str = "i\u{72ac}b\n\u{1b}kA!\u{1b}0vl";
 

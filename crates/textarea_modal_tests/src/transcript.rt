@@ -3,8 +3,8 @@ use std::alloc::AllocError;
 use std::process::Abort;
 use std::str::from_utf8;
 use std::test::Fail;
-use textarea_session::serve::serve;
 use textarea_script::serve::DONE;
+use textarea_session::serve::serve;
 
 /// Runs sessions. Each is the text of its keys, and what must be printed of it, line by line, however far in; empty lines don't count.
 pub fn check(rt: &(impl Abort + AllocGlobal), sessions: &[(&str, &str)]) -> Result<(), Fail> {

@@ -5,8 +5,8 @@ use std::io;
 use std::io::ErrorKind;
 use std::process::Abort;
 use std::test::Fail;
-use textarea_session::serve::{NOT_READ, serve_no_words, serve_words};
 use textarea_script::serve::{DONE, LINE_NOT_READ, OUT_OF_MEMORY};
+use textarea_session::serve::{NOT_READ, serve_no_words, serve_words};
 
 fn strings(alloc: Global, texts: &[&str]) -> Result<Vec<String>, AllocError> {
     let mut strings = Vec::new(alloc);
