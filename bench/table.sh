@@ -6,7 +6,7 @@
 #   line a second row, or takes it away; and by turns a line break and Backspace, behind which the lines are moved. The same
 #   break in the middle of the lines' screen map alone, and the move of their headers alone that it makes.
 # - A character that is typed, or removed by Backspace, in a line that isn't wrapped, by the line's length in characters: of one
-#   byte and of two, at the line's end and in its middle, where what stands behind it in the line is moved.
+#   byte and of two, at the line's end and in its middle, where what stands behind it in the line is moved; and that move alone.
 # - A width that changes, and one whose rows were measured before: the time for each line.
 # - A key and the frame of 80 by 24 behind it; a frame alone; and one with line numbers, all lines selected and a match in each
 #   row. Where valgrind is there, also how often a frame asks for memory for each of its rows.
@@ -221,6 +221,7 @@ jobs_row "the same move of the lines' headers alone, by lines" typing_bench head
 jobs_row "a character of one byte at a line's end, by its length" typing_bench ascii 1000000 1000000 1000000 1000000
 jobs_row "a character of two bytes at a line's end, by its length" typing_bench wide 1000000 1000000 1000000 1000000
 jobs_row "a character of two bytes in a line's middle, by its length" typing_bench middle 100000 100000 20000 4000
+jobs_row "the same move of bytes alone, by the length of the line" typing_bench bytes 100000 100000 20000 4000
 lines_row "another width, by lines" typing_bench width 400 40 6 2
 lines_row "another width, measured before, by lines" typing_bench measured 400 40 6 2
 jobs_row "a key and a frame, wrapped at words, by lines" frame_bench Word 10000 10000 10000 100000

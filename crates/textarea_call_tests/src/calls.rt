@@ -1,8 +1,9 @@
 // Calls that no script makes.
 use crate::asked::{Asked, calls_of, titled, two_lines};
 use crate::styles::{GRAY, PLAIN, RED};
-use crate::unprinted::{AT_FIRST, FILLED, Unprinted, check};
-use std::process::Abort;
+use crate::trial::Trial;
+use crate::unprinted::{AT_FIRST, FILLED, Unprinted};
+use std::alloc::Global;
 use std::test::Fail;
 use textarea_calls::Call;
 use tui_textarea::{Alignment, AtomicCursorBias, AtomicDeleteDirection, Block, Text, WrapMode};
@@ -240,23 +241,47 @@ static CALLS: [Case; 16] = [
 
 #[test]
 fn calls_behind_scripts(rt: HostRuntime) -> Result<(), Fail> {
-    let placeholder = two_lines(rt.alloc())?;
-    let block = titled(rt.alloc())?;
-    check_cases(&rt, &CALLS, &block, &placeholder)
+    assert_eq!(rt; first_wrong(rt.alloc(), &CALLS)?, None);
+    Ok(())
 }
 
-/// Each case must be so, with this block and this placeholder lent.
-pub fn check_cases<'a>(
-    rt: &(impl Abort + AllocGlobal),
+/// The number of the first case that isn't so, if there is one.
+pub fn first_wrong(alloc: Global, cases: &[Case]) -> Result<Option<usize>, Fail> {
+    let placeholder = two_lines(alloc)?;
+    let block = titled(alloc)?;
+    first_wrong_with(alloc, cases, &block, &placeholder)
+}
+
+// The same, with this block and this placeholder lent.
+fn first_wrong_with<'a>(
+    alloc: Global,
     cases: &[Case],
     block: &'a Block<'static>,
     placeholder: &'a Text<'static>,
-) -> Result<(), Fail> {
-    for (script, asked, printed, wanted) in cases {
-        let calls = calls_of(rt.alloc(), asked, block, placeholder)?;
-        check(rt, script, calls.as_slice(), Some(printed), wanted)?;
+) -> Result<Option<usize>, Fail> {
+    for (index, case) in cases.iter().enumerate() {
+        if !is_so(alloc, case, block, placeholder)? {
+            return Ok(Some(index));
+        }
     }
-    Ok(())
+    Ok(None)
+}
+
+fn is_so<'a>(
+    alloc: Global,
+    case: &Case,
+    block: &'a Block<'static>,
+    placeholder: &'a Text<'static>,
+) -> Result<bool, Fail> {
+    let (script, asked, printed, wanted) = case;
+    let calls = calls_of(alloc, asked, block, placeholder)?;
+    let trial = Trial::Calls {
+        script,
+        calls: calls.as_slice(),
+        printed: Some(printed),
+        wanted,
+    };
+    trial.is_so(alloc)
 }
 
 // An empty list of lines can't take the place of a text.

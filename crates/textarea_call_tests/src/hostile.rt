@@ -1,12 +1,11 @@
 // Hostile texts and areas: what is drawn of them, where the caret is, and what a hit finds.
-use crate::asked::{Asked, titled, two_lines};
-use crate::calls::{Case, check_cases};
-use crate::drawn::{Drawn, check};
-use crate::looks::check_answers;
+use crate::asked::Asked;
+use crate::calls::Case;
+use crate::drawn::Drawn;
 use crate::styles::{CURSOR, CURSOR_LINE, PLAIN, RED};
-use crate::unprinted::{FILLED, Unprinted};
+use crate::unprinted::{FILLED, Unprinted, are_answers};
+use crate::{calls, drawn};
 use std::alloc::{AllocError, Global};
-use std::process::Abort;
 use std::test::Fail;
 use textarea_calls::{Answer, Call};
 use tui_textarea::{Buffer, Position, Rect, Scrolling, TextArea, TextAreaMeasure, WrapMode};
@@ -51,7 +50,8 @@ static DRAWN: [Drawn; 4] = [
 
 #[test]
 fn hostile_drawings(rt: HostRuntime) -> Result<(), Fail> {
-    check(&rt, &DRAWN)
+    assert_eq!(rt; drawn::first_wrong(rt.alloc(), &DRAWN)?, None);
+    Ok(())
 }
 
 const BY_CLUSTERS: Unprinted<'static> = Unprinted {
@@ -88,24 +88,26 @@ static CASES: [Case; 3] = [
 
 #[test]
 fn hostile_places(rt: HostRuntime) -> Result<(), Fail> {
-    let block = titled(rt.alloc())?;
-    let placeholder = two_lines(rt.alloc())?;
-    check_cases(&rt, &CASES, &block, &placeholder)
+    assert_eq!(rt; calls::first_wrong(rt.alloc(), &CASES)?, None);
+    Ok(())
 }
 
 // More lines than a height counts.
 #[test]
 fn many_lines(rt: HostRuntime) -> Result<(), Fail> {
-    let mut buffer = Buffer::empty(rt.alloc(), Rect::new(0, 0, 10, 5))?;
-    check_many(&rt, lines_of_x(rt.alloc(), 70_000)?, &mut buffer)?;
+    let lines = lines_of_x(rt.alloc(), 70_000)?;
+    assert!(rt; are_many_lines(rt.alloc(), lines)?);
     Ok(())
 }
 
-fn check_many(rt: &impl Abort, lines: Vec<String>, buffer: &mut Buffer) -> Result<(), AllocError> {
+fn are_many_lines(alloc: Global, lines: Vec<String>) -> Result<bool, Fail> {
     let mut area = TextArea::new(lines)?;
-    check_shown(rt, &mut area, buffer);
-    check_scrolled(rt, &mut area, buffer);
-    Ok(())
+    are_many_lines_of(alloc, &mut area)
+}
+
+fn are_many_lines_of(alloc: Global, area: &mut TextArea<'_>) -> Result<bool, Fail> {
+    let mut buffer = Buffer::empty(alloc, Rect::new(0, 0, 10, 5))?;
+    Ok(is_shown(area, &mut buffer)? && is_scrolled(area, &mut buffer)?)
 }
 
 fn lines_of_x(alloc: Global, count: usize) -> Result<Vec<String>, AllocError> {
@@ -145,7 +147,7 @@ const SCROLLED: [Call<'static>; 3] = [
     Call::SelectionRange,
 ];
 
-fn check_shown(rt: &impl Abort, area: &mut TextArea<'_>, buffer: &mut Buffer) {
+fn is_shown(area: &mut TextArea<'_>, buffer: &mut Buffer) -> Result<bool, Fail> {
     let answers = [
         Answer::Done,
         Answer::Done,
@@ -153,16 +155,17 @@ fn check_shown(rt: &impl Abort, area: &mut TextArea<'_>, buffer: &mut Buffer) {
         Answer::Position(Some(Position { x: 1, y: 4 })),
         Answer::Measured(HEIGHT),
     ];
-    check_answers(rt, area, buffer, &SHOWN, &answers);
-    assert_eq!(rt; area.viewport().scroll_top(), (69_995, 0));
+    Ok(are_answers(area, buffer, &SHOWN, &answers)? && area.viewport().scroll_top() == (69_995, 0))
 }
 
-fn check_scrolled(rt: &impl Abort, area: &mut TextArea<'_>, buffer: &mut Buffer) {
+fn is_scrolled(area: &mut TextArea<'_>, buffer: &mut Buffer) -> Result<bool, Fail> {
     let answers = [
         Answer::Done,
         Answer::Cursor((37_231, 1)),
         Answer::Selection(Some(((0, 0), (37_231, 1)))),
     ];
-    check_answers(rt, area, buffer, &SCROLLED, &answers);
-    assert_eq!(rt; area.viewport().scroll_top(), (37_227, 0));
+    Ok(
+        are_answers(area, buffer, &SCROLLED, &answers)?
+            && area.viewport().scroll_top() == (37_227, 0),
+    )
 }

@@ -1,11 +1,11 @@
 // What is read of the cursor, the selection and the settings by calls of a run, at first and as it was set; and calls and answers,
 // printed for whoever looks for what went wrong.
-use crate::looks::check_answers;
 use crate::styles::{GRAY, RED};
-use std::process::Abort;
+use crate::trial::Trial;
+use crate::unprinted::are_answers;
 use std::test::Fail;
 use textarea_calls::{Answer, Call};
-use tui_textarea::{Buffer, Rect, TextArea, WrapMode};
+use tui_textarea::{Buffer, TextArea, WrapMode};
 
 /// What reads the cursor, the selection and the settings.
 pub const READERS: [Call<'static>; 13] = [
@@ -40,13 +40,12 @@ const SETTERS: [Call<'static>; 11] = [
 
 #[test]
 fn settings_at_first(rt: HostRuntime) -> Result<(), Fail> {
-    let mut buffer = Buffer::empty(rt.alloc(), Rect::default())?;
-    let mut area = TextArea::try_default(rt.alloc())?;
-    check_first_settings(&rt, &mut area, &mut buffer);
+    assert!(rt; Trial::FirstSettings.is_so(rt.alloc())?);
     Ok(())
 }
 
-fn check_first_settings(rt: &impl Abort, area: &mut TextArea<'_>, buffer: &mut Buffer) {
+/// Whether the settings are as they have to be at first.
+pub fn are_first_settings(area: &mut TextArea<'_>, buffer: &mut Buffer) -> Result<bool, Fail> {
     let at_first = [
         Answer::Cursor((0, 0)),
         Answer::Flag(true),
@@ -62,20 +61,25 @@ fn check_first_settings(rt: &impl Abort, area: &mut TextArea<'_>, buffer: &mut B
         Answer::Number(1),
         Answer::Number(65535),
     ];
-    check_answers(rt, area, buffer, &READERS, &at_first);
+    are_answers(area, buffer, &READERS, &at_first)
 }
 
 #[test]
 fn settings_that_were_set(rt: HostRuntime) -> Result<(), Fail> {
-    let mut buffer = Buffer::empty(rt.alloc(), Rect::default())?;
-    let mut area = TextArea::try_default(rt.alloc())?;
-    change_settings(&rt, &mut area, &mut buffer);
-    check_changed_settings(&rt, &mut area, &mut buffer);
-    indent_by_tabs(&rt, &mut area, &mut buffer);
+    assert!(rt; Trial::Settings.is_so(rt.alloc())?);
     Ok(())
 }
 
-fn change_settings(rt: &impl Abort, area: &mut TextArea<'_>, buffer: &mut Buffer) {
+/// Whether the settings are as they have to be once they are set.
+pub fn are_settings(area: &mut TextArea<'_>, buffer: &mut Buffer) -> Result<bool, Fail> {
+    Ok(
+        are_changed(area, buffer)?
+            && are_changed_settings(area, buffer)?
+            && is_indented_by_tabs(area, buffer)?,
+    )
+}
+
+fn are_changed(area: &mut TextArea<'_>, buffer: &mut Buffer) -> Result<bool, Fail> {
     let made = [
         Answer::Flag(true),
         Answer::Done,
@@ -89,10 +93,10 @@ fn change_settings(rt: &impl Abort, area: &mut TextArea<'_>, buffer: &mut Buffer
         Answer::Done,
         Answer::Done,
     ];
-    check_answers(rt, area, buffer, &SETTERS, &made);
+    are_answers(area, buffer, &SETTERS, &made)
 }
 
-fn check_changed_settings(rt: &impl Abort, area: &mut TextArea<'_>, buffer: &mut Buffer) {
+fn are_changed_settings(area: &mut TextArea<'_>, buffer: &mut Buffer) -> Result<bool, Fail> {
     let set = [
         Answer::Cursor((0, 1)),
         Answer::Flag(false),
@@ -108,13 +112,13 @@ fn check_changed_settings(rt: &impl Abort, area: &mut TextArea<'_>, buffer: &mut
         Answer::Number(3),
         Answer::Number(9),
     ];
-    check_answers(rt, area, buffer, &READERS, &set);
+    are_answers(area, buffer, &READERS, &set)
 }
 
-fn indent_by_tabs(rt: &impl Abort, area: &mut TextArea<'_>, buffer: &mut Buffer) {
+fn is_indented_by_tabs(area: &mut TextArea<'_>, buffer: &mut Buffer) -> Result<bool, Fail> {
     let tabs = [Call::SetHardTabIndent(true), Call::HardTabIndent];
     let answers = [Answer::Done, Answer::Flag(true)];
-    check_answers(rt, area, buffer, &tabs, &answers);
+    are_answers(area, buffer, &tabs, &answers)
 }
 
 // No text of these is promised.

@@ -1,5 +1,5 @@
 //! A text of many lines, or of one long line, and what is done with it again and again.
-use crate::parts::{break_headers, break_in_map};
+use crate::parts::{break_headers, break_in_map, move_bytes};
 use std::alloc::{AllocError, Global};
 use std::time::Duration;
 use textarea_document::Document;
@@ -30,6 +30,8 @@ enum Work {
     Map,
     /// The same move of the lines' headers alone.
     Headers,
+    /// The move of bytes alone that a character of two bytes in the middle of a line makes, and back.
+    Bytes,
     /// Typing into one line that isn't wrapped: by turns a hundred characters and a hundred times Backspace.
     Line(Line),
     /// By turns a narrower and the old inner width.
@@ -79,6 +81,7 @@ impl Job {
                 "breaks" => Work::Breaks,
                 "map" => Work::Map,
                 "headers" => Work::Headers,
+                "bytes" => Work::Bytes,
                 "ascii" => Work::Line(Line::Ascii),
                 "wide" => Work::Line(Line::Wide),
                 "middle" => Work::Line(Line::Middle),
@@ -93,6 +96,9 @@ impl Job {
 
     /// Does the work, and answers with the number of visual rows and the cursor's column.
     pub fn run(&self, alloc: Global) -> Result<(usize, usize), AllocError> {
+        if let Work::Bytes = self.work {
+            return Ok((move_bytes(alloc, self.size, self.times / 2)?, 0));
+        }
         let mut lines = self.lines(alloc)?;
         match self.work {
             Work::Map => Ok((break_in_map(alloc, lines.as_slice(), self.times / 2)?, 0)),
@@ -173,7 +179,7 @@ impl Job {
             Work::Rows if time % 2 == 0 => type_character(document, 'x'),
             Work::Breaks if time % 2 == 0 => document.insert_break(Duration::ZERO),
             Work::Line(line) if time / 100 % 2 == 0 => type_character(document, line.character()),
-            Work::Map | Work::Headers => Ok(()),
+            Work::Map | Work::Headers | Work::Bytes => Ok(()),
             Work::Text | Work::Rows | Work::Breaks | Work::Line(_) => {
                 document.remove_before(true, Duration::ZERO)?;
                 Ok(())

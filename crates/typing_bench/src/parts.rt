@@ -1,4 +1,5 @@
-//! The parts of a line break alone, in the middle of many lines: in their screen map, and among their headers.
+//! The parts of a line break alone, in the middle of many lines: in their screen map, and among their headers; and the part of a
+//! character in the middle of a long line that moves what stands behind it.
 ghost use Rattle.std.specs.Prelude.{◌≡◌, ◌+◌, ◌<◌, ◌≤◌, length, vec_len, IfOk, OnOk};
 
 use std::alloc::{AllocError, Global};
@@ -17,8 +18,9 @@ const WRAPPED: Wrapping = Wrapping {
 pub fn break_in_map(alloc: Global, lines: &[String], times: usize) -> Result<usize, AllocError> {
     let mut counter = WrapCount::new();
     let mut map = ScreenMap::new(alloc, lines, WRAPPED, &mut counter)?;
-    if !lines.is_empty() {
-        break_rows(alloc, &mut map, lines.len() / 2, times, &mut counter)?;
+    let row = lines.len() / 2;
+    if row < lines.len() {
+        break_rows(alloc, &mut map, row, times, &mut counter)?;
     }
     Ok(map.row_count())
 }
@@ -99,5 +101,25 @@ fn move_headers(alloc: Global, lines: &mut Vec<String>) -> Result<(), AllocError
     lines.reserve(1)?;
     replace_items(lines, middle, 1, two);
     replace_items(lines, middle, 2, one);
+    Ok(())
+}
+
+/// Moves bytes as a character of two bytes does in the middle of a line of so many characters of two bytes, and back, so many times.
+/// Answers with the number of bytes.
+pub fn move_bytes(alloc: Global, characters: usize, times: usize) -> Result<usize, AllocError> {
+    let mut bytes = Vec::new(alloc);
+    bytes.resize(characters.saturating_mul(2), 0u8)?;
+    for _ in 0..times {
+        move_behind(alloc, &mut bytes)?;
+    }
+    Ok(bytes.len())
+}
+
+fn move_behind(alloc: Global, bytes: &mut Vec<u8>) -> Result<(), AllocError> {
+    let middle = bytes.len() / 2;
+    let character = vec![in alloc; 0xc3u8, 0xa9]?;
+    bytes.reserve(2)?;
+    replace_items(bytes, middle, 0, character);
+    replace_items(bytes, middle, 2, Vec::new(alloc));
     Ok(())
 }
