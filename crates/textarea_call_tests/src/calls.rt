@@ -1,9 +1,8 @@
 // Calls that no script makes.
 use crate::asked::{Asked, calls_of, titled, two_lines};
 use crate::styles::{GRAY, PLAIN, RED};
-use crate::trial::Trial;
-use crate::unprinted::{AT_FIRST, FILLED, Unprinted};
-use std::alloc::Global;
+use crate::unprinted::{AT_FIRST, FILLED, Unprinted, check};
+use std::process::Abort;
 use std::test::Fail;
 use textarea_calls::Call;
 use tui_textarea::{Alignment, AtomicCursorBias, AtomicDeleteDirection, Block, Text, WrapMode};
@@ -241,47 +240,23 @@ static CALLS: [Case; 16] = [
 
 #[test]
 fn calls_behind_scripts(rt: HostRuntime) -> Result<(), Fail> {
-    assert_eq!(rt; first_wrong(rt.alloc(), &CALLS)?, None);
-    Ok(())
+    let placeholder = two_lines(rt.alloc())?;
+    let block = titled(rt.alloc())?;
+    check_cases(&rt, &CALLS, &block, &placeholder)
 }
 
-/// The number of the first case that isn't so, if there is one.
-pub fn first_wrong(alloc: Global, cases: &[Case]) -> Result<Option<usize>, Fail> {
-    let placeholder = two_lines(alloc)?;
-    let block = titled(alloc)?;
-    first_wrong_with(alloc, cases, &block, &placeholder)
-}
-
-// The same, with this block and this placeholder lent.
-fn first_wrong_with<'a>(
-    alloc: Global,
+/// Each case must be so, with this block and this placeholder lent.
+pub fn check_cases<'a>(
+    rt: &(impl Abort + AllocGlobal),
     cases: &[Case],
     block: &'a Block<'static>,
     placeholder: &'a Text<'static>,
-) -> Result<Option<usize>, Fail> {
-    for (index, case) in cases.iter().enumerate() {
-        if !is_so(alloc, case, block, placeholder)? {
-            return Ok(Some(index));
-        }
+) -> Result<(), Fail> {
+    for (script, asked, printed, wanted) in cases {
+        let calls = calls_of(rt.alloc(), asked, block, placeholder)?;
+        check(rt, script, calls.as_slice(), Some(printed), wanted)?;
     }
-    Ok(None)
-}
-
-fn is_so<'a>(
-    alloc: Global,
-    case: &Case,
-    block: &'a Block<'static>,
-    placeholder: &'a Text<'static>,
-) -> Result<bool, Fail> {
-    let (script, asked, printed, wanted) = case;
-    let calls = calls_of(alloc, asked, block, placeholder)?;
-    let trial = Trial::Calls {
-        script,
-        calls: calls.as_slice(),
-        printed: Some(printed),
-        wanted,
-    };
-    trial.is_so(alloc)
+    Ok(())
 }
 
 // An empty list of lines can't take the place of a text.

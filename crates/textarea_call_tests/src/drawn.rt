@@ -4,12 +4,13 @@ use crate::styles::{
     CURSOR, CURSOR_LINE, CYAN, GRAY, GREEN, GREEN_ON_YELLOW, MATCHED, ON_YELLOW, PLAIN, RED,
     RED_ON_YELLOW, SELECTED,
 };
-use crate::trial::Trial;
-use crate::unprinted::{are_answers, make, make_all};
+use crate::unprinted::make;
 use std::alloc::Global;
+use std::process::Abort;
 use std::string::ToString;
 use std::test::Fail;
 use textarea_calls::{Answer, Call};
+use textarea_run::run::run;
 use textarea_script::printing::Screen;
 use tui_textarea::{
     Alignment, Block, Buffer, Color, CursorRenderMode, Modifier, Position, Rect, Style, Text,
@@ -29,112 +30,109 @@ pub struct Drawn {
     pub caret: Option<Position>,
 }
 
-/// The number of the first drawing that isn't so, if there is one.
-pub fn first_wrong(alloc: Global, drawings: &[Drawn]) -> Result<Option<usize>, Fail> {
-    let block = titled(alloc)?;
-    let placeholder = two_lines(alloc)?;
-    first_wrong_with(alloc, drawings, &block, &placeholder)
-}
-
-// The same, with this block and this placeholder lent.
-fn first_wrong_with<'a>(
-    alloc: Global,
-    drawings: &[Drawn],
-    block: &'a Block<'static>,
-    placeholder: &'a Text<'static>,
-) -> Result<Option<usize>, Fail> {
-    for (index, drawn) in drawings.iter().enumerate() {
-        let trial = Trial::Drawn {
-            drawn,
-            block,
-            placeholder,
-        };
-        if !trial.is_so(alloc)? {
-            return Ok(Some(index));
-        }
+/// Each drawing must be so.
+pub fn check(rt: &(impl Abort + AllocGlobal), drawings: &[Drawn]) -> Result<(), Fail> {
+    let block = titled(rt.alloc())?;
+    let placeholder = two_lines(rt.alloc())?;
+    for drawn in drawings {
+        check_drawn(rt, drawn, &block, &placeholder)?;
     }
-    Ok(None)
+    Ok(())
 }
 
-/// Whether the text area is drawn so, with this block and this placeholder lent to calls.
-pub fn is_drawn<'a>(
-    alloc: Global,
-    area: &mut TextArea<'_>,
-    buffer: &mut Buffer,
-    drawn: &Drawn,
-    block: &'a Block<'static>,
-    placeholder: &'a Text<'static>,
-) -> Result<bool, Fail> {
-    make(alloc, area, buffer, drawn.script)?;
-    make_asked(alloc, area, buffer, drawn, block, placeholder)?;
-    let (x, y, width, height) = drawn.area;
-    let place = Rect::new(x, y, width, height);
-    Ok(
-        is_caret(area, buffer, place, drawn.caret)?
-            && is_screen(alloc, buffer, place, drawn.screen)?
-            && are_styles(alloc, buffer, place, drawn.styles)?,
-    )
-}
-
-// Makes the calls that no script says.
-fn make_asked<'a>(
-    alloc: Global,
-    area: &mut TextArea<'_>,
-    buffer: &mut Buffer,
+fn check_drawn<'a>(
+    rt: &(impl Abort + AllocGlobal),
     drawn: &Drawn,
     block: &'a Block<'static>,
     placeholder: &'a Text<'static>,
 ) -> Result<(), Fail> {
-    let calls = calls_of(alloc, drawn.asked, block, placeholder)?;
-    let _answers = make_all(area, calls.as_slice(), buffer)?;
+    let mut buffer = Buffer::empty(rt.alloc(), Rect::new(0, 0, 12, 6))?;
+    let mut area = TextArea::try_default(rt.alloc())?;
+    make_and_draw(rt, &mut area, drawn, block, placeholder, &mut buffer)
+}
+
+fn make_and_draw<'a>(
+    rt: &(impl Abort + AllocGlobal),
+    area: &mut TextArea<'_>,
+    drawn: &Drawn,
+    block: &'a Block<'static>,
+    placeholder: &'a Text<'static>,
+    buffer: &mut Buffer,
+) -> Result<(), Fail> {
+    make(rt, area, drawn.script)?;
+    make_asked(rt, area, drawn, block, placeholder, buffer)?;
+    check_frame(rt, area, drawn, buffer)
+}
+
+// Makes the calls that no script says.
+fn make_asked<'a>(
+    rt: &(impl Abort + AllocGlobal),
+    area: &mut TextArea<'_>,
+    drawn: &Drawn,
+    block: &'a Block<'static>,
+    placeholder: &'a Text<'static>,
+    buffer: &mut Buffer,
+) -> Result<(), Fail> {
+    let calls = calls_of(rt.alloc(), drawn.asked, block, placeholder)?;
+    assert!(rt; calls.iter().all(|call| call.can_be_made()));
+    let end = run(area, calls.as_slice(), buffer);
+    assert!(rt; end.refused == None);
     Ok(())
 }
 
-// Draws the text area. Whether its caret is there then.
-fn is_caret(
+// Draws the text area, and looks at its caret and at the cells.
+fn check_frame(
+    rt: &(impl Abort + AllocGlobal),
     area: &mut TextArea<'_>,
+    drawn: &Drawn,
     buffer: &mut Buffer,
-    place: Rect,
-    caret: Option<Position>,
-) -> Result<bool, Fail> {
+) -> Result<(), Fail> {
+    let script = drawn.script;
+    let (x, y, width, height) = drawn.area;
+    let place = Rect::new(x, y, width, height);
     let drawing = [Call::Render(place), Call::RenderedCursorPosition];
-    let wanted = [Answer::Done, Answer::Position(caret)];
-    are_answers(area, buffer, &drawing, &wanted)
+    let end = run(area, &drawing, buffer);
+    assert!(rt; end.refused == None);
+    let wanted = [Answer::Done, Answer::Position(drawn.caret)];
+    assert_eq!(rt; end.answers.as_slice(), wanted.as_slice(), "{script}");
+    check_cells(rt, buffer, place, drawn)
 }
 
-// Whether the cells of the area are printed so.
-fn is_screen(alloc: Global, buffer: &Buffer, area: Rect, wanted: &str) -> Result<bool, Fail> {
-    let screen = Screen { buffer, area };
-    let text = screen.to_string(alloc)?;
-    Ok(text.as_str() == wanted)
-}
-
-// Whether the cells of the area have these styles, and are so many.
-fn are_styles(
-    alloc: Global,
+// The cells of the area must have these texts and styles.
+fn check_cells(
+    rt: &(impl Abort + AllocGlobal),
     buffer: &Buffer,
     area: Rect,
-    styles: &[(usize, Style)],
-) -> Result<bool, Fail> {
-    let wanted = styles_of(alloc, styles)?;
-    Ok(have_styles(buffer, area, wanted.as_slice()))
+    drawn: &Drawn,
+) -> Result<(), Fail> {
+    let script = drawn.script;
+    let screen = Screen { buffer, area };
+    assert_eq!(rt;
+        screen.to_string(rt.alloc())?.as_str(),
+        drawn.screen,
+        "{script}"
+    );
+    check_styles(rt, buffer, area, drawn)
 }
 
-fn have_styles(buffer: &Buffer, area: Rect, wanted: &[Style]) -> bool {
-    let mut index = 0usize;
+// The cells of the area must have these styles, and be so many.
+fn check_styles(
+    rt: &(impl Abort + AllocGlobal),
+    buffer: &Buffer,
+    area: Rect,
+    drawn: &Drawn,
+) -> Result<(), Fail> {
+    let script = drawn.script;
+    let wanted = styles_of(rt.alloc(), drawn.styles)?;
+    let mut found = Vec::new(rt.alloc());
     for y in area.y..area.y + area.height {
         for x in area.x..area.x + area.width {
-            let is_so = match (buffer.cell(x, y), wanted.get(index)) {
-                (Some(cell), Some(style)) => cell.style() == *style,
-                _ => false,
-            };
-            if !is_so {
-                return false;
-            }
-            index = index.saturating_add(1);
+            let cell = buffer.cell(x, y).ok_or("no cell")?;
+            found.push(cell.style())?;
         }
     }
-    index == wanted.len()
+    assert_eq!(rt; found.as_slice(), wanted.as_slice(), "{script}");
+    Ok(())
 }
 
 // The styles of fresh cells to which these are applied.
@@ -250,8 +248,7 @@ const CURSOR_ON_YELLOW: Style = Style {
 
 #[test]
 fn rows(rt: HostRuntime) -> Result<(), Fail> {
-    assert_eq!(rt; first_wrong(rt.alloc(), &ROWS)?, None);
-    Ok(())
+    check(&rt, &ROWS)
 }
 
 static HIGHLIGHTED: [Drawn; 10] = [
@@ -401,8 +398,7 @@ static HIGHLIGHTED: [Drawn; 10] = [
 
 #[test]
 fn highlights(rt: HostRuntime) -> Result<(), Fail> {
-    assert_eq!(rt; first_wrong(rt.alloc(), &HIGHLIGHTED)?, None);
-    Ok(())
+    check(&rt, &HIGHLIGHTED)
 }
 
 static ALIGNED: [Drawn; 5] = [
@@ -458,8 +454,7 @@ static ALIGNED: [Drawn; 5] = [
 
 #[test]
 fn alignments(rt: HostRuntime) -> Result<(), Fail> {
-    assert_eq!(rt; first_wrong(rt.alloc(), &ALIGNED)?, None);
-    Ok(())
+    check(&rt, &ALIGNED)
 }
 
 static SURROUNDED: [Drawn; 7] = [
@@ -556,6 +551,5 @@ const CURSOR_IN_BLOCK: Style = Style {
 
 #[test]
 fn surroundings(rt: HostRuntime) -> Result<(), Fail> {
-    assert_eq!(rt; first_wrong(rt.alloc(), &SURROUNDED)?, None);
-    Ok(())
+    check(&rt, &SURROUNDED)
 }

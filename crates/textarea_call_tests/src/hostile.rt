@@ -1,11 +1,12 @@
 // Hostile texts and areas: what is drawn of them, where the caret is, and what a hit finds.
-use crate::asked::Asked;
-use crate::calls::Case;
-use crate::drawn::Drawn;
+use crate::asked::{Asked, titled, two_lines};
+use crate::calls::{Case, check_cases};
+use crate::drawn::{Drawn, check};
+use crate::looks::check_answers;
 use crate::styles::{CURSOR, CURSOR_LINE, PLAIN, RED};
-use crate::unprinted::{FILLED, Unprinted, are_answers};
-use crate::{calls, drawn};
+use crate::unprinted::{FILLED, Unprinted};
 use std::alloc::{AllocError, Global};
+use std::process::Abort;
 use std::test::Fail;
 use textarea_calls::{Answer, Call};
 use tui_textarea::{Buffer, Position, Rect, Scrolling, TextArea, TextAreaMeasure, WrapMode};
@@ -50,8 +51,7 @@ static DRAWN: [Drawn; 4] = [
 
 #[test]
 fn hostile_drawings(rt: HostRuntime) -> Result<(), Fail> {
-    assert_eq!(rt; drawn::first_wrong(rt.alloc(), &DRAWN)?, None);
-    Ok(())
+    check(&rt, &DRAWN)
 }
 
 const BY_CLUSTERS: Unprinted<'static> = Unprinted {
@@ -88,26 +88,19 @@ static CASES: [Case; 3] = [
 
 #[test]
 fn hostile_places(rt: HostRuntime) -> Result<(), Fail> {
-    assert_eq!(rt; calls::first_wrong(rt.alloc(), &CASES)?, None);
-    Ok(())
+    let block = titled(rt.alloc())?;
+    let placeholder = two_lines(rt.alloc())?;
+    check_cases(&rt, &CASES, &block, &placeholder)
 }
 
 // More lines than a height counts.
 #[test]
 fn many_lines(rt: HostRuntime) -> Result<(), Fail> {
-    let lines = lines_of_x(rt.alloc(), 70_000)?;
-    assert!(rt; are_many_lines(rt.alloc(), lines)?);
+    let mut buffer = Buffer::empty(rt.alloc(), Rect::new(0, 0, 10, 5))?;
+    let mut area = TextArea::new(lines_of_x(rt.alloc(), 70_000)?)?;
+    check_shown(&rt, &mut area, &mut buffer);
+    check_scrolled(&rt, &mut area, &mut buffer);
     Ok(())
-}
-
-fn are_many_lines(alloc: Global, lines: Vec<String>) -> Result<bool, Fail> {
-    let mut area = TextArea::new(lines)?;
-    are_many_lines_of(alloc, &mut area)
-}
-
-fn are_many_lines_of(alloc: Global, area: &mut TextArea<'_>) -> Result<bool, Fail> {
-    let mut buffer = Buffer::empty(alloc, Rect::new(0, 0, 10, 5))?;
-    Ok(is_shown(area, &mut buffer)? && is_scrolled(area, &mut buffer)?)
 }
 
 fn lines_of_x(alloc: Global, count: usize) -> Result<Vec<String>, AllocError> {
@@ -147,7 +140,7 @@ const SCROLLED: [Call<'static>; 3] = [
     Call::SelectionRange,
 ];
 
-fn is_shown(area: &mut TextArea<'_>, buffer: &mut Buffer) -> Result<bool, Fail> {
+fn check_shown(rt: &impl Abort, area: &mut TextArea<'_>, buffer: &mut Buffer) {
     let answers = [
         Answer::Done,
         Answer::Done,
@@ -155,17 +148,16 @@ fn is_shown(area: &mut TextArea<'_>, buffer: &mut Buffer) -> Result<bool, Fail> 
         Answer::Position(Some(Position { x: 1, y: 4 })),
         Answer::Measured(HEIGHT),
     ];
-    Ok(are_answers(area, buffer, &SHOWN, &answers)? && area.viewport().scroll_top() == (69_995, 0))
+    check_answers(rt, area, buffer, &SHOWN, &answers);
+    assert_eq!(rt; area.viewport().scroll_top(), (69_995, 0));
 }
 
-fn is_scrolled(area: &mut TextArea<'_>, buffer: &mut Buffer) -> Result<bool, Fail> {
+fn check_scrolled(rt: &impl Abort, area: &mut TextArea<'_>, buffer: &mut Buffer) {
     let answers = [
         Answer::Done,
         Answer::Cursor((37_231, 1)),
         Answer::Selection(Some(((0, 0), (37_231, 1)))),
     ];
-    Ok(
-        are_answers(area, buffer, &SCROLLED, &answers)?
-            && area.viewport().scroll_top() == (37_227, 0),
-    )
+    check_answers(rt, area, buffer, &SCROLLED, &answers);
+    assert_eq!(rt; area.viewport().scroll_top(), (37_227, 0));
 }

@@ -20,6 +20,4 @@ mod settings;
 #[cfg(test)]
 mod styles;
 #[cfg(test)]
-mod trial;
-#[cfg(test)]
 mod unprinted;

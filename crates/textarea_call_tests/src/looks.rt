@@ -1,11 +1,11 @@
 // How a text area looks, at first and as it was set, and which part of it is shown.
 use crate::styles::{CURSOR, CURSOR_LINE, CYAN, GREEN, MATCHED, ON_YELLOW, PLAIN, RED, SELECTED};
-use crate::trial::Trial;
-use crate::unprinted::{are_answers, make};
-use std::alloc::Global;
+use crate::unprinted::make;
+use std::process::Abort;
 use std::test::Fail;
 use textarea_calls::{Answer, Call};
-use tui_textarea::{Alignment, Buffer, CursorRenderMode, TextArea, Viewport};
+use textarea_run::run::run;
+use tui_textarea::{Alignment, Buffer, CursorRenderMode, Rect, TextArea, Viewport};
 
 /// What reads the looks.
 pub const READERS: [Call<'static>; 9] = [
@@ -33,21 +33,16 @@ const SETTERS: [Call<'static>; 8] = [
 
 #[test]
 fn looks(rt: HostRuntime) -> Result<(), Fail> {
-    assert!(rt; Trial::Looks.is_so(rt.alloc())?);
+    let mut buffer = Buffer::empty(rt.alloc(), Rect::default())?;
+    let mut area = TextArea::try_default(rt.alloc())?;
+    check_first_looks(&rt, &mut area, &mut buffer);
+    change_looks(&rt, &mut area, &mut buffer);
+    check_changed_looks(&rt, &mut area, &mut buffer);
+    clear_mask(&rt, &mut area, &mut buffer);
     Ok(())
 }
 
-/// Whether the looks are as they have to be, at first and as they are set.
-pub fn are_looks(area: &mut TextArea<'_>, buffer: &mut Buffer) -> Result<bool, Fail> {
-    Ok(
-        are_first_looks(area, buffer)?
-            && are_changed(area, buffer)?
-            && are_changed_looks(area, buffer)?
-            && is_mask_cleared(area, buffer)?,
-    )
-}
-
-fn are_first_looks(area: &mut TextArea<'_>, buffer: &mut Buffer) -> Result<bool, Fail> {
+fn check_first_looks(rt: &impl Abort, area: &mut TextArea<'_>, buffer: &mut Buffer) {
     let at_first = [
         Answer::Style(PLAIN),
         Answer::Style(CURSOR),
@@ -59,10 +54,10 @@ fn are_first_looks(area: &mut TextArea<'_>, buffer: &mut Buffer) -> Result<bool,
         Answer::Alignment(Alignment::Left),
         Answer::Position(None),
     ];
-    are_answers(area, buffer, &READERS, &at_first)
+    check_answers(rt, area, buffer, &READERS, &at_first);
 }
 
-fn are_changed(area: &mut TextArea<'_>, buffer: &mut Buffer) -> Result<bool, Fail> {
+fn change_looks(rt: &impl Abort, area: &mut TextArea<'_>, buffer: &mut Buffer) {
     let made = [
         Answer::Done,
         Answer::Done,
@@ -73,10 +68,10 @@ fn are_changed(area: &mut TextArea<'_>, buffer: &mut Buffer) -> Result<bool, Fai
         Answer::Done,
         Answer::Done,
     ];
-    are_answers(area, buffer, &SETTERS, &made)
+    check_answers(rt, area, buffer, &SETTERS, &made);
 }
 
-fn are_changed_looks(area: &mut TextArea<'_>, buffer: &mut Buffer) -> Result<bool, Fail> {
+fn check_changed_looks(rt: &impl Abort, area: &mut TextArea<'_>, buffer: &mut Buffer) {
     let set = [
         Answer::Style(ON_YELLOW),
         Answer::Style(RED),
@@ -88,39 +83,54 @@ fn are_changed_looks(area: &mut TextArea<'_>, buffer: &mut Buffer) -> Result<boo
         Answer::Alignment(Alignment::Right),
         Answer::Position(None),
     ];
-    are_answers(area, buffer, &READERS, &set)
+    check_answers(rt, area, buffer, &READERS, &set);
 }
 
-fn is_mask_cleared(area: &mut TextArea<'_>, buffer: &mut Buffer) -> Result<bool, Fail> {
+fn clear_mask(rt: &impl Abort, area: &mut TextArea<'_>, buffer: &mut Buffer) {
     let calls = [Call::ClearMaskChar, Call::MaskChar];
     let answers = [Answer::Done, Answer::Character(None)];
-    are_answers(area, buffer, &calls, &answers)
+    check_answers(rt, area, buffer, &calls, &answers);
+}
+
+/// Makes the calls, which must give these answers.
+pub fn check_answers(
+    rt: &impl Abort,
+    area: &mut TextArea<'_>,
+    buffer: &mut Buffer,
+    calls: &[Call<'_>],
+    wanted: &[Answer],
+) {
+    assert!(rt; calls.iter().all(|call| call.can_be_made()));
+    let end = run(area, calls, buffer);
+    assert!(rt; end.refused == None);
+    assert_eq!(rt; end.answers.as_slice(), wanted);
 }
 
 // Which rows and columns are shown, where the cursor was drawn last and where something scrolled since.
 #[test]
 fn viewports(rt: HostRuntime) -> Result<(), Fail> {
-    assert!(rt; Trial::Viewports.is_so(rt.alloc())?);
+    let mut area = TextArea::try_default(rt.alloc())?;
+    check_viewports(&rt, &mut area)
+}
+
+fn check_viewports(rt: &(impl Abort + AllocGlobal), area: &mut TextArea<'_>) -> Result<(), Fail> {
+    for (script, top, rect, position) in VIEWPORTS {
+        make(rt, area, script)?;
+        compare_viewport(rt, script, area.viewport(), (top, rect, position));
+    }
     Ok(())
 }
 
-/// Whether the part that is shown follows the scripts.
-pub fn are_viewports(
-    alloc: Global,
-    area: &mut TextArea<'_>,
-    buffer: &mut Buffer,
-) -> Result<bool, Fail> {
-    for (script, top, rect, position) in VIEWPORTS {
-        make(alloc, area, buffer, script)?;
-        if !is_viewport(area.viewport(), (top, rect, position)) {
-            return Ok(false);
-        }
-    }
-    Ok(true)
-}
-
-fn is_viewport(viewport: &Viewport, wanted: ((usize, usize), Numbers, Numbers)) -> bool {
-    (viewport.scroll_top(), viewport.rect(), viewport.position()) == wanted
+fn compare_viewport(
+    rt: &impl Abort,
+    script: &str,
+    viewport: &Viewport,
+    wanted: ((usize, usize), Numbers, Numbers),
+) {
+    let (top, rect, position) = wanted;
+    assert_eq!(rt; viewport.scroll_top(), top, "{script}");
+    assert_eq!(rt; viewport.rect(), rect, "{script}");
+    assert_eq!(rt; viewport.position(), position, "{script}");
 }
 
 type Numbers = (usize, usize, usize, usize);

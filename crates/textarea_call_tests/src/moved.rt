@@ -1,9 +1,8 @@
 // Atomic ranges that go with the text.
-use crate::trial::Trial;
 use crate::unprinted::make;
-use std::alloc::Global;
+use std::process::Abort;
 use std::test::Fail;
-use tui_textarea::{AtomicRange, Buffer, TextArea};
+use tui_textarea::{AtomicRange, TextArea};
 
 // Scripts, and the ranges that are held behind them, each by its row and its two columns.
 static MOVED: [(&str, &str); 27] = [
@@ -115,28 +114,32 @@ static MOVED: [(&str, &str); 27] = [
 #[test]
 fn ranges_go_with_the_text(rt: HostRuntime) -> Result<(), Fail> {
     for (script, wanted) in &MOVED {
-        assert!(rt; Trial::Held(script, wanted).is_so(rt.alloc())?, "{script}");
+        check_held(&rt, script, wanted)?;
     }
     Ok(())
 }
 
-/// Whether these ranges are held behind the script.
-pub fn are_held(
-    alloc: Global,
-    area: &mut TextArea<'_>,
-    buffer: &mut Buffer,
-    script: &str,
-    wanted: &str,
-) -> Result<bool, Fail> {
-    make(alloc, area, buffer, script)?;
-    let found = written(alloc, area.atomic_ranges())?;
-    Ok(found.as_str().trim_start() == wanted)
+fn check_held(rt: &(impl Abort + AllocGlobal), script: &str, wanted: &str) -> Result<(), Fail> {
+    let mut area = TextArea::try_default(rt.alloc())?;
+    make(rt, &mut area, script)?;
+    check_ranges(rt, area.atomic_ranges(), script, wanted)
 }
 
-fn written(alloc: Global, ranges: &[AtomicRange]) -> Result<String, Fail> {
-    let mut text = String::new(alloc);
+fn check_ranges(
+    rt: &(impl Abort + AllocGlobal),
+    ranges: &[AtomicRange],
+    script: &str,
+    wanted: &str,
+) -> Result<(), Fail> {
+    let found = written(rt, ranges)?;
+    assert_eq!(rt; found.as_str().trim_start(), wanted, "{script}");
+    Ok(())
+}
+
+fn written(rt: &impl AllocGlobal, ranges: &[AtomicRange]) -> Result<String, Fail> {
+    let mut text = String::new(rt.alloc());
     for range in ranges {
-        let one = format!(in alloc; " {}:{}..{}", range.row, range.start_col, range.end_col)?;
+        let one = format!(in rt.alloc(); " {}:{}..{}", range.row, range.start_col, range.end_col)?;
         text.push_str(one.as_str())?;
     }
     Ok(text)

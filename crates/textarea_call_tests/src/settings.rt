@@ -1,11 +1,11 @@
 // What is read of the cursor, the selection and the settings by calls of a run, at first and as it was set; and calls and answers,
 // printed for whoever looks for what went wrong.
+use crate::looks::check_answers;
 use crate::styles::{GRAY, RED};
-use crate::trial::Trial;
-use crate::unprinted::are_answers;
+use std::process::Abort;
 use std::test::Fail;
 use textarea_calls::{Answer, Call};
-use tui_textarea::{Buffer, TextArea, WrapMode};
+use tui_textarea::{Buffer, Rect, TextArea, WrapMode};
 
 /// What reads the cursor, the selection and the settings.
 pub const READERS: [Call<'static>; 13] = [
@@ -40,12 +40,13 @@ const SETTERS: [Call<'static>; 11] = [
 
 #[test]
 fn settings_at_first(rt: HostRuntime) -> Result<(), Fail> {
-    assert!(rt; Trial::FirstSettings.is_so(rt.alloc())?);
+    let mut buffer = Buffer::empty(rt.alloc(), Rect::default())?;
+    let mut area = TextArea::try_default(rt.alloc())?;
+    check_first_settings(&rt, &mut area, &mut buffer);
     Ok(())
 }
 
-/// Whether the settings are as they have to be at first.
-pub fn are_first_settings(area: &mut TextArea<'_>, buffer: &mut Buffer) -> Result<bool, Fail> {
+fn check_first_settings(rt: &impl Abort, area: &mut TextArea<'_>, buffer: &mut Buffer) {
     let at_first = [
         Answer::Cursor((0, 0)),
         Answer::Flag(true),
@@ -61,25 +62,20 @@ pub fn are_first_settings(area: &mut TextArea<'_>, buffer: &mut Buffer) -> Resul
         Answer::Number(1),
         Answer::Number(65535),
     ];
-    are_answers(area, buffer, &READERS, &at_first)
+    check_answers(rt, area, buffer, &READERS, &at_first);
 }
 
 #[test]
 fn settings_that_were_set(rt: HostRuntime) -> Result<(), Fail> {
-    assert!(rt; Trial::Settings.is_so(rt.alloc())?);
+    let mut buffer = Buffer::empty(rt.alloc(), Rect::default())?;
+    let mut area = TextArea::try_default(rt.alloc())?;
+    change_settings(&rt, &mut area, &mut buffer);
+    check_changed_settings(&rt, &mut area, &mut buffer);
+    indent_by_tabs(&rt, &mut area, &mut buffer);
     Ok(())
 }
 
-/// Whether the settings are as they have to be once they are set.
-pub fn are_settings(area: &mut TextArea<'_>, buffer: &mut Buffer) -> Result<bool, Fail> {
-    Ok(
-        are_changed(area, buffer)?
-            && are_changed_settings(area, buffer)?
-            && is_indented_by_tabs(area, buffer)?,
-    )
-}
-
-fn are_changed(area: &mut TextArea<'_>, buffer: &mut Buffer) -> Result<bool, Fail> {
+fn change_settings(rt: &impl Abort, area: &mut TextArea<'_>, buffer: &mut Buffer) {
     let made = [
         Answer::Flag(true),
         Answer::Done,
@@ -93,10 +89,10 @@ fn are_changed(area: &mut TextArea<'_>, buffer: &mut Buffer) -> Result<bool, Fai
         Answer::Done,
         Answer::Done,
     ];
-    are_answers(area, buffer, &SETTERS, &made)
+    check_answers(rt, area, buffer, &SETTERS, &made);
 }
 
-fn are_changed_settings(area: &mut TextArea<'_>, buffer: &mut Buffer) -> Result<bool, Fail> {
+fn check_changed_settings(rt: &impl Abort, area: &mut TextArea<'_>, buffer: &mut Buffer) {
     let set = [
         Answer::Cursor((0, 1)),
         Answer::Flag(false),
@@ -112,13 +108,13 @@ fn are_changed_settings(area: &mut TextArea<'_>, buffer: &mut Buffer) -> Result<
         Answer::Number(3),
         Answer::Number(9),
     ];
-    are_answers(area, buffer, &READERS, &set)
+    check_answers(rt, area, buffer, &READERS, &set);
 }
 
-fn is_indented_by_tabs(area: &mut TextArea<'_>, buffer: &mut Buffer) -> Result<bool, Fail> {
+fn indent_by_tabs(rt: &impl Abort, area: &mut TextArea<'_>, buffer: &mut Buffer) {
     let tabs = [Call::SetHardTabIndent(true), Call::HardTabIndent];
     let answers = [Answer::Done, Answer::Flag(true)];
-    are_answers(area, buffer, &tabs, &answers)
+    check_answers(rt, area, buffer, &tabs, &answers);
 }
 
 // No text of these is promised.

@@ -1,14 +1,13 @@
 // What isn't printed of a text area: what its other calls read.
 use crate::styles::PLAIN;
-use crate::trial::Trial;
-use std::alloc::Global;
+use std::process::Abort;
 use std::string::ToString;
 use std::test::Fail;
-use textarea_calls::{Answer, Call};
+use textarea_calls::Call;
 use textarea_commands::commands::{calls, read};
 use textarea_run::run::run;
 use textarea_script::printing::Report;
-use tui_textarea::{AtomicRange, Buffer, Style, TextArea, WrapMode};
+use tui_textarea::{AtomicRange, Buffer, Rect, Style, TextArea, WrapMode};
 
 #[derive(Clone, Copy, Debug, PartialEq, Eq)]
 pub struct Unprinted<'a> {
@@ -217,104 +216,88 @@ static READ: [(&str, Unprinted<'static>); 18] = [
 #[test]
 fn what_is_read(rt: HostRuntime) -> Result<(), Fail> {
     for (script, wanted) in &READ {
-        let trial = Trial::Calls {
-            script,
-            calls: &[],
-            printed: None,
-            wanted,
-        };
-        assert!(rt; trial.is_so(rt.alloc())?, "{script}");
+        check_read(&rt, script, wanted)?;
     }
     Ok(())
 }
 
-/// Whether this is read of the text area behind a script and calls and, where a text is given, the calls' answers and the text area
-/// are printed so.
-pub fn is_so_behind(
-    alloc: Global,
-    area: &mut TextArea<'_>,
-    buffer: &mut Buffer,
+fn check_read(
+    rt: &(impl Abort + AllocGlobal),
+    script: &str,
+    wanted: &Unprinted<'static>,
+) -> Result<(), Fail> {
+    check(rt, script, &[], None, wanted)
+}
+
+/// Runs a script, and then calls, on a new text area: this is read then. Where a text is given, their answers and the text
+/// area are printed so.
+pub fn check(
+    rt: &(impl Abort + AllocGlobal),
     script: &str,
     calls: &[Call<'_>],
     printed: Option<&str>,
     wanted: &Unprinted<'static>,
-) -> Result<bool, Fail> {
-    make(alloc, area, buffer, script)?;
-    Ok(is_printed(alloc, area, buffer, calls, printed)? && is_read(area, wanted))
+) -> Result<(), Fail> {
+    let mut area = TextArea::try_default(rt.alloc())?;
+    make(rt, &mut area, script)?;
+    compare_behind(rt, &mut area, script, calls, printed, wanted)
 }
 
-/// Whether this is read of the text area.
-pub fn is_read(area: &TextArea<'_>, wanted: &Unprinted<'static>) -> bool {
-    read_off(area) == *wanted
-}
-
-// Makes the calls. Whether their answers and the text area are printed so then, where a text is given.
-fn is_printed(
-    alloc: Global,
+fn compare_behind(
+    rt: &(impl Abort + AllocGlobal),
     area: &mut TextArea<'_>,
-    buffer: &mut Buffer,
+    script: &str,
     calls: &[Call<'_>],
     printed: Option<&str>,
-) -> Result<bool, Fail> {
-    let found = printed_behind(alloc, area, buffer, calls)?;
-    Ok(match printed {
-        Some(printed) => found.as_str() == printed,
-        None => true,
-    })
+    wanted: &Unprinted<'static>,
+) -> Result<(), Fail> {
+    let found = printed_behind(rt, area, calls)?;
+    if let Some(printed) = printed {
+        assert_eq!(rt; found.as_str(), printed, "{script}");
+    }
+    compare_read(rt, script, area, wanted);
+    Ok(())
+}
+
+/// What is read of the text area must be this.
+pub fn compare_read(
+    rt: &impl Abort,
+    script: &str,
+    area: &TextArea<'_>,
+    wanted: &Unprinted<'static>,
+) {
+    let found = read_off(area);
+    assert!(rt; found == *wanted, "{script}\n{found:?}");
+}
+
+/// Makes the calls of a script, with a buffer that has no cell.
+pub fn make(
+    rt: &(impl Abort + AllocGlobal),
+    area: &mut TextArea<'_>,
+    script: &str,
+) -> Result<(), Fail> {
+    let commands = read(rt.alloc(), script.as_bytes())?;
+    let calls = calls(rt.alloc(), commands.as_slice())?;
+    let mut buffer = Buffer::empty(rt.alloc(), Rect::default())?;
+    let end = run(area, calls.as_slice(), &mut buffer);
+    assert!(rt; end.refused == None);
+    Ok(())
 }
 
 // Makes the calls, and prints their answers and the text area then.
 fn printed_behind(
-    alloc: Global,
+    rt: &(impl Abort + AllocGlobal),
     area: &mut TextArea<'_>,
-    buffer: &mut Buffer,
     calls: &[Call<'_>],
 ) -> Result<String, Fail> {
-    let answers = make_all(area, calls, buffer)?;
+    assert!(rt; calls.iter().all(|call| call.can_be_made()));
+    let mut buffer = Buffer::empty(rt.alloc(), Rect::default())?;
+    let end = run(area, calls, &mut buffer);
+    assert!(rt; end.refused == None);
     let report = Report {
-        answers: answers.as_slice(),
+        answers: end.answers.as_slice(),
         area,
         screen: None,
     };
-    Ok(report.to_string(alloc)?)
-}
-
-/// Makes the calls of a script.
-pub fn make(
-    alloc: Global,
-    area: &mut TextArea<'_>,
-    buffer: &mut Buffer,
-    script: &str,
-) -> Result<(), Fail> {
-    let commands = read(alloc, script.as_bytes())?;
-    let calls = calls(alloc, commands.as_slice())?;
-    let _answers = make_all(area, calls.as_slice(), buffer)?;
-    Ok(())
-}
-
-/// Makes calls, of which none may be refused, and gives their answers.
-pub fn make_all(
-    area: &mut TextArea<'_>,
-    calls: &[Call<'_>],
-    buffer: &mut Buffer,
-) -> Result<Vec<Answer>, Fail> {
-    if !calls.iter().all(|call| call.can_be_made()) {
-        return Err(Fail::new("a call that can't be made"));
-    }
-    let end = run(area, calls, buffer);
-    if end.refused.is_some() {
-        return Err(Fail::new("a refused call"));
-    }
-    Ok(end.answers)
-}
-
-/// Makes calls. Whether these are their answers.
-pub fn are_answers(
-    area: &mut TextArea<'_>,
-    buffer: &mut Buffer,
-    calls: &[Call<'_>],
-    wanted: &[Answer],
-) -> Result<bool, Fail> {
-    let answers = make_all(area, calls, buffer)?;
-    Ok(answers.as_slice() == wanted)
+    Ok(report.to_string(rt.alloc())?)
 }
