@@ -1,7 +1,7 @@
 -- The numbers beside blocks of rows, as blocks change.
-use Rattle.std.proofs.Common.{◌≡◌, ℕ, ◌+◌, ◌-◌, ◌<◌, ◌≤◌, inl, inr, List, [], ◌∷◌, ◌++◌, length, take, drop, get_or, set, sym, ap, refl, ◌∙◌, arith}
+use Rattle.std.proofs.Common.{◌≡◌, ℕ, ◌+◌, ◌-◌, ◌<◌, ◌≤◌, inl, inr, List, [], ◌∷◌, ◌++◌, length, take, drop, get_or, set, sym, ap, ◌∙◌, arith}
 use Rattle.std.proofs.lemmas.Bool.{cases_lt}
-use Rattle.std.proofs.lemmas.List.{append-nil, append_assoc, drop-set-lt, get_or-append-add, get_or_append_left, get_or-set_same, length-append, length-set, length-take-le, take-append-le, take-set-le, take-take}
+use Rattle.std.proofs.lemmas.List.{drop-set-lt, get_or-append-add, get_or_append_left, get_or-set_same, length-append, length-set, length-take-le, take-append-le, take-set-le, take-take}
 use Rattle.std.proofs.Math.Seq.{take-append-add}
 use Rattle.textarea_wrap.specs.RowsView.{RowsView}
 use Rattle.textarea_text.specs.Replaced.{replaced}

@@ -18,7 +18,7 @@ mod look_up;
 mod numbers;
 
 /// How many lines a block has that is cut from lines in one piece, but for a last one.
-pub const BLOCK: usize = 512;
+pub const BLOCK: usize = 768;
 
 /// The rows of lines, in blocks.
 #[derive(Drop)]
@@ -72,7 +72,7 @@ impl RowBlocks {
         }
     }
 
-    /// Cuts the lines, and puts their rows behind all others, in blocks of 512 lines and a last one. Each line adds one to `count`.
+    /// Cuts the lines, and puts their rows behind all others, in blocks of 768 lines and a last one. Each line adds one to `count`.
     /// More than 2^48 lines or rows are out of memory.
     pub fn push_lines(
         &mut self,

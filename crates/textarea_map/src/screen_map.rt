@@ -80,7 +80,7 @@ impl Clone for ScreenMap {
     }
 }
 
-/// The rows of all these lines, ready to be put in: in blocks where they are more than 512. Each line adds one to `count`. More than
+/// The rows of all these lines, ready to be put in: in blocks where they are more than 768. Each line adds one to `count`. More than
 /// 2^48 lines or rows are out of memory.
 pub fn new_rows(
     alloc: Global,

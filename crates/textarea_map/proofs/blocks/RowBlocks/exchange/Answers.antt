@@ -1,10 +1,9 @@
-use Rattle.std.proofs.Common.{◌≡◌, ◌+◌, ◌-◌, ◌<◌, ◌≤◌, ◌∙◌, List, [], ap, arith, drop, get_or, length, set, sym, take, ℕ}
+use Rattle.std.proofs.Common.{◌≡◌, ◌+◌, ◌<◌, ◌≤◌, ◌∙◌, List, [], ap, arith, get_or, length, set, ℕ}
 use Rattle.textarea_text.specs.Replaced.{replaced}
 use Rattle.textarea_text.proofs.Replacing.{length-replaced}
 use Rattle.textarea_wrap.specs.RowsView.{RowsView}
 use Rattle.textarea_map.specs.Blocks.{BlocksView, all_rows, rows_of_each}
 use Rattle.textarea_map.specs.Map.{row_total}
-use Rattle.textarea_map.specs.Numbered.{AreNumbered}
 use Rattle.textarea_map.proofs.InBlocks.{before_more, before_ordered, before_within, block_count, blocks_set, lines_sum, rows_are, rows_sum}
 use Rattle.textarea_map.proofs.RowSizes.{rows_exchanged}
 use Rattle.textarea_map.proofs.Totals.{all_set, totals_set}

@@ -1,9 +1,9 @@
-use Rattle.std.proofs.Common.{◌≡◌, ◌+◌, ◌-◌, ◌<◌, ◌≤◌, ◌∙◌, ap, arith, length, ℕ}
+use Rattle.std.proofs.Common.{◌≡◌, ◌-◌, ◌≤◌, ◌∙◌, ap, arith, length}
 use Rattle.textarea_text.specs.Replaced.{replaced}
 use Rattle.textarea_map.specs.Blocks.{BlocksView, all_rows, lines_before, rows_of_each}
 use Rattle.textarea_map.specs.Map.{row_total}
 use Rattle.textarea_map.specs.declared.blocks.numbers.Exchanged.{Exchanged}
-use Rattle.textarea_map.proofs.InBlocks.{before_ordered, before_within, block_count, blocks_exchanged, lines_sum, rows_sum, total_before}
+use Rattle.textarea_map.proofs.InBlocks.{before_ordered, before_within, blocks_exchanged, lines_sum, rows_sum, total_before}
 use Rattle.textarea_map.proofs.Totals.{all_exchanged, totals_exchanged}
 use Rattle.textarea_map.proofs.blocks.RowBlocks.exchange_blocks.Goals as goal
 use Rattle.textarea_map.proofs.blocks.RowBlocks.exchange_blocks.Goals.{After-lines_before, After-rows_before}

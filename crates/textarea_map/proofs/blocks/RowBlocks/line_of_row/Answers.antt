@@ -2,7 +2,7 @@ use Rattle.std.proofs.Common.{◌≡◌, ◌+◌, ◌-◌, ◌<◌, ◌≤◌, �
 use Rattle.textarea_wrap.specs.RowsView.{RowsView}
 use Rattle.textarea_map.specs.Blocks.{BlocksView, all_rows, lines_before, rows_of_each}
 use Rattle.textarea_map.specs.Map.{row_total}
-use Rattle.textarea_map.proofs.InBlocks.{before_more, before_within, block_count, item_is, line_there, lines_sum, rows_are, rows_sum, total_before, total_in_block}
+use Rattle.textarea_map.proofs.InBlocks.{before_more, block_count, item_is, line_there, rows_are, rows_sum, total_before, total_in_block}
 use Rattle.textarea_map.proofs.Totals.{found_at}
 use Rattle.textarea_map.proofs.blocks.RowBlocks.line_of_row.Goals as goal
 use Rattle.textarea_map.proofs.blocks.RowBlocks.line_of_row.Goals.{After-index-2, After-index-3}

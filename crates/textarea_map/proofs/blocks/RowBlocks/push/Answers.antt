@@ -1,7 +1,5 @@
-use Rattle.std.proofs.Common.{◌≡◌, ◌+◌, ◌<◌, ◌++◌, ◌∷◌, ◌∙◌, List, Result, Ok, Err, [], ap, arith, cond, length, refl, sym}
-use Rattle.std.proofs.lemmas.List.{map-append}
+use Rattle.std.proofs.Common.{◌≡◌, ◌++◌, ◌∷◌, ◌∙◌, List, Result, Ok, Err, [], ap, arith, cond, length, refl, sym}
 use Rattle.std.specs.Result.{IsOk, is_ok}
-use Rattle.textarea_wrap.specs.RowsView.{RowsView}
 use Rattle.textarea_map.specs.Blocks.{BlocksView, all_rows, rows_of_each}
 use Rattle.textarea_map.specs.Map.{row_total}
 use Rattle.textarea_map.proofs.InBlocks.{block_pushed, blocks_pushed, lines_sum, rows_sum}

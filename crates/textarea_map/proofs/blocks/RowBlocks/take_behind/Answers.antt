@@ -1,7 +1,7 @@
-use Rattle.std.proofs.Common.{◌≡◌, ◌+◌, ◌-◌, ◌<◌, ◌≤◌, ◌∙◌, List, [], ap, arith, drop, get_or, length, set, take, ℕ}
+use Rattle.std.proofs.Common.{◌≡◌, ◌+◌, ◌<◌, ◌≤◌, ◌∙◌, List, [], ap, arith, drop, get_or, length, set, take, ℕ}
 use Rattle.std.proofs.lemmas.List.{length-drop, length-take-le}
 use Rattle.textarea_wrap.specs.RowsView.{RowsView}
-use Rattle.textarea_map.specs.Blocks.{BlocksView, all_rows, rows_of_each}
+use Rattle.textarea_map.specs.Blocks.{BlocksView, rows_of_each}
 use Rattle.textarea_map.specs.Map.{row_total}
 use Rattle.textarea_map.proofs.InBlocks.{before_more, before_ordered, before_within, block_count, blocks_set, lines_sum, rows_are, rows_sum}
 use Rattle.textarea_map.proofs.Numbers.{row_total-take_drop}

@@ -2,7 +2,6 @@ use Rattle.std.proofs.Common.{◌≡◌, ◌∷◌, ◌∙◌, List, [], Vec, ap
 use Rattle.std.specs.List.{AllZip}
 use Rattle.textarea_wrap.specs.RowsView.{RowsView}
 use Rattle.textarea_map.specs.Blocks.{BlocksView, rows_of_each}
-use Rattle.textarea_map.specs.Numbered.{AreNumbered}
 use Rattle.textarea_map.proofs.blocks.RowBlocksClone.clone.Goals as goal
 
 all_same : {X : Type 0} (items copies : List X) → AllZip (λ a b. b ≡ a) items copies → copies ≡ items
