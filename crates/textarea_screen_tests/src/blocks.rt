@@ -11,6 +11,20 @@ pub struct Sides {
     pub padding: (u16, u16, u16, u16),
 }
 
+/// A line at each side.
+pub const ALL: Sides = Sides {
+    borders: Borders::ALL,
+    has_title: false,
+    padding: (0, 0, 0, 0),
+};
+
+/// A title alone.
+pub const TITLED: Sides = Sides {
+    borders: Borders::NONE,
+    has_title: true,
+    padding: (0, 0, 0, 0),
+};
+
 pub fn line(alloc: Global, text: &str) -> Result<Line<'static>, AllocError> {
     Line::raw(String::from_str(alloc, text)?)
 }

@@ -1,6 +1,6 @@
 //! Rectangles, blocks, styles, sets of bits, texts and cells, as tables.
 
-use crate::blocks::{Sides, block, line};
+use crate::blocks::{ALL, Sides, TITLED, block, line};
 use bitflags::Flags;
 use std::alloc::{AllocError, Global};
 use std::test::Fail;
@@ -33,18 +33,6 @@ static CELLS: [(u16, u16, bool); 6] = [
 const PLAIN: Sides = Sides {
     borders: Borders::NONE,
     has_title: false,
-    padding: (0, 0, 0, 0),
-};
-
-const ALL: Sides = Sides {
-    borders: Borders::ALL,
-    has_title: false,
-    padding: (0, 0, 0, 0),
-};
-
-const TITLED: Sides = Sides {
-    borders: Borders::NONE,
-    has_title: true,
     padding: (0, 0, 0, 0),
 };
 

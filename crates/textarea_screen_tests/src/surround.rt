@@ -1,6 +1,6 @@
 //! What surrounds the rows of a text area, as tables: calls, and what the surround tells behind them.
 
-use crate::blocks::{Sides, block, line};
+use crate::blocks::{ALL, Sides, TITLED, block, line};
 use std::alloc::{AllocError, Global};
 use std::test::Fail;
 use textarea_screen::screen::{Borders, Color, Line, Modifier, Span, Style, Text};
@@ -27,21 +27,9 @@ const RED: Style = Style {
     sub_modifier: Modifier(0),
 };
 
-const ALL: Sides = Sides {
-    borders: Borders::ALL,
-    has_title: false,
-    padding: (0, 0, 0, 0),
-};
-
 const LEFT: Sides = Sides {
     borders: Borders::LEFT,
     has_title: false,
-    padding: (0, 0, 0, 0),
-};
-
-const TITLED: Sides = Sides {
-    borders: Borders::NONE,
-    has_title: true,
     padding: (0, 0, 0, 0),
 };
 
