@@ -3,8 +3,9 @@
 # lines, characters or commands, and the last time in the first ones. Times are processor time, the best of some runs; of each
 # that of the same program on the same text, with nothing done to it, is taken away.
 # - A key in a text of lines of 80 columns, wrapped: into a line of some 1,000 characters, which it cuts anew; one that gives a
-#   line a second row, or takes it away; and by turns a line break and Backspace, behind which the lines are moved. The same
-#   break in the middle of the lines' screen map alone, and the move of their headers alone that it makes.
+#   line a second row, or takes it away; and by turns a line break and Backspace, in the first line,
+#   behind which all lines are moved, and in the last one, behind which none is. The same break in the middle of the lines'
+#   screen map alone, and the move of their headers alone that it makes there.
 # - A character that is typed, or removed by Backspace, in a line that isn't wrapped, by the line's length in characters: of one
 #   byte and of two, at the line's end and in its middle, where what stands behind it in the line is moved; and that move alone.
 # - A width that changes, and one whose rows were measured before: the time for each line.
@@ -215,7 +216,8 @@ run_row() {
 printf '| what | unit | 1,000 | 10,000 | 100,000 | 1,000,000 | last to first |\n|---|---|---:|---:|---:|---:|---:|\n'
 jobs_row "a key into a long wrapped line, by lines" typing_bench text 100000 100000 100000 200000
 jobs_row "a key that changes a line's rows, by lines" typing_bench rows 200000 200000 400000 1000000
-jobs_row "a line break, by lines" typing_bench breaks 100000 50000 4000 200
+jobs_row "a line break in the first line, by lines" typing_bench breaks 100000 50000 4000 200
+jobs_row "a line break in the last line, by lines" typing_bench last_breaks 100000 100000 200000 1000000
 jobs_row "the same in the screen map alone, by lines" typing_bench map 400000 400000 400000 1000000
 jobs_row "the same move of the lines' headers alone, by lines" typing_bench headers 1000000 100000 4000 400
 jobs_row "a character of one byte at a line's end, by its length" typing_bench ascii 1000000 1000000 1000000 1000000

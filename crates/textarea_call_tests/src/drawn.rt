@@ -10,8 +10,8 @@ use std::process::Abort;
 use std::string::ToString;
 use std::test::Fail;
 use textarea_calls::{Answer, Call};
+use textarea_printing::Screen;
 use textarea_run::run::run;
-use textarea_script::printing::Screen;
 use tui_textarea::{
     Alignment, Block, Buffer, Color, CursorRenderMode, Modifier, Position, Rect, Style, Text,
     TextArea,

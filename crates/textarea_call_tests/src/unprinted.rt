@@ -5,8 +5,8 @@ use std::string::ToString;
 use std::test::Fail;
 use textarea_calls::Call;
 use textarea_commands::commands::{calls, read};
+use textarea_printing::Report;
 use textarea_run::run::run;
-use textarea_script::printing::Report;
 use tui_textarea::{AtomicRange, Buffer, Rect, Style, TextArea, WrapMode};
 
 #[derive(Clone, Copy, Debug, PartialEq, Eq)]

@@ -1,5 +1,5 @@
 -- Rows that take the place of others in two steps.
-use Rattle.std.proofs.Common.{◌≡◌, ℕ, ◌+◌, ◌-◌, ◌≤◌, List, [], ◌++◌, length, take, drop, sym, ap, ◌∙◌, arith}
+use Rattle.std.proofs.Common.{◌≡◌, ℕ, ◌+◌, ◌≤◌, List, [], ◌++◌, length, take, drop, sym, ap, ◌∙◌, arith}
 use Rattle.std.proofs.lemmas.List.{append_assoc, drop_at, drop-drop, length-take-le, take-append-drop, take-append-le, take-take}
 use Rattle.textarea_text.specs.Replaced.{replaced}
 use Rattle.textarea_text.proofs.Replacing.{drop_two, take_two}

@@ -1,5 +1,6 @@
 -- Rows in blocks: what stands before a block, which block a line is in, and the rows of all blocks where those of one change.
-use Rattle.std.proofs.Common.{◌≡◌, ℕ, zero, suc, ◌+◌, ◌-◌, ◌<◌, ◌≤◌, inl, inr, List, [], ◌∷◌, ◌++◌, Vec, length, take, drop, get_or, set, vec_len, vec_capacity, sym, ap, refl, ◌∙◌, arith}
+use Rattle.std.proofs.Common.{◌≡◌, ℕ, zero, suc, ◌+◌, ◌-◌, ◌<◌, ◌≤◌, inl, inr, List, Result, Ok, Err, cond, [], ◌∷◌, ◌++◌, Vec, length, take, drop, get_or, set, vec_len, vec_capacity, sym, ap, refl, ◌∙◌, arith}
+use Rattle.std.specs.Result.{IsOk, is_ok}
 use Rattle.std.proofs.lemmas.Bool.{cases_lt}
 use Rattle.std.proofs.lemmas.List.{append-nil, append_assoc, drop-append-le, drop_all, drop_at, drop-drop, drop_more, get_or-append-add, get_or_append_left, get_or-map, get_or-set_same, length-append, length-drop, length-map, map-append, length-set, map-set, set_split, take_all, take-append-drop, take-append-le, take-map, take_more, take_more_set, take-set-le, drop-map, drop-set-lt}
 use Rattle.std.proofs.Math.Seq.{take-add, take-append-add}
@@ -268,6 +269,11 @@ pub item_is : {X : Type 0} (items : List X) (i : ℕ) (item d : X) → i < lengt
 item_is [] i item d within is = absurd (omega arith)
 item_is (x ∷ items) zero item d within is = is
 item_is (x ∷ items) (suc i) item d within is = item_is items i item d (omega arith) is
+
+-- a push for which there is room
+pub pushed : {T E X : Type 0} (r : Result T E) (old new : List X) (x : X) → new ≡ cond (is_ok r) (old ++ x ∷ []) old → IsOk r → new ≡ old ++ x ∷ []
+pushed (Ok v) old new x e h = e
+pushed (Err v) old new x e h = absurd cc
 
 -- the rows of a block
 pub rows_are : {A : Type 0} (items : List (Vec RowsView A)) (block : ℕ) (rows : Vec RowsView A) → block < length items → rows ≡ get_or items block rows → rows.items ≡ get_or (rows_of_each items) block []

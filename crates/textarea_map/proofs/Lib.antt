@@ -11,3 +11,4 @@ pub mod FittingRows
 pub mod InBlocks
 pub mod Totals
 pub mod Exchanging
+pub mod Turning

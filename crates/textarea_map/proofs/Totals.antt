@@ -1,7 +1,7 @@
 -- The numbers beside blocks of rows, as blocks change.
-use Rattle.std.proofs.Common.{◌≡◌, ℕ, ◌+◌, ◌-◌, ◌<◌, ◌≤◌, inl, inr, List, [], ◌∷◌, ◌++◌, length, take, drop, get_or, set, sym, ap, refl, ◌∙◌, arith}
+use Rattle.std.proofs.Common.{◌≡◌, ℕ, ◌+◌, ◌-◌, ◌<◌, ◌≤◌, inl, inr, List, [], ◌∷◌, ◌++◌, length, take, drop, get_or, set, sym, ap, ◌∙◌, arith}
 use Rattle.std.proofs.lemmas.Bool.{cases_lt}
-use Rattle.std.proofs.lemmas.List.{append-nil, append_assoc, drop-set-lt, get_or-append-add, get_or_append_left, get_or-set_same, length-append, length-set, length-take-le, take-append-le, take-set-le, take-take}
+use Rattle.std.proofs.lemmas.List.{drop-set-lt, get_or-append-add, get_or_append_left, get_or-set_same, length-append, length-set, length-take-le, take-append-le, take-set-le, take-take}
 use Rattle.std.proofs.Math.Seq.{take-append-add}
 use Rattle.textarea_wrap.specs.RowsView.{RowsView}
 use Rattle.textarea_text.specs.Replaced.{replaced}
@@ -9,7 +9,7 @@ use Rattle.textarea_text.proofs.Replacing.{length-replaced}
 use Rattle.textarea_map.specs.declared.blocks.numbers.Exchanged.{Exchanged}
 use Rattle.textarea_map.specs.Blocks.{all_rows}
 use Rattle.textarea_map.specs.Numbered.{AreExchanged, AreTotals}
-use Rattle.textarea_map.proofs.InBlocks.{all_rows-append, before_all, before_further, before_more, item_is, total_before}
+use Rattle.textarea_map.proofs.InBlocks.{all_rows-append, before_all, before_further, before_more, total_before}
 use Rattle.textarea_map.proofs.RowSizes.{IsSum, Sum}
 
 -- the block in which a number falls, by a search
@@ -23,9 +23,9 @@ found_at total sum blocks numbers number block h within from next there = (
 )
 
 -- the total before the block behind one
-pub number_behind : (total : Sum) → IsSum total → (blocks : List (List RowsView)) (numbers : List ℕ) (block number : ℕ) (rows : List RowsView) → AreTotals total blocks numbers → block < length blocks → number ≡ get_or numbers block number → rows ≡ get_or blocks block [] → number + total rows ≡ total_before total blocks (block + 1)
+pub number_behind : (total : Sum) → IsSum total → (blocks : List (List RowsView)) (numbers : List ℕ) (block number : ℕ) (rows : List RowsView) → AreTotals total blocks numbers → block < length blocks → number ≡ get_or numbers block 0 → rows ≡ get_or blocks block [] → number + total rows ≡ total_before total blocks (block + 1)
 number_behind total sum blocks numbers block number rows h within is rows_are =
-    omega (arith, before_more total sum blocks block within, h.right block within, item_is numbers block number 0 (omega (arith, h.len)) is, ap total rows_are)
+    omega (arith, before_more total sum blocks block within, h.right block within, is, ap total rows_are)
 
 -- ---- another block in the place of one
 

@@ -6,3 +6,4 @@ pub mod Prepared
 pub mod Rows
 pub mod Seen
 pub mod Shown
+pub mod Turned

@@ -1,12 +1,14 @@
 //! The rows of lines in blocks of lines, one behind the other, with the number of lines and of visual rows before each block. So
 //! rows take the place of others by a move of those that stand behind them in one block, or of whole blocks; of all that lies
-//! behind, only those two numbers of each block change.
+//! behind, only those two numbers of each block change, and where changes of one block follow one another, not even these are
+//! touched.
 ghost use Rattle.std.specs.Prelude.{◌≡◌, ◌+◌, ◌≤◌, ◌++◌, ◌∷◌, ℕ, List, [], length, OnOk};
 ghost use Rattle.textarea_text.specs.Text.{lines_of};
 ghost use Rattle.textarea_map.specs.Layout.{AreRowsOf, ticks_behind, ticks_of};
 ghost use Rattle.textarea_map.specs.Blocks.{all_rows};
 ghost use Rattle.textarea_map.specs.Map.{row_total};
 
+use self::numbers::Numbers;
 use crate::layout::{Wrapping, count_rows, rows_of};
 use std::alloc::{AllocError, Global};
 use std::marker::Model;
@@ -18,14 +20,14 @@ mod look_up;
 mod numbers;
 
 /// How many lines a block has that is cut from lines in one piece, but for a last one.
-pub const BLOCK: usize = 512;
+pub const BLOCK: usize = 768;
 
 /// The rows of lines, in blocks.
 #[derive(Drop)]
 pub struct RowBlocks {
     blocks: Vec<Vec<Rows>>,
-    lines: Vec<usize>,
-    rows: Vec<usize>,
+    lines: Numbers,
+    rows: Numbers,
 }
 
 impl Model for RowBlocks {
@@ -39,12 +41,11 @@ impl Model for RowBlocks {
       blocks = rows_of_each blocks.blocks.items;
       spare = spare_of_each blocks.blocks.items;
       more = min (vec_capacity blocks.blocks - vec_len blocks.blocks)
-          (min (vec_capacity blocks.lines - vec_len blocks.lines)
-          (vec_capacity blocks.rows - vec_len blocks.rows));
+          (min blocks.lines.spare blocks.rows.spare);
     } };
 
     ghost invariant = { λ blocks.
-        AreNumbered (rows_of_each blocks.blocks.items) blocks.lines.items blocks.rows.items };
+        AreNumbered (rows_of_each blocks.blocks.items) blocks.lines.numbers blocks.rows.numbers };
 }
 
 impl Clone for RowBlocks {
@@ -67,12 +68,12 @@ impl RowBlocks {
     {
         RowBlocks {
             blocks: Vec::new(alloc),
-            lines: Vec::new(alloc),
-            rows: Vec::new(alloc),
+            lines: Numbers::new(alloc),
+            rows: Numbers::new(alloc),
         }
     }
 
-    /// Cuts the lines, and puts their rows behind all others, in blocks of 512 lines and a last one. Each line adds one to `count`.
+    /// Cuts the lines, and puts their rows behind all others, in blocks of 768 lines and a last one. Each line adds one to `count`.
     /// More than 2^48 lines or rows are out of memory.
     pub fn push_lines(
         &mut self,
@@ -89,7 +90,7 @@ impl RowBlocks {
         ensures ticks { OnOk result (ticks_of (all_rows self.new.blocks)
             ≡ ticks_of (all_rows self.old.blocks) ++ ticks_behind count.old (length lines.now)) }
     {
-        let alloc = *self.lines.allocator();
+        let alloc = *self.blocks.allocator();
         let mut from = 0;
         'cutting: while from < lines.len() {
             let to = lines.len().min(from + BLOCK);
@@ -109,8 +110,8 @@ impl RowBlocks {
         within_limit(count.saturating_add(count_rows(rows.as_slice())))?;
         self.reserve(1)?;
         let _ = self.blocks.push(rows);
-        let _ = self.lines.push(lines);
-        let _ = self.rows.push(count);
+        self.lines.push(lines);
+        self.rows.push(count);
         Ok(())
     }
 

@@ -50,7 +50,9 @@ impl Model for ScreenMap {
 /// their own.
 #[derive(Drop)]
 pub enum NewRows {
+    /// Those of at most `BLOCK` lines.
     Few(Vec<Rows>),
+    /// Those of more lines.
     Many(RowBlocks),
 }
 
@@ -80,7 +82,7 @@ impl Clone for ScreenMap {
     }
 }
 
-/// The rows of all these lines, ready to be put in: in blocks where they are more than 512. Each line adds one to `count`. More than
+/// The rows of all these lines, ready to be put in: in blocks where they are more than 768. Each line adds one to `count`. More than
 /// 2^48 lines or rows are out of memory.
 pub fn new_rows(
     alloc: Global,

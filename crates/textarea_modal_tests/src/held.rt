@@ -6,7 +6,7 @@ use std::string::ToString;
 use std::test::Fail;
 use textarea_data::input::{Input, Key};
 use textarea_modal::{Modal, ModalEnd};
-use textarea_script::printing::Report;
+use textarea_printing::Report;
 use tui_textarea::{Buffer, Rect, TextArea};
 
 // The keys of runs one after another, each but the last followed by `%`, behind which the text area is drawn into 20 columns and 4

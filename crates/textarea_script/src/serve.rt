@@ -1,13 +1,13 @@
 // The whole work of `tascript`, over any reader and two writers.
 ghost use Rattle.std.specs.Prelude.{◌≡◌, ◌≤◌, ◌<◌, ◌≢◌, IfErr};
 
-use crate::printing::{Report, Screen};
 use std::alloc::{AllocError, Global};
 use std::io::{Read, Write};
 use std::string::ToString;
 use textarea_calls::{Answer, Call};
 use textarea_commands::commands;
 use textarea_commands::commands::{Command, ReadError};
+use textarea_printing::{Report, Screen};
 use textarea_run::run::run;
 use textarea_screen::screen::{Buffer, Rect};
 use tui_textarea::TextArea;

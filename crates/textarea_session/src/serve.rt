@@ -16,7 +16,7 @@ use std::str::from_utf8;
 use std::string::ToString;
 use textarea_data::input::{Input, Key};
 use textarea_modal::{Modal, ModalStop};
-use textarea_script::printing::Report;
+use textarea_printing::Report;
 use textarea_script::serve as script;
 use textarea_script::serve::{DONE, OUT_OF_MEMORY, STREAM_FAILED};
 use tui_textarea::TextArea;

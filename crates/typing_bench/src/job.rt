@@ -24,8 +24,10 @@ enum Work {
     Text,
     /// By turns a character that makes one row two, and Backspace, which makes them one again.
     Rows,
-    /// By turns a line break and Backspace.
+    /// By turns a line break and Backspace, in the first line.
     Breaks,
+    /// The same in the last line, behind which no line is moved.
+    LastBreaks,
     /// The same in the screen map of the lines alone.
     Map,
     /// The same move of the lines' headers alone.
@@ -79,6 +81,7 @@ impl Job {
                 "text" => Work::Text,
                 "rows" => Work::Rows,
                 "breaks" => Work::Breaks,
+                "last_breaks" => Work::LastBreaks,
                 "map" => Work::Map,
                 "headers" => Work::Headers,
                 "bytes" => Work::Bytes,
@@ -122,17 +125,30 @@ impl Job {
             line_numbers: false,
             inner_width: 81,
         };
-        let mut document = Document::new(alloc, lines, view, 50)?;
-        if let Work::Line(line) = self.work {
-            self.put_line(alloc, &mut document, line)?;
-        }
-        for time in 0..self.times {
-            self.work_once(&mut document, time)?;
-        }
+        let mut document = Document::new(alloc, Vec::new(alloc), view, 50)?;
+        self.work_on(alloc, &mut document, lines)?;
         Ok((
             document.rows_at_width(view.inner_width)?,
             document.cursor().1,
         ))
+    }
+
+    // Sets these lines, or the long one, and does the work.
+    fn work_on(
+        &self,
+        alloc: Global,
+        document: &mut Document,
+        lines: Vec<String>,
+    ) -> Result<(), AllocError> {
+        match self.work {
+            Work::Line(line) => self.put_line(alloc, document, line)?,
+            Work::LastBreaks => put_lines(document, lines, usize::MAX)?,
+            _ => put_lines(document, lines, 0)?,
+        }
+        for time in 0..self.times {
+            self.work_once(document, time)?;
+        }
+        Ok(())
     }
 
     // The lines of the text; none where it gets one long line.
@@ -177,10 +193,10 @@ impl Job {
                 type_character(document, if time % 6 == 5 { ' ' } else { 'x' })
             }
             Work::Rows if time % 2 == 0 => type_character(document, 'x'),
-            Work::Breaks if time % 2 == 0 => document.insert_break(Duration::ZERO),
+            Work::Breaks | Work::LastBreaks if time % 2 == 0 => document.insert_break(Duration::ZERO),
             Work::Line(line) if time / 100 % 2 == 0 => type_character(document, line.character()),
             Work::Map | Work::Headers | Work::Bytes => Ok(()),
-            Work::Text | Work::Rows | Work::Breaks | Work::Line(_) => {
+            Work::Text | Work::Rows | Work::Breaks | Work::LastBreaks | Work::Line(_) => {
                 document.remove_before(true, Duration::ZERO)?;
                 Ok(())
             }
@@ -191,6 +207,14 @@ impl Job {
             }
         }
     }
+}
+
+// Sets the lines, with the cursor at the start of this one, or of the last one where there are fewer.
+fn put_lines(document: &mut Document, lines: Vec<String>, row: usize) -> Result<(), AllocError> {
+    if lines.is_empty() {
+        return Ok(());
+    }
+    document.set_lines(lines, (row, 0))
 }
 
 // Types a character.

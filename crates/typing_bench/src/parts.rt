@@ -3,6 +3,7 @@
 ghost use Rattle.std.specs.Prelude.{◌≡◌, ◌+◌, ◌<◌, ◌≤◌, length, vec_len, IfOk, OnOk};
 
 use std::alloc::{AllocError, Global};
+use textarea_map::blocks::BLOCK;
 use textarea_map::layout::Wrapping;
 use textarea_map::screen_map::ScreenMap;
 use textarea_text::replace::replace_items;
@@ -14,11 +15,12 @@ const WRAPPED: Wrapping = Wrapping {
     tab_len: 4,
 };
 
-/// Breaks a line in the screen map of the lines, and takes the break back, so many times. Answers with the number of visual rows.
+/// Breaks a line in the screen map of the lines, in the middle of the block in their middle, and takes the break back, so many times.
+/// Answers with the number of visual rows.
 pub fn break_in_map(alloc: Global, lines: &[String], times: usize) -> Result<usize, AllocError> {
     let mut counter = WrapCount::new();
     let mut map = ScreenMap::new(alloc, lines, WRAPPED, &mut counter)?;
-    let row = lines.len() / 2;
+    let row = lines.len() / 2 / BLOCK * BLOCK + BLOCK / 2;
     if row < lines.len() {
         break_rows(alloc, &mut map, row, times, &mut counter)?;
     }

@@ -7,7 +7,7 @@ ghost use Rattle.textarea_map.specs.Blocks.{FitsInBlock, IsEdge, all_rows, lines
 ghost use Rattle.textarea_map.specs.Map.{row_total};
 
 use super::RowBlocks;
-use super::numbers::{Exchanged, exchange_numbers, move_numbers};
+use super::numbers::Exchanged;
 use crate::layout::count_rows;
 use std::alloc::AllocError;
 use textarea_text::replace::replace_items;
@@ -32,8 +32,8 @@ impl RowBlocks {
         let going = &self.blocks[block].as_slice()[start..start + count];
         let (rows_gone, rows_come) = (count_rows(going), count_rows(rows.as_slice()));
         replace_items(&mut self.blocks[block], start, count, rows);
-        move_numbers(&mut self.lines, block + 1, count, come);
-        move_numbers(&mut self.rows, block + 1, rows_gone, rows_come);
+        self.lines.turn_from(block + 1, count, come);
+        self.rows.turn_from(block + 1, rows_gone, rows_come);
     }
 
     // Whole blocks take the place of the blocks from one on up to another, without memory.
@@ -68,8 +68,8 @@ impl RowBlocks {
             rows,
         } = new;
         replace_items(&mut self.blocks, from, to - from, blocks);
-        exchange_numbers(&mut self.lines, lines, lines_exchanged);
-        exchange_numbers(&mut self.rows, rows, rows_exchanged);
+        self.lines.exchange(lines, lines_exchanged);
+        self.rows.exchange(rows, rows_exchanged);
     }
 
     // Removes the first `count` lines from this block on, without memory. A block that has no line any more goes with them.
@@ -83,7 +83,7 @@ impl RowBlocks {
         if count == 0 {
             return;
         }
-        let alloc = *self.lines.allocator();
+        let alloc = *self.blocks.allocator();
         let (last, index) = self.place_of(self.lines_before(block) + count - 1);
         if index + 1 == self.blocks[last].len() {
             self.exchange_blocks(block, last + 1, RowBlocks::new(alloc));
@@ -184,7 +184,7 @@ impl RowBlocks {
         ensures edge { OnOk result (IsEdge self.new.blocks
             (lines_before self.old.blocks block + at)) }
     {
-        let mut behind = RowBlocks::new(*self.lines.allocator());
+        let mut behind = RowBlocks::new(*self.blocks.allocator());
         behind.reserve(1)?;
         self.reserve(1)?;
         let rows = self.take_behind(block, at)?;
@@ -205,9 +205,9 @@ impl RowBlocks {
         ensures room { self.new.more ≡ self.old.more }
     {
         let rows = self.blocks[block].split_off(at)?;
-        move_numbers(&mut self.lines, block + 1, rows.len(), 0);
+        self.lines.turn_from(block + 1, rows.len(), 0);
         let rows_gone = count_rows(rows.as_slice());
-        move_numbers(&mut self.rows, block + 1, rows_gone, 0);
+        self.rows.turn_from(block + 1, rows_gone, 0);
         Ok(rows)
     }
 
@@ -220,7 +220,7 @@ impl RowBlocks {
         ensures { self.new.blocks ≡ rows.items ∷ [] }
     {
         let _ = self.blocks.push(rows);
-        let _ = self.lines.push(0);
-        let _ = self.rows.push(0);
+        self.lines.push(0);
+        self.rows.push(0);
     }
 }

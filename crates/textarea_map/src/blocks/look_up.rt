@@ -4,7 +4,6 @@ ghost use Rattle.textarea_map.specs.Blocks.{IsBlockOf, IsEdge, all_rows, lines_b
 ghost use Rattle.textarea_map.specs.Map.{ranges_at, row_total, size_total};
 
 use super::RowBlocks;
-use super::numbers::last_at_most;
 use crate::layout::{count_rows, size_of_rows};
 use textarea_wrap::wrap::Rows;
 
@@ -17,7 +16,7 @@ impl RowBlocks {
         if block == 0 {
             return 0;
         }
-        self.lines[block - 1] + self.blocks[block - 1].len()
+        self.lines.at(block - 1) + self.blocks[block - 1].len()
     }
 
     // How many visual rows the blocks before this one have.
@@ -28,7 +27,7 @@ impl RowBlocks {
         if block == 0 {
             return 0;
         }
-        self.rows[block - 1] + count_rows(self.blocks[block - 1].as_slice())
+        self.rows.at(block - 1) + count_rows(self.blocks[block - 1].as_slice())
     }
 
     // The block of a line, and the line's number among those of its block.
@@ -38,8 +37,8 @@ impl RowBlocks {
         ensures line { lines_before self.now.blocks result.0 + result.1 ≡ line }
         ensures within { result.1 < length (get_or self.now.blocks result.0 []) }
     {
-        let block = last_at_most(self.lines.as_slice(), line);
-        (block, line - self.lines[block])
+        let block = self.lines.last_at_most(line);
+        (block, line - self.lines.at(block))
     }
 
     // The block that begins with the line, or the number of blocks where the line is behind all others.
@@ -69,7 +68,7 @@ impl RowBlocks {
         ensures { result ≡ row_total (take line (all_rows self.now.blocks)) }
     {
         let (block, index) = self.place_of(line);
-        self.rows[block] + count_rows(&self.blocks[block].as_slice()[..index])
+        self.rows.at(block) + count_rows(&self.blocks[block].as_slice()[..index])
     }
 
     // The line of the visual row, and the row's number among the rows of that line.
@@ -79,9 +78,9 @@ impl RowBlocks {
         ensures row { row_total (take result.0 (all_rows self.now.blocks)) + result.1 ≡ row }
         ensures inside { row < row_total (take (result.0 + 1) (all_rows self.now.blocks)) }
     {
-        let block = last_at_most(self.rows.as_slice(), row);
-        let (index, left) = row_in(self.blocks[block].as_slice(), row - self.rows[block]);
-        (self.lines[block] + index, left)
+        let block = self.rows.last_at_most(row);
+        let (index, left) = row_in(self.blocks[block].as_slice(), row - self.rows.at(block));
+        (self.lines.at(block) + index, left)
     }
 
     // How many rows the `count` lines from this one on have, and the bytes and the number of these lines, summed, or the greatest

@@ -1,10 +1,9 @@
-use Rattle.std.proofs.Common.{◌≡◌, ◌+◌, ◌-◌, ◌<◌, ◌≤◌, ◌∙◌, List, [], ap, arith, drop, get_or, length, set, sym, take, ℕ}
+use Rattle.std.proofs.Common.{◌≡◌, ◌+◌, ◌<◌, ◌≤◌, ◌∙◌, List, [], ap, arith, get_or, length, set, ℕ}
 use Rattle.textarea_text.specs.Replaced.{replaced}
 use Rattle.textarea_text.proofs.Replacing.{length-replaced}
 use Rattle.textarea_wrap.specs.RowsView.{RowsView}
 use Rattle.textarea_map.specs.Blocks.{BlocksView, all_rows, rows_of_each}
 use Rattle.textarea_map.specs.Map.{row_total}
-use Rattle.textarea_map.specs.Numbered.{AreNumbered}
 use Rattle.textarea_map.proofs.InBlocks.{before_more, before_ordered, before_within, block_count, blocks_set, lines_sum, rows_are, rows_sum}
 use Rattle.textarea_map.proofs.RowSizes.{rows_exchanged}
 use Rattle.textarea_map.proofs.Totals.{all_set, totals_set}
@@ -45,28 +44,28 @@ exchanged c =
       come_is = come;
     }
 
-pub move_numbers-requires-clause-enough : goal.move_numbers-requires-clause-enough
-move_numbers-requires-clause-enough c = λ k behind there.
-    let known = exchanged (goal.at.move_numbers-requires-clause-enough c).After-replace_items in
+pub turn_from-requires-clause-enough : goal.turn_from-requires-clause-enough
+turn_from-requires-clause-enough c = λ k behind there.
+    let known = exchanged (goal.at.turn_from-requires-clause-enough c).After-replace_items in
     let blocks = rows_of_each c.self.inside.blocks.items in
-    omega (arith, known.inside, c.self.invariant.lines_are.right k (omega (arith, there, c.self.invariant.lines_are.len, c.self.inside.lines.ok.0)), before_ordered length lines_sum blocks (c.args.block + 1) k behind, before_more length lines_sum blocks c.args.block known.within)
+    omega (arith, known.inside, c.self.invariant.lines_are.right k (omega (arith, there, c.self.invariant.lines_are.len)), before_ordered length lines_sum blocks (c.args.block + 1) k behind, before_more length lines_sum blocks c.args.block known.within)
 
-pub move_numbers-requires-clause-small : goal.move_numbers-requires-clause-small
-move_numbers-requires-clause-small c = λ k behind there.
+pub turn_from-requires-clause-small : goal.turn_from-requires-clause-small
+turn_from-requires-clause-small c = λ k behind there.
     let blocks = rows_of_each c.self.inside.blocks.items in
-    omega (arith, c.self.invariant.lines_are.right k (omega (arith, there, c.self.invariant.lines_are.len, c.self.inside.lines.ok.0)), before_within length lines_sum blocks k, c.self.invariant.few_lines, c.requires.lines, c.len-come.ensures)
+    omega (arith, c.self.invariant.lines_are.right k (omega (arith, there, c.self.invariant.lines_are.len)), before_within length lines_sum blocks k, c.self.invariant.few_lines, c.requires.lines, c.len-come.ensures)
 
-pub move_numbers-requires-2-clause-enough : goal.move_numbers-requires-2-clause-enough
-move_numbers-requires-2-clause-enough c = λ k behind there.
-    let known = exchanged (goal.at.move_numbers-requires-2-clause-enough c).After-replace_items in
+pub turn_from-requires-2-clause-enough : goal.turn_from-requires-2-clause-enough
+turn_from-requires-2-clause-enough c = λ k behind there.
+    let known = exchanged (goal.at.turn_from-requires-2-clause-enough c).After-replace_items in
     let blocks = rows_of_each c.self.inside.blocks.items in
-    omega (arith, known.part, c.self.invariant.rows_are.right k (omega (arith, there, c.self.invariant.rows_are.len, c.self.inside.rows.ok.0)), before_ordered row_total rows_sum blocks (c.args.block + 1) k behind, before_more row_total rows_sum blocks c.args.block known.within)
+    omega (arith, known.part, c.self.invariant.rows_are.right k (omega (arith, there, c.self.invariant.rows_are.len)), before_ordered row_total rows_sum blocks (c.args.block + 1) k behind, before_more row_total rows_sum blocks c.args.block known.within)
 
-pub move_numbers-requires-2-clause-small : goal.move_numbers-requires-2-clause-small
-move_numbers-requires-2-clause-small c = λ k behind there.
-    let known = exchanged (goal.at.move_numbers-requires-2-clause-small c).After-replace_items in
+pub turn_from-requires-2-clause-small : goal.turn_from-requires-2-clause-small
+turn_from-requires-2-clause-small c = λ k behind there.
+    let known = exchanged (goal.at.turn_from-requires-2-clause-small c).After-replace_items in
     let blocks = rows_of_each c.self.inside.blocks.items in
-    omega (arith, c.self.invariant.rows_are.right k (omega (arith, there, c.self.invariant.rows_are.len, c.self.inside.rows.ok.0)), before_within row_total rows_sum blocks k, c.self.invariant.few_rows, c.requires.rows, known.come_is)
+    omega (arith, c.self.invariant.rows_are.right k (omega (arith, there, c.self.invariant.rows_are.len)), before_within row_total rows_sum blocks k, c.self.invariant.few_rows, c.requires.rows, known.come_is)
 
 pub invariant_of-self : goal.invariant_of-self
 invariant_of-self c =
@@ -81,14 +80,8 @@ invariant_of-self c =
     let rows = c.self.invariant.rows_are in
     rw (blocks_set inside.blocks.items block c.replace_items.new.items)
     (record {
-      lines_are = totals_set length lines_sum blocks inside.lines.items c.move_numbers.new.numbers.items block c.args.count c.len-come.result now lines known.within size
-          (omega (arith, c.move_numbers.ensures.len, c.move_numbers.new.numbers.ok.0, inside.lines.ok.0))
-          c.move_numbers.ensures.above
-          (λ k behind there. c.move_numbers.ensures.moved k behind (omega (arith, there, inside.lines.ok.0)));
-      rows_are = totals_set row_total rows_sum blocks inside.rows.items c.move_numbers-2.new.numbers.items block c.count_rows-rows_gone.result c.count_rows-rows_come.result now rows known.within known.turned
-          (omega (arith, c.move_numbers-2.ensures.len, c.move_numbers-2.new.numbers.ok.0, inside.rows.ok.0))
-          c.move_numbers-2.ensures.above
-          (λ k behind there. c.move_numbers-2.ensures.moved k behind (omega (arith, there, inside.rows.ok.0)));
+      lines_are = totals_set length lines_sum blocks inside.lines.numbers c.turn_from.new.self.numbers block c.args.count c.len-come.result now lines known.within size c.turn_from.ensures.len c.turn_from.ensures.above c.turn_from.ensures.moved;
+      rows_are = totals_set row_total rows_sum blocks inside.rows.numbers c.turn_from-2.new.self.numbers block c.count_rows-rows_gone.result c.count_rows-rows_come.result now rows known.within known.turned c.turn_from-2.ensures.len c.turn_from-2.ensures.above c.turn_from-2.ensures.moved;
       few_lines = omega (arith, all_set length lines_sum blocks block now known.within, size, c.requires.lines, c.len-come.ensures, ap (λ (v : BlocksView). length (all_rows v.blocks)) c.self.view_is);
       few_rows = omega (arith, all_set row_total rows_sum blocks block now known.within, known.turned, known.come_is, c.requires.rows, ap (λ (v : BlocksView). row_total (all_rows v.blocks)) c.self.view_is);
     })

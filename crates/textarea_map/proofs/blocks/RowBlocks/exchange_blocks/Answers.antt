@@ -1,9 +1,9 @@
-use Rattle.std.proofs.Common.{◌≡◌, ◌+◌, ◌-◌, ◌<◌, ◌≤◌, ◌∙◌, ap, arith, length, ℕ}
+use Rattle.std.proofs.Common.{◌≡◌, ◌-◌, ◌≤◌, ◌∙◌, ap, arith, length}
 use Rattle.textarea_text.specs.Replaced.{replaced}
 use Rattle.textarea_map.specs.Blocks.{BlocksView, all_rows, lines_before, rows_of_each}
 use Rattle.textarea_map.specs.Map.{row_total}
 use Rattle.textarea_map.specs.declared.blocks.numbers.Exchanged.{Exchanged}
-use Rattle.textarea_map.proofs.InBlocks.{before_ordered, before_within, block_count, blocks_exchanged, lines_sum, rows_sum, total_before}
+use Rattle.textarea_map.proofs.InBlocks.{before_ordered, before_within, blocks_exchanged, lines_sum, rows_sum, total_before}
 use Rattle.textarea_map.proofs.Totals.{all_exchanged, totals_exchanged}
 use Rattle.textarea_map.proofs.blocks.RowBlocks.exchange_blocks.Goals as goal
 use Rattle.textarea_map.proofs.blocks.RowBlocks.exchange_blocks.Goals.{After-lines_before, After-rows_before}
@@ -36,37 +36,37 @@ overflow_sub-rows_exchanged c =
     let known = (goal.at.overflow_sub-rows_exchanged c).After-rows_before in
     omega (arith, rows_from known, rows_to known, before_ordered row_total rows_sum (rows_of_each c.self.inside.blocks.items) c.args.from c.args.to c.requires.ordered)
 
-pub exchange_numbers-requires-clause-enough : goal.exchange_numbers-requires-clause-enough
-exchange_numbers-requires-clause-enough c = λ k behind there.
-    let known = (goal.at.exchange_numbers-requires-clause-enough c).After-lines_before in
+pub exchange-requires-clause-enough : goal.exchange-requires-clause-enough
+exchange-requires-clause-enough c = λ k behind there.
+    let known = (goal.at.exchange-requires-clause-enough c).After-lines_before in
     let blocks = rows_of_each c.self.inside.blocks.items in
-    omega (arith, lines_to known, before_ordered length lines_sum blocks c.args.to k behind, c.self.invariant.lines_are.right k (omega (arith, there, c.self.invariant.lines_are.len, c.self.inside.lines.ok.0)))
+    omega (arith, lines_to known, before_ordered length lines_sum blocks c.args.to k behind, c.self.invariant.lines_are.right k (omega (arith, there, c.self.invariant.lines_are.len)))
 
-pub exchange_numbers-requires-clause-small : goal.exchange_numbers-requires-clause-small
-exchange_numbers-requires-clause-small c = λ k behind there.
+pub exchange-requires-clause-small : goal.exchange-requires-clause-small
+exchange-requires-clause-small c = λ k behind there.
     let blocks = rows_of_each c.self.inside.blocks.items in
-    omega (arith, before_within length lines_sum blocks k, c.self.invariant.lines_are.right k (omega (arith, there, c.self.invariant.lines_are.len, c.self.inside.lines.ok.0)), c.self.invariant.few_lines, c.line_count.ensures, c.requires.lines)
+    omega (arith, before_within length lines_sum blocks k, c.self.invariant.lines_are.right k (omega (arith, there, c.self.invariant.lines_are.len)), c.self.invariant.few_lines, c.line_count.ensures, c.requires.lines)
 
-pub exchange_numbers-requires-clause-small_new : goal.exchange_numbers-requires-clause-small_new
-exchange_numbers-requires-clause-small_new c = λ k there.
-    let known = (goal.at.exchange_numbers-requires-clause-small_new c).After-lines_before in
-    omega (arith, lines_from known, before_within length lines_sum (rows_of_each c.self.inside.blocks.items) c.args.from, c.self.invariant.few_lines, before_within length lines_sum (rows_of_each c.new.inside.blocks.items) k, c.new.invariant.lines_are.right k (omega (arith, there, c.new.invariant.lines_are.len, c.new.inside.lines.ok.0)), c.new.invariant.few_lines)
+pub exchange-requires-clause-small_new : goal.exchange-requires-clause-small_new
+exchange-requires-clause-small_new c = λ k there.
+    let known = (goal.at.exchange-requires-clause-small_new c).After-lines_before in
+    omega (arith, lines_from known, before_within length lines_sum (rows_of_each c.self.inside.blocks.items) c.args.from, c.self.invariant.few_lines, before_within length lines_sum (rows_of_each c.new.inside.blocks.items) k, c.new.invariant.lines_are.right k (omega (arith, there, c.new.invariant.lines_are.len)), c.new.invariant.few_lines)
 
-pub exchange_numbers-requires-2-clause-enough : goal.exchange_numbers-requires-2-clause-enough
-exchange_numbers-requires-2-clause-enough c = λ k behind there.
-    let known = (goal.at.exchange_numbers-requires-2-clause-enough c).After-rows_before in
+pub exchange-requires-2-clause-enough : goal.exchange-requires-2-clause-enough
+exchange-requires-2-clause-enough c = λ k behind there.
+    let known = (goal.at.exchange-requires-2-clause-enough c).After-rows_before in
     let blocks = rows_of_each c.self.inside.blocks.items in
-    omega (arith, rows_to known, before_ordered row_total rows_sum blocks c.args.to k behind, c.self.invariant.rows_are.right k (omega (arith, there, c.self.invariant.rows_are.len, c.self.inside.rows.ok.0)))
+    omega (arith, rows_to known, before_ordered row_total rows_sum blocks c.args.to k behind, c.self.invariant.rows_are.right k (omega (arith, there, c.self.invariant.rows_are.len)))
 
-pub exchange_numbers-requires-2-clause-small : goal.exchange_numbers-requires-2-clause-small
-exchange_numbers-requires-2-clause-small c = λ k behind there.
+pub exchange-requires-2-clause-small : goal.exchange-requires-2-clause-small
+exchange-requires-2-clause-small c = λ k behind there.
     let blocks = rows_of_each c.self.inside.blocks.items in
-    omega (arith, before_within row_total rows_sum blocks k, c.self.invariant.rows_are.right k (omega (arith, there, c.self.invariant.rows_are.len, c.self.inside.rows.ok.0)), c.self.invariant.few_rows, c.row_count.ensures, c.requires.rows)
+    omega (arith, before_within row_total rows_sum blocks k, c.self.invariant.rows_are.right k (omega (arith, there, c.self.invariant.rows_are.len)), c.self.invariant.few_rows, c.row_count.ensures, c.requires.rows)
 
-pub exchange_numbers-requires-2-clause-small_new : goal.exchange_numbers-requires-2-clause-small_new
-exchange_numbers-requires-2-clause-small_new c = λ k there.
-    let known = (goal.at.exchange_numbers-requires-2-clause-small_new c).After-rows_before in
-    omega (arith, rows_from known, before_within row_total rows_sum (rows_of_each c.self.inside.blocks.items) c.args.from, c.self.invariant.few_rows, before_within row_total rows_sum (rows_of_each c.new.inside.blocks.items) k, c.new.invariant.rows_are.right k (omega (arith, there, c.new.invariant.rows_are.len, c.new.inside.rows.ok.0)), c.new.invariant.few_rows)
+pub exchange-requires-2-clause-small_new : goal.exchange-requires-2-clause-small_new
+exchange-requires-2-clause-small_new c = λ k there.
+    let known = (goal.at.exchange-requires-2-clause-small_new c).After-rows_before in
+    omega (arith, rows_from known, before_within row_total rows_sum (rows_of_each c.self.inside.blocks.items) c.args.from, c.self.invariant.few_rows, before_within row_total rows_sum (rows_of_each c.new.inside.blocks.items) k, c.new.invariant.rows_are.right k (omega (arith, there, c.new.invariant.rows_are.len)), c.new.invariant.few_rows)
 
 pub invariant_of-self : goal.invariant_of-self
 invariant_of-self c =
@@ -90,8 +90,8 @@ invariant_of-self c =
     let new_rows = ap (λ (v : BlocksView). row_total (all_rows v.blocks)) c.new.view_is in
     rw same
     (record {
-      lines_are = totals_exchanged length lines_sum blocks new c.self.inside.lines.items c.new.inside.lines.items c.exchange_numbers.new.numbers.items by_lines c.self.invariant.lines_are c.new.invariant.lines_are ordered within line_from (omega (arith, line_from, line_to, lines)) (omega (arith, c.line_count.ensures, new_lines)) c.exchange_numbers.ensures;
-      rows_are = totals_exchanged row_total rows_sum blocks new c.self.inside.rows.items c.new.inside.rows.items c.exchange_numbers-2.new.numbers.items by_rows c.self.invariant.rows_are c.new.invariant.rows_are ordered within row_from (omega (arith, row_from, row_to, rows)) (omega (arith, c.row_count.ensures, new_rows)) c.exchange_numbers-2.ensures;
+      lines_are = totals_exchanged length lines_sum blocks new c.self.inside.lines.numbers c.new.inside.lines.numbers c.exchange.new.self.numbers by_lines c.self.invariant.lines_are c.new.invariant.lines_are ordered within line_from (omega (arith, line_from, line_to, lines)) (omega (arith, c.line_count.ensures, new_lines)) c.exchange.ensures;
+      rows_are = totals_exchanged row_total rows_sum blocks new c.self.inside.rows.numbers c.new.inside.rows.numbers c.exchange-2.new.self.numbers by_rows c.self.invariant.rows_are c.new.invariant.rows_are ordered within row_from (omega (arith, row_from, row_to, rows)) (omega (arith, c.row_count.ensures, new_rows)) c.exchange-2.ensures;
       few_lines = omega (arith, all_exchanged length lines_sum blocks new from to ordered within, lines, new_lines, c.requires.lines, ap (λ (v : BlocksView). length (all_rows v.blocks)) c.self.view_is);
       few_rows = omega (arith, all_exchanged row_total rows_sum blocks new from to ordered within, rows, new_rows, c.requires.rows, ap (λ (v : BlocksView). row_total (all_rows v.blocks)) c.self.view_is);
     })

@@ -1,12 +1,12 @@
 use Rattle.std.proofs.Common.{◌≡◌, ◌+◌, ◌<◌, ◌∙◌, [], ap, arith, get_or, length, take}
 use Rattle.textarea_map.specs.Blocks.{BlocksView, all_rows, lines_before, rows_of_each}
 use Rattle.textarea_map.specs.Map.{row_total}
-use Rattle.textarea_map.proofs.InBlocks.{block_count, item_is, rows_are, rows_sum, total_in_block}
+use Rattle.textarea_map.proofs.InBlocks.{block_count, rows_are, rows_sum, total_in_block}
 use Rattle.textarea_map.proofs.Numbers.{row_total-take_le}
 use Rattle.textarea_map.proofs.blocks.RowBlocks.first_row.Goals as goal
 use Rattle.textarea_map.proofs.blocks.RowBlocks.first_row.Goals.{After-count_rows}
 
-counted : (c : After-count_rows) → c.index.result.now + c.count_rows.result ≡ row_total (take c.args.line (all_rows (rows_of_each c.self.inside.blocks.items)))
+counted : (c : After-count_rows) → c.at.result + c.count_rows.result ≡ row_total (take c.args.line (all_rows (rows_of_each c.self.inside.blocks.items)))
 counted c =
     let items = c.self.inside.blocks.items in
     let blocks = rows_of_each items in
@@ -15,12 +15,12 @@ counted c =
     let within : block < length blocks = omega (arith, c.place_of-block.ensures.block.within, ap (λ (v : BlocksView). length v.blocks) c.self.view_is) in
     let inside : index < length (get_or blocks block []) = omega (arith, c.place_of-block.ensures.within, ap (λ (v : BlocksView). length (get_or v.blocks block [])) c.self.view_is) in
     let at : lines_before blocks block + index ≡ c.args.line = omega (arith, c.place_of-block.ensures.line, ap (λ (v : BlocksView). lines_before v.blocks block) c.self.view_is) in
-    let rows = c.as_slice.ensures.value ∙ rows_are items block c.index-2.result.now (omega (arith, within, block_count items)) c.index-2.ensures in
+    let rows = c.as_slice.ensures.value ∙ rows_are items block c.index.result.now (omega (arith, within, block_count items)) c.index.ensures in
     omega (
       arith,
       total_in_block row_total rows_sum blocks block index c.args.line within (omega arith) at,
       c.self.invariant.rows_are.right block within,
-      item_is c.self.inside.rows.items block c.index.result.now 0 (omega (arith, within, c.self.invariant.rows_are.len)) c.index.ensures,
+      c.at.ensures,
       c.count_rows.ensures,
       ap (λ t. row_total (take index t)) rows,
       row_total-take_le c.args.line (all_rows blocks),

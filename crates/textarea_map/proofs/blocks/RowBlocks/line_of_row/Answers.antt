@@ -2,10 +2,10 @@ use Rattle.std.proofs.Common.{◌≡◌, ◌+◌, ◌-◌, ◌<◌, ◌≤◌, �
 use Rattle.textarea_wrap.specs.RowsView.{RowsView}
 use Rattle.textarea_map.specs.Blocks.{BlocksView, all_rows, lines_before, rows_of_each}
 use Rattle.textarea_map.specs.Map.{row_total}
-use Rattle.textarea_map.proofs.InBlocks.{before_more, before_within, block_count, item_is, line_there, lines_sum, rows_are, rows_sum, total_before, total_in_block}
+use Rattle.textarea_map.proofs.InBlocks.{before_more, block_count, line_there, rows_are, rows_sum, total_before, total_in_block}
 use Rattle.textarea_map.proofs.Totals.{found_at}
 use Rattle.textarea_map.proofs.blocks.RowBlocks.line_of_row.Goals as goal
-use Rattle.textarea_map.proofs.blocks.RowBlocks.line_of_row.Goals.{After-index-2, After-index-3}
+use Rattle.textarea_map.proofs.blocks.RowBlocks.line_of_row.Goals.{After-at, After-at-2}
 
 -- the block of the row, its rows, and those before it
 record Found (rows : List (List RowsView)) (block before row : ℕ) (here : List RowsView) : Type 0 where
@@ -15,22 +15,18 @@ record Found (rows : List (List RowsView)) (block before row : ℕ) (here : List
   from : before ≤ row
   to : row - before < row_total here
 
-found : (c : After-index-2) → Found (rows_of_each c.self.inside.blocks.items) c.last_at_most-block.result c.index-2.result.now c.args.row c.as_slice-2.result.now
+found : (c : After-at) → Found (rows_of_each c.self.inside.blocks.items) c.last_at_most-block.result c.at.result c.args.row c.as_slice.result.now
 found c =
     let items = c.self.inside.blocks.items in
     let blocks = rows_of_each items in
-    let numbers = c.self.inside.rows.items in
+    let numbers = c.self.inside.rows.numbers in
     let block = c.last_at_most-block.result in
-    let same = c.as_slice.ensures.value in
-    let inside : block < length numbers = omega (arith, c.last_at_most-block.ensures.within, ap length same) in
+    let inside = c.last_at_most-block.ensures.within in
     let there : c.args.row < row_total (all_rows blocks) = omega (arith, c.requires, ap (λ (v : BlocksView). row_total (all_rows v.blocks)) c.self.view_is) in
-    let at = found_at row_total rows_sum blocks numbers c.args.row block c.self.invariant.rows_are inside
-    (omega (arith, c.last_at_most-block.ensures.from, ap (λ (t : List ℕ). get_or t block 0) same))
-    (λ more. omega (arith, c.last_at_most-block.ensures.next (omega (arith, more, ap length same)), ap (λ (t : List ℕ). get_or t (block + 1) 0) same))
-    there in
+    let at = found_at row_total rows_sum blocks numbers c.args.row block c.self.invariant.rows_are inside c.last_at_most-block.ensures.from c.last_at_most-block.ensures.next there in
     let within : block < length blocks = omega (arith, inside, c.self.invariant.rows_are.len) in
-    let here : c.as_slice-2.result.now ≡ get_or blocks block [] = c.as_slice-2.ensures.value ∙ rows_are items block c.index.result.now (omega (arith, within, block_count items)) c.index.ensures in
-    let before : c.index-2.result.now ≡ total_before row_total blocks block = item_is numbers block c.index-2.result.now 0 inside c.index-2.ensures ∙ c.self.invariant.rows_are.right block within in
+    let here : c.as_slice.result.now ≡ get_or blocks block [] = c.as_slice.ensures.value ∙ rows_are items block c.index.result.now (omega (arith, within, block_count items)) c.index.ensures in
+    let before : c.at.result ≡ total_before row_total blocks block = c.at.ensures ∙ c.self.invariant.rows_are.right block within in
     record {
       within = within;
       here_is = here;
@@ -46,14 +42,14 @@ record Line (rows : List (List RowsView)) (block line index : ℕ) : Type 0 wher
   up_to : row_total (take line (all_rows rows)) ≡ total_before row_total rows block + row_total (take index (get_or rows block []))
   behind : row_total (take (line + 1) (all_rows rows)) ≡ total_before row_total rows block + row_total (take (index + 1) (get_or rows block []))
 
-line : (c : After-index-3) (known : Found (rows_of_each c.self.inside.blocks.items) c.last_at_most-block.result c.index-2.result.now c.args.row c.as_slice-2.result.now) → Line (rows_of_each c.self.inside.blocks.items) c.last_at_most-block.result (c.index-3.result.now + c.row_in-index.result.0) c.row_in-index.result.0
+line : (c : After-at-2) (known : Found (rows_of_each c.self.inside.blocks.items) c.last_at_most-block.result c.at.result c.args.row c.as_slice.result.now) → Line (rows_of_each c.self.inside.blocks.items) c.last_at_most-block.result (c.at-2.result + c.row_in-index.result.0) c.row_in-index.result.0
 line c known =
     let blocks = rows_of_each c.self.inside.blocks.items in
     let block = c.last_at_most-block.result in
     let index = c.row_in-index.result.0 in
     let inside : index < length (get_or blocks block []) = omega (arith, c.row_in-index.ensures.line, ap length known.here_is) in
-    let number = item_is c.self.inside.lines.items block c.index-3.result.now 0 (omega (arith, known.within, c.self.invariant.lines_are.len)) c.index-3.ensures ∙ c.self.invariant.lines_are.right block known.within in
-    let at : lines_before blocks block + index ≡ c.index-3.result.now + index = omega (arith, number) in
+    let number = c.at-2.ensures ∙ c.self.invariant.lines_are.right block known.within in
+    let at : lines_before blocks block + index ≡ c.at-2.result + index = omega (arith, number) in
     record {
       at = at;
       there = omega (arith, at, line_there blocks block index known.within inside);
@@ -62,26 +58,26 @@ line c known =
     }
 
 pub row_in-index-requires : goal.row_in-index-requires
-row_in-index-requires c = (found (goal.at.row_in-index-requires c).After-index-2).to
+row_in-index-requires c = (found (goal.at.row_in-index-requires c).After-at).to
 
 pub overflow_add-result : goal.overflow_add-result
 overflow_add-result c =
     let at = goal.at.overflow_add-result c in
-    omega (arith, (line at.After-index-3 (found at.After-index-2)).there, c.self.invariant.few_lines)
+    omega (arith, (line at.After-at-2 (found at.After-at)).there, c.self.invariant.few_lines)
 
 pub returns-clause-line : goal.returns-clause-line
 returns-clause-line c =
     let at = goal.at.returns-clause-line c in
-    omega (arith, (line at.After-index-3 (found at.After-index-2)).there, ap (λ (v : BlocksView). length (all_rows v.blocks)) c.self.view_is)
+    omega (arith, (line at.After-at-2 (found at.After-at)).there, ap (λ (v : BlocksView). length (all_rows v.blocks)) c.self.view_is)
 
 pub returns-clause-row : goal.returns-clause-row
 returns-clause-row c =
     let at = goal.at.returns-clause-row c in
-    let known = found at.After-index-2 in
-    let n = c.index-3.result.now + c.row_in-index.result.0 in
+    let known = found at.After-at in
+    let n = c.at-2.result + c.row_in-index.result.0 in
     omega (
       arith,
-      (line at.After-index-3 known).up_to,
+      (line at.After-at-2 known).up_to,
       known.before_is,
       known.from,
       c.row_in-index.ensures.row,
@@ -92,11 +88,11 @@ returns-clause-row c =
 pub returns-clause-inside : goal.returns-clause-inside
 returns-clause-inside c =
     let at = goal.at.returns-clause-inside c in
-    let known = found at.After-index-2 in
-    let n = c.index-3.result.now + c.row_in-index.result.0 + 1 in
+    let known = found at.After-at in
+    let n = c.at-2.result + c.row_in-index.result.0 + 1 in
     omega (
       arith,
-      (line at.After-index-3 known).behind,
+      (line at.After-at-2 known).behind,
       known.before_is,
       known.from,
       c.row_in-index.ensures.inside,

@@ -5,15 +5,15 @@ use Rattle.textarea_map.proofs.Totals.{number_behind}
 use Rattle.textarea_map.proofs.blocks.RowBlocks.lines_before.Goals as goal
 use Rattle.textarea_map.proofs.blocks.RowBlocks.lines_before.Goals.{After-len}
 
-counted : (c : After-len) → c.index.result.now + c.len.result ≡ lines_before (rows_of_each c.self.inside.blocks.items) c.args.block
+counted : (c : After-len) → c.at.result + c.len.result ≡ lines_before (rows_of_each c.self.inside.blocks.items) c.args.block
 counted c =
     let items = c.self.inside.blocks.items in
     let blocks = rows_of_each items in
     let last = c.args.block - 1 in
     let there : last < length blocks = omega (arith, c.requires, c.if-block-eq0.false, ap (λ (v : BlocksView). length v.blocks) c.self.view_is) in
-    let rows = rows_are items last c.index-2.result.now (omega (arith, there, block_count items)) c.index-2.ensures in
+    let rows = rows_are items last c.index.result.now (omega (arith, there, block_count items)) c.index.ensures in
     let end : last + 1 ≡ c.args.block = omega (arith, c.if-block-eq0.false) in
-    omega (arith, number_behind length lines_sum blocks c.self.inside.lines.items last c.index.result.now _ c.self.invariant.lines_are there c.index.ensures rows, c.len.ensures, c.index-2.result.now.ok.0, ap (lines_before blocks) end)
+    omega (arith, number_behind length lines_sum blocks c.self.inside.lines.numbers last c.at.result _ c.self.invariant.lines_are there c.at.ensures rows, c.len.ensures, c.index.result.now.ok.0, ap (lines_before blocks) end)
 
 pub overflow_add-result : goal.overflow_add-result
 overflow_add-result c =

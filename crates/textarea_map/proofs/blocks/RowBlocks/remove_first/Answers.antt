@@ -3,7 +3,7 @@ use Rattle.std.proofs.lemmas.List.{length-set}
 use Rattle.textarea_text.specs.Replaced.{replaced}
 use Rattle.textarea_text.proofs.Replacing.{length-replaced}
 use Rattle.textarea_wrap.specs.RowsView.{RowsView}
-use Rattle.textarea_map.specs.Blocks.{BlocksView, all_rows, lines_before, rows_of_each}
+use Rattle.textarea_map.specs.Blocks.{BlocksView, all_rows, lines_before}
 use Rattle.textarea_map.specs.Map.{row_total}
 use Rattle.textarea_map.proofs.Exchanging.{first_removed}
 use Rattle.textarea_map.proofs.InBlocks.{before_more, before_ordered, before_set, before_within, block_count, block_ordered, block_replaced, blocks_replaced, lines_sum, rows_are, rows_sum}

@@ -1,9 +1,9 @@
-use Rattle.std.proofs.Common.{◌≡◌, ◌+◌, ◌-◌, ◌<◌, ◌≤◌, ◌∙◌, inl, inr, List, [], ap, arith, get_or, length, min, set, sym, vec_len, ℕ}
+use Rattle.std.proofs.Common.{◌≡◌, ◌+◌, ◌-◌, ◌<◌, ◌≤◌, ◌∙◌, inl, inr, List, [], ap, arith, get_or, length, min, ℕ}
 use Rattle.std.proofs.lemmas.Bool.{cases_lt}
 use Rattle.textarea_text.specs.Replaced.{replaced}
 use Rattle.textarea_text.proofs.Replacing.{length-replaced}
 use Rattle.textarea_wrap.specs.RowsView.{RowsView}
-use Rattle.textarea_map.specs.Blocks.{BlocksView, all_rows, lines_before, rows_of_each}
+use Rattle.textarea_map.specs.Blocks.{BlocksView, all_rows, lines_before}
 use Rattle.textarea_map.proofs.Exchanging.{none_removed, rest_removed}
 use Rattle.textarea_map.proofs.InBlocks.{before_more, before_within, behind_set, block_count, block_replaced, lines_sum, rows_are}
 use Rattle.textarea_map.proofs.Totals.{all_set}

@@ -1,4 +1,4 @@
-use Rattle.std.proofs.Common.{◌≡◌, ◌+◌, ◌-◌, ◌≤◌, ◌∙◌, [], ap, arith, length}
+use Rattle.std.proofs.Common.{◌≡◌, ◌+◌, ◌-◌, ◌∙◌, [], ap, arith, length}
 use Rattle.textarea_text.specs.Replaced.{replaced}
 use Rattle.textarea_text.proofs.Replacing.{length-replaced}
 use Rattle.textarea_map.specs.Blocks.{all_rows, lines_before}

@@ -1,11 +1,11 @@
-use Rattle.std.proofs.Common.{◌≡◌, ◌+◌, ◌-◌, ◌<◌, ◌≤◌, ◌++◌, ◌∷◌, ◌∙◌, List, [], ap, arith, drop, get_or, length, set, take, ℕ}
+use Rattle.std.proofs.Common.{◌≡◌, ◌+◌, ◌-◌, ◌≤◌, ◌∷◌, ◌∙◌, List, [], ap, arith, drop, get_or, length, set, take, ℕ}
 use Rattle.std.proofs.lemmas.List.{append-nil, length-drop, length-set, length-take-le}
 use Rattle.textarea_text.specs.Replaced.{replaced}
 use Rattle.textarea_text.proofs.Replacing.{length-replaced}
 use Rattle.textarea_wrap.specs.RowsView.{RowsView}
 use Rattle.textarea_map.specs.Blocks.{BlocksView, all_rows, lines_before}
 use Rattle.textarea_map.specs.Map.{row_total}
-use Rattle.textarea_map.proofs.InBlocks.{before_more, before_within, behind_set, block_split, lines_sum, rows_sum}
+use Rattle.textarea_map.proofs.InBlocks.{behind_set, block_split, lines_sum, rows_sum}
 use Rattle.textarea_map.proofs.Numbers.{row_total-take_drop}
 use Rattle.textarea_map.proofs.Totals.{all_set, take_above}
 use Rattle.textarea_map.proofs.blocks.RowBlocks.split.Goals as goal

@@ -1,7 +1,6 @@
-use Rattle.std.proofs.Common.{◌≡◌, ◌+◌, ◌-◌, ◌<◌, ◌≤◌, ◌∙◌, inl, inr, List, [], ap, arith, drop, get_or, length, sym, take, ℕ}
+use Rattle.std.proofs.Common.{◌≡◌, ◌+◌, ◌-◌, ◌<◌, ◌≤◌, ◌∙◌, inl, inr, [], ap, arith, drop, get_or, length, sym, take}
 use Rattle.std.proofs.lemmas.Bool.{cases_lt}
-use Rattle.textarea_wrap.specs.RowsView.{RowsView}
-use Rattle.textarea_map.specs.Blocks.{BlocksView, all_rows, lines_before, rows_of_each}
+use Rattle.textarea_map.specs.Blocks.{BlocksView, all_rows, rows_of_each}
 use Rattle.textarea_map.specs.Map.{row_total, size_total}
 use Rattle.textarea_map.proofs.InBlocks.{before_all, before_more, block_count, lines_sum, rows_are, rows_sum, total_further}
 use Rattle.textarea_map.proofs.Numbers.{row_total-take_drop, row_total-take_le}

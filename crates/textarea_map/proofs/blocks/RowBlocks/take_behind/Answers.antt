@@ -1,7 +1,7 @@
-use Rattle.std.proofs.Common.{◌≡◌, ◌+◌, ◌-◌, ◌<◌, ◌≤◌, ◌∙◌, List, [], ap, arith, drop, get_or, length, set, take, ℕ}
+use Rattle.std.proofs.Common.{◌≡◌, ◌+◌, ◌<◌, ◌≤◌, ◌∙◌, List, [], ap, arith, drop, get_or, length, set, take, ℕ}
 use Rattle.std.proofs.lemmas.List.{length-drop, length-take-le}
 use Rattle.textarea_wrap.specs.RowsView.{RowsView}
-use Rattle.textarea_map.specs.Blocks.{BlocksView, all_rows, rows_of_each}
+use Rattle.textarea_map.specs.Blocks.{BlocksView, rows_of_each}
 use Rattle.textarea_map.specs.Map.{row_total}
 use Rattle.textarea_map.proofs.InBlocks.{before_more, before_ordered, before_within, block_count, blocks_set, lines_sum, rows_are, rows_sum}
 use Rattle.textarea_map.proofs.Numbers.{row_total-take_drop}
@@ -39,25 +39,25 @@ taken c =
       row_sum = omega (arith, ap row_total kept, ap row_total rest, row_total-take_drop at here);
     }
 
-pub move_numbers-requires-clause-enough : goal.move_numbers-requires-clause-enough
-move_numbers-requires-clause-enough c = λ k behind there.
-    let known = taken (goal.at.move_numbers-requires-clause-enough c).After-len in
+pub turn_from-requires-clause-enough : goal.turn_from-requires-clause-enough
+turn_from-requires-clause-enough c = λ k behind there.
+    let known = taken (goal.at.turn_from-requires-clause-enough c).After-len in
     let blocks = rows_of_each c.self.inside.blocks.items in
-    omega (arith, known.line_sum, c.self.invariant.lines_are.right k (omega (arith, there, c.self.invariant.lines_are.len, c.self.inside.lines.ok.0)), before_ordered length lines_sum blocks (c.args.block + 1) k behind, before_more length lines_sum blocks c.args.block known.within)
+    omega (arith, known.line_sum, c.self.invariant.lines_are.right k (omega (arith, there, c.self.invariant.lines_are.len)), before_ordered length lines_sum blocks (c.args.block + 1) k behind, before_more length lines_sum blocks c.args.block known.within)
 
-pub move_numbers-requires-clause-small : goal.move_numbers-requires-clause-small
-move_numbers-requires-clause-small c = λ k behind there.
-    omega (arith, c.self.invariant.lines_are.right k (omega (arith, there, c.self.invariant.lines_are.len, c.self.inside.lines.ok.0)), before_within length lines_sum (rows_of_each c.self.inside.blocks.items) k, c.self.invariant.few_lines)
+pub turn_from-requires-clause-small : goal.turn_from-requires-clause-small
+turn_from-requires-clause-small c = λ k behind there.
+    omega (arith, c.self.invariant.lines_are.right k (omega (arith, there, c.self.invariant.lines_are.len)), before_within length lines_sum (rows_of_each c.self.inside.blocks.items) k, c.self.invariant.few_lines)
 
-pub move_numbers-requires-2-clause-enough : goal.move_numbers-requires-2-clause-enough
-move_numbers-requires-2-clause-enough c = λ k behind there.
-    let known = taken (goal.at.move_numbers-requires-2-clause-enough c).After-len in
+pub turn_from-requires-2-clause-enough : goal.turn_from-requires-2-clause-enough
+turn_from-requires-2-clause-enough c = λ k behind there.
+    let known = taken (goal.at.turn_from-requires-2-clause-enough c).After-len in
     let blocks = rows_of_each c.self.inside.blocks.items in
-    omega (arith, known.row_sum, c.count_rows-rows_gone.ensures, ap row_total c.as_slice.ensures.value, c.self.invariant.rows_are.right k (omega (arith, there, c.self.invariant.rows_are.len, c.self.inside.rows.ok.0)), before_ordered row_total rows_sum blocks (c.args.block + 1) k behind, before_more row_total rows_sum blocks c.args.block known.within)
+    omega (arith, known.row_sum, c.count_rows-rows_gone.ensures, ap row_total c.as_slice.ensures.value, c.self.invariant.rows_are.right k (omega (arith, there, c.self.invariant.rows_are.len)), before_ordered row_total rows_sum blocks (c.args.block + 1) k behind, before_more row_total rows_sum blocks c.args.block known.within)
 
-pub move_numbers-requires-2-clause-small : goal.move_numbers-requires-2-clause-small
-move_numbers-requires-2-clause-small c = λ k behind there.
-    omega (arith, c.self.invariant.rows_are.right k (omega (arith, there, c.self.invariant.rows_are.len, c.self.inside.rows.ok.0)), before_within row_total rows_sum (rows_of_each c.self.inside.blocks.items) k, c.self.invariant.few_rows)
+pub turn_from-requires-2-clause-small : goal.turn_from-requires-2-clause-small
+turn_from-requires-2-clause-small c = λ k behind there.
+    omega (arith, c.self.invariant.rows_are.right k (omega (arith, there, c.self.invariant.rows_are.len)), before_within row_total rows_sum (rows_of_each c.self.inside.blocks.items) k, c.self.invariant.few_rows)
 
 pub invariant_of-self-2 : goal.invariant_of-self-2
 invariant_of-self-2 c =
@@ -71,14 +71,8 @@ invariant_of-self-2 c =
     omega (arith, c.count_rows-rows_gone.ensures, ap row_total c.as_slice.ensures.value, known.row_sum, before_more row_total rows_sum blocks block known.within, before_within row_total rows_sum blocks (block + 1), c.self.invariant.few_rows) in
     rw (blocks_set inside.blocks.items block c.split_off.new.self)
     (record {
-      lines_are = totals_set length lines_sum blocks inside.lines.items c.move_numbers.new.numbers.items block c.len.result 0 now c.self.invariant.lines_are known.within (omega (arith, known.line_sum))
-          (omega (arith, c.move_numbers.ensures.len, c.move_numbers.new.numbers.ok.0, inside.lines.ok.0))
-          c.move_numbers.ensures.above
-          (λ k behind there. c.move_numbers.ensures.moved k behind (omega (arith, there, inside.lines.ok.0)));
-      rows_are = totals_set row_total rows_sum blocks inside.rows.items c.move_numbers-2.new.numbers.items block c.count_rows-rows_gone.result 0 now c.self.invariant.rows_are known.within (omega (arith, known.row_sum, gone))
-          (omega (arith, c.move_numbers-2.ensures.len, c.move_numbers-2.new.numbers.ok.0, inside.rows.ok.0))
-          c.move_numbers-2.ensures.above
-          (λ k behind there. c.move_numbers-2.ensures.moved k behind (omega (arith, there, inside.rows.ok.0)));
+      lines_are = totals_set length lines_sum blocks inside.lines.numbers c.turn_from.new.self.numbers block c.len.result 0 now c.self.invariant.lines_are known.within (omega (arith, known.line_sum)) c.turn_from.ensures.len c.turn_from.ensures.above c.turn_from.ensures.moved;
+      rows_are = totals_set row_total rows_sum blocks inside.rows.numbers c.turn_from-2.new.self.numbers block c.count_rows-rows_gone.result 0 now c.self.invariant.rows_are known.within (omega (arith, known.row_sum, gone)) c.turn_from-2.ensures.len c.turn_from-2.ensures.above c.turn_from-2.ensures.moved;
       few_lines = omega (arith, all_set length lines_sum blocks block now known.within, known.line_sum, c.self.invariant.few_lines);
       few_rows = omega (arith, all_set row_total rows_sum blocks block now known.within, known.row_sum, c.self.invariant.few_rows);
     })

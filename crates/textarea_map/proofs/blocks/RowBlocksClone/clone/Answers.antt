@@ -2,7 +2,6 @@ use Rattle.std.proofs.Common.{◌≡◌, ◌∷◌, ◌∙◌, List, [], Vec, ap
 use Rattle.std.specs.List.{AllZip}
 use Rattle.textarea_wrap.specs.RowsView.{RowsView}
 use Rattle.textarea_map.specs.Blocks.{BlocksView, rows_of_each}
-use Rattle.textarea_map.specs.Numbered.{AreNumbered}
 use Rattle.textarea_map.proofs.blocks.RowBlocksClone.clone.Goals as goal
 
 all_same : {X : Type 0} (items copies : List X) → AllZip (λ a b. b ≡ a) items copies → copies ≡ items
@@ -22,9 +21,7 @@ pub invariant_of-result : goal.invariant_of-result
 invariant_of-result c =
     let inside = c.self.inside in
     let blocks = blocks_same inside.blocks.items c.in_ok-clone.field-0.items c.in_ok-clone.ensures.cases.0 in
-    let lines = all_same inside.lines.items c.in_ok-clone-2.field-0.items c.in_ok-clone-2.ensures.cases.0 in
-    let rows = all_same inside.rows.items c.in_ok-clone-3.field-0.items c.in_ok-clone-3.ensures.cases.0 in
-    rw (blocks, lines, rows) c.self.invariant
+    rw (blocks, c.in_ok-clone-2.ensures.cases, c.in_ok-clone-3.ensures.cases) c.self.invariant
 
 pub returns : goal.returns
 returns c =

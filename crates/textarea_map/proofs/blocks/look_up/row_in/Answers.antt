@@ -1,5 +1,4 @@
-use Rattle.std.proofs.Common.{◌≡◌, ◌+◌, ap, arith, length, take}
-use Rattle.textarea_map.specs.Map.{row_total}
+use Rattle.std.proofs.Common.{ap, arith, length}
 use Rattle.textarea_map.proofs.Numbers.{line_there, row_total-more}
 use Rattle.textarea_map.proofs.blocks.look_up.row_in.Goals as goal
 

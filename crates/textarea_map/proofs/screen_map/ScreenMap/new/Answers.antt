@@ -1,4 +1,4 @@
-use Rattle.std.proofs.Common.{◌≡◌, ◌∙◌, List, [], Result, Ok, Err, ap, arith, subst, sym}
+use Rattle.std.proofs.Common.{List, [], Result, Ok, Err, arith, subst, sym}
 use Rattle.std.specs.Result.{IfOk}
 use Rattle.std.proofs.lemmas.Result.{on_ok_weaker}
 use Rattle.textarea_text.specs.Text.{lines_of}
@@ -6,7 +6,7 @@ use Rattle.textarea_wrap.specs.RowsView.{RowsView}
 use Rattle.textarea_map.specs.declared.layout.Wrapping.{Wrapping}
 use Rattle.textarea_map.specs.Blocks.{all_rows}
 use Rattle.textarea_map.specs.Layout.{AreRowsOf}
-use Rattle.textarea_map.specs.Map.{IsWithinLimit, MapView}
+use Rattle.textarea_map.specs.Map.{IsWithinLimit}
 use Rattle.textarea_map.proofs.RowSizes.{size_of_items}
 use Rattle.textarea_map.proofs.screen_map.ScreenMap.new.Goals as goal
 use Rattle.textarea_map.proofs.screen_map.ScreenMap.new.Goals.{In_ok-push_lines}

@@ -7,7 +7,7 @@ use Rattle.textarea_map.specs.Prepared.{rows_in}
 use Rattle.textarea_map.specs.declared.screen_map.NewRows.{NewRows}
 use Rattle.textarea_map.specs.declared.screen_map.ScreenMap.TheInside.{Inside}
 use Rattle.textarea_map.proofs.InBlocks.{rows_sum}
-use Rattle.textarea_map.proofs.RowSizes.{Exchange, exchange, lines_few, size_total-append}
+use Rattle.textarea_map.proofs.RowSizes.{exchange, lines_few, size_total-append}
 use Rattle.textarea_map.proofs.screen_map.ScreenMap.replace.Goals as goal
 use Rattle.textarea_map.proofs.screen_map.ScreenMap.replace.Goals.{After-sums_of-old, Joined-rows, in-Few, in-Many}
 

@@ -1,4 +1,4 @@
-// The text that `tascript` prints of a run that came to its end.
+//! The text that `tascript` prints of a run that came to its end.
 use std::fmt;
 use textarea_calls::Answer;
 use textarea_calls::printing::Escaped;
