@@ -87,19 +87,41 @@ impl<'a> Clone for TextArea<'a> {
 
     /// The same text area with its history, or an error where there is no memory for it.
     fn clone(&self) -> Result<TextArea<'a>, AllocError> {
+        let (search, surround, drawing) = self.clone_shown()?;
+        let (document, yank) = self.clone_text()?;
         Ok(TextArea {
-            document: self.document.clone()?,
-            yank: self.yank.clone()?,
+            document,
+            yank,
             settings: self.settings,
             moment: self.moment,
-            search: self.search.clone()?,
-            surround: self.surround.clone()?,
-            drawing: self.drawing.clone()?,
+            search,
+            surround,
+            drawing,
         })
     }
 }
 
 impl<'a> TextArea<'a> {
+    // Copies of the document and of what was yanked.
+    fn clone_text(&self) -> Result<(Document, Vec<String>), AllocError>
+        ensures document { IfOk result (λ copies. copies.0 ≡ self.now.document) }
+        ensures yank { IfOk result (λ copies. text_of copies.1.items ≡ self.now.yank) }
+    {
+        let yank = self.yank.clone()?;
+        Ok((self.document.clone()?, yank))
+    }
+
+    // Copies of the pattern, of the surround, and of how all is drawn.
+    fn clone_shown(&self) -> Result<(Search, Surround<'a>, Drawing), AllocError>
+        ensures pattern { IfOk result (λ copies. copies.0 ≡ self.now.pattern) }
+        ensures surround { IfOk result (λ copies. copies.1 ≡ self.now.surround) }
+        ensures drawing { IfOk result (λ copies. copies.2 ≡ self.now.drawing) }
+    {
+        let search = self.search.clone()?;
+        let surround = self.surround.clone()?;
+        Ok((search, surround, self.drawing.clone()?))
+    }
+
     /// A text area of these lines, the cursor at the start; no line at all becomes one empty line. A line feed inside a
     /// line stays a character of that line.
     pub fn new(lines: Vec<String>) -> Result<Self, AllocError>

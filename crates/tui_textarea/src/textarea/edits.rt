@@ -54,8 +54,7 @@ impl TextArea<'_> {
             return self.insert_nothing();
         }
         let pieces = pieces_of(self.allocator(), text)?;
-        self.document.remove_selection(self.moment)?;
-        self.document.insert(pieces, self.moment)?;
+        self.insert_over_selection(pieces)?;
         Ok(true)
     }
 
@@ -71,6 +70,15 @@ impl TextArea<'_> {
             return Ok(false);
         }
         let pieces = copy_pieces(self.allocator(), self.yank.as_slice())?;
+        self.insert_over_selection(pieces)
+    }
+
+    // Inserts a text in the place of what is selected, and says whether it has a symbol.
+    fn insert_over_selection(&mut self, pieces: Vec<String>) -> Result<bool, AllocError>
+        ensures inserted { IfOk result (λ inserted. inserted ≡ is_filled (text_of pieces.items)) }
+        ensures ok { OnOk result (self.new ≡ str_inserted self.old (text_of pieces.items)) }
+        ensures err { OnErr result (IsLeft self.old self.new) }
+    {
         self.document.remove_selection(self.moment)?;
         self.document.insert(pieces, self.moment)
     }
