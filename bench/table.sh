@@ -3,9 +3,9 @@
 # lines, characters or commands, and the last time in the first ones. Times are processor time, the best of some runs; of each
 # that of the same program on the same text, with nothing done to it, is taken away.
 # - A key in a text of lines of 80 columns, wrapped: into a line of some 1,000 characters, which it cuts anew; one that gives a
-#   line a second row, or takes it away; and by turns a line break and Backspace, in the first line,
-#   behind which all lines are moved, and in the last one, behind which none is. The same break in the middle of the lines'
-#   screen map alone, and the move of their headers alone that it makes there.
+#   line a second row, or takes it away; and by turns a line break and Backspace, in the first line, behind which all lines are
+#   moved, and in the last one, behind which none is. The same break in the middle of the lines' screen map alone, and the move
+#   of their headers alone that it makes there.
 # - A character that is typed, or removed by Backspace, in a line that isn't wrapped, by the line's length in characters: of one
 #   byte and of two, at the line's end and in its middle, where what stands behind it in the line is moved; and that move alone.
 # - A width that changes, and one whose rows were measured before: the time for each line.

@@ -193,7 +193,9 @@ impl Job {
                 type_character(document, if time % 6 == 5 { ' ' } else { 'x' })
             }
             Work::Rows if time % 2 == 0 => type_character(document, 'x'),
-            Work::Breaks | Work::LastBreaks if time % 2 == 0 => document.insert_break(Duration::ZERO),
+            Work::Breaks | Work::LastBreaks if time % 2 == 0 => document.insert_break(
+                Duration::ZERO,
+            ),
             Work::Line(line) if time / 100 % 2 == 0 => type_character(document, line.character()),
             Work::Map | Work::Headers | Work::Bytes => Ok(()),
             Work::Text | Work::Rows | Work::Breaks | Work::LastBreaks | Work::Line(_) => {
