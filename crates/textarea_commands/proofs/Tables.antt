@@ -34,7 +34,7 @@ abbrev pub IsOther : List ℕ → List (List ℕ × (Option (List ℕ) → Optio
 IsOther name [] = Unit {0}
 IsOther name (row ∷ rows) = (name ≢ row.0) × IsOther name rows
 
-meant_by-behind : (name : List ℕ) (arguments : Option (List ℕ)) (rows more : List (List ℕ × (Option (List ℕ) → Option Meaning))) → IsOther name rows → meant_by (rows ++ more) name arguments ≡ meant_by more name arguments
+pub meant_by-behind : (name : List ℕ) (arguments : Option (List ℕ)) (rows more : List (List ℕ × (Option (List ℕ) → Option Meaning))) → IsOther name rows → meant_by (rows ++ more) name arguments ≡ meant_by more name arguments
 meant_by-behind name arguments [] more others = refl
 meant_by-behind name arguments (row ∷ rows) more others =
     meant_by-other name arguments row (rows ++ more) others.0 ∙ meant_by-behind name arguments rows more others.1
@@ -45,10 +45,10 @@ unfolding meant plain_meant
 meant-plain name arguments others = meant_by-behind name arguments borrowing_commands plain_commands others
 
 -- what a name means by arguments that are read as a value
-pub meant-read : {A : Type 0} (means : A → Meaning) (name row : List ℕ) (arguments : List ℕ) (reading read : Option A) (value : A) (meaning : Meaning) → name ≡ row → plain_meant row (Some arguments) ≡ option_map means reading → read ≡ reading → read ≡ Some value → meaning ≡ means value → Some meaning ≡ plain_meant name (Some arguments)
-meant-read means name row arguments reading read value meaning named by_row so found told =
+pub meant-read : (meant : List ℕ → Option (List ℕ) → Option Meaning) {A : Type 0} (means : A → Meaning) (name row : List ℕ) (arguments : List ℕ) (reading read : Option A) (value : A) (meaning : Meaning) → name ≡ row → meant row (Some arguments) ≡ option_map means reading → read ≡ reading → read ≡ Some value → meaning ≡ means value → Some meaning ≡ meant name (Some arguments)
+meant-read meant means name row arguments reading read value meaning named by_row so found told =
     let valued : reading ≡ Some value = sym so ∙ found in
     ap Some told
     ∙ sym (ap (option_map means) valued)
     ∙ sym by_row
-    ∙ sym (ap (λ given. plain_meant given (Some arguments)) named)
+    ∙ sym (ap (λ given. meant given (Some arguments)) named)

@@ -67,13 +67,40 @@ abbrev pub some_ranges : Option (List ℕ) → Option Meaning
 some_ranges arguments = option_map TrySetAtomicRanges (ranges_behind arguments)
 
 -- the commands that stand for calls that borrow nothing: their names, and what they mean by the arguments that follow one space
--- behind the name, if a space is there
-abbrev pub plain_commands : List (List ℕ × (Option (List ℕ) → Option Meaning))
-plain_commands =
+-- behind the name, if a space is there. Those with arguments that edit, move, search, measure or draw
+abbrev pub acting_commands : List (List ℕ × (Option (List ℕ) → Option Meaning))
+acting_commands =
     (codes "insert_char", plain character call.InsertChar)
-    ∷ (codes "insert_tab", alone call.InsertTab)
-    ∷ (codes "insert_newline", alone call.InsertNewline)
     ∷ (codes "delete_str", plain number call.DeleteStr)
+    ∷ (codes "search_forward", plain truth call.SearchForward)
+    ∷ (codes "search_back", plain truth call.SearchBack)
+    ∷ (codes "measure", plain short_number call.Measure)
+    ∷ (codes "render", given sides Render)
+    ∷ (codes "hit", plain two_short_numbers (λ p. call.CursorAtPosition (record { x = p.0; y = p.1 })))
+    ∷ (codes "move", plain move_named call.Move)
+    ∷ (codes "jump", plain two_short_numbers (λ p. call.Move (move.Jump p.0 p.1)))
+    ∷ (codes "scroll", plain scroll_by call.Scroll)
+    ∷ (codes "page", plain page call.Scroll)
+    ∷ []
+
+-- those with arguments that set something
+abbrev pub setting_commands : List (List ℕ × (Option (List ℕ) → Option Meaning))
+setting_commands =
+    (codes "set_tab_length", plain byte_number call.SetTabLength)
+    ∷ (codes "set_hard_tab_indent", plain truth call.SetHardTabIndent)
+    ∷ (codes "set_max_histories", plain number call.SetMaxHistories)
+    ∷ (codes "set_undo_coalescing", plain truth call.SetUndoCoalescing)
+    ∷ (codes "set_wrap_mode", plain mode_named call.SetWrapMode)
+    ∷ (codes "set_mask_char", plain character call.SetMaskChar)
+    ∷ (codes "line_numbers", plain truth line_numbers)
+    ∷ (codes "now", given number (λ millis. SetNow (millis * 1_000_000)))
+    ∷ []
+
+-- those without arguments
+abbrev pub lone_commands : List (List ℕ × (Option (List ℕ) → Option Meaning))
+lone_commands =
+    (codes "insert_tab", alone call.InsertTab)
+    ∷ (codes "insert_newline", alone call.InsertNewline)
     ∷ (codes "delete_newline", alone call.DeleteNewline)
     ∷ (codes "delete_char", alone call.DeleteChar)
     ∷ (codes "delete_next_char", alone call.DeleteNextChar)
@@ -91,25 +118,11 @@ plain_commands =
     ∷ (codes "cancel_selection", alone call.CancelSelection)
     ∷ (codes "select_all", alone call.SelectAll)
     ∷ (codes "yank_text", alone call.YankText)
-    ∷ (codes "set_tab_length", plain byte_number call.SetTabLength)
-    ∷ (codes "set_hard_tab_indent", plain truth call.SetHardTabIndent)
-    ∷ (codes "set_max_histories", plain number call.SetMaxHistories)
-    ∷ (codes "set_undo_coalescing", plain truth call.SetUndoCoalescing)
-    ∷ (codes "set_wrap_mode", plain mode_named call.SetWrapMode)
-    ∷ (codes "set_mask_char", plain character call.SetMaskChar)
     ∷ (codes "clear_mask_char", alone call.ClearMaskChar)
-    ∷ (codes "search_forward", plain truth call.SearchForward)
-    ∷ (codes "search_back", plain truth call.SearchBack)
-    ∷ (codes "measure", plain short_number call.Measure)
-    ∷ (codes "render", given sides Render)
-    ∷ (codes "move", plain move_named call.Move)
-    ∷ (codes "jump", plain two_short_numbers (λ p. call.Move (move.Jump p.0 p.1)))
-    ∷ (codes "scroll", plain scroll_by call.Scroll)
-    ∷ (codes "page", plain page call.Scroll)
-    ∷ (codes "now", given number (λ millis. SetNow (millis * 1_000_000)))
-    ∷ (codes "line_numbers", plain truth line_numbers)
-    ∷ (codes "hit", plain two_short_numbers (λ p. call.CursorAtPosition (record { x = p.0; y = p.1 })))
     ∷ []
+
+abbrev pub plain_commands : List (List ℕ × (Option (List ℕ) → Option Meaning))
+plain_commands = acting_commands ++ (setting_commands ++ lone_commands)
 
 -- the commands that stand for calls that borrow a text, ranges, lines or an input
 abbrev pub borrowing_commands : List (List ℕ × (Option (List ℕ) → Option Meaning))
@@ -132,6 +145,9 @@ meant_by table name arguments = option_and_then (λ means. means arguments) (nam
 
 unfoldable pub plain_meant : List ℕ → Option (List ℕ) → Option Meaning
 plain_meant = meant_by plain_commands
+
+unfoldable pub setting_meant : List ℕ → Option (List ℕ) → Option Meaning
+setting_meant = meant_by (setting_commands ++ lone_commands)
 
 unfoldable pub meant : List ℕ → Option (List ℕ) → Option Meaning
 meant = meant_by commands

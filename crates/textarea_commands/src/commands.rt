@@ -3,7 +3,7 @@ ghost use Rattle.std.specs.Prelude.{◌≡◌, ◌+◌, All, IfOk, IfErr, IfSome
 ghost use Rattle.textarea_data.specs.declared.cursor.CursorMove.TheVariants as move;
 ghost use Rattle.textarea_commands.specs.Arguments.{IsReadAs, two_short_numbers};
 ghost use Rattle.textarea_calls.specs.Made.{CanBeMade};
-ghost use Rattle.textarea_commands.specs.Commands.{given_text, line_meant, line_numbers, meant, plain_meant, set_lines_meant};
+ghost use Rattle.textarea_commands.specs.Commands.{given_text, line_meant, line_numbers, meant, plain_meant, set_lines_meant, setting_meant};
 ghost use Rattle.textarea_commands.specs.Inputs.{input_named};
 ghost use Rattle.textarea_commands.specs.Ranges.{ranges_behind};
 ghost use Rattle.textarea_commands.specs.Script.{lines_of, filled_lines, meaning_of, meant_line, meant_lines, AreCallsOf, IsAtLine, IsCallOf, IsCommandOf, IsReady, IsReady-prop, NamesLine};
@@ -259,23 +259,35 @@ fn call_with(name: &str, arguments: &str) -> Option<Call<'static>>
     Some(match name {
         "insert_char" => Call::InsertChar(one_character(arguments)?),
         "delete_str" => Call::DeleteStr(number(arguments)? as usize),
+        "search_forward" => Call::SearchForward(truth(arguments)?),
+        "search_back" => Call::SearchBack(truth(arguments)?),
+        "measure" => Call::Measure(short_number(arguments)?),
+        "render" => Call::Render(area(arguments)?),
+        "hit" => Call::CursorAtPosition(position(arguments)?),
+        "move" => Call::Move(move_named(arguments)?),
+        "jump" => Call::Move(jump(arguments)?),
+        "scroll" => Call::Scroll(scroll_by(arguments)?),
+        "page" => Call::Scroll(page_named(arguments)?),
+        _ => return setting_with(name, arguments),
+    })
+}
+
+// The call of this name and these arguments, if it sets something.
+#[tactic(auto, unfolding(crate::specs::Commands::setting_meant))]
+fn setting_with(name: &str, arguments: &str) -> Option<Call<'static>>
+    ensures ready { IfSome result CanBeMade }
+    ensures means { option_map (λ call. meaning_of (Plain call)) result
+        ≡ setting_meant name.now (Some arguments.now) }
+{
+    Some(match name {
         "set_tab_length" => Call::SetTabLength(byte_number(arguments)?),
         "set_hard_tab_indent" => Call::SetHardTabIndent(truth(arguments)?),
         "set_max_histories" => Call::SetMaxHistories(number(arguments)? as usize),
         "set_undo_coalescing" => Call::SetUndoCoalescing(truth(arguments)?),
-        "move" => Call::Move(move_named(arguments)?),
-        "jump" => Call::Move(jump(arguments)?),
-        "now" => Call::SetNow(Duration::from_millis(number(arguments)?)),
-        "search_forward" => Call::SearchForward(truth(arguments)?),
-        "search_back" => Call::SearchBack(truth(arguments)?),
         "set_wrap_mode" => Call::SetWrapMode(mode_named(arguments)?),
-        "line_numbers" => line_numbers(truth(arguments)?),
-        "measure" => Call::Measure(short_number(arguments)?),
         "set_mask_char" => Call::SetMaskChar(one_character(arguments)?),
-        "render" => Call::Render(area(arguments)?),
-        "hit" => Call::CursorAtPosition(position(arguments)?),
-        "scroll" => Call::Scroll(scroll_by(arguments)?),
-        "page" => Call::Scroll(page_named(arguments)?),
+        "line_numbers" => line_numbers(truth(arguments)?),
+        "now" => Call::SetNow(Duration::from_millis(number(arguments)?)),
         _ => return None,
     })
 }

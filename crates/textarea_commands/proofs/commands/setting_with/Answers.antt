@@ -1,0 +1,28 @@
+use Rattle.std.proofs.Common.{rules, Some, ap, sym, inl, inr, refl, ◌∙◌, ◌++◌}
+use Rattle.textarea_commands.specs.Commands.{acting_commands, setting_commands, lone_commands, plain_meant, setting_meant, Plain}
+use Rattle.textarea_commands.specs.Script.{meaning_of}
+use Rattle.textarea_calls.specs.declared.call.Call.TheVariants as call
+use Rattle.textarea_commands.specs.declared.commands.Content.TheVariants as content
+use Rattle.textarea_commands.proofs.Tables.{IsOther, MeansNothing, meant_by-behind, meant_by-none, meant-read}
+use Rattle.textarea_commands.proofs.commands.setting_with.Goals as goal
+use Rattle.textarea_commands.proofs.commands.setting_with.Goals.{in-set_tab_length+in_ok-byte_number-in-set_tab_length, in-set_hard_tab_indent+in_ok-truth-in-set_hard_tab_indent, in-set_max_histories+in_ok-number-in-set_max_histories, in-set_undo_coalescing+in_ok-truth-in-set_undo_coalescing, in-set_wrap_mode+in_ok-mode_named-in-set_wrap_mode, in-set_mask_char+in_ok-one_character-in-set_mask_char, in-line_numbers+in_ok-truth-in-line_numbers, in-now+in_ok-number-in-now}
+
+pub returns-in_default-clause-means : goal.returns-in_default-clause-means
+unfolding setting_meant
+returns-in_default-clause-means c =
+    let nothing : MeansNothing c.args.name.now (Some c.args.arguments.now) (setting_commands ++ lone_commands) = (inl c.in_default.not-set_tab_length, (inl c.in_default.not-set_hard_tab_indent, (inl c.in_default.not-set_max_histories, (inl c.in_default.not-set_undo_coalescing, (inl c.in_default.not-set_wrap_mode, (inl c.in_default.not-set_mask_char, (inl c.in_default.not-line_numbers, (inl c.in_default.not-now, (inr refl, (inr refl, (inr refl, (inr refl, (inr refl, (inr refl, (inr refl, (inr refl, (inr refl, (inr refl, (inr refl, (inr refl, (inr refl, (inr refl, (inr refl, (inr refl, (inr refl, (inr refl, (inr refl, (inr refl, tt)))))))))))))))))))))))))))) in
+    sym (meant_by-none c.args.name.now (Some c.args.arguments.now) (setting_commands ++ lone_commands) nothing)
+
+pub returns-clause-means : goal.returns-clause-means
+unfolding setting_meant
+returns-clause-means c =
+    elim c.match-name.branch [
+      | in-set_tab_length+in_ok-byte_number-in-set_tab_length w ↦ meant-read setting_meant (λ value. Plain (call.SetTabLength value)) _ _ _ _ _ _ _ w.in-set_tab_length.is refl w.byte_number.ensures (w.in_ok-byte_number-in-set_tab_length.was) (ap (λ made. meaning_of (content.Plain made)) w.result-is)
+      | in-set_hard_tab_indent+in_ok-truth-in-set_hard_tab_indent w ↦ meant-read setting_meant (λ value. Plain (call.SetHardTabIndent value)) _ _ _ _ _ _ _ w.in-set_hard_tab_indent.is refl w.truth.ensures (w.in_ok-truth-in-set_hard_tab_indent.was) (ap (λ made. meaning_of (content.Plain made)) w.result-is)
+      | in-set_max_histories+in_ok-number-in-set_max_histories w ↦ meant-read setting_meant (λ value. Plain (call.SetMaxHistories value)) _ _ _ _ _ _ _ w.in-set_max_histories.is refl w.number.ensures (w.in_ok-number-in-set_max_histories.was) (ap (λ made. meaning_of (content.Plain made)) w.result-is)
+      | in-set_undo_coalescing+in_ok-truth-in-set_undo_coalescing w ↦ meant-read setting_meant (λ value. Plain (call.SetUndoCoalescing value)) _ _ _ _ _ _ _ w.in-set_undo_coalescing.is refl w.truth-in-set_undo_coalescing.ensures (w.in_ok-truth-in-set_undo_coalescing.was) (ap (λ made. meaning_of (content.Plain made)) w.result-is)
+      | in-set_wrap_mode+in_ok-mode_named-in-set_wrap_mode w ↦ meant-read setting_meant (λ value. Plain (call.SetWrapMode value)) _ _ _ _ _ _ _ w.in-set_wrap_mode.is refl w.mode_named.ensures (w.in_ok-mode_named-in-set_wrap_mode.was) (ap (λ made. meaning_of (content.Plain made)) w.result-is)
+      | in-set_mask_char+in_ok-one_character-in-set_mask_char w ↦ meant-read setting_meant (λ value. Plain (call.SetMaskChar value)) _ _ _ _ _ _ _ w.in-set_mask_char.is refl w.one_character.ensures (w.in_ok-one_character-in-set_mask_char.was) (ap (λ made. meaning_of (content.Plain made)) w.result-is)
+      | in-line_numbers+in_ok-truth-in-line_numbers w ↦ search rules
+      | in-now+in_ok-number-in-now w ↦ search rules
+    ]
