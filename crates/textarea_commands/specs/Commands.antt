@@ -67,7 +67,7 @@ abbrev pub some_ranges : Option (List ℕ) → Option Meaning
 some_ranges arguments = option_map TrySetAtomicRanges (ranges_behind arguments)
 
 -- the commands that stand for calls that borrow nothing: their names, and what they mean by the arguments that follow one space
--- behind the name, if a space is there. Those with arguments that edit, move, search, measure or draw
+-- behind the name, if a space is there. Here those with arguments that edit, move, search, measure, draw or scroll
 abbrev pub acting_commands : List (List ℕ × (Option (List ℕ) → Option Meaning))
 acting_commands =
     (codes "insert_char", plain character call.InsertChar)
@@ -121,6 +121,7 @@ lone_commands =
     ∷ (codes "clear_mask_char", alone call.ClearMaskChar)
     ∷ []
 
+-- all of these
 abbrev pub plain_commands : List (List ℕ × (Option (List ℕ) → Option Meaning))
 plain_commands = acting_commands ++ (setting_commands ++ lone_commands)
 
@@ -146,6 +147,7 @@ meant_by table name arguments = option_and_then (λ means. means arguments) (nam
 unfoldable pub plain_meant : List ℕ → Option (List ℕ) → Option Meaning
 plain_meant = meant_by plain_commands
 
+-- what the two last tables mean by them
 unfoldable pub setting_meant : List ℕ → Option (List ℕ) → Option Meaning
 setting_meant = meant_by (setting_commands ++ lone_commands)
 
