@@ -1,10 +1,13 @@
 // Calls for tables.
 use crate::styles::{GREEN, ON_YELLOW};
+use crate::trial::answers_of;
 use std::alloc::{AllocError, Global};
-use textarea_calls::Call;
+use std::process::Abort;
+use std::test::Fail;
+use textarea_calls::{Answer, Call};
 use tui_textarea::{
-    Alignment, AtomicCursorBias, AtomicDeleteDirection, Block, Borders, CursorRenderMode, Line,
-    Position, Rect, Style, Text,
+    Alignment, AtomicCursorBias, AtomicDeleteDirection, Block, Borders, Buffer, CursorRenderMode,
+    Line, Position, Rect, Style, Text, TextArea,
 };
 
 /// A call, as plain data: the block and the placeholder are lent where it is made.
@@ -47,6 +50,21 @@ fn call_of<'a>(
     placeholder: &'a Text<'static>,
 ) -> Call<'a> {
     match asked {
+        Asked::SetPlaceholderText(text) => Call::SetPlaceholderText(text),
+        Asked::SetPlaceholderStyle(style) => Call::SetPlaceholderStyle(style),
+        Asked::SetStyledPlaceholder => Call::SetStyledPlaceholder(placeholder),
+        Asked::SetMinRows(rows) => Call::SetMinRows(rows),
+        Asked::SetMaxRows(rows) => Call::SetMaxRows(rows),
+        Asked::SetLineNumberStyle(style) => Call::SetLineNumberStyle(style),
+        Asked::SetBlock => Call::SetBlock(block),
+        Asked::RemoveBlock => Call::RemoveBlock,
+        _ => text_call_of(asked),
+    }
+}
+
+// A call that edits or measures, or one of those below.
+fn text_call_of(asked: Asked) -> Call<'static> {
+    match asked {
         Asked::InsertChar(character) => Call::InsertChar(character),
         Asked::DeleteChar => Call::DeleteChar,
         Asked::Undo => Call::Undo,
@@ -56,14 +74,6 @@ fn call_of<'a>(
         Asked::DeleteRangeAtCursor(direction) => Call::DeleteAtomicRangeAtCursor(direction),
         Asked::NormalizeCursor(bias) => Call::NormalizeCursorAroundAtomicRanges(bias),
         Asked::ClearRanges => Call::ClearAtomicRanges,
-        Asked::SetPlaceholderText(text) => Call::SetPlaceholderText(text),
-        Asked::SetPlaceholderStyle(style) => Call::SetPlaceholderStyle(style),
-        Asked::SetStyledPlaceholder => Call::SetStyledPlaceholder(placeholder),
-        Asked::SetMinRows(rows) => Call::SetMinRows(rows),
-        Asked::SetMaxRows(rows) => Call::SetMaxRows(rows),
-        Asked::SetLineNumberStyle(style) => Call::SetLineNumberStyle(style),
-        Asked::SetBlock => Call::SetBlock(block),
-        Asked::RemoveBlock => Call::RemoveBlock,
         _ => drawing_call_of(asked),
     }
 }
@@ -90,7 +100,20 @@ fn drawing_call_of(asked: Asked) -> Call<'static> {
     }
 }
 
-pub fn calls_of<'a>(
+/// Makes the calls, and answers with their answers.
+pub fn make_asked(
+    rt: &(impl Abort + AllocGlobal),
+    area: &mut TextArea<'_>,
+    asked: &[Asked],
+    buffer: &mut Buffer,
+) -> Result<Vec<Answer>, Fail> {
+    let block = titled(rt.alloc())?;
+    let placeholder = two_lines(rt.alloc())?;
+    let calls = calls_of(rt.alloc(), asked, &block, &placeholder)?;
+    Ok(answers_of(rt, area, calls.as_slice(), buffer))
+}
+
+fn calls_of<'a>(
     alloc: Global,
     asked: &[Asked],
     block: &'a Block<'static>,
@@ -103,8 +126,8 @@ pub fn calls_of<'a>(
     Ok(calls)
 }
 
-/// The placeholder that is lent.
-pub fn two_lines(alloc: Global) -> Result<Text<'static>, AllocError> {
+// The placeholder that is lent.
+fn two_lines(alloc: Global) -> Result<Text<'static>, AllocError> {
     let mut lines = Vec::new(alloc);
     for text in ["type", "here"] {
         lines.push(Line::raw(String::from_str(alloc, text)?)?)?;
@@ -115,8 +138,8 @@ pub fn two_lines(alloc: Global) -> Result<Text<'static>, AllocError> {
     })
 }
 
-/// The block that is lent.
-pub fn titled(alloc: Global) -> Result<Block<'static>, AllocError> {
+// The block that is lent.
+fn titled(alloc: Global) -> Result<Block<'static>, AllocError> {
     let title = Line::raw(String::from_str(alloc, "hi")?)?;
     Ok(
         Block::new()

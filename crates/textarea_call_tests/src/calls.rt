@@ -1,11 +1,16 @@
 // Calls that no script makes.
-use crate::asked::{Asked, calls_of, titled, two_lines};
+use crate::asked::{Asked, make_asked};
 use crate::styles::{GRAY, PLAIN, RED};
-use crate::unprinted::{AT_FIRST, FILLED, Unprinted, check};
+use crate::trial::{Trial, make, try_in_new_area};
+use crate::unprinted::{AT_FIRST, FILLED, Unprinted, compare_read};
 use std::process::Abort;
+use std::string::ToString;
 use std::test::Fail;
-use textarea_calls::Call;
-use tui_textarea::{Alignment, AtomicCursorBias, AtomicDeleteDirection, Block, Text, WrapMode};
+use textarea_calls::{Answer, Call};
+use textarea_printing::Report;
+use tui_textarea::{
+    Alignment, AtomicCursorBias, AtomicDeleteDirection, Buffer, TextArea, WrapMode,
+};
 
 /// A script, calls behind it, what is printed then, and what is read.
 pub type Case = (
@@ -240,22 +245,39 @@ static CALLS: [Case; 16] = [
 
 #[test]
 fn calls_behind_scripts(rt: HostRuntime) -> Result<(), Fail> {
-    let placeholder = two_lines(rt.alloc())?;
-    let block = titled(rt.alloc())?;
-    check_cases(&rt, &CALLS, &block, &placeholder)
+    for case in &CALLS {
+        try_in_new_area(&rt, Trial::Case(case))?;
+    }
+    Ok(())
 }
 
-/// Each case must be so, with this block and this placeholder lent.
-pub fn check_cases<'a>(
+/// Runs a script, and then the calls: their answers and the text area must be printed so, and this be read.
+pub fn check_case(
     rt: &(impl Abort + AllocGlobal),
-    cases: &[Case],
-    block: &'a Block<'static>,
-    placeholder: &'a Text<'static>,
+    area: &mut TextArea<'_>,
+    case: &Case,
+    buffer: &mut Buffer,
 ) -> Result<(), Fail> {
-    for (script, asked, printed, wanted) in cases {
-        let calls = calls_of(rt.alloc(), asked, block, placeholder)?;
-        check(rt, script, calls.as_slice(), Some(printed), wanted)?;
-    }
+    let (script, asked, printed, wanted) = case;
+    make(rt, area, script, buffer)?;
+    let answers = make_asked(rt, area, asked, buffer)?;
+    compare_printed(rt, answers.as_slice(), area, printed)?;
+    compare_read(rt, script, area, wanted);
+    Ok(())
+}
+
+fn compare_printed<'a>(
+    rt: &(impl Abort + AllocGlobal),
+    answers: &'a [Answer],
+    area: &'a TextArea<'_>,
+    wanted: &str,
+) -> Result<(), Fail> {
+    let report = Report {
+        answers,
+        area,
+        screen: None,
+    };
+    assert_eq!(rt; report.to_string(rt.alloc())?.as_str(), wanted);
     Ok(())
 }
 

@@ -1,20 +1,18 @@
 // What is drawn, by the symbols and the styles of its cells, and where the caret is then.
-use crate::asked::{Asked, calls_of, titled, two_lines};
+use crate::asked::{Asked, make_asked};
 use crate::styles::{
     CURSOR, CURSOR_LINE, CYAN, GRAY, GREEN, GREEN_ON_YELLOW, MATCHED, ON_YELLOW, PLAIN, RED,
     RED_ON_YELLOW, SELECTED,
 };
-use crate::unprinted::make;
+use crate::trial::{Trial, answers_of, make, try_in_new_area};
 use std::alloc::Global;
 use std::process::Abort;
 use std::string::ToString;
 use std::test::Fail;
-use textarea_calls::{Answer, Call};
+use textarea_calls::Call;
 use textarea_printing::Screen;
-use textarea_run::run::run;
 use tui_textarea::{
-    Alignment, Block, Buffer, Color, CursorRenderMode, Modifier, Position, Rect, Style, Text,
-    TextArea,
+    Alignment, Buffer, Color, CursorRenderMode, Modifier, Position, Rect, Style, TextArea,
 };
 
 /// A drawing of what a script and calls behind it leave.
@@ -31,71 +29,40 @@ pub struct Drawn {
 }
 
 /// Each drawing must be so.
-pub fn check(rt: &(impl Abort + AllocGlobal), drawings: &[Drawn]) -> Result<(), Fail> {
-    let block = titled(rt.alloc())?;
-    let placeholder = two_lines(rt.alloc())?;
+pub fn check_drawings(
+    rt: &(impl Abort + AllocGlobal),
+    drawings: &'static [Drawn],
+) -> Result<(), Fail> {
     for drawn in drawings {
-        check_drawn(rt, drawn, &block, &placeholder)?;
+        try_in_new_area(rt, Trial::Drawn(drawn))?;
     }
     Ok(())
 }
 
-fn check_drawn<'a>(
-    rt: &(impl Abort + AllocGlobal),
-    drawn: &Drawn,
-    block: &'a Block<'static>,
-    placeholder: &'a Text<'static>,
-) -> Result<(), Fail> {
-    let mut buffer = Buffer::empty(rt.alloc(), Rect::new(0, 0, 12, 6))?;
-    let mut area = TextArea::try_default(rt.alloc())?;
-    make_and_draw(rt, &mut area, drawn, block, placeholder, &mut buffer)
-}
-
-fn make_and_draw<'a>(
-    rt: &(impl Abort + AllocGlobal),
-    area: &mut TextArea<'_>,
-    drawn: &Drawn,
-    block: &'a Block<'static>,
-    placeholder: &'a Text<'static>,
-    buffer: &mut Buffer,
-) -> Result<(), Fail> {
-    make(rt, area, drawn.script)?;
-    make_asked(rt, area, drawn, block, placeholder, buffer)?;
-    check_frame(rt, area, drawn, buffer)
-}
-
-// Makes the calls that no script says.
-fn make_asked<'a>(
-    rt: &(impl Abort + AllocGlobal),
-    area: &mut TextArea<'_>,
-    drawn: &Drawn,
-    block: &'a Block<'static>,
-    placeholder: &'a Text<'static>,
-    buffer: &mut Buffer,
-) -> Result<(), Fail> {
-    let calls = calls_of(rt.alloc(), drawn.asked, block, placeholder)?;
-    assert!(rt; calls.iter().all(|call| call.can_be_made()));
-    let end = run(area, calls.as_slice(), buffer);
-    assert!(rt; end.refused == None);
-    Ok(())
-}
-
-// Draws the text area, and looks at its caret and at the cells.
-fn check_frame(
+/// Runs the script, makes the calls, draws the text area, and looks at its caret and at the cells.
+pub fn check_drawn(
     rt: &(impl Abort + AllocGlobal),
     area: &mut TextArea<'_>,
     drawn: &Drawn,
     buffer: &mut Buffer,
 ) -> Result<(), Fail> {
-    let script = drawn.script;
+    make(rt, area, drawn.script, buffer)?;
+    make_asked(rt, area, drawn.asked, buffer)?;
     let (x, y, width, height) = drawn.area;
     let place = Rect::new(x, y, width, height);
-    let drawing = [Call::Render(place), Call::RenderedCursorPosition];
-    let end = run(area, &drawing, buffer);
-    assert!(rt; end.refused == None);
-    let wanted = [Answer::Done, Answer::Position(drawn.caret)];
-    assert_eq!(rt; end.answers.as_slice(), wanted.as_slice(), "{script}");
+    draw(rt, area, place, buffer);
+    assert_eq!(rt;
+        area.rendered_cursor_position(),
+        drawn.caret,
+        "{}",
+        drawn.script
+    );
     check_cells(rt, buffer, place, drawn)
+}
+
+fn draw(rt: &impl Abort, area: &mut TextArea<'_>, place: Rect, buffer: &mut Buffer) {
+    let answers = answers_of(rt, area, &[Call::Render(place)], buffer);
+    assert!(rt; answers.len() == 1);
 }
 
 // The cells of the area must have these texts and styles.
@@ -248,7 +215,7 @@ const CURSOR_ON_YELLOW: Style = Style {
 
 #[test]
 fn rows(rt: HostRuntime) -> Result<(), Fail> {
-    check(&rt, &ROWS)
+    check_drawings(&rt, &ROWS)
 }
 
 static HIGHLIGHTED: [Drawn; 10] = [
@@ -398,7 +365,7 @@ static HIGHLIGHTED: [Drawn; 10] = [
 
 #[test]
 fn highlights(rt: HostRuntime) -> Result<(), Fail> {
-    check(&rt, &HIGHLIGHTED)
+    check_drawings(&rt, &HIGHLIGHTED)
 }
 
 static ALIGNED: [Drawn; 5] = [
@@ -454,7 +421,7 @@ static ALIGNED: [Drawn; 5] = [
 
 #[test]
 fn alignments(rt: HostRuntime) -> Result<(), Fail> {
-    check(&rt, &ALIGNED)
+    check_drawings(&rt, &ALIGNED)
 }
 
 static SURROUNDED: [Drawn; 7] = [
@@ -551,5 +518,5 @@ const CURSOR_IN_BLOCK: Style = Style {
 
 #[test]
 fn surroundings(rt: HostRuntime) -> Result<(), Fail> {
-    check(&rt, &SURROUNDED)
+    check_drawings(&rt, &SURROUNDED)
 }

@@ -1,12 +1,13 @@
 // Text areas of given lines, and copies of them.
-use crate::unprinted::{AT_FIRST, FILLED, Unprinted, compare_read, make};
+use crate::trial::{Trial, make, try_in_new_area};
+use crate::unprinted::{AT_FIRST, FILLED, Unprinted, compare_read};
 use std::alloc::AllocError;
 use std::process::Abort;
 use std::test::Fail;
-use tui_textarea::TextArea;
+use tui_textarea::{Buffer, TextArea};
 
-/// These must be the lines.
-pub fn compare_lines(rt: &impl Abort, lines: &[String], wanted: &[&str]) {
+// These must be the lines.
+fn compare_lines(rt: &impl Abort, lines: &[String], wanted: &[&str]) {
     assert!(rt; lines.len() == wanted.len());
     for (line, wanted) in lines.iter().zip(wanted) {
         assert!(rt; line.as_str() == *wanted);
@@ -22,24 +23,33 @@ fn strings(rt: &impl AllocGlobal, texts: &[&str]) -> Result<Vec<String>, AllocEr
 }
 
 // Compares the lines, and as many as they are come out.
-fn compare_given(rt: &impl Abort, area: TextArea<'_>, wanted: &[&str]) {
+fn compare_given(
+    rt: &impl Abort,
+    made: Result<TextArea<'_>, AllocError>,
+    wanted: &[&str],
+) -> Result<(), Fail> {
+    let area = made?;
     compare_lines(rt, area.lines(), wanted);
     let lines = area.into_lines();
     assert!(rt; lines.len() == wanted.len());
+    Ok(())
 }
 
 #[test]
 fn a_text_area_of_lines(rt: HostRuntime) -> Result<(), Fail> {
-    let area = TextArea::new(strings(&rt, &["a", "b"])?)?;
-    compare_given(&rt, area, &["a", "b"]);
-    Ok(())
+    let lines = strings(&rt, &["a", "b"])?;
+    compare_given(&rt, TextArea::new(lines), &["a", "b"])
+}
+
+#[test]
+fn an_empty_text_area(rt: HostRuntime) -> Result<(), Fail> {
+    compare_given(&rt, TextArea::try_default(rt.alloc()), &[""])
 }
 
 #[test]
 fn a_text_area_of_texts(rt: HostRuntime) -> Result<(), Fail> {
-    let area = TextArea::from_strs(rt.alloc(), ["a", "b"].into_iter())?;
-    compare_given(&rt, area, &["a", "b"]);
-    Ok(())
+    let made = TextArea::from_strs(rt.alloc(), ["a", "b"].into_iter());
+    compare_given(&rt, made, &["a", "b"])
 }
 
 #[test]
@@ -53,30 +63,45 @@ fn compare_of_strings(
     texts: &[&str],
     wanted: &[&str],
 ) -> Result<(), Fail> {
-    let area = TextArea::from_strings(rt.alloc(), strings(rt, texts)?.into_iter())?;
-    compare_given(rt, area, wanted);
-    Ok(())
+    let texts = strings(rt, texts)?;
+    compare_given(
+        rt,
+        TextArea::from_strings(rt.alloc(), texts.into_iter()),
+        wanted,
+    )
 }
 
-// A copy keeps text and pattern, whatever becomes of its source.
 #[test]
 fn a_copy_stands_alone(rt: HostRuntime) -> Result<(), Fail> {
-    let mut area = TextArea::try_default(rt.alloc())?;
-    copy_and_change(&rt, &mut area)
+    try_in_new_area(&rt, Trial::Copy)
 }
 
-fn copy_and_change(rt: &(impl Abort + AllocGlobal), area: &mut TextArea<'_>) -> Result<(), Fail> {
-    make(rt, area, "insert_char c\nset_search_pattern c")?;
+/// A copy keeps text and pattern, whatever becomes of its source.
+pub fn copy_and_change(
+    rt: &(impl Abort + AllocGlobal),
+    area: &mut TextArea<'_>,
+    buffer: &mut Buffer,
+) -> Result<(), Fail> {
+    make(rt, area, "insert_char c\nset_search_pattern c", buffer)?;
+    check_copy(rt, area, buffer)
+}
+
+fn check_copy(
+    rt: &(impl Abort + AllocGlobal),
+    area: &mut TextArea<'_>,
+    buffer: &mut Buffer,
+) -> Result<(), Fail> {
     let copy = area.clone()?;
-    change_beside(rt, area, &copy)
+    change_beside(rt, area, &copy, buffer)
 }
 
 fn change_beside(
     rt: &(impl Abort + AllocGlobal),
     area: &mut TextArea<'_>,
     copy: &TextArea<'_>,
+    buffer: &mut Buffer,
 ) -> Result<(), Fail> {
-    make(rt, area, "undo\nset_search_pattern")?;
+    make(rt, area, "undo\nset_search_pattern", buffer)?;
     compare_lines(rt, area.lines(), &[""]);
     compare_read(rt, "the source", area, &AT_FIRST);
     compare_lines(rt, copy.lines(), &["c"]);

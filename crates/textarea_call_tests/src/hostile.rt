@@ -1,9 +1,9 @@
 // Hostile texts and areas: what is drawn of them, where the caret is, and what a hit finds.
-use crate::asked::{Asked, titled, two_lines};
-use crate::calls::{Case, check_cases};
-use crate::drawn::{Drawn, check};
-use crate::looks::check_answers;
+use crate::asked::Asked;
+use crate::calls::Case;
+use crate::drawn::{Drawn, check_drawings};
 use crate::styles::{CURSOR, CURSOR_LINE, PLAIN, RED};
+use crate::trial::{Trial, check_answers, try_in_new_area};
 use crate::unprinted::{FILLED, Unprinted};
 use std::alloc::{AllocError, Global};
 use std::process::Abort;
@@ -51,7 +51,7 @@ static DRAWN: [Drawn; 4] = [
 
 #[test]
 fn hostile_drawings(rt: HostRuntime) -> Result<(), Fail> {
-    check(&rt, &DRAWN)
+    check_drawings(&rt, &DRAWN)
 }
 
 const BY_CLUSTERS: Unprinted<'static> = Unprinted {
@@ -88,24 +88,22 @@ static CASES: [Case; 3] = [
 
 #[test]
 fn hostile_places(rt: HostRuntime) -> Result<(), Fail> {
-    let block = titled(rt.alloc())?;
-    let placeholder = two_lines(rt.alloc())?;
-    check_cases(&rt, &CASES, &block, &placeholder)
+    for case in &CASES {
+        try_in_new_area(&rt, Trial::Case(case))?;
+    }
+    Ok(())
 }
 
 // More lines than a height counts.
 #[test]
 fn many_lines(rt: HostRuntime) -> Result<(), Fail> {
-    let mut buffer = Buffer::empty(rt.alloc(), Rect::new(0, 0, 10, 5))?;
-    let mut area = TextArea::new(lines_of_x(rt.alloc(), 70_000)?)?;
-    check_shown(&rt, &mut area, &mut buffer);
-    check_scrolled(&rt, &mut area, &mut buffer);
-    Ok(())
+    try_in_new_area(&rt, Trial::ManyLines)
 }
 
-fn lines_of_x(alloc: Global, count: usize) -> Result<Vec<String>, AllocError> {
+/// 70,000 lines.
+pub fn lines_of_x(alloc: Global) -> Result<Vec<String>, AllocError> {
     let mut lines = Vec::new(alloc);
-    for _ in 0..count {
+    for _ in 0..70_000 {
         lines.push(String::from_str(alloc, "x")?)?;
     }
     Ok(lines)
@@ -140,6 +138,14 @@ const SCROLLED: [Call<'static>; 3] = [
     Call::SelectionRange,
 ];
 
+/// Many lines are selected, drawn and scrolled.
+pub fn check_many_lines(rt: &impl Abort, area: &mut TextArea<'_>, buffer: &mut Buffer) {
+    check_shown(rt, area, buffer);
+    assert_eq!(rt; area.viewport().scroll_top(), (69_995, 0));
+    check_scrolled(rt, area, buffer);
+    assert_eq!(rt; area.viewport().scroll_top(), (37_227, 0));
+}
+
 fn check_shown(rt: &impl Abort, area: &mut TextArea<'_>, buffer: &mut Buffer) {
     let answers = [
         Answer::Done,
@@ -148,8 +154,7 @@ fn check_shown(rt: &impl Abort, area: &mut TextArea<'_>, buffer: &mut Buffer) {
         Answer::Position(Some(Position { x: 1, y: 4 })),
         Answer::Measured(HEIGHT),
     ];
-    check_answers(rt, area, buffer, &SHOWN, &answers);
-    assert_eq!(rt; area.viewport().scroll_top(), (69_995, 0));
+    check_answers(rt, area, &SHOWN, &answers, buffer);
 }
 
 fn check_scrolled(rt: &impl Abort, area: &mut TextArea<'_>, buffer: &mut Buffer) {
@@ -158,6 +163,5 @@ fn check_scrolled(rt: &impl Abort, area: &mut TextArea<'_>, buffer: &mut Buffer)
         Answer::Cursor((37_231, 1)),
         Answer::Selection(Some(((0, 0), (37_231, 1)))),
     ];
-    check_answers(rt, area, buffer, &SCROLLED, &answers);
-    assert_eq!(rt; area.viewport().scroll_top(), (37_227, 0));
+    check_answers(rt, area, &SCROLLED, &answers, buffer);
 }

@@ -20,4 +20,6 @@ mod settings;
 #[cfg(test)]
 mod styles;
 #[cfg(test)]
+mod trial;
+#[cfg(test)]
 mod unprinted;

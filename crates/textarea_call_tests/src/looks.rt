@@ -1,14 +1,13 @@
 // How a text area looks, at first and as it was set, and which part of it is shown.
 use crate::styles::{CURSOR, CURSOR_LINE, CYAN, GREEN, MATCHED, ON_YELLOW, PLAIN, RED, SELECTED};
-use crate::unprinted::make;
+use crate::trial::{Trial, check_answers, make, try_in_new_area};
 use std::process::Abort;
 use std::test::Fail;
 use textarea_calls::{Answer, Call};
-use textarea_run::run::run;
-use tui_textarea::{Alignment, Buffer, CursorRenderMode, Rect, TextArea, Viewport};
+use tui_textarea::{Alignment, Buffer, CursorRenderMode, TextArea, Viewport};
 
-/// What reads the looks.
-pub const READERS: [Call<'static>; 9] = [
+// What reads the looks.
+const READERS: [Call<'static>; 9] = [
     Call::Style,
     Call::CursorStyle,
     Call::CursorLineStyle,
@@ -33,13 +32,15 @@ const SETTERS: [Call<'static>; 8] = [
 
 #[test]
 fn looks(rt: HostRuntime) -> Result<(), Fail> {
-    let mut buffer = Buffer::empty(rt.alloc(), Rect::default())?;
-    let mut area = TextArea::try_default(rt.alloc())?;
-    check_first_looks(&rt, &mut area, &mut buffer);
-    change_looks(&rt, &mut area, &mut buffer);
-    check_changed_looks(&rt, &mut area, &mut buffer);
-    clear_mask(&rt, &mut area, &mut buffer);
-    Ok(())
+    try_in_new_area(&rt, Trial::Looks)
+}
+
+/// The looks at first, as they are set, and without the mask.
+pub fn check_looks(rt: &impl Abort, area: &mut TextArea<'_>, buffer: &mut Buffer) {
+    check_first_looks(rt, area, buffer);
+    change_looks(rt, area, buffer);
+    check_changed_looks(rt, area, buffer);
+    clear_mask(rt, area, buffer);
 }
 
 fn check_first_looks(rt: &impl Abort, area: &mut TextArea<'_>, buffer: &mut Buffer) {
@@ -54,7 +55,7 @@ fn check_first_looks(rt: &impl Abort, area: &mut TextArea<'_>, buffer: &mut Buff
         Answer::Alignment(Alignment::Left),
         Answer::Position(None),
     ];
-    check_answers(rt, area, buffer, &READERS, &at_first);
+    check_answers(rt, area, &READERS, &at_first, buffer);
 }
 
 fn change_looks(rt: &impl Abort, area: &mut TextArea<'_>, buffer: &mut Buffer) {
@@ -68,7 +69,7 @@ fn change_looks(rt: &impl Abort, area: &mut TextArea<'_>, buffer: &mut Buffer) {
         Answer::Done,
         Answer::Done,
     ];
-    check_answers(rt, area, buffer, &SETTERS, &made);
+    check_answers(rt, area, &SETTERS, &made, buffer);
 }
 
 fn check_changed_looks(rt: &impl Abort, area: &mut TextArea<'_>, buffer: &mut Buffer) {
@@ -83,39 +84,29 @@ fn check_changed_looks(rt: &impl Abort, area: &mut TextArea<'_>, buffer: &mut Bu
         Answer::Alignment(Alignment::Right),
         Answer::Position(None),
     ];
-    check_answers(rt, area, buffer, &READERS, &set);
+    check_answers(rt, area, &READERS, &set, buffer);
 }
 
 fn clear_mask(rt: &impl Abort, area: &mut TextArea<'_>, buffer: &mut Buffer) {
     let calls = [Call::ClearMaskChar, Call::MaskChar];
     let answers = [Answer::Done, Answer::Character(None)];
-    check_answers(rt, area, buffer, &calls, &answers);
-}
-
-/// Makes the calls, which must give these answers.
-pub fn check_answers(
-    rt: &impl Abort,
-    area: &mut TextArea<'_>,
-    buffer: &mut Buffer,
-    calls: &[Call<'_>],
-    wanted: &[Answer],
-) {
-    assert!(rt; calls.iter().all(|call| call.can_be_made()));
-    let end = run(area, calls, buffer);
-    assert!(rt; end.refused == None);
-    assert_eq!(rt; end.answers.as_slice(), wanted);
+    check_answers(rt, area, &calls, &answers, buffer);
 }
 
 // Which rows and columns are shown, where the cursor was drawn last and where something scrolled since.
 #[test]
 fn viewports(rt: HostRuntime) -> Result<(), Fail> {
-    let mut area = TextArea::try_default(rt.alloc())?;
-    check_viewports(&rt, &mut area)
+    try_in_new_area(&rt, Trial::Viewports)
 }
 
-fn check_viewports(rt: &(impl Abort + AllocGlobal), area: &mut TextArea<'_>) -> Result<(), Fail> {
+/// Runs the scripts, and looks at the viewport behind each.
+pub fn check_viewports(
+    rt: &(impl Abort + AllocGlobal),
+    area: &mut TextArea<'_>,
+    buffer: &mut Buffer,
+) -> Result<(), Fail> {
     for (script, top, rect, position) in VIEWPORTS {
-        make(rt, area, script)?;
+        make(rt, area, script, buffer)?;
         compare_viewport(rt, script, area.viewport(), (top, rect, position));
     }
     Ok(())

@@ -1,8 +1,8 @@
 // Atomic ranges that go with the text.
-use crate::unprinted::make;
+use crate::trial::{Trial, try_in_new_area};
 use std::process::Abort;
 use std::test::Fail;
-use tui_textarea::{AtomicRange, TextArea};
+use tui_textarea::AtomicRange;
 
 // Scripts, and the ranges that are held behind them, each by its row and its two columns.
 static MOVED: [(&str, &str); 27] = [
@@ -114,18 +114,13 @@ static MOVED: [(&str, &str); 27] = [
 #[test]
 fn ranges_go_with_the_text(rt: HostRuntime) -> Result<(), Fail> {
     for (script, wanted) in &MOVED {
-        check_held(&rt, script, wanted)?;
+        try_in_new_area(&rt, Trial::Held(script, wanted))?;
     }
     Ok(())
 }
 
-fn check_held(rt: &(impl Abort + AllocGlobal), script: &str, wanted: &str) -> Result<(), Fail> {
-    let mut area = TextArea::try_default(rt.alloc())?;
-    make(rt, &mut area, script)?;
-    check_ranges(rt, area.atomic_ranges(), script, wanted)
-}
-
-fn check_ranges(
+/// These ranges must be held behind the script.
+pub fn check_ranges(
     rt: &(impl Abort + AllocGlobal),
     ranges: &[AtomicRange],
     script: &str,

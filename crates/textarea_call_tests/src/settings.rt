@@ -1,14 +1,14 @@
 // What is read of the cursor, the selection and the settings by calls of a run, at first and as it was set; and calls and answers,
 // printed for whoever looks for what went wrong.
-use crate::looks::check_answers;
 use crate::styles::{GRAY, RED};
+use crate::trial::{Trial, check_answers, try_in_new_area};
 use std::process::Abort;
 use std::test::Fail;
 use textarea_calls::{Answer, Call};
-use tui_textarea::{Buffer, Rect, TextArea, WrapMode};
+use tui_textarea::{Buffer, TextArea, WrapMode};
 
-/// What reads the cursor, the selection and the settings.
-pub const READERS: [Call<'static>; 13] = [
+// What reads the cursor, the selection and the settings.
+const READERS: [Call<'static>; 13] = [
     Call::Cursor,
     Call::IsEmpty,
     Call::IsSelecting,
@@ -39,11 +39,16 @@ const SETTERS: [Call<'static>; 11] = [
 ];
 
 #[test]
-fn settings_at_first(rt: HostRuntime) -> Result<(), Fail> {
-    let mut buffer = Buffer::empty(rt.alloc(), Rect::default())?;
-    let mut area = TextArea::try_default(rt.alloc())?;
-    check_first_settings(&rt, &mut area, &mut buffer);
-    Ok(())
+fn settings(rt: HostRuntime) -> Result<(), Fail> {
+    try_in_new_area(&rt, Trial::Settings)
+}
+
+/// The settings at first and as they are set.
+pub fn check_settings(rt: &impl Abort, area: &mut TextArea<'_>, buffer: &mut Buffer) {
+    check_first_settings(rt, area, buffer);
+    change_settings(rt, area, buffer);
+    check_changed_settings(rt, area, buffer);
+    indent_by_tabs(rt, area, buffer);
 }
 
 fn check_first_settings(rt: &impl Abort, area: &mut TextArea<'_>, buffer: &mut Buffer) {
@@ -62,17 +67,7 @@ fn check_first_settings(rt: &impl Abort, area: &mut TextArea<'_>, buffer: &mut B
         Answer::Number(1),
         Answer::Number(65535),
     ];
-    check_answers(rt, area, buffer, &READERS, &at_first);
-}
-
-#[test]
-fn settings_that_were_set(rt: HostRuntime) -> Result<(), Fail> {
-    let mut buffer = Buffer::empty(rt.alloc(), Rect::default())?;
-    let mut area = TextArea::try_default(rt.alloc())?;
-    change_settings(&rt, &mut area, &mut buffer);
-    check_changed_settings(&rt, &mut area, &mut buffer);
-    indent_by_tabs(&rt, &mut area, &mut buffer);
-    Ok(())
+    check_answers(rt, area, &READERS, &at_first, buffer);
 }
 
 fn change_settings(rt: &impl Abort, area: &mut TextArea<'_>, buffer: &mut Buffer) {
@@ -89,7 +84,7 @@ fn change_settings(rt: &impl Abort, area: &mut TextArea<'_>, buffer: &mut Buffer
         Answer::Done,
         Answer::Done,
     ];
-    check_answers(rt, area, buffer, &SETTERS, &made);
+    check_answers(rt, area, &SETTERS, &made, buffer);
 }
 
 fn check_changed_settings(rt: &impl Abort, area: &mut TextArea<'_>, buffer: &mut Buffer) {
@@ -108,13 +103,13 @@ fn check_changed_settings(rt: &impl Abort, area: &mut TextArea<'_>, buffer: &mut
         Answer::Number(3),
         Answer::Number(9),
     ];
-    check_answers(rt, area, buffer, &READERS, &set);
+    check_answers(rt, area, &READERS, &set, buffer);
 }
 
 fn indent_by_tabs(rt: &impl Abort, area: &mut TextArea<'_>, buffer: &mut Buffer) {
     let tabs = [Call::SetHardTabIndent(true), Call::HardTabIndent];
     let answers = [Answer::Done, Answer::Flag(true)];
-    check_answers(rt, area, buffer, &tabs, &answers);
+    check_answers(rt, area, &tabs, &answers, buffer);
 }
 
 // No text of these is promised.

@@ -1,13 +1,9 @@
 // What isn't printed of a text area: what its other calls read.
 use crate::styles::PLAIN;
+use crate::trial::{Trial, try_in_new_area};
 use std::process::Abort;
-use std::string::ToString;
 use std::test::Fail;
-use textarea_calls::Call;
-use textarea_commands::commands::{calls, read};
-use textarea_printing::Report;
-use textarea_run::run::run;
-use tui_textarea::{AtomicRange, Buffer, Rect, Style, TextArea, WrapMode};
+use tui_textarea::{AtomicRange, Style, TextArea, WrapMode};
 
 #[derive(Clone, Copy, Debug, PartialEq, Eq)]
 pub struct Unprinted<'a> {
@@ -216,46 +212,8 @@ static READ: [(&str, Unprinted<'static>); 18] = [
 #[test]
 fn what_is_read(rt: HostRuntime) -> Result<(), Fail> {
     for (script, wanted) in &READ {
-        check_read(&rt, script, wanted)?;
+        try_in_new_area(&rt, Trial::Read(script, wanted))?;
     }
-    Ok(())
-}
-
-fn check_read(
-    rt: &(impl Abort + AllocGlobal),
-    script: &str,
-    wanted: &Unprinted<'static>,
-) -> Result<(), Fail> {
-    check(rt, script, &[], None, wanted)
-}
-
-/// Runs a script, and then calls, on a new text area: this is read then. Where a text is given, their answers and the text
-/// area are printed so.
-pub fn check(
-    rt: &(impl Abort + AllocGlobal),
-    script: &str,
-    calls: &[Call<'_>],
-    printed: Option<&str>,
-    wanted: &Unprinted<'static>,
-) -> Result<(), Fail> {
-    let mut area = TextArea::try_default(rt.alloc())?;
-    make(rt, &mut area, script)?;
-    compare_behind(rt, &mut area, script, calls, printed, wanted)
-}
-
-fn compare_behind(
-    rt: &(impl Abort + AllocGlobal),
-    area: &mut TextArea<'_>,
-    script: &str,
-    calls: &[Call<'_>],
-    printed: Option<&str>,
-    wanted: &Unprinted<'static>,
-) -> Result<(), Fail> {
-    let found = printed_behind(rt, area, calls)?;
-    if let Some(printed) = printed {
-        assert_eq!(rt; found.as_str(), printed, "{script}");
-    }
-    compare_read(rt, script, area, wanted);
     Ok(())
 }
 
@@ -268,36 +226,4 @@ pub fn compare_read(
 ) {
     let found = read_off(area);
     assert!(rt; found == *wanted, "{script}\n{found:?}");
-}
-
-/// Makes the calls of a script, with a buffer that has no cell.
-pub fn make(
-    rt: &(impl Abort + AllocGlobal),
-    area: &mut TextArea<'_>,
-    script: &str,
-) -> Result<(), Fail> {
-    let commands = read(rt.alloc(), script.as_bytes())?;
-    let calls = calls(rt.alloc(), commands.as_slice())?;
-    let mut buffer = Buffer::empty(rt.alloc(), Rect::default())?;
-    let end = run(area, calls.as_slice(), &mut buffer);
-    assert!(rt; end.refused == None);
-    Ok(())
-}
-
-// Makes the calls, and prints their answers and the text area then.
-fn printed_behind(
-    rt: &(impl Abort + AllocGlobal),
-    area: &mut TextArea<'_>,
-    calls: &[Call<'_>],
-) -> Result<String, Fail> {
-    assert!(rt; calls.iter().all(|call| call.can_be_made()));
-    let mut buffer = Buffer::empty(rt.alloc(), Rect::default())?;
-    let end = run(area, calls, &mut buffer);
-    assert!(rt; end.refused == None);
-    let report = Report {
-        answers: end.answers.as_slice(),
-        area,
-        screen: None,
-    };
-    Ok(report.to_string(rt.alloc())?)
 }
