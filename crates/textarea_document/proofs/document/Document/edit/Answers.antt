@@ -1,9 +1,7 @@
-use Rattle.std.proofs.Common.{◌∙◌, ap, sym, subst}
+use Rattle.std.proofs.Common.{ap, sym, subst}
 use Rattle.std.specs.Duration.{as_nanos}
-use Rattle.textarea_text.specs.Splice.{Fits, applied, place_after}
-use Rattle.textarea_history.specs.Log.{recorded}
+use Rattle.textarea_text.specs.Splice.{Fits}
 use Rattle.textarea_lines.specs.Layout.{LaidOut}
-use Rattle.textarea_ranges.specs.Moved.{moved_ranges}
 use Rattle.textarea_document.specs.State.{DocumentState, document_of}
 use Rattle.textarea_document.specs.Outcomes.{edited}
 use Rattle.textarea_document.proofs.Sounds.{sound_edited, sound_left}
@@ -16,8 +14,5 @@ invariant_of-self-2 c =
     let moment = as_nanos c.args.now in
     let document = document_of inside.laid inside.cursor inside.anchor inside.ranges.items inside.history.log in
     let fits = subst (λ (s : DocumentState). Fits s.text splice) (sym c.self.view_is) c.requires.fits in
-    sound_left (edited document splice c.args.typed moment) c.make_change.new.laid.text c.make_change.new.laid.layout c.in_ok-ahead.ahead c.make_change.new.ranges.items c.put.new.self.log (sound_edited document splice c.args.typed moment c.self.invariant fits)
-    (ap (λ (l : LaidOut). l.text) c.in_ok-ahead.ensures.laid ∙ ap (applied inside.laid.text) c.change.ensures)
-    (c.in_ok-ahead.ensures.cursor ∙ ap place_after c.change.ensures)
-    (c.in_ok-ahead.ensures.ranges ∙ ap (moved_ranges inside.ranges.items) c.change.ensures)
-    (c.put.ensures ∙ ap (λ l. recorded l splice c.args.typed moment) c.in_ok-reserve.ensures.same)
+    sound_left (edited document splice c.args.typed moment) c.make_edit.new.laid.text c.make_edit.new.laid.layout c.in_ok-ahead.ahead c.make_edit.new.ranges.items c.make_edit.new.history.log (sound_edited document splice c.args.typed moment c.self.invariant fits)
+    (ap (λ (l : LaidOut). l.text) c.in_ok-ahead.ensures.laid) c.in_ok-ahead.ensures.cursor c.in_ok-ahead.ensures.ranges c.in_ok-ahead.ensures.log
