@@ -1,9 +1,6 @@
-use Rattle.std.proofs.Common.{◌∙◌, ap, arith, length, subst, sym}
-use Rattle.textarea_text.specs.Replaced.{replaced}
-use Rattle.textarea_map.specs.Blocks.{all_rows}
+use Rattle.std.proofs.Common.{ap, arith, length}
 use Rattle.textarea_map.specs.Map.{row_total}
 use Rattle.textarea_map.specs.Prepared.{rows_in}
-use Rattle.textarea_map.specs.Room.{HasRoomIn}
 use Rattle.textarea_map.specs.declared.screen_map.NewRows.{NewRows}
 use Rattle.textarea_map.proofs.screen_map.put_rows.Goals as goal
 
