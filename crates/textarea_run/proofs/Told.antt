@@ -31,3 +31,28 @@ pub flag_behind : {E : Type 0} (old new : State) (call made : Call) (outcome : R
     → IfOk outcome (λ told. IsBehind old made (Flag told) new) → IfOk outcome (λ told. IsBehind old call (Flag told) new)
 flag_behind old new call made outcome is behind =
     subst (λ (asked : Call). IfOk outcome (λ told. IsBehind old asked (Flag told) new)) (sym is) behind
+
+-- a call that has nothing to say
+pub done_told : {T E : Type 0} (old : State) (call made : Call) (outcome : Result T E) → call ≡ made
+    → IsAnswer old made Done → OnOk outcome (IsAnswer old call Done)
+done_told old call made (Ok done) is answer = subst (λ (asked : Call). IsAnswer old asked Done) (sym is) answer
+done_told old call made (Err error) is answer = tt
+
+-- the state behind such a call
+pub done_behind : {T E : Type 0} (old new : State) (call made : Call) (outcome : Result T E) → call ≡ made
+    → OnOk outcome (IsBehind old made Done new) → OnOk outcome (IsBehind old call Done new)
+done_behind old new call made outcome is behind =
+    subst (λ (asked : Call). OnOk outcome (IsBehind old asked Done new)) (sym is) behind
+
+-- a call that may be refused in any state
+pub refused_in_any : {T E : Type 0} (outcome : Result T E) → OnErr outcome (Unit {0})
+refused_in_any (Ok done) = tt
+refused_in_any (Err error) = tt
+
+-- a call that answers so in any case
+pub told : (old : State) (call made : Call) (said : Said) → call ≡ made → IsAnswer old made said → IsAnswer old call said
+told old call made said is answer = subst (λ (asked : Call). IsAnswer old asked said) (sym is) answer
+
+-- the state behind such a call
+pub behind : (old new : State) (call made : Call) (said : Said) → call ≡ made → IsBehind old made said new → IsBehind old call said new
+behind old new call made said is so = subst (λ (asked : Call). IsBehind old asked said new) (sym is) so
