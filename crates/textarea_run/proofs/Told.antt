@@ -1,5 +1,5 @@
 -- What the outcome of a call of the text area says of the call that was made.
-use Rattle.std.proofs.Common.{◌≡◌, ◌≢◌, Bool, Result, Ok, Err, IfOk, IsOk, ap, subst, sym, false, true}
+use Rattle.std.proofs.Common.{◌≡◌, ◌≢◌, Bool, Result, Ok, Err, IfOk, IsOk, subst, sym, false, true}
 use Rattle.std.specs.Result.{OnErr, OnOk}
 use Rattle.tui_textarea.specs.State.{State}
 use Rattle.textarea_calls.specs.declared.call.Call.{Call}
