@@ -1,4 +1,4 @@
-use Rattle.std.proofs.Common.{refl, true}
+use Rattle.std.proofs.Common.{false, refl, true}
 use Rattle.tui_textarea.specs.Layout.{alignment_set, mode_set, numbers_set, stays_cut, tab_length_set}
 use Rattle.textarea_calls.specs.declared.call.Call.TheVariants as call
 use Rattle.textarea_run.proofs.Told.{done_behind, done_told, refused, refused_unless}
