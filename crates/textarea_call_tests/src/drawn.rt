@@ -4,12 +4,12 @@ use crate::styles::{
     CURSOR, CURSOR_LINE, CYAN, GRAY, GREEN, GREEN_ON_YELLOW, MATCHED, ON_YELLOW, PLAIN, RED,
     RED_ON_YELLOW, SELECTED,
 };
-use crate::trial::{Trial, answers_of, make, try_in_new_area};
+use crate::trial::{Trial, check_answers, make, try_in_new_area};
 use std::alloc::Global;
 use std::process::Abort;
 use std::string::ToString;
 use std::test::Fail;
-use textarea_calls::Call;
+use textarea_calls::{Answer, Call};
 use textarea_printing::Screen;
 use tui_textarea::{
     Alignment, Buffer, Color, CursorRenderMode, Modifier, Position, Rect, Style, TextArea,
@@ -61,8 +61,7 @@ pub fn check_drawn(
 }
 
 fn draw(rt: &impl Abort, area: &mut TextArea<'_>, place: Rect, buffer: &mut Buffer) {
-    let answers = answers_of(rt, area, &[Call::Render(place)], buffer);
-    assert!(rt; answers.len() == 1);
+    check_answers(rt, area, &[Call::Render(place)], &[Answer::Done], buffer);
 }
 
 // The cells of the area must have these texts and styles.
