@@ -3,5 +3,6 @@ pub mod Commands
 pub mod Escapes
 pub mod FirstLine
 pub mod Inputs
+pub mod Lent
 pub mod Ranges
 pub mod Script

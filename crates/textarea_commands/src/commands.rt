@@ -1,10 +1,11 @@
 // Reading a script: each line is a command, and stands for one call.
-ghost use Rattle.std.specs.Prelude.{◌≡◌, ◌+◌, All, IfOk, IfErr, IfSome, length, map, option_and_then, option_copied, option_map, string_bytes, vec_len};
+ghost use Rattle.std.specs.Prelude.{◌≡◌, ◌+◌, All, IfOk, IfErr, IfSome, length, map, option_and_then, option_copied, option_map, string_bytes, true, vec_len};
 ghost use Rattle.textarea_data.specs.declared.cursor.CursorMove.TheVariants as move;
 ghost use Rattle.textarea_commands.specs.Arguments.{IsReadAs, two_short_numbers};
 ghost use Rattle.textarea_calls.specs.Made.{CanBeMade};
 ghost use Rattle.textarea_commands.specs.Commands.{given_text, line_meant, line_numbers, meant, plain_meant, set_lines_meant, setting_meant};
 ghost use Rattle.textarea_commands.specs.Inputs.{input_named};
+ghost use Rattle.textarea_commands.specs.Lent.{lends_list, lends_text};
 ghost use Rattle.textarea_commands.specs.Ranges.{ranges_behind};
 ghost use Rattle.textarea_commands.specs.Script.{lines_of, filled_lines, meaning_of, meant_line, meant_lines, AreCallsOf, IsAtLine, IsCallOf, IsCommandOf, IsReady, IsReady-prop, NamesLine};
 ghost use Rattle.textarea_commands.specs.declared.commands.Content.TheVariants.{Plain};
@@ -73,15 +74,42 @@ impl Command {
     {
         match &self.content {
             Content::Plain(call) => *call,
-            Content::InsertStr(text) => Call::InsertStr(text.as_str()),
-            Content::SetYankText(text) => Call::SetYankText(text.as_str()),
+            Content::Input(input) => Call::Input(input),
+            Content::TrySetAtomicRanges(_) | Content::SetLines { .. } => self.content.list_call(),
+            _ => self.content.text_call(),
+        }
+    }
+}
+
+impl Content {
+    // The call that is lent ranges or lines.
+    fn list_call(&self) -> Call<'_>
+        requires lends { lends_list self.now ≡ true }
+        requires ready { IsReady self.now }
+        ensures ready { CanBeMade result }
+        ensures is { IsCallOf self.now result }
+    {
+        match self {
             Content::TrySetAtomicRanges(ranges) => Call::TrySetAtomicRanges(ranges.as_slice()),
-            Content::SetSearchPattern(text) => Call::SetSearchPattern(text.as_str()),
             Content::SetLines { lines, cursor } => Call::SetLines {
                 lines: lines.as_slice(),
                 cursor: *cursor,
             },
-            Content::Input(input) => Call::Input(input),
+            _ => unreachable!(),
+        }
+    }
+
+    // The call that is lent a text.
+    fn text_call(&self) -> Call<'_>
+        requires { lends_text self.now ≡ true }
+        ensures ready { CanBeMade result }
+        ensures is { IsCallOf self.now result }
+    {
+        match self {
+            Content::InsertStr(text) => Call::InsertStr(text.as_str()),
+            Content::SetYankText(text) => Call::SetYankText(text.as_str()),
+            Content::SetSearchPattern(text) => Call::SetSearchPattern(text.as_str()),
+            _ => unreachable!(),
         }
     }
 }

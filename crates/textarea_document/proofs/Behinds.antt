@@ -1,5 +1,5 @@
 -- What stands directly behind a place.
-use Rattle.std.proofs.Common.{◌≡◌, ◌≢◌, ℕ, Bool, false, cond, ◌==◌, ◌+◌, ◌≤◌, ◌<◌, List, [], ◌∷◌, ◌++◌, length, take, drop, get_or, sym, ap, refl, ◌∙◌, arith, String, subst, Option, Some, None, ◌^◌, encode_utf8, encode_utf8_all}
+use Rattle.std.proofs.Common.{◌≡◌, ◌≢◌, ℕ, Bool, false, cond, ◌==◌, ◌+◌, ◌-◌, ◌≤◌, ◌<◌, List, [], ◌∷◌, ◌++◌, length, take, drop, get_or, sym, ap, refl, ◌∙◌, arith, String, subst, Option, Some, None, ◌^◌, encode_utf8, encode_utf8_all}
 use Rattle.std.specs.Option.{MatchOption}
 use Rattle.std.specs.Str.{chars, IsCharBoundary, IsUtf8}
 use Rattle.std.proofs.lemmas.List.{drop_all, length-drop}
@@ -8,14 +8,14 @@ use Rattle.textarea_text.proofs.Columns.{IsCharBoundary-column, offset_in}
 use Rattle.textarea_text.proofs.Befores.{next_is}
 use Rattle.textarea_document.proofs.Area.{column_bound}
 use Rattle.textarea_text.specs.Text.{Symbol, Character, Break, joined, lines, lines_of, text_of}
-use Rattle.textarea_text.specs.Place.{Place, IsPlace, IsPlaceOf, StandsAt, index_of, line_end}
+use Rattle.textarea_text.specs.Place.{Place, IsPlace, IsPlaceOf, IsSymbolBefore, StandsAt, index_of, line_end}
 use Rattle.textarea_text.proofs.Befores.{break_stands, character_stands}
 use Rattle.textarea_text.specs.Splice.{Fits}
 use Rattle.textarea_edit.specs.Edit.{inserts_of, splice_of, symbols_of}
 use Rattle.textarea_edit.specs.declared.edit.EditKind.{EditKind}
 use Rattle.textarea_document.specs.State.{DocumentState}
 use Rattle.textarea_document.specs.Outcomes.{edited, unanchored}
-use Rattle.textarea_document.specs.Edits.{IsSymbolBehind, break_removal, symbol_removal, symbol_removed_behind}
+use Rattle.textarea_document.specs.Edits.{IsSymbolBehind, break_removal, symbol_removal, symbol_removed_before, symbol_removed_behind}
 use Rattle.textarea_text.proofs.Places.{joined-lines, place_of-index}
 use Rattle.std.proofs.lemmas.Bool.Decides.{nat_tests}
 
@@ -71,6 +71,22 @@ symbol_removed_behind_is document to symbol typed now h behind =
   where
     not_equal : (m n : ℕ) → m ≢ n → (m == n) ≡ false
     not_equal m n apart = grind (arith, nat_tests)
+
+-- ---- the symbol before the cursor
+
+pub before_cursor : {Z : Type 0} (items : List (String Z)) (text : List Symbol) (at cursor start : Place) (symbol : Symbol) → text_of items ≡ text → at ≡ cursor → IsSymbolBefore (text_of items) at start symbol → IsSymbolBefore text cursor start symbol
+before_cursor items text at cursor start symbol text_is is h =
+    subst (λ t. IsSymbolBefore t cursor start symbol) text_is (subst (λ (p : Place). IsSymbolBefore (text_of items) p start symbol) is h)
+
+pub symbol_removed_before_is : (document : DocumentState) (start : Place) (symbol : Symbol) (typed : Bool) (now : ℕ) → IsSymbolBefore document.text document.cursor start symbol → edited document (record { place = start; symbols = symbol ∷ []; inserts = false }) typed now ≡ symbol_removed_before document typed now
+symbol_removed_before_is document start symbol typed now before =
+    let index = index_of document.text document.cursor in
+    ap (λ (s : List Symbol). edited document (record { place = start; symbols = s; inserts = false }) typed now) (sym before.symbol_is)
+    ∙ ap (λ (p : Place). edited document (record { place = p; symbols = take 1 (drop (index - 1) document.text); inserts = false }) typed now) (sym before.start_is)
+    ∙ ap (λ b. cond b (unanchored document) (edited document (symbol_removal document.text (index - 1)) typed now)) (sym (not_zero index before.index))
+  where
+    not_zero : (m : ℕ) → m ≢ 0 → (m == 0) ≡ false
+    not_zero m apart = grind (arith, nat_tests)
 
 -- the change of an edit that removes
 pub removal_of_kind : (kind : EditKind) (before after : Place) (symbols : List Symbol) → inserts_of kind ≡ false → symbols_of kind ≡ symbols → splice_of kind before after ≡ record { place = after; symbols = symbols; inserts = false }

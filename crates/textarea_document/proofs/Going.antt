@@ -1,5 +1,5 @@
 -- How the atomic ranges of a document go with its text, over one splice after another.
-use Rattle.std.proofs.Common.{◌≡◌, ℕ, zero, suc, ◌+◌, ◌<◌, Bool, true, false, List, [], ◌∷◌, ◌++◌, length, get_or, filter_map, All, Contains, Option, None, Some, sym, ap, refl, subst, ◌∙◌, arith, inl, inr, ◌⊎◌, suc-le-suc}
+use Rattle.std.proofs.Common.{◌≡◌, ℕ, zero, suc, Bool, true, false, List, [], ◌∷◌, ◌++◌, get_or, filter_map, Contains, Option, None, Some, sym, ap, refl, subst, ◌∙◌, arith, inl, inr, ◌⊎◌, suc-le-suc}
 use Rattle.std.specs.List.{cons_option}
 use Rattle.std.proofs.lemmas.Bool.Decides.{nat_tests}
 use Rattle.std.proofs.lemmas.List.Elements.{All-cons, All-contains, All-nil, Contains-get_or}
@@ -15,7 +15,7 @@ use Rattle.textarea_ranges.proofs.Moving.{covers_the_same, dropped, valid_moved}
 use Rattle.textarea_document.specs.Edits.{IsMade, Step, splice_of, stepped}
 use Rattle.textarea_document.specs.Goes.{AllStemFrom, CutNone, Goes, GoesOver, GoesUncut, StemsFrom, carried_over, moved_over}
 use Rattle.textarea_document.specs.Ranges.{CutsNone, CutsNoneBy}
-use Rattle.textarea_document.specs.Outcomes.{edited, redone, redone_by, undone, undone_by}
+use Rattle.textarea_document.specs.Outcomes.{redone, redone_by, undone, undone_by}
 use Rattle.textarea_document.specs.Sound.{IsSound}
 use Rattle.textarea_document.specs.State.{DocumentState}
 use Rattle.textarea_document.proofs.Sounds.{newest_fits, next_fits}

@@ -3,16 +3,17 @@ use Rattle.std.proofs.Common.{◌≡◌, ℕ, Bool, true, false, cond, List, [],
 use Rattle.std.specs.Result.{OnErr, OnOk}
 use Rattle.textarea_text.specs.Text.{Symbol, lines}
 use Rattle.textarea_text.specs.Place.{Place, IsPlace}
-use Rattle.textarea_text.specs.Splice.{Splice, Fits, applied, inverse}
+use Rattle.textarea_text.specs.Splice.{Splice, Fits, applied, inverse, place_after}
 use Rattle.textarea_text.proofs.Places.{IsPlace-end, takes_back}
 use Rattle.textarea_history.specs.Log.{Log, empty_log, made_again, newest, next, recorded, taken_back}
 use Rattle.textarea_history.specs.Law.{IsSound as LogIsSound}
 use Rattle.textarea_history.proofs.LogLaws.{each_fits, newest_back, sound_redone_by, sound_undone_by, sound_edited as log_edited}
 use Rattle.textarea_ranges.specs.declared.atomic.AtomicRange.{AtomicRange}
+use Rattle.textarea_ranges.specs.Moved.{moved_ranges}
 use Rattle.textarea_ranges.specs.Order.{AreInOrder}
 use Rattle.textarea_ranges.proofs.Moving.{in_order_moved, valid_moved}
 use Rattle.textarea_lines.specs.declared.settings.LayoutSettings.{LayoutSettings}
-use Rattle.textarea_lines.specs.Layout.{LaidOut, Layout, all_cut, laid_out_anew, laid_out_with, wrapping_of}
+use Rattle.textarea_lines.specs.Layout.{LaidOut, Layout, all_cut, applied_to, laid_out_anew, laid_out_with, wrapping_of}
 use Rattle.textarea_lines.specs.Wrappings.{is_same, wrapping_for}
 use Rattle.textarea_document.specs.State.{DocumentState, document_of, fresh_document, logged}
 use Rattle.textarea_document.specs.Outcomes.{after_change, edited, redone_by, undone_by}
@@ -39,6 +40,14 @@ sound_after document splice log sound fits h = record {
 pub sound_edited : (document : DocumentState) (splice : Splice) (typed : Bool) (now : ℕ) → IsSound document → Fits document.text splice → IsSound (edited document splice typed now)
 sound_edited document splice typed now h fits =
     sound_after document splice (recorded document.log splice typed now) h fits (log_edited (logged document) splice typed now (logged_sound document h) fits)
+
+-- parts that an edit left are those of the edited document
+pub edited_is : (laid new : LaidOut) (cursor ahead : Place) (anchor : Option Place) (ranges held : List AtomicRange) (log after : Log) (splice : Splice) (typed : Bool) (now : ℕ) → new ≡ applied_to laid splice → ahead ≡ place_after splice → held ≡ moved_ranges ranges splice → after ≡ recorded log splice typed now → document_of new ahead None held after ≡ edited (document_of laid cursor anchor ranges log) splice typed now
+edited_is laid new cursor ahead anchor ranges held log after splice typed now laid_is cursor_is held_is log_is =
+    ap (λ (l : LaidOut). document_of l ahead None held after) laid_is
+    ∙ ap (λ (p : Place). document_of (applied_to laid splice) p None held after) cursor_is
+    ∙ ap (λ (r : List AtomicRange). document_of (applied_to laid splice) (place_after splice) None r after) held_is
+    ∙ ap (λ (l : Log). document_of (applied_to laid splice) (place_after splice) None (moved_ranges ranges splice) l) log_is
 
 -- what is seen of the text changes nothing of this
 pub resound : (document : DocumentState) (layout : Layout) → IsSound document → IsSound (record document { layout = layout })

@@ -4,5 +4,6 @@ pub mod Placed
 pub mod Cells
 pub mod Hit
 pub mod Rendered
+pub mod Steps
 pub mod Back
 pub mod Shown

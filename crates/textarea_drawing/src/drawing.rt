@@ -1,4 +1,5 @@
 //! How a text area is drawn, and what of it was drawn last.
+mod caret;
 mod frame;
 mod hit;
 mod placing;

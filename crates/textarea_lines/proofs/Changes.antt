@@ -29,39 +29,33 @@ pub text_replaced : {Z : Type 0} (items new : List (String Z)) (row count : ℕ)
 text_replaced items new row count some =
     ap joined (map-replaced characters_of items new row count ∙ ap (λ t. replaced t row count (lines_of new)) (sym (lines_held items some)))
 
--- as `replace` leaves them
-pub record Replacing {Z : Type 0} (old lent kept now new : List (String Z)) (row count : ℕ) : Type 0 where
+-- as an exchange leaves them
+pub record Replacing {Z : Type 0} (old now new : List (String Z)) (row count : ℕ) : Type 0 where
   pub some : 0 < length old
-  pub lent_is : lent ≡ old
-  pub kept_is : kept ≡ old
-  pub now_is : now ≡ replaced kept row count new
+  pub now_is : now ≡ replaced old row count new
   pub within : row + count ≤ length old
   pub new_some : 0 < length new
 
-pub now_as : {Z : Type 0} (old lent kept now new : List (String Z)) (row count : ℕ) → Replacing old lent kept now new row count → now ≡ replaced old row count new
-now_as old lent kept now new row count h = cc
+pub text_now : {Z : Type 0} (old now new : List (String Z)) (row count : ℕ) → Replacing old now new row count → text_of now ≡ joined (replaced (lines (text_of old)) row count (lines_of new))
+text_now old now new row count h = ap text_of h.now_is ∙ text_replaced old new row count h.some
 
-pub text_now : {Z : Type 0} (old lent kept now new : List (String Z)) (row count : ℕ) → Replacing old lent kept now new row count → text_of now ≡ joined (replaced (lines (text_of old)) row count (lines_of new))
-text_now old lent kept now new row count h = ap text_of (now_as old lent kept now new row count h) ∙ text_replaced old new row count h.some
+pub some_now : {Z : Type 0} (old now new : List (String Z)) (row count : ℕ) → Replacing old now new row count → 0 < length now
+some_now old now new row count h =
+    omega (arith, ap length h.now_is, length-replaced old row count new h.within, h.within, h.new_some)
 
-pub some_now : {Z : Type 0} (old lent kept now new : List (String Z)) (row count : ℕ) → Replacing old lent kept now new row count → 0 < length now
-some_now old lent kept now new row count h =
-    omega (arith, ap length (now_as old lent kept now new row count h), length-replaced old row count new h.within, h.within, h.new_some)
-
-pub holds_replaced : {Z : Type 0} (settings : LayoutSettings) (old lent kept now new : List (String Z)) (row count size n : ℕ) (wrapping : Wrapping) (was : List RowsView) (map : MapView) → Replacing old lent kept now new row count → n ≡ length new → wrapping ≡ wrapping_for settings (length lent - count + n) → AreRowsOf wrapping (lines_of (replaced lent row count new)) was → map.rows ≡ was → map.wrapping ≡ wrapping → size ≡ weight (joined (replaced (lines (text_of old)) row count (lines_of new))) + 1 → size ≤ size_limit → HoldsRows settings now size map
-holds_replaced settings old lent kept now new row count size n wrapping was map h n_is cut_is k rows_is wrapping_is size_is limit =
-    let is = now_as old lent kept now new row count h in
-    let long : length now ≡ length lent - count + n = omega (arith, ap length is, length-replaced old row count new h.within, h.within, n_is, ap length h.lent_is) in
-    let some = some_now old lent kept now new row count h in
+pub holds_replaced : {Z : Type 0} (settings : LayoutSettings) (old now new : List (String Z)) (row count size n : ℕ) (map : MapView) → Replacing old now new row count → n ≡ length new → map.wrapping ≡ wrapping_for settings (length old - count + n) → AreRowsOf map.wrapping (lines_of (replaced old row count new)) map.rows → size ≡ weight (joined (replaced (lines (text_of old)) row count (lines_of new))) + 1 → size ≤ size_limit → HoldsRows settings now size map
+holds_replaced settings old now new row count size n map h n_is wrapping right size_is limit =
+    let long : length now ≡ length old - count + n = omega (arith, ap length h.now_is, length-replaced old row count new h.within, h.within, n_is) in
+    let some = some_now old now new row count h in
     record {
-      stored = record { some = some; size_is = omega (arith, size_is, size_of_text now some, ap weight (text_now old lent kept now new row count h)); limit = limit };
-      wrapping_is = wrapping_is ∙ cut_is ∙ ap (wrapping_for settings) (sym long);
-      laid_out = rw (wrapping_is, rows_is, is, ← h.lent_is) k;
+      stored = record { some = some; size_is = omega (arith, size_is, size_of_text now some, ap weight (text_now old now new row count h)); limit = limit };
+      wrapping_is = wrapping ∙ ap (wrapping_for settings) (sym long);
+      laid_out = rw h.now_is right;
     }
 
-pub layout_replaced : {Z : Type 0} (settings : LayoutSettings) (old lent kept now new : List (String Z)) (row count n before was after : ℕ) (first rows prepared : List RowsView) → Replacing old lent kept now new row count → n ≡ length new → was ≡ before → record { settings = settings; count = after; ticks = ticks_of prepared } ≡ after_replacement (record { settings = settings; count = was; ticks = ticks_of first }) (length lent) row count n → rows ≡ prepared → seen settings now after rows ≡ replaced_in (seen settings old before first) row count (lines_of new)
-layout_replaced settings old lent kept now new row count n before was after first rows prepared h n_is was_is layout rows_is =
-    cc (text_now old lent kept now new row count h, count_held old h.some, length-map new characters_of)
+pub layout_replaced : {Z : Type 0} (settings : LayoutSettings) (old now new : List (String Z)) (row count n before after : ℕ) (first rows : List RowsView) → Replacing old now new row count → n ≡ length new → record { settings = settings; count = after; ticks = ticks_of rows } ≡ after_replacement (record { settings = settings; count = before; ticks = ticks_of first }) (length old) row count n → seen settings now after rows ≡ replaced_in (seen settings old before first) row count (lines_of new)
+layout_replaced settings old now new row count n before after first rows h n_is layout =
+    cc (text_now old now new row count h, count_held old h.some, length-map new characters_of)
 
 -- ---- an edit
 

@@ -1,6 +1,6 @@
 -- Rows that are prepared while the old ones stand: of some lines, or of all.
 use Rattle.std.proofs.Common.{◌≡◌, ℕ, ◌+◌, ◌-◌, true, false, List, length, String, Result, Ok, Err}
-use Rattle.std.specs.Result.{IfOk}
+use Rattle.std.specs.Result.{IfOk, OnOk}
 use Rattle.textarea_text.specs.Replaced.{replaced}
 use Rattle.textarea_text.specs.Text.{characters_of, lines_of}
 use Rattle.textarea_wrap.specs.RowsView.{RowsView}
@@ -17,6 +17,11 @@ use Rattle.textarea_lines.proofs.SameCuts.{AreRowsOf-same}
 pub IfOk-from_four : {T E : Type 0} (r : Result T E) (P Q R S U : T → Type 0) → ((x : T) → P x → Q x → R x → S x → U x) → IfOk r P → IfOk r Q → IfOk r R → IfOk r S → IfOk r U
 IfOk-from_four (Ok x) P Q R S U f p q h k = f x p q h k
 IfOk-from_four (Err e) P Q R S U f p q h k = tt
+
+-- the same, where one of them doesn't speak of what the call gave
+pub IfOk-from_four_on : {T E : Type 0} (r : Result T E) (P Q R U : T → Type 0) {S : Type 0} → ((x : T) → P x → Q x → R x → S → U x) → IfOk r P → IfOk r Q → IfOk r R → OnOk r S → IfOk r U
+IfOk-from_four_on (Ok x) P Q R U f p q h k = f x p q h k
+IfOk-from_four_on (Err e) P Q R U f p q h k = tt
 
 -- ---- rows
 

@@ -17,6 +17,7 @@ use Rattle.textarea_wrap.specs.Cutting.{ranges_from}
 use Rattle.textarea_wrap.specs.RowsView.{RowsView}
 use Rattle.textarea_wrap.specs.Wrapped.{IsWrapped}
 use Rattle.textarea_wrap.specs.declared.wrap.WrapMode.TheVariants as mode
+use Rattle.textarea_map.specs.declared.layout.Wrapping.{Wrapping}
 use Rattle.textarea_map.specs.Layout.{AreRowsOf, AreRowsOfLine, ticks_of}
 use Rattle.textarea_map.specs.Map.{MapView, line_bytes, ranges_at, row_total, size_total}
 use Rattle.textarea_map.proofs.Layouts.{AreRowsOf-drop, AreRowsOf-replaced, AreRowsOf-take, length-AreRowsOf}
@@ -79,6 +80,18 @@ pushed (Err v) old new x e h none = absurd cc
 pub row_before : (splice : Splice) → breaks_of splice.symbols ≡ 0 → (place_before splice).0 ≡ splice.place.0
 row_before splice none =
     elim splice.inserts as (λ b. (cond (not b) (end splice.place splice.symbols) splice.place).0 ≡ splice.place.0) [ true ↦ refl | false ↦ omega (arith, end_row splice.place splice.symbols, none) ]
+
+-- settings under which lines aren't wrapped, with these tab stops
+abbrev pub plain : ℕ → LayoutSettings
+plain tab_len = record { mode = mode.None; tab_len = tab_len; line_numbers = false; inner_width = 0 }
+
+-- where lines aren't wrapped, only the map's tab stops are the settings'
+pub whole_kept : {Z : Type 0} (settings : LayoutSettings) (items : List (String Z)) (size : ℕ) (map : MapView) → HoldsRows settings items size map → is_wrapped settings ≡ false → map.wrapping ≡ whole_lines (plain map.wrapping.tab_len)
+whole_kept settings items size map h whole =
+    by map.wrapping (h.wrapping_is ∙ whole_is settings (length items) whole)
+  where
+    by : (w : Wrapping) → w ≡ whole_lines settings → w ≡ whole_lines (plain w.tab_len)
+    by w is = is ∙ ap (λ (n : ℕ). whole_lines (plain n)) (sym (ap (λ (v : Wrapping). v.tab_len) is))
 
 -- an edit without a break was made in lines that aren't wrapped
 pub record Inside {Z : Type 0} (settings : LayoutSettings) (old now lent : List (String Z)) (size after : ℕ) (map : MapView) (splice : Splice) (row : ℕ) : Type 0 where

@@ -3,7 +3,7 @@ ghost use Rattle.std.specs.Prelude.{◌≡◌, ◌+◌, ◌-◌, ◌^◌, ◌<�
 ghost use Rattle.textarea_text.specs.Text.{lines_of};
 ghost use Rattle.textarea_map.specs.Layout.{AreRowsOf, ticks_behind, ticks_of};
 ghost use Rattle.textarea_map.specs.Blocks.{all_rows};
-ghost use Rattle.textarea_map.specs.Prepared.{IsReady, rows_with};
+ghost use Rattle.textarea_map.specs.Prepared.{IsReady, rows_in, rows_with};
 ghost use Rattle.textarea_lines.specs.Rows.{CanStayWhole, HasWholeLine};
 ghost use Rattle.textarea_lines.specs.Layout.{after_replacement, count_after, layout_of, lines_after};
 ghost use Rattle.textarea_lines.specs.Wrappings.{wrapping_for};
@@ -12,7 +12,7 @@ use crate::settings::{LayoutSettings, is_same, wrapping_for};
 use std::alloc::{AllocError, Global};
 use textarea_map::blocks::RowBlocks;
 use textarea_map::layout::Wrapping;
-use textarea_map::screen_map::{NewRows, PreparedRows, ScreenMap, new_rows};
+use textarea_map::screen_map::{NewRows, PreparedRows, ScreenMap};
 use textarea_text::rows::Replacement;
 use textarea_wrap::wrap::{Rows, WrapCount, WrapMode, line_ranges};
 
@@ -41,11 +41,32 @@ pub(crate) fn rows_after(
         ≡ ticks_behind count.old (count_after (length lines.now) replacement.now)) }
 {
     let mut rows = RowBlocks::new(alloc);
+    push_after(&mut rows, lines, replacement, wrapping, count)?;
+    Ok(rows)
+}
+
+// Cuts all lines after the replacement, and puts their rows where there are none.
+fn push_after(
+    rows: &mut RowBlocks,
+    lines: &[String],
+    replacement: &Replacement,
+    wrapping: Wrapping,
+    count: &mut WrapCount,
+) -> Result<(), AllocError>
+    requires none { rows.old.blocks ≡ [] }
+    requires within { replacement.now.row + replacement.now.count ≤ length lines.now }
+    ensures counted { OnOk result
+        (count.new ≡ count.old + count_after (length lines.now) replacement.now) }
+    ensures never_less { count.old ≤ count.new }
+    ensures rows { OnOk result (AreRowsOf wrapping
+        (lines_after lines.now replacement.now) (all_rows rows.new.blocks)) }
+    ensures ticks { OnOk result (ticks_of (all_rows rows.new.blocks)
+        ≡ ticks_behind count.old (count_after (length lines.now) replacement.now)) }
+{
     rows.push_lines(&lines[..replacement.row], wrapping, count)?;
     rows.push_lines(replacement.lines.as_slice(), wrapping, count)?;
     let below = &lines[replacement.row + replacement.count..];
-    rows.push_lines(below, wrapping, count)?;
-    Ok(rows)
+    rows.push_lines(below, wrapping, count)
 }
 
 // The rows for the lines after the replacement: those of its lines, or of all lines where their number changes how they are
@@ -79,11 +100,38 @@ pub(crate) fn prepare_rows(
     let before = map.wrapping();
     let after = wrapping_for(settings, lines.len() - replacement.count + new.len());
     if is_same(after, before) {
-        let rows = new_rows(alloc, new, after, count)?;
-        return map.make_room(replacement.row, replacement.count, rows, after);
+        return map.prepare(alloc, replacement.row, replacement.count, new, after, count);
     }
-    let rows = rows_after(alloc, lines, replacement, after, count)?;
-    map.make_room(0, lines.len(), NewRows::Many(rows), after)
+    prepare_all(alloc, map, lines, replacement, after, count)
+}
+
+// The rows of all lines after the replacement, cut so, for the place of all rows.
+fn prepare_all(
+    alloc: Global,
+    map: &mut ScreenMap,
+    lines: &[String],
+    replacement: &Replacement,
+    wrapping: Wrapping,
+    count: &mut WrapCount,
+) -> Result<PreparedRows, AllocError>
+    requires as_many { length map.old.rows ≡ length lines.now }
+    requires within { replacement.now.row + replacement.now.count ≤ length lines.now }
+    ensures same { map.new.rows ≡ map.old.rows }
+    ensures same_wrapping { map.new.wrapping ≡ map.old.wrapping }
+    ensures ready { IfOk result (λ prepared. IsReady map.new prepared) }
+    ensures row { IfOk result (λ prepared. prepared.row ≡ 0) }
+    ensures going { IfOk result (λ prepared. prepared.count ≡ length lines.now) }
+    ensures wrapping { IfOk result (λ prepared. prepared.wrapping ≡ wrapping) }
+    ensures rows { IfOk result (λ prepared. AreRowsOf wrapping
+        (lines_after lines.now replacement.now) (rows_in prepared.rows)) }
+    ensures ticks { IfOk result (λ prepared. ticks_of (rows_in prepared.rows)
+        ≡ ticks_behind count.old (count_after (length lines.now) replacement.now)) }
+    ensures counted { OnOk result
+        (count.new ≡ count.old + count_after (length lines.now) replacement.now) }
+    ensures never_less { count.old ≤ count.new }
+{
+    let rows = rows_after(alloc, lines, replacement, wrapping, count)?;
+    map.make_room(0, lines.len(), NewRows::Many(rows), wrapping)
 }
 
 // Cuts a line that isn't wrapped, and puts its row in the place of the one that it had; `rows` has room for it, so this takes

@@ -16,7 +16,8 @@ ghost use Rattle.textarea_lines.specs.Layout.{applied_to, is_cut_at, laid_out_an
 ghost use Rattle.textarea_lines.specs.Stored.{size_after};
 ghost use Rattle.textarea_lines.specs.Wrappings.{is_wrapped};
 
-use crate::cut::{CutAnew, prepare_rows, put_whole_line};
+use crate::cut::CutAnew;
+use crate::exchange::{change_line, exchange_lines};
 use crate::measured::Measured;
 use crate::settings::{LayoutSettings, is_same, is_wrapped, wrapping_at, wrapping_for};
 use std::alloc::{AllocError, Global};
@@ -171,8 +172,18 @@ impl LaidOutLines {
             ≡ laid_out_anew self.old.layout.settings self.old.layout.count (text_of lines.items)) }
         ensures err { OnErr result (self.new ≡ self.old) }
     {
-        *self = LaidOutLines::lay_out(lines, self.settings, self.count.clone()?)?;
+        *self = self.laid_anew(lines)?;
         Ok(())
+    }
+
+    // These lines under the same settings, each of them cut once where the count stands.
+    fn laid_anew(&self, lines: Vec<String>) -> Result<LaidOutLines, AllocError>
+        requires { 0 < vec_len lines }
+        ensures { IfOk result (λ laid. laid
+            ≡ laid_out_anew self.now.layout.settings self.now.layout.count (text_of lines.items)) }
+    {
+        let count = self.count.clone()?;
+        LaidOutLines::lay_out(lines, self.settings, count)
     }
 
     /// Sets what decides how the lines are cut and seen. They are cut anew, each once, only where they are cut in another
@@ -285,6 +296,17 @@ impl LaidOutLines {
         if !is_wrapped(self.settings) && change.is_inside_line() {
             return self.apply_inside(change, size);
         }
+        self.apply_by_lines(change, size)
+    }
+
+    // Makes a change by new lines in the place of those that it touches; the size is that of the lines afterwards.
+    fn apply_by_lines(&mut self, change: Change<'_>, size: usize) -> Result<(), AllocError>
+        requires fits { Fits self.old.text change }
+        requires size { size ≡ weight (applied self.old.text change) + 1 }
+        requires limit { size ≤ size_limit }
+        ensures ok { OnOk result (self.new ≡ applied_to self.old change.entry) }
+        ensures err { OnErr result (self.new ≡ self.old) }
+    {
         let alloc = *self.lines.allocator();
         let replacement = change.prepare(alloc, self.lines.as_slice())?;
         self.replace(replacement, size)
@@ -301,19 +323,15 @@ impl LaidOutLines {
         ensures ok { OnOk result (self.new ≡ applied_to self.old change.entry) }
         ensures err { OnErr result (self.new ≡ self.old) }
     {
-        let alloc = *self.lines.allocator();
         let (row, column) = change.start();
         let offset = self.offset_of((row, column));
-        let rows = Vec::with_capacity(alloc, 1)?;
-        change.apply_inside(&mut self.lines, offset)?;
-        put_whole_line(
-            alloc,
+        change_line(
+            &mut self.lines,
             &mut self.map,
-            rows,
-            self.lines.as_slice(),
-            row,
+            change,
+            offset,
             &mut self.count,
-        );
+        )?;
         self.size = size;
         self.measured = None;
         self.kept = None;
@@ -331,20 +349,13 @@ impl LaidOutLines {
         ensures ok { OnOk result (self.new ≡ with_replacement self.old replacement) }
         ensures err { OnErr result (self.new ≡ self.old) }
     {
-        let alloc = *self.lines.allocator();
-        let mut count = self.count.clone()?;
-        let prepared = prepare_rows(
-            alloc,
+        let count = exchange_lines(
+            &mut self.lines,
             &mut self.map,
-            self.lines.as_slice(),
-            &replacement,
+            replacement,
             self.settings,
-            &mut count,
+            &self.count,
         )?;
-        let more = replacement.lines.len().saturating_sub(replacement.count);
-        self.lines.reserve(more)?;
-        replacement.replace_in(&mut self.lines);
-        self.map.replace(prepared);
         self.size = size;
         self.measured = None;
         self.kept = None;

@@ -2,6 +2,7 @@
 #![tactic(auto)]
 
 mod cut;
+mod exchange;
 pub mod laid_out;
 pub mod laws;
 mod measured;

@@ -7,3 +7,4 @@ pub mod Rows
 pub mod Seen
 pub mod Shown
 pub mod Turned
+pub mod Room

@@ -1,14 +1,15 @@
 //! The rows of each line of a text, kept line by line in blocks of lines. Visual rows are counted from 0 over all lines.
-ghost use Rattle.std.specs.Prelude.{◌≡◌, ◌+◌, ◌<◌, ◌≤◌, ◌↔◌, ℕ, List, length, min, take, IfOk, IsOk, OnOk};
+ghost use Rattle.std.specs.Prelude.{◌≡◌, ◌+◌, ◌*◌, ◌<◌, ◌≤◌, ◌↔◌, ◌∷◌, [], ℕ, List, length, min, take, IfOk, IsOk, OnOk};
 ghost use Rattle.textarea_size.specs.Limit.{size_limit};
 ghost use Rattle.textarea_text.specs.Replaced.{replaced};
 ghost use Rattle.textarea_text.specs.Size.{size_of};
 ghost use Rattle.textarea_text.specs.Text.{lines_of};
 ghost use Rattle.textarea_wrap.specs.declared.wrap.WrapMode.TheVariants as mode;
 ghost use Rattle.textarea_map.specs.Layout.{AreRowsOf, ticks_behind, ticks_of, with_tab_len};
-ghost use Rattle.textarea_map.specs.Blocks.{all_rows};
+ghost use Rattle.textarea_map.specs.Blocks.{IsEdge, all_rows};
 ghost use Rattle.textarea_map.specs.Map.{IsWithinLimit, ranges_at, row_total, size_total};
 ghost use Rattle.textarea_map.specs.Prepared.{HasRoom, IsReady, rows_in, rows_with};
+ghost use Rattle.textarea_map.specs.Room.{HasRoomIn};
 
 use crate::blocks::{BLOCK, RowBlocks};
 use crate::layout::{Wrapping, count_rows, rows_of, size_of_rows};
@@ -116,6 +117,44 @@ fn sums_of(rows: &NewRows) -> (usize, usize)
     }
 }
 
+// These rows in a block.
+fn block_of(rows: Vec<Rows>) -> Result<RowBlocks, AllocError>
+    ensures { IfOk result (λ block. block.blocks ≡ rows.items ∷ []) }
+{
+    let mut block = RowBlocks::new(*rows.allocator());
+    block.push(rows)?;
+    Ok(block)
+}
+
+// How many rows these are in all, and how large their lines. More than 2^48 of one of them are out of memory.
+fn sums_within_limit(blocks: &RowBlocks) -> Result<(usize, usize), AllocError>
+    ensures rows { IfOk result (λ sums. sums.0 ≡ row_total (all_rows blocks.now.blocks)) }
+    ensures size { IfOk result (λ sums. sums.1 ≡ size_total (all_rows blocks.now.blocks)) }
+    ensures limit { OnOk result (IsWithinLimit (all_rows blocks.now.blocks)) }
+{
+    let (total, size) = blocks.sums_of(0, blocks.line_count());
+    within_limit(size)?;
+    within_limit(total)?;
+    Ok((total, size))
+}
+
+// Puts rows in the place of those of the `count` lines from `row` on, for which there is room, without memory.
+fn put_rows(blocks: &mut RowBlocks, row: usize, count: usize, rows: NewRows)
+    requires within { row + count ≤ length (all_rows blocks.old.blocks) }
+    requires room { HasRoomIn blocks.old row count rows }
+    requires lines { length (all_rows blocks.old.blocks) + length (rows_in rows)
+        ≤ 2 * size_limit }
+    requires rows { row_total (all_rows blocks.old.blocks) + row_total (rows_in rows)
+        ≤ 2 * size_limit }
+    ensures { all_rows blocks.new.blocks
+        ≡ replaced (all_rows blocks.old.blocks) row count (rows_in rows) }
+{
+    match rows {
+        NewRows::Few(rows) => blocks.replace_few(row, count, rows),
+        NewRows::Many(rows) => blocks.replace_many(row, count, rows),
+    }
+}
+
 impl ScreenMap {
     /// The map of the lines, each of which is cut once. Lines of more than 2^48 bytes and lines together are out of memory.
     pub fn new(
@@ -143,9 +182,7 @@ impl ScreenMap {
         ensures wrapping { IfOk result (λ map. map.wrapping ≡ wrapping) }
         ensures limit { OnOk result (IsWithinLimit (all_rows blocks.blocks)) }
     {
-        let (total, size) = blocks.sums_of(0, blocks.line_count());
-        within_limit(size)?;
-        within_limit(total)?;
+        let (total, size) = sums_within_limit(&blocks)?;
         Ok(ScreenMap {
             blocks,
             total,
@@ -222,21 +259,47 @@ impl ScreenMap {
         ensures room { IfOk result (HasRoom self.new row count) }
         ensures rows { IfOk result (λ same. rows_in same ≡ rows_in rows) }
     {
-        let blocks = match rows {
-            NewRows::Few(rows) => {
-                if row < self.blocks.line_count() {
-                    self.blocks.reserve_lines(row, count, rows.len())?;
-                    return Ok(NewRows::Few(rows));
-                }
-                let mut blocks = RowBlocks::new(*rows.allocator());
-                blocks.push(rows)?;
-                blocks
+        match rows {
+            NewRows::Few(rows) => self.reserve_few(row, count, rows),
+            NewRows::Many(blocks) => {
+                self.reserve_edge(row, blocks.block_count())?;
+                Ok(NewRows::Many(blocks))
             }
-            NewRows::Many(blocks) => blocks,
-        };
-        self.blocks.make_edge(row)?;
-        self.blocks.reserve(blocks.block_count())?;
+        }
+    }
+
+    // The same for rows of a few lines: in a block of their own where they come behind all others.
+    fn reserve_few(
+        &mut self,
+        row: usize,
+        count: usize,
+        rows: Vec<Rows>,
+    ) -> Result<NewRows, AllocError>
+        requires { row + count ≤ length self.old.rows }
+        ensures same { self.new.rows ≡ self.old.rows }
+        ensures same_wrapping { self.new.wrapping ≡ self.old.wrapping }
+        ensures room { IfOk result (HasRoom self.new row count) }
+        ensures rows { IfOk result (λ same. rows_in same ≡ rows.items) }
+    {
+        if row < self.blocks.line_count() {
+            self.blocks.reserve_lines(row, count, rows.len())?;
+            return Ok(NewRows::Few(rows));
+        }
+        let blocks = block_of(rows)?;
+        self.reserve_edge(row, blocks.block_count())?;
         Ok(NewRows::Many(blocks))
+    }
+
+    // Has a block begin with the line, or end before it, and makes room there for so many blocks.
+    fn reserve_edge(&mut self, line: usize, more: usize) -> Result<(), AllocError>
+        requires { line ≤ length self.old.rows }
+        ensures same { self.new.rows ≡ self.old.rows }
+        ensures same_wrapping { self.new.wrapping ≡ self.old.wrapping }
+        ensures edge { OnOk result (IsEdge self.new.room.blocks line) }
+        ensures room { OnOk result (more ≤ self.new.room.more) }
+    {
+        self.blocks.make_edge(line)?;
+        self.blocks.reserve(more)
     }
 
     // How many rows these are, and how large their lines; out of memory where the map wouldn't be within the limit with them
@@ -276,10 +339,7 @@ impl ScreenMap {
             wrapping,
         } = prepared;
         let (old, old_size) = self.blocks.sums_of(row, count);
-        match rows {
-            NewRows::Few(rows) => self.blocks.replace_few(row, count, rows),
-            NewRows::Many(rows) => self.blocks.replace_many(row, count, rows),
-        }
+        put_rows(&mut self.blocks, row, count, rows);
         self.total = self.total - old + total;
         self.size = self.size - old_size + size;
         self.wrapping = wrapping;

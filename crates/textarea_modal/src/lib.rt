@@ -1,6 +1,7 @@
 //! A modal editor: runs of inputs on a text area, by its public calls alone, as the table of keys has them.
 #![tactic(auto)]
 
+mod kind;
 mod making;
 pub mod modal;
 

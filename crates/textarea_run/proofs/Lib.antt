@@ -3,3 +3,5 @@ pub mod Cuts
 pub mod Going
 pub mod Refusals
 pub mod Runs
+pub mod Told
+pub mod Undrawn

@@ -4,16 +4,16 @@ ghost use Rattle.textarea_run.specs.Calls.{Refused};
 ghost use Rattle.textarea_run.specs.Kinds.{kind_of};
 ghost use Rattle.textarea_run.specs.Outcomes.{IsAnswer, IsBehind, IsShown, IsSpared};
 ghost use Rattle.textarea_run.specs.Said.{said, Done};
-ghost use Rattle.textarea_run.specs.declared.kind.Kind.TheVariants.{Draws, Looks, Reads};
+ghost use Rattle.textarea_run.specs.declared.kind.Kind.TheVariants.{Draws, Looks, Reads, Styles};
 
 use std::alloc::AllocError;
 use textarea_calls::{Answer, Call};
 use textarea_screen::screen::Buffer;
 use tui_textarea::TextArea;
 
-// Makes a call that sets how the text looks, has nothing to say and takes no memory in any state.
-pub fn look(area: &mut TextArea<'_>, call: Call<'_>)
-    requires { kind_of call ≡ Looks }
+// Makes a call that sets a style of the text, has nothing to say and takes no memory in any state.
+pub fn style(area: &mut TextArea<'_>, call: Call<'_>)
+    requires { kind_of call ≡ Styles }
     ensures answer { IsAnswer area.old call.entry Done }
     ensures ok { IsBehind area.old call.entry Done area.new }
 {
@@ -23,6 +23,17 @@ pub fn look(area: &mut TextArea<'_>, call: Call<'_>)
         Call::SetCursorLineStyle(style) => area.set_cursor_line_style(style),
         Call::SetSelectionStyle(style) => area.set_selection_style(style),
         Call::SetSearchStyle(style) => area.set_search_style(style),
+        _ => unreachable!(),
+    }
+}
+
+// Makes a call that sets how else the text looks, has nothing to say and takes no memory in any state.
+pub fn look(area: &mut TextArea<'_>, call: Call<'_>)
+    requires { kind_of call ≡ Looks }
+    ensures answer { IsAnswer area.old call.entry Done }
+    ensures ok { IsBehind area.old call.entry Done area.new }
+{
+    match call {
         Call::SetMaskChar(mask) => area.set_mask_char(mask),
         Call::ClearMaskChar => area.clear_mask_char(),
         Call::SetCursorRenderMode(mode) => area.set_cursor_render_mode(mode),

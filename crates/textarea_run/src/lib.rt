@@ -5,6 +5,7 @@ mod asking;
 mod drawing;
 mod kind;
 pub mod laws;
+mod memory;
 pub mod perform;
 mod pressing;
 pub mod run;

@@ -1,5 +1,5 @@
 // One call made on a text area.
-ghost use Rattle.std.specs.Prelude.{◌≡◌, ◌<◌, length, true, OnErr, OnOk, IfOk, Some};
+ghost use Rattle.std.specs.Prelude.{◌≡◌, ◌≢◌, ◌<◌, length, true, OnErr, OnOk, IfOk, Some};
 ghost use Rattle.textarea_screen.specs.Block.{shown_block};
 ghost use Rattle.textarea_screen.specs.Text.{shown_text};
 ghost use Rattle.tui_textarea.specs.Measure.{with_surround};
@@ -9,11 +9,12 @@ ghost use Rattle.textarea_run.specs.Kinds.{changes, kind_of, puts, tries};
 ghost use Rattle.textarea_run.specs.Outcomes.{behind_pattern, IsAnswer, IsBehind, IsPatternAnswer, IsShown, IsSpared};
 ghost use Rattle.textarea_run.specs.Patterns.{IsNewPattern, IsToldAs};
 ghost use Rattle.textarea_run.specs.Said.{said, Done, Flag};
-ghost use Rattle.textarea_run.specs.declared.kind.Kind.TheVariants.{Deletes, Edits, Searches, Writes, Shows, Sets, Tells};
+ghost use Rattle.textarea_run.specs.declared.kind.Kind.TheVariants.{Deletes, DeletesFar, Draws, Edits, Goes, LaysOut, Ranges, Searches, Sets, Shows, Surrounds, Tells, Writes};
 
-use crate::asking::ask;
-use crate::drawing::{draw, look, read};
+use crate::asking::{ask, ask_setting};
+use crate::drawing::{draw, look, read, style};
 use crate::kind::{Kind, kind_of};
+use crate::memory::allocator;
 use crate::pressing::press;
 use std::alloc::{AllocError, Global};
 use textarea_calls::{Answer, Call};
@@ -43,17 +44,33 @@ pub fn perform(
 {
     match kind_of(&call) {
         Kind::Draws => draw(area, call, buffer).map(|()| Answer::Done),
-        Kind::Tells => tell(area, call),
-        Kind::Deletes | Kind::Edits | Kind::Searches | Kind::Presses => {
+        _ => perform_undrawn(area, call),
+    }
+}
+
+// Makes a call that doesn't draw.
+fn perform_undrawn(area: &mut TextArea<'_>, call: Call<'_>) -> Result<Answer, AllocError>
+    requires kind { kind_of call ≢ Draws }
+    requires can { CanBeMade call }
+    ensures answer { IfOk result (λ answer. IsAnswer area.old call.entry (said answer)) }
+    ensures ok { IfOk result (λ answer. IsBehind area.old call.entry (said answer) area.new) }
+    ensures err { OnErr result (Refused area.old call.entry area.new) }
+{
+    match kind_of(&call) {
+        Kind::Deletes | Kind::DeletesFar | Kind::Edits | Kind::Searches | Kind::Presses => {
             try_to(area, call).map(Answer::Flag)
         }
-        Kind::Writes | Kind::Shows => change(area, call).map(|()| Answer::Done),
-        Kind::Sets | Kind::Looks => {
+        Kind::Writes | Kind::LaysOut | Kind::Shows => change(area, call).map(|()| Answer::Done),
+        Kind::Sets | Kind::Surrounds | Kind::Styles | Kind::Looks | Kind::Goes => {
             put(area, call);
             Ok(Answer::Done)
         }
         Kind::Reads => Ok(read(area, call)),
         Kind::Asks => Ok(ask(area, call)),
+        Kind::AsksSettings => Ok(ask_setting(area, call)),
+        Kind::Ranges => tell_ranges(area, call),
+        Kind::Tells => tell(area, call),
+        Kind::Draws => unreachable!(),
     }
 }
 
@@ -66,6 +83,7 @@ fn try_to(area: &mut TextArea<'_>, call: Call<'_>) -> Result<bool, AllocError>
 {
     match kind_of(&call) {
         Kind::Deletes => delete(area, call),
+        Kind::DeletesFar => delete_far(area, call),
         Kind::Edits => edit(area, call),
         Kind::Searches => search(area, call),
         Kind::Presses => press(area, call),
@@ -83,6 +101,7 @@ fn change(area: &mut TextArea<'_>, call: Call<'_>) -> Result<(), AllocError>
 {
     match kind_of(&call) {
         Kind::Writes => write(area, call),
+        Kind::LaysOut => lay_out(area, call),
         Kind::Shows => show(area, call),
         _ => unreachable!(),
     }
@@ -96,12 +115,15 @@ fn put(area: &mut TextArea<'_>, call: Call<'_>)
 {
     match kind_of(&call) {
         Kind::Sets => set(area, call),
+        Kind::Surrounds => surround(area, call),
+        Kind::Styles => style(area, call),
         Kind::Looks => look(area, call),
+        Kind::Goes => go(area, call),
         _ => unreachable!(),
     }
 }
 
-// Makes a call that removes what is selected, or else a part of the text beside the cursor.
+// Makes a call that removes what is selected, or else symbols beside the cursor.
 fn delete(area: &mut TextArea<'_>, call: Call<'_>) -> Result<bool, AllocError>
     requires { kind_of call ≡ Deletes }
     ensures answer { IfOk result (λ removed. IsAnswer area.old call.entry (Flag removed)) }
@@ -113,6 +135,18 @@ fn delete(area: &mut TextArea<'_>, call: Call<'_>) -> Result<bool, AllocError>
         Call::DeleteNewline => area.delete_newline(),
         Call::DeleteChar => area.delete_char(),
         Call::DeleteNextChar => area.delete_next_char(),
+        _ => unreachable!(),
+    }
+}
+
+// Makes a call that removes what is selected, or else a word or the part of a line beside the cursor.
+fn delete_far(area: &mut TextArea<'_>, call: Call<'_>) -> Result<bool, AllocError>
+    requires { kind_of call ≡ DeletesFar }
+    ensures answer { IfOk result (λ removed. IsAnswer area.old call.entry (Flag removed)) }
+    ensures ok { IfOk result (λ removed. IsBehind area.old call.entry (Flag removed) area.new) }
+    ensures err { OnErr result (Refused area.old call.entry area.new) }
+{
+    match call {
         Call::DeleteLineByEnd => area.delete_line_by_end(),
         Call::DeleteLineByHead => area.delete_line_by_head(),
         Call::DeleteWord => area.delete_word(),
@@ -172,10 +206,9 @@ fn write(area: &mut TextArea<'_>, call: Call<'_>) -> Result<(), AllocError>
     }
 }
 
-// Makes a call that sets how the text is laid out, what is around it or what is highlighted of it, has nothing to say, and may run
-// out of memory.
-fn show(area: &mut TextArea<'_>, call: Call<'_>) -> Result<(), AllocError>
-    requires { kind_of call ≡ Shows }
+// Makes a call that sets how the text is laid out, has nothing to say, and may run out of memory.
+fn lay_out(area: &mut TextArea<'_>, call: Call<'_>) -> Result<(), AllocError>
+    requires { kind_of call ≡ LaysOut }
     ensures answer { OnOk result (IsAnswer area.old call.entry Done) }
     ensures ok { OnOk result (IsBehind area.old call.entry Done area.new) }
     ensures err { OnErr result (Refused area.old call.entry area.new) }
@@ -186,6 +219,18 @@ fn show(area: &mut TextArea<'_>, call: Call<'_>) -> Result<(), AllocError>
         Call::SetLineNumberStyle(style) => area.set_line_number_style(style),
         Call::RemoveLineNumber => area.remove_line_number(),
         Call::SetAlignment(alignment) => area.set_alignment(alignment),
+        _ => unreachable!(),
+    }
+}
+
+// Makes a call that sets what is around the text or highlighted of it, has nothing to say, and may run out of memory.
+fn show(area: &mut TextArea<'_>, call: Call<'_>) -> Result<(), AllocError>
+    requires { kind_of call ≡ Shows }
+    ensures answer { OnOk result (IsAnswer area.old call.entry Done) }
+    ensures ok { OnOk result (IsBehind area.old call.entry Done area.new) }
+    ensures err { OnErr result (Refused area.old call.entry area.new) }
+{
+    match call {
         Call::SetBlock(block) => set_block(area, block),
         Call::SetPlaceholderText(text) => area.set_placeholder_text(text),
         Call::SetStyledPlaceholder(text) => set_styled_placeholder(area, text),
@@ -198,7 +243,7 @@ fn show(area: &mut TextArea<'_>, call: Call<'_>) -> Result<(), AllocError>
     }
 }
 
-// Makes a call that has nothing to say and takes no memory in any state.
+// Makes a call that sets what is selected, recorded or held, has nothing to say and takes no memory in any state.
 fn set(area: &mut TextArea<'_>, call: Call<'_>)
     requires { kind_of call ≡ Sets }
     ensures answer { IsAnswer area.old call.entry Done }
@@ -213,6 +258,17 @@ fn set(area: &mut TextArea<'_>, call: Call<'_>)
         Call::SetUndoCoalescing(joins) => area.set_undo_coalescing(joins),
         Call::SetNow(moment) => area.set_now(moment),
         Call::ClearAtomicRanges => area.clear_atomic_ranges(),
+        _ => unreachable!(),
+    }
+}
+
+// Makes a call that sets what is around the text, has nothing to say and takes no memory in any state.
+fn surround(area: &mut TextArea<'_>, call: Call<'_>)
+    requires { kind_of call ≡ Surrounds }
+    ensures answer { IsAnswer area.old call.entry Done }
+    ensures ok { IsBehind area.old call.entry Done area.new }
+{
+    match call {
         Call::RemoveBlock => area.remove_block(),
         Call::SetPlaceholderStyle(style) => area.set_placeholder_style(style),
         Call::SetMinRows(rows) => area.set_min_rows(rows),
@@ -221,29 +277,28 @@ fn set(area: &mut TextArea<'_>, call: Call<'_>)
     }
 }
 
-// Makes a call whose answer, or whose state behind it, has a form of its own.
-fn tell(area: &mut TextArea<'_>, call: Call<'_>) -> Result<Answer, AllocError>
-    requires { kind_of call ≡ Tells }
+// Makes a call that goes to another place or scrolls.
+fn go(area: &mut TextArea<'_>, call: Call<'_>)
+    requires { kind_of call ≡ Goes }
+    ensures answer { IsAnswer area.old call.entry Done }
+    ensures ok { IsBehind area.old call.entry Done area.new }
+{
+    match call {
+        Call::Move(cursor_move) => area.move_cursor(cursor_move),
+        Call::Scroll(scrolling) => area.scroll(scrolling),
+        _ => unreachable!(),
+    }
+}
+
+// Makes a call that sets atomic ranges, or does something with the one at the cursor.
+fn tell_ranges(area: &mut TextArea<'_>, call: Call<'_>) -> Result<Answer, AllocError>
+    requires { kind_of call ≡ Ranges }
     ensures answer { IfOk result (λ answer. IsAnswer area.old call.entry (said answer)) }
     ensures ok { IfOk result (λ answer. IsBehind area.old call.entry (said answer) area.new) }
     ensures err { OnErr result (Refused area.old call.entry area.new) }
 {
     match call {
-        Call::Move(cursor_move) => {
-            area.move_cursor(cursor_move);
-            Ok(Answer::Done)
-        }
-        Call::Scroll(scrolling) => {
-            area.scroll(scrolling);
-            Ok(Answer::Done)
-        }
-        Call::CursorAtPosition(position) => area.cursor_at_position(position).map(Answer::Place),
-        Call::Measure(width) => area.measure(width).map(Answer::Measured),
-        Call::YankText => area.yank_text().map(Answer::Text),
-        Call::TrySetAtomicRanges(ranges) => {
-            let copies = copy_ranges(*area.lines()[0].allocator(), ranges)?;
-            set_ranges(area, copies)
-        }
+        Call::TrySetAtomicRanges(ranges) => copy_and_set_ranges(area, ranges),
         Call::NormalizeCursorAroundAtomicRanges(bias) => {
             Ok(Answer::Flag(area.normalize_cursor_around_atomic_ranges(bias)))
         }
@@ -253,6 +308,21 @@ fn tell(area: &mut TextArea<'_>, call: Call<'_>) -> Result<Answer, AllocError>
         Call::DeleteAtomicRangeAtCursor(direction) => area
             .delete_atomic_range_at_cursor(direction)
             .map(Answer::Range),
+        _ => unreachable!(),
+    }
+}
+
+// Makes a call whose answer has another form of its own.
+fn tell(area: &mut TextArea<'_>, call: Call<'_>) -> Result<Answer, AllocError>
+    requires { kind_of call ≡ Tells }
+    ensures answer { IfOk result (λ answer. IsAnswer area.old call.entry (said answer)) }
+    ensures ok { IfOk result (λ answer. IsBehind area.old call.entry (said answer) area.new) }
+    ensures err { OnErr result (Refused area.old call.entry area.new) }
+{
+    match call {
+        Call::CursorAtPosition(position) => area.cursor_at_position(position).map(Answer::Place),
+        Call::Measure(width) => area.measure(width).map(Answer::Measured),
+        Call::YankText => area.yank_text().map(Answer::Text),
         Call::SetSearchPattern(pattern) => set_search_pattern(area, pattern),
         _ => unreachable!(),
     }
@@ -268,7 +338,7 @@ fn set_lines(
     ensures ok { OnOk result (area.new ≡ with_lines area.old lines.now cursor) }
     ensures err { OnErr result (area.new ≡ area.old) }
 {
-    let alloc = *area.lines()[0].allocator();
+    let alloc = allocator(area);
     area.set_lines(copy_pieces(alloc, lines)?, cursor)
 }
 
@@ -292,6 +362,21 @@ fn set_styled_placeholder(area: &mut TextArea<'_>, text: &Text<'static>) -> Resu
 {
     area.set_styled_placeholder(text.clone()?);
     Ok(())
+}
+
+// Sets a copy of the ranges, or names the rejected ones.
+fn copy_and_set_ranges(
+    area: &mut TextArea<'_>,
+    ranges: &[AtomicRange],
+) -> Result<Answer, AllocError>
+    ensures answer { IfOk result
+        (λ answer. said answer ≡ ranges_answer (rejected_ranges area.old ranges.now)) }
+    ensures ok { OnOk result
+        (area.new ≡ with_ranges_if (rejected_ranges area.old ranges.now) area.old ranges.now) }
+    ensures err { OnErr result (area.new ≡ area.old) }
+{
+    let copies = copy_ranges(allocator(area), ranges)?;
+    set_ranges(area, copies)
 }
 
 // A copy of the ranges.

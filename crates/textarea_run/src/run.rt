@@ -1,5 +1,5 @@
 // A run: a list of calls, made one after another.
-ghost use Rattle.std.specs.Prelude.{All, IfOk, OnErr};
+ghost use Rattle.std.specs.Prelude.{◌≡◌, ◌≤◌, [], length, vec_capacity, All, IfOk, OnErr};
 ghost use Rattle.textarea_document.specs.Goes.{GoesUncut};
 ghost use Rattle.textarea_document.specs.Sound.{IsSound};
 ghost use Rattle.textarea_calls.specs.Made.{CanBeMade};
@@ -10,6 +10,7 @@ ghost use Rattle.textarea_run.specs.Run.{Makes, Run};
 ghost use Rattle.textarea_run.specs.Said.{said};
 
 use crate::laws::ranges_go_with_each_call;
+use crate::memory::allocator;
 use crate::perform::perform;
 use std::alloc::AllocError;
 use textarea_calls::{Answer, Call};
@@ -46,14 +47,31 @@ pub fn run(area: &mut TextArea<'_>, calls: &[Call<'_>], buffer: &mut Buffer) -> 
     ensures ranges { AllStem area.old buffer.old calls.now result.answers.items area.new }
 {
     area.is_sound();
-    let alloc = *area.lines()[0].allocator();
-    let mut answers = Vec::new(alloc);
+    let mut answers = Vec::new(allocator(area));
     if answers.try_reserve(calls.len()).is_err() {
         return RunEnd {
             answers,
             refused: Some(0),
         };
     }
+    make_all(area, calls, buffer, answers)
+}
+
+// Makes the calls one after another, up to the first that runs out of memory. There is room for their answers.
+fn make_all(
+    area: &mut TextArea<'_>,
+    calls: &[Call<'_>],
+    buffer: &mut Buffer,
+    mut answers: Vec<Answer>,
+) -> RunEnd
+    requires each { All CanBeMade calls.now }
+    requires none { answers.items ≡ [] }
+    requires room { length calls.now ≤ vec_capacity answers }
+    requires sound { IsSound area.old.document }
+    ensures led { Run area.old buffer.old calls.now result.answers.items result.refused area.new
+        buffer.new }
+    ensures ranges { AllStem area.old buffer.old calls.now result.answers.items area.new }
+{
     for (index, call) in calls.iter().enumerate() {
         match make(area, *call, buffer) {
             Ok(answer) => {

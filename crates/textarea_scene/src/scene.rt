@@ -4,11 +4,12 @@ mod matches;
 mod parts;
 pub mod placeholder;
 
-ghost use Rattle.std.specs.Prelude.{◌≡◌, ◌≢◌, ◌<◌, List, IfOk, OnErr, OnOk};
+ghost use Rattle.std.specs.Prelude.{◌≡◌, ◌≢◌, ◌+◌, ◌-◌, ◌<◌, min, List, IfOk, OnErr, OnOk};
 ghost use Rattle.textarea_map.specs.Map.{row_total};
 ghost use Rattle.textarea_screen.specs.Buffer.{area_of, Changes, KeepsOutside};
-ghost use Rattle.textarea_screen.specs.Rect.{contains};
-ghost use Rattle.textarea_screen.specs.Text.{ShownLine};
+ghost use Rattle.textarea_screen.specs.Rect.{contains, is_in_row};
+ghost use Rattle.textarea_screen.specs.Text.{ShownLine, shown_line};
+ghost use Rattle.textarea_paint.specs.Row.{row_cell};
 ghost use Rattle.textarea_scene.specs.Drawn.{FillsArea, IsRowStart, lines_change, rows_above_end};
 ghost use Rattle.textarea_scene.specs.Rows.{cursor_cell};
 ghost use Rattle.textarea_scene.specs.Scene.{HasPlaces};
@@ -79,14 +80,9 @@ impl<'a> Scene<'a> {
             style: Style::new(),
         };
         let room = rows_above_end(rows.area, buffer.area());
-        let count = self
-            .rows
-            .row_count()
-            .saturating_sub(top)
-            .min(usize::from(room));
-        for i in 0..count {
+        for i in 0..rows_drawn(room, self.rows.row_count(), top) {
             frame.show_in(&mut line, top + i, &mut matches, &mut highlighter)?;
-            draw_row(buffer, rows, rows.area.y() + i as u16, &line)?;
+            draw_below(buffer, rows, i, &line)?;
         }
         Ok(())
     }
@@ -132,6 +128,29 @@ impl<'a> Scene<'a> {
         frame.show_in(&mut line, row, &mut matches, &mut highlighter)?;
         Ok(row_start(rows, &line))
     }
+}
+
+// How many of so many visual rows are drawn from `top` on, where there is room for so many.
+fn rows_drawn(room: u16, row_count: usize, top: usize) -> usize
+    ensures { result ≡ min room (row_count - top) }
+{
+    row_count.saturating_sub(top).min(usize::from(room))
+}
+
+// Draws a line into the row of the area that lies so many rows below its first.
+fn draw_below(
+    buffer: &mut Buffer,
+    rows: RowArea,
+    below: usize,
+    line: &Line<'_>,
+) -> Result<(), AllocError>
+    requires { below < rows.area.height }
+    ensures ok { OnOk result (Changes buffer.old buffer.new
+        (row_cell rows (rows.area.y + below) (shown_line line.now))) }
+    ensures err { OnErr result
+        (KeepsOutside (is_in_row rows.area (rows.area.y + below)) buffer.old buffer.new) }
+{
+    draw_row(buffer, rows, rows.area.y() + below as u16, line)
 }
 
 // How many rows of the area lie above the end of the buffer's area.

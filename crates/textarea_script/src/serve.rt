@@ -1,5 +1,6 @@
 // The whole work of `tascript`, over any reader and two writers.
-ghost use Rattle.std.specs.Prelude.{◌≡◌, ◌≤◌, ◌<◌, ◌≢◌, IfErr};
+ghost use Rattle.std.specs.Prelude.{◌≡◌, ◌≤◌, ◌<◌, ◌≢◌, All, IfErr};
+ghost use Rattle.textarea_calls.specs.Made.{CanBeMade};
 
 use std::alloc::{AllocError, Global};
 use std::io::{Read, Write};
@@ -157,14 +158,35 @@ fn run_commands(
     commands: Vec<Command>,
     buffer: &mut Buffer,
 ) -> Result<Ran, Failure> {
-    let calls = commands::calls(alloc, commands.as_slice())?;
-    let end = run(area, calls.as_slice(), buffer);
+    run_lent(alloc, area, commands.as_slice(), buffer)
+}
+
+// Makes the calls that the commands lend.
+fn run_lent(
+    alloc: Global,
+    area: &mut TextArea<'_>,
+    commands: &[Command],
+    buffer: &mut Buffer,
+) -> Result<Ran, Failure> {
+    let calls = commands::calls(alloc, commands)?;
+    run_calls(area, calls.as_slice(), buffer)
+}
+
+// Makes the calls.
+fn run_calls(
+    area: &mut TextArea<'_>,
+    calls: &[Call<'_>],
+    buffer: &mut Buffer,
+) -> Result<Ran, Failure>
+    requires { All CanBeMade calls.now }
+{
+    let end = run(area, calls, buffer);
     if end.refused.is_some() {
         return Err(Failure::Memory);
     }
     Ok(Ran {
         answers: end.answers,
-        drawn: last_drawn(calls.as_slice()),
+        drawn: last_drawn(calls),
     })
 }
 

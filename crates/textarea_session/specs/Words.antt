@@ -1,5 +1,7 @@
 -- The words behind the program's name, by their bytes.
 use Rattle.std.specs.Prelude.{◌≡◌, ℕ, List, [], ◌∷◌, codes}
+use Rattle.textarea_session.specs.declared.asking.Asked.{Asked}
+use Rattle.textarea_session.specs.declared.asking.Asked.TheVariants.{Script, Session, Nothing}
 
 -- they ask for a script: there are none
 abbrev pub AskForScript : List (List ℕ) → Type 0
@@ -13,3 +15,9 @@ AskForSession words = words ≡ codes "modal" ∷ []
 pub record AskForNothing (words : List (List ℕ)) : Type 0 where
   pub no_script : ¬ (AskForScript words)
   pub no_session : ¬ (AskForSession words)
+
+-- they ask for this
+abbrev pub IsAsked : List (List ℕ) → Asked → Type 0
+IsAsked words Script = AskForScript words
+IsAsked words Session = AskForSession words
+IsAsked words Nothing = AskForNothing words

@@ -1,6 +1,6 @@
 //! The whole work of `tascript`, by the words behind its name: a script, or a session of the modal editor, over any reader and two
 //! writers.
-ghost use Rattle.std.specs.Prelude.{[], ◌≡◌, ◌≤◌, ◌<◌, ◌≢◌, IfErr, IfOk, IfSome, OnOk, map, string_bytes};
+ghost use Rattle.std.specs.Prelude.{[], ◌≡◌, ◌≤◌, ◌<◌, ◌≢◌, IfErr, IfOk, IfSome, IsUtf8, OnOk, map, string_bytes};
 ghost use Rattle.std.specs.Io.KnownBytes.{Appends};
 ghost use Rattle.std.specs.Io.{StartsWith};
 ghost use Rattle.std.specs.IoError.{error_kind};
@@ -8,6 +8,7 @@ ghost use Rattle.tui_textarea.specs.State.{new_state};
 ghost use Rattle.textarea_session.specs.Session.{IsNoText, IsPrinted, IsWritten, input_of, inputs_of};
 ghost use Rattle.textarea_session.specs.Words.{AskForNothing, AskForSession};
 
+use crate::asking::{Asked, asked_for};
 use crate::printing::head;
 use std::alloc::{AllocError, Global};
 use std::io;
@@ -61,10 +62,10 @@ pub fn serve_words<R: Read, W: Write, E: Write>(
     ensures not_understood { AskForNothing (map string_bytes words.now) →
         (result ≡ NOT_READ) × (reader.new ≡ reader.old) }
 {
-    match words {
-        [] => script::serve(alloc, reader, output, errors),
-        [word] if word.as_str() == "modal" => serve(alloc, reader, output, errors),
-        _ => refuse(errors),
+    match asked_for(words) {
+        Asked::Script => script::serve(alloc, reader, output, errors),
+        Asked::Session => serve(alloc, reader, output, errors),
+        Asked::Nothing => refuse(errors),
     }
 }
 
@@ -135,25 +136,53 @@ fn run_session<R: Read, W: Write>(
         IfSome (R.remaining reader.old) IsNoText) }
     ensures silent { IfErr result (λ failure. failure ≢ Failure.Stream → output.new ≡ output.old) }
 {
+    let bytes = read_whole(alloc, reader)?;
+    let printed = printed_of(alloc, bytes.as_slice())?;
+    write_whole(output, printed.as_str())
+}
+
+// Reads all bytes.
+fn read_whole<R: Read>(alloc: Global, reader: &mut R) -> Result<Vec<u8>, Failure>
+    ensures bytes { IfOk result
+        (λ bytes. IfSome (R.remaining reader.old) (λ all. bytes.items ≡ all)) }
+    ensures fails { IfErr result (λ failure. failure ≡ Failure.Stream) }
+{
     let mut bytes = Vec::new(alloc);
     if reader.read_to_end(&mut bytes).is_err() {
         return Err(Failure::Stream);
     }
-    let Ok(text) = from_utf8(bytes.as_slice()) else {
+    Ok(bytes)
+}
+
+// What is printed of the session of these bytes, which may be no text.
+fn printed_of(alloc: Global, bytes: &[u8]) -> Result<String, Failure>
+    ensures text { OnOk result (IsUtf8 bytes.now) }
+    ensures printed { IfOk result
+        (λ printed. IsPrinted (new_state []) (inputs_of bytes.now) (string_bytes printed)) }
+    ensures not_read { IfErr result (λ failure. failure ≡ Failure.NotRead → IsNoText bytes.now) }
+{
+    let Ok(text) = from_utf8(bytes) else {
         return Err(Failure::NotRead);
     };
-    let printed = printed_of(alloc, text)?;
-    write_whole(output, printed.as_str())
+    Ok(printed_of_text(alloc, text)?)
 }
 
 // What is printed of the session of a text.
-fn printed_of(alloc: Global, text: &str) -> Result<String, AllocError>
+fn printed_of_text(alloc: Global, text: &str) -> Result<String, AllocError>
     ensures { IfOk result
         (λ printed. IsPrinted (new_state []) (inputs_of text.now) (string_bytes printed)) }
 {
     let inputs = inputs_of(alloc, text)?;
+    printed_of_inputs(alloc, inputs.as_slice())
+}
+
+// What is printed of the inputs' run on an empty text area.
+fn printed_of_inputs(alloc: Global, inputs: &[Input]) -> Result<String, AllocError>
+    ensures { IfOk result
+        (λ printed. IsPrinted (new_state []) inputs.now (string_bytes printed)) }
+{
     let mut area = TextArea::try_default(alloc)?;
-    printed_behind(alloc, &mut area, inputs.as_slice())
+    printed_behind(alloc, &mut area, inputs)
 }
 
 // What is printed of the inputs' run on a text area.
@@ -177,15 +206,20 @@ fn printed_behind(
 fn with_report(alloc: Global, head: String, area: &TextArea<'_>) -> Result<String, AllocError>
     ensures { IfOk result (λ text. StartsWith (string_bytes text) (string_bytes head)) }
 {
+    let report = report_of(alloc, area)?;
+    let mut text = head;
+    text.push_str(report.as_str())?;
+    Ok(text)
+}
+
+// What is printed of a text area.
+fn report_of(alloc: Global, area: &TextArea<'_>) -> Result<String, AllocError> {
     let report = Report {
         answers: &[],
         area,
         screen: None,
     };
-    let report = report.to_string(alloc)?;
-    let mut text = head;
-    text.push_str(report.as_str())?;
-    Ok(text)
+    report.to_string(alloc)
 }
 
 // Writes the whole text.

@@ -4,6 +4,7 @@ pub mod Edits
 pub mod Removals
 pub mod Selection
 pub mod Moves
+pub mod Kinds
 pub mod Input
 pub mod Ranges
 pub mod Search

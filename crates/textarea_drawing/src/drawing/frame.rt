@@ -1,6 +1,6 @@
 //! What one frame is drawn from, and the cells that it makes.
 ghost use Rattle.std.specs.Prelude.{◌≡◌, ℕ, IsTrue, List, OnOk};
-ghost use Rattle.textarea_drawing.specs.Cells.{AreLinesOf, block_change, frame_change, lines_shown, placeholder_change, rows_change};
+ghost use Rattle.textarea_drawing.specs.Cells.{AreLinesOf, block_change, frame_change, inside_change, lines_shown, placeholder_change, rows_change};
 ghost use Rattle.textarea_drawing.specs.Frame.{frame_of, shows_placeholder};
 ghost use Rattle.textarea_scene.specs.Drawn.{FillsArea};
 ghost use Rattle.textarea_scene.specs.Scene.{HasPlaces};
@@ -107,6 +107,23 @@ impl Frame<'_, '_> {
         ensures outside { KeepsOutside (contains area) buffer.old buffer.new }
     {
         self.draw_around(buffer, area)?;
+        self.draw_inside(alloc, buffer, viewport, inner)
+    }
+
+    // Draws the rows or the placeholder into the inner area.
+    fn draw_inside(
+        &self,
+        alloc: Global,
+        buffer: &mut Buffer,
+        viewport: Viewport,
+        inner: Rect,
+    ) -> Result<(), AllocError>
+        requires { HasPlaces self.now.scene }
+        ensures ok { OnOk result ((lines : List ShownLine)
+            × AreLinesOf self.now viewport inner (area_of buffer.old) lines
+            × Changes buffer.old buffer.new (inside_change self.now viewport inner lines)) }
+        ensures outside { KeepsOutside (contains inner) buffer.old buffer.new }
+    {
         if self.shows_placeholder() {
             draw_placeholder_of(alloc, buffer, self.surround, &self.scene, viewport, inner)
         } else {

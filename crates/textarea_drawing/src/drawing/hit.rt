@@ -9,9 +9,9 @@ ghost use Rattle.textarea_text.specs.Place.{IsPlace, IsPlaceOf};
 ghost use Rattle.textarea_viewport.specs.Caret.{hit_row};
 
 use super::Drawing;
+use super::caret::caret_leads_back;
 use super::frame::Frame;
 use super::placing::row_view;
-use crate::laws::caret_is_hit_back;
 use std::alloc::{AllocError, Global};
 use textarea_document::Document;
 use textarea_scene::scene::Scene;
@@ -47,11 +47,8 @@ impl Drawing {
         }) position.x position.y) }
         ensures left { self.now.look.alignment ≡ Left → IsOk result }
     {
-        let frame = self.frame(document, document.view(), surround, search);
-        let inner = self.last_area(document);
-        caret_is_hit_back();
-        let _ = document.cursor();
-        frame.hit(document.allocator(), self.viewport, inner, position)
+        caret_leads_back(document);
+        hit_place(self, document, surround, search, position)
     }
 
     // The inner area of the last drawing.
@@ -107,6 +104,28 @@ impl Frame<'_, '_> {
         }
         Ok(Some(hit_in_row(alloc, &self.scene, viewport, inner, row, position)?))
     }
+}
+
+// The place that a cell of the screen shows, without what the law says of the caret's.
+fn hit_place(
+    drawing: &Drawing,
+    document: &Document,
+    surround: &Surround<'_>,
+    search: &Search,
+    position: Position,
+) -> Result<Option<(usize, usize)>, AllocError>
+    ensures hit { IfOk result (IsHit (record {
+      document = document.now;
+      pattern = search.now;
+      surround = surround.now;
+      drawing = drawing.now;
+    }) position.x position.y) }
+    ensures place { IfOk result (λ found. IfSome found (IsPlace document.now.text)) }
+    ensures left { drawing.now.look.alignment ≡ Left → IsOk result }
+{
+    let frame = drawing.frame(document, document.view(), surround, search);
+    let inner = drawing.last_area(document);
+    frame.hit(document.allocator(), drawing.viewport, inner, position)
 }
 
 // The place that a cell of the inner area shows, in the visual row that it shows.

@@ -2,7 +2,7 @@
 ghost use Rattle.std.specs.Prelude.{◌≡◌, ◌<◌, IfOk, IsOk};
 ghost use Rattle.std.specs.Option.{option_map};
 ghost use Rattle.textarea_drawing.specs.Frame.{number_width};
-ghost use Rattle.textarea_drawing.specs.Placed.{IsPlaced, IsPlacedInRows, LiesAs, corner_caret, placed_at_corner, row_area, viewport_at};
+ghost use Rattle.textarea_drawing.specs.Placed.{IsPlaced, IsPlacedInRows, LiesAs, corner_caret, placed_at_corner, row_area, row_view, viewport_at};
 ghost use Rattle.textarea_drawing.specs.State.{cell_of_position};
 ghost use Rattle.textarea_map.specs.Map.{row_total};
 ghost use Rattle.textarea_scene.specs.Scene.{HasPlaces};
@@ -94,10 +94,23 @@ pub(super) fn row_view(
     let columns = number_width(scene);
     let rows = row_area(scene.look, viewport, inner);
     let start = scene.row_start(alloc, rows, row)?;
-    Ok(match rows.alignment {
+    Ok(view_from(rows.alignment, viewport, inner, start, columns))
+}
+
+// How a row lies in the inner area that begins so many columns behind its left edge.
+fn view_from(
+    alignment: Alignment,
+    viewport: Viewport,
+    inner: Rect,
+    start: u16,
+    columns: usize,
+) -> RowView
+    ensures { result ≡ row_view alignment viewport inner start columns }
+{
+    match alignment {
         Alignment::Left => RowView::at_left(viewport, inner, columns),
         _ => RowView::at_offset(viewport, inner, start, columns),
-    })
+    }
 }
 
 // The rows of the inner area, from the first column on that is shown.

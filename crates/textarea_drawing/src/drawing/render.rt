@@ -1,19 +1,26 @@
 //! A drawing into a buffer.
-ghost use Rattle.std.specs.Prelude.{◌≡◌, OnErr, OnOk};
+ghost use Rattle.std.specs.Prelude.{◌≡◌, ℕ, IfOk, IsTrue, OnErr, OnOk};
+ghost use Rattle.textarea_document.specs.Rows.{laid_out_of, with_inner_width};
 ghost use Rattle.textarea_drawing.specs.Back.{IsHitBack};
 ghost use Rattle.textarea_drawing.specs.Rendered.{IsDrawn, IsRendered, drawn_into};
 ghost use Rattle.textarea_drawing.specs.Shown.{IsCaretShown};
+ghost use Rattle.textarea_drawing.specs.Steps.{IsDrawnAt, IsFrameDrawn};
+ghost use Rattle.textarea_lines.specs.View.{IsPrepared};
+ghost use Rattle.textarea_scene.specs.Scene.{HasPlaces};
 ghost use Rattle.textarea_screen.specs.Buffer.{KeepsOutside};
 ghost use Rattle.textarea_screen.specs.Rect.{contains};
 
 use super::Drawing;
+use super::caret::{caret_has_room, caret_leads_back};
+use super::frame::Frame;
 use super::placing::Placing;
-use crate::laws::{caret_is_hit_back, caret_is_shown};
-use std::alloc::AllocError;
+use std::alloc::{AllocError, Global};
 use textarea_document::Document;
+use textarea_lines::laid_out::PreparedWidth;
 use textarea_screen::screen::{Buffer, Position, Rect};
 use textarea_search::search::Search;
 use textarea_surround::Surround;
+use textarea_viewport::Viewport;
 
 impl Drawing {
     /// Draws the document with its surround and the pattern's matches into the area of a buffer. The text is laid out for the
@@ -64,19 +71,9 @@ impl Drawing {
         ensures outside { KeepsOutside (contains area) buffer.old buffer.new }
         ensures err { OnErr result ((document.new ≡ document.old) × (self.new ≡ self.old)) }
     {
-        let alloc = document.allocator();
-        let inner = surround.inner_area(area);
-        let prepared = document.prepare_width(inner.width())?;
-        let frame = self.frame(document, document.view_with(&prepared), surround, search);
-        let placing = frame.placing(alloc, self.viewport, inner)?;
-        frame.draw(alloc, buffer, area, placing.viewport, inner)?;
-        document.put_width(prepared);
-        self.put(inner, placing);
-        caret_is_hit_back();
-        let _ = document.cursor();
-        caret_is_shown();
-        let _ = document.lines();
-        let _ = document.layout_settings();
+        draw(self, document, surround, search, area, buffer)?;
+        caret_leads_back(document);
+        caret_has_room(document);
         Ok(())
     }
 
@@ -92,4 +89,110 @@ impl Drawing {
         self.height = inner.height();
         self.caret = placing.caret;
     }
+}
+
+// The same, without what the laws say of the caret.
+fn draw(
+    drawing: &mut Drawing,
+    document: &mut Document,
+    surround: &Surround<'_>,
+    search: &Search,
+    area: Rect,
+    buffer: &mut Buffer,
+) -> Result<(), AllocError>
+    ensures ok { OnOk result (IsRendered
+        (record {
+          document = document.old;
+          pattern = search.now;
+          surround = surround.now;
+          drawing = drawing.old;
+        }) area (record {
+          document = document.new;
+          pattern = search.now;
+          surround = surround.now;
+          drawing = drawing.new;
+        })) }
+    ensures cells { OnOk result (IsDrawn (record {
+      document = document.new;
+      pattern = search.now;
+      surround = surround.now;
+      drawing = drawing.new;
+    }) area buffer.old buffer.new) }
+    ensures outside { KeepsOutside (contains area) buffer.old buffer.new }
+    ensures err { OnErr result ((document.new ≡ document.old) × (drawing.new ≡ drawing.old)) }
+{
+    let inner = surround.inner_area(area);
+    let prepared = document.prepare_width(inner.width())?;
+    let placing = draw_at_width(
+        drawing, document, &prepared, surround, search, buffer, area, inner,
+    )?;
+    keep(drawing, document, prepared, inner, placing);
+    Ok(())
+}
+
+// Draws the document with its rows at a width that is prepared, and gives what is shown then. Nothing is kept.
+fn draw_at_width(
+    drawing: &Drawing,
+    document: &Document,
+    prepared: &PreparedWidth,
+    surround: &Surround<'_>,
+    search: &Search,
+    buffer: &mut Buffer,
+    area: Rect,
+    inner: Rect,
+) -> Result<Placing, AllocError>
+    requires prepared { IsPrepared (laid_out_of document.now) prepared.now }
+    requires within { (x y : ℕ) → IsTrue (contains inner x y) → IsTrue (contains area x y) }
+    ensures ok { IfOk result (IsDrawnAt (record {
+      document = document.now;
+      pattern = search.now;
+      surround = surround.now;
+      drawing = drawing.now;
+    }) prepared.now.inner_width area inner buffer.old buffer.new) }
+    ensures outside { KeepsOutside (contains area) buffer.old buffer.new }
+{
+    let frame = drawing.frame(document, document.view_with(prepared), surround, search);
+    draw_frame(
+        &frame,
+        document.allocator(),
+        buffer,
+        area,
+        drawing.viewport,
+        inner,
+    )
+}
+
+// Draws the frame, where this part was shown before, and gives what is shown then.
+fn draw_frame(
+    frame: &Frame<'_, '_>,
+    alloc: Global,
+    buffer: &mut Buffer,
+    area: Rect,
+    viewport: Viewport,
+    inner: Rect,
+) -> Result<Placing, AllocError>
+    requires places { HasPlaces frame.now.scene }
+    requires within { (x y : ℕ) → IsTrue (contains inner x y) → IsTrue (contains area x y) }
+    ensures ok { IfOk result (IsFrameDrawn frame.now viewport area inner buffer.old buffer.new) }
+    ensures outside { KeepsOutside (contains area) buffer.old buffer.new }
+{
+    let placing = frame.placing(alloc, viewport, inner)?;
+    frame.draw(alloc, buffer, area, placing.viewport, inner)?;
+    Ok(placing)
+}
+
+// Keeps the width that was drawn at, and what was drawn. That takes no memory.
+fn keep(
+    drawing: &mut Drawing,
+    document: &mut Document,
+    prepared: PreparedWidth,
+    inner: Rect,
+    placing: Placing,
+)
+    requires { IsPrepared (laid_out_of document.old) prepared }
+    ensures document { document.new ≡ with_inner_width document.old prepared.inner_width }
+    ensures drawing { drawing.new ≡ drawn_into drawing.old inner placing }
+{
+    document.put_width(prepared);
+    drawing.put(inner, placing);
 }

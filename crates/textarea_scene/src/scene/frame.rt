@@ -1,10 +1,12 @@
 //! One visual row after another, cut into spans.
-ghost use Rattle.std.specs.Prelude.{◌≡◌, ◌<◌, chars, encode_utf8_all, OnOk};
+ghost use Rattle.std.specs.Prelude.{◌≡◌, ◌<◌, chars, encode_utf8_all, length, OnOk};
 ghost use Rattle.textarea_highlight.specs.Highlights.{plain_row};
 ghost use Rattle.textarea_highlight.specs.Row.{ShowsRow};
 ghost use Rattle.textarea_map.specs.Map.{row_total};
+ghost use Rattle.textarea_map.specs.Rows.{row_at};
+ghost use Rattle.textarea_map.specs.Shown.{shown_row};
 ghost use Rattle.textarea_screen.specs.Text.{shown_line};
-ghost use Rattle.textarea_scene.specs.Rows.{cursor_cell, row_highlights, searched};
+ghost use Rattle.textarea_scene.specs.Rows.{cursor_cell, matches_in, row_highlights, searched, with_customs, with_found, with_selected};
 ghost use Rattle.textarea_scene.specs.Scene.{HasPlaces};
 
 use super::Scene;
@@ -83,13 +85,45 @@ impl<'f, 'a> Frame<'f, 'a> {
         let scene = self.scene;
         let shown = scene.rows.row_at(row);
         matches.turn_to(shown.line)?;
+        self.tell(highlighter, row, shown, matches.as_slice())?;
+        highlighter.show_in(line)
+    }
+
+    // Begins with a visual row, and tells all that it shows.
+    fn tell<'t>(
+        &self,
+        highlighter: &mut LineHighlighter<'t>,
+        row: usize,
+        shown: RowText<'t>,
+        matches: &[(usize, usize)],
+    ) -> Result<(), AllocError>
+        requires row { row < row_total self.now.rows.rows }
+        requires shown { shown_row shown ≡ row_at self.now.rows.lines self.now.rows.rows row }
+        requires line { shown.line < length self.now.rows.lines }
+        requires matches { matches.now ≡ matches_in (searched self.now) shown.line }
+        ensures { OnOk result (highlighter.new ≡ row_highlights self.now row) }
+    {
         self.begin(highlighter, shown.text);
         self.add_number(highlighter, shown)?;
         self.add_cursor(highlighter, row, shown)?;
-        self.add_matches(highlighter, shown, matches.as_slice())?;
+        self.add_ranges(highlighter, shown, matches)
+    }
+
+    // The row's parts of ranges, one kind after another: the later ones lie over the earlier ones.
+    fn add_ranges(
+        &self,
+        highlighter: &mut LineHighlighter<'_>,
+        shown: RowText<'_>,
+        matches: &[(usize, usize)],
+    ) -> Result<(), AllocError>
+        requires { matches.now ≡ matches_in (searched self.now) shown.line }
+        ensures { let row = shown_row shown.entry in OnOk result (highlighter.new
+            ≡ with_customs self.now row (with_selected self.now row
+            (with_found self.now row highlighter.old))) }
+    {
+        self.add_matches(highlighter, shown, matches)?;
         self.add_selection(highlighter, shown)?;
-        self.add_customs(highlighter, shown)?;
-        highlighter.show_in(line)
+        self.add_customs(highlighter, shown)
     }
 
     // Begins with a row of this text, with no highlight.

@@ -1,26 +1,18 @@
-use Rattle.std.proofs.Common.{◌≡◌, ◌∙◌, ap, arith, filter_map, subst, sym, List}
-use Rattle.textarea_text.specs.Text.{Symbol}
-use Rattle.textarea_text.specs.Place.{IsPlace, Place}
-use Rattle.textarea_text.specs.Splice.{applied, place_before}
-use Rattle.textarea_text.proofs.Places.{takes_back}
-use Rattle.textarea_lines.specs.Layout.{LaidOut}
+use Rattle.std.proofs.Common.{◌≤◌, ◌∙◌, ap, filter_map, subst, sym}
+use Rattle.textarea_size.specs.Limit.{size_limit}
+use Rattle.textarea_text.specs.Place.{Place}
+use Rattle.textarea_text.specs.Splice.{place_before}
 use Rattle.textarea_ranges.specs.Moved.{moved_by, moved_ranges}
 use Rattle.textarea_document.proofs.Moves.{movable}
 use Rattle.textarea_document.proofs.document.make_change.Goals as goal
 
 pub move_ranges-requires-clause-movable : goal.move_ranges-requires-clause-movable
 move_ranges-requires-clause-movable c =
-    movable c.args.laid.now.text c.args.ranges.now.items c.lines-lines.ensures.small c.requires.valid
+    movable c.args.laid.now.text c.args.ranges.now.items c.in_ok-change_lines.ensures.places c.requires.valid
 
 pub move_ranges-requires-clause-small : goal.move_ranges-requires-clause-small
 move_ranges-requires-clause-small c =
-    let splice = c.args.change in
-    let text = c.args.laid.now.text in
-    let is_place : IsPlace (applied text splice) c.cursor_after-new.result =
-    subst (IsPlace (applied text splice)) (sym c.cursor_after-new.ensures) (takes_back text splice c.requires.fits).is_place in
-    let text_is : c.apply.new.self.text ≡ applied text splice = ap (λ (l : LaidOut). l.text) c.in_ok-apply.ensures.ok in
-    let small = c.lines-changed.ensures.small c.cursor_after-new.result (subst (λ (t : List Symbol). IsPlace t c.cursor_after-new.result) (sym text_is) is_place) in
-    (omega (arith, small.0), small.1)
+    subst (λ (p : Place). (p.0 ≤ size_limit) × (p.1 ≤ size_limit)) (sym c.cursor_after-new.ensures) c.in_ok-change_lines.ensures.cursor
 
 pub returns-clause-ranges : goal.returns-clause-ranges
 unfolding moved_ranges

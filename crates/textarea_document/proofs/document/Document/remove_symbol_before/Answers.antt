@@ -1,20 +1,55 @@
-use Rattle.std.proofs.Common.{◌∙◌, ◌∷◌, [], sym, subst}
-use Rattle.textarea_text.specs.Text.{symbol_in, text_of}
-use Rattle.textarea_text.specs.Place.{Place, IsSymbolBefore}
+use Rattle.std.proofs.Common.{◌≡◌, ◌≤◌, ◌∙◌, ◌∷◌, [], ap, arith, cond, false, sym, subst}
+use Rattle.std.specs.Duration.{as_nanos}
+use Rattle.std.specs.Option.{IfSome}
+use Rattle.textarea_text.specs.Text.{symbol_in}
+use Rattle.textarea_text.specs.Place.{IsSymbolBefore}
+use Rattle.textarea_text.specs.Splice.{Fits, Splice}
 use Rattle.textarea_ranges.specs.Held.{TakesWhole}
+use Rattle.textarea_document.specs.Outcomes.{edited}
 use Rattle.textarea_document.specs.Ranges.{CutsNone}
-use Rattle.textarea_document.proofs.Behinds.{removal_of_kind}
+use Rattle.textarea_document.proofs.Behinds.{before_cursor, removal_of_kind, symbol_removed_before_is}
+use Rattle.textarea_document.proofs.Parts.{well_formed}
 use Rattle.textarea_document.proofs.Ranges.{whole_before}
 use Rattle.textarea_document.proofs.document.Document.remove_symbol_before.Goals as goal
+
+-- the symbol before the cursor
+stands : (c : goal.After-between) → IsSymbolBefore c.args.self.now.text c.args.self.now.cursor c.in-Some.before.start (symbol_in c.in-Some.before.character)
+stands c =
+    before_cursor c.lines.result.now c.args.self.now.text c.cursor-cursor.result c.args.self.now.cursor c.in-Some.before.start (symbol_in c.in-Some.before.character) c.lines.ensures.value c.cursor-cursor.ensures.value c.in-Some.ensures
+
+-- the splice of the edit is its removal
+removes : (c : goal.After-between) → c.between.result.splice ≡ record { place = c.in-Some.before.start; symbols = symbol_in c.in-Some.before.character ∷ []; inserts = false }
+removes c =
+    c.between.ensures.splice ∙ removal_of_kind c.deletion_of-kind.result c.cursor-cursor.result c.in-Some.before.start (symbol_in c.in-Some.before.character ∷ []) c.deletion_of-kind.ensures.inserts c.deletion_of-kind.ensures.symbols
+
+pub edit-requires-clause-well_formed : goal.edit-requires-clause-well_formed
+edit-requires-clause-well_formed c =
+    let start = c.in-Some.before.start in
+    let symbols = symbol_in c.in-Some.before.character ∷ [] in
+    well_formed c.between.result (record { place = start; symbols = symbols; inserts = false }) (removes c) (omega arith)
+    (c.between.ensures.end ∙ ap (λ b. cond b start c.cursor-cursor.result) c.deletion_of-kind.ensures.inserts ∙ c.cursor-cursor.ensures.value ∙ (stands c).ends)
+    (subst (λ o. IfSome o (λ n. 2 ≤ n)) (sym (c.between.ensures.pieces ∙ c.deletion_of-kind.ensures.pieces)) tt)
+
+pub edit-requires-clause-fits : goal.edit-requires-clause-fits
+edit-requires-clause-fits c =
+    let before = stands c in
+    subst (Fits c.args.self.now.text) (sym (removes c)) (record { some = omega arith; is_place = before.is_place; allowed = before.stands })
 
 pub edit-requires-clause-cuts_none : goal.edit-requires-clause-cuts_none
 edit-requires-clause-cuts_none c =
     let document = c.args.self.now in
     let before = c.in-Some.before in
+    let known = stands c in
+    subst (CutsNone document.ranges) (sym (removes c))
+    (subst (TakesWhole document.ranges before.start) known.ends (whole_before document.text document.ranges document.cursor before.start (symbol_in before.character) c.lines.ensures.ranges c.requires.none_hit known))
+
+pub returns-clause-ok : goal.returns-clause-ok
+returns-clause-ok c =
+    let document = c.args.self.now in
+    let before = c.in-Some.before in
     let symbol = symbol_in before.character in
-    let stands : IsSymbolBefore document.text document.cursor before.start symbol =
-    subst (λ t. IsSymbolBefore t document.cursor before.start symbol) c.lines.ensures.value
-    (subst (λ (p : Place). IsSymbolBefore (text_of c.lines.result.now) p before.start symbol) c.cursor-cursor.ensures.value c.in-Some.ensures) in
-    let is = c.between.ensures.splice ∙ removal_of_kind c.deletion_of-kind.result c.cursor-cursor.result before.start (symbol ∷ []) c.deletion_of-kind.ensures.inserts c.deletion_of-kind.ensures.symbols in
-    subst (CutsNone document.ranges) (sym is)
-    (subst (TakesWhole document.ranges before.start) stands.ends (whole_before document.text document.ranges document.cursor before.start symbol c.lines.ensures.ranges c.requires.none_hit stands))
+    c.in_ok-edit.ensures.ok
+    ∙ ap (λ (s : Splice). edited document s c.args.typed (as_nanos c.args.now))
+    (c.between.ensures.splice ∙ removal_of_kind c.deletion_of-kind.result c.cursor-cursor.result before.start (symbol ∷ []) c.deletion_of-kind.ensures.inserts c.deletion_of-kind.ensures.symbols)
+    ∙ symbol_removed_before_is document before.start symbol c.args.typed (as_nanos c.args.now)
+    (before_cursor c.lines.result.now document.text c.cursor-cursor.result document.cursor before.start symbol c.lines.ensures.value c.cursor-cursor.ensures.value c.in-Some.ensures)

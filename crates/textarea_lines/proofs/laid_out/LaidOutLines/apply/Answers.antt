@@ -1,31 +1,12 @@
-use Rattle.std.proofs.Common.{◌+◌, ◌∙◌, ap, sym, arith, length}
-use Rattle.std.proofs.lemmas.Result.{on_ok_weaker}
-use Rattle.textarea_text.specs.Size.{weight}
-use Rattle.textarea_text.specs.Text.{lines}
+use Rattle.std.proofs.Common.{ap}
 use Rattle.textarea_lines.specs.Layout.{LaidOut}
-use Rattle.textarea_lines.proofs.Stores.{count_held}
-use Rattle.textarea_lines.proofs.Changes.{made, size_made}
+use Rattle.textarea_lines.proofs.Changes.{size_made}
 use Rattle.textarea_lines.proofs.laid_out.LaidOutLines.apply.Goals as goal
-
-pub replace-requires-clause-within : goal.replace-requires-clause-within
-replace-requires-clause-within c =
-    omega (arith, c.in_ok-replacement.ensures.within, ap (λ (s : LaidOut). length (lines s.text)) c.self.view_is, count_held c.self.inside.lines.items c.self.invariant.held.stored.some, ap length c.as_slice.ensures.value)
-
-pub replace-requires-clause-size : goal.replace-requires-clause-size
-replace-requires-clause-size c =
-    let items = c.self.inside.lines.items in
-    let stored = c.self.invariant.held.stored in
-    let text = ap (λ (s : LaidOut). s.text) c.self.view_is in
-    size_made items c.args.self.now.text c.self.inside.size c.in_ok-size.size c.args.change stored text c.requires c.in_ok-size.ensures.size
-    ∙ ap (λ (s : LaidOut). weight s.text + 1) (sym (made c.args.self.now items c.as_slice.result.now c.in_ok-replacement.replacement c.args.change stored.some text c.as_slice.ensures.value c.in_ok-replacement.ensures))
-
-pub returns-clause-ok : goal.returns-clause-ok
-returns-clause-ok c =
-    let text = ap (λ (s : LaidOut). s.text) c.self.view_is in
-    on_ok_weaker c.replace.result
-    (λ e. e ∙ made c.args.self.now c.self.inside.lines.items c.as_slice.result.now c.in_ok-replacement.replacement c.args.change c.self.invariant.held.stored.some text c.as_slice.ensures.value c.in_ok-replacement.ensures)
-    c.replace.ensures.ok
 
 pub apply_inside-requires-clause-size : goal.apply_inside-requires-clause-size
 apply_inside-requires-clause-size c =
+    size_made c.self.inside.lines.items c.args.self.now.text c.self.inside.size c.in_ok-size.size c.args.change c.self.invariant.held.stored (ap (λ (s : LaidOut). s.text) c.self.view_is) c.requires c.in_ok-size.ensures.size
+
+pub apply_by_lines-requires-clause-size : goal.apply_by_lines-requires-clause-size
+apply_by_lines-requires-clause-size c =
     size_made c.self.inside.lines.items c.args.self.now.text c.self.inside.size c.in_ok-size.size c.args.change c.self.invariant.held.stored (ap (λ (s : LaidOut). s.text) c.self.view_is) c.requires c.in_ok-size.ensures.size

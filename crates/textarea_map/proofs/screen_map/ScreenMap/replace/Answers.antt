@@ -1,15 +1,17 @@
-use Rattle.std.proofs.Common.{◌≡◌, ◌+◌, ◌-◌, ◌≤◌, ◌∙◌, List, ap, arith, drop, length, refl, sym, take, ℕ}
+use Rattle.std.proofs.Common.{◌≡◌, ◌+◌, ◌-◌, ◌≤◌, List, ap, arith, drop, length, refl, subst, sym, take, ℕ}
 use Rattle.textarea_text.specs.Replaced.{replaced}
 use Rattle.textarea_wrap.specs.RowsView.{RowsView}
-use Rattle.textarea_map.specs.Blocks.{all_rows}
+use Rattle.textarea_map.specs.declared.layout.Wrapping.{Wrapping}
+use Rattle.textarea_map.specs.Blocks.{BlocksView, all_rows}
 use Rattle.textarea_map.specs.Map.{MapView, row_total, size_total}
-use Rattle.textarea_map.specs.Prepared.{rows_in}
+use Rattle.textarea_map.specs.Prepared.{HasRoom, rows_in}
+use Rattle.textarea_map.specs.Room.{HasRoomIn}
 use Rattle.textarea_map.specs.declared.screen_map.NewRows.{NewRows}
-use Rattle.textarea_map.specs.declared.screen_map.ScreenMap.TheInside.{Inside}
+use Rattle.textarea_map.specs.declared.screen_map.NewRows.TheVariants.{Few, Many}
 use Rattle.textarea_map.proofs.InBlocks.{rows_sum}
 use Rattle.textarea_map.proofs.RowSizes.{exchange, lines_few, size_total-append}
 use Rattle.textarea_map.proofs.screen_map.ScreenMap.replace.Goals as goal
-use Rattle.textarea_map.proofs.screen_map.ScreenMap.replace.Goals.{After-sums_of-old, Joined-rows, in-Few, in-Many}
+use Rattle.textarea_map.proofs.screen_map.ScreenMap.replace.Goals.{After-sums_of-old}
 
 -- how many rows and how large lines go, and come, and are there before and afterwards
 record Sums (rows new : List RowsView) (row count gone gone_size total size come come_size : ℕ) : Type 0 where
@@ -43,74 +45,38 @@ sums c =
       visual = omega (arith, visual.part, visual.after, c.self.invariant.limit.few, few, c.requires.limit.few);
     }
 
-pub replace_few-requires-clause-lines : goal.replace_few-requires-clause-lines
-replace_few-requires-clause-lines c =
-    omega (arith, (sums (goal.at.replace_few-requires-clause-lines c).After-sums_of-old).lines, ap (λ (t : NewRows). length (rows_in t)) c.in-Few.is, c.in-Few.rows.ok.0)
+-- room in a map is room in its blocks
+room_in : (map : MapView) (wrapping : Wrapping) (blocks : BlocksView) (row count : ℕ) (rows : NewRows) → record { rows = all_rows blocks.blocks; wrapping = wrapping; room = blocks } ≡ map → HasRoom map row count rows → HasRoomIn blocks row count rows
+room_in map wrapping blocks row count (Few rows) is h = subst (λ (m : MapView). HasRoom m row count (Few rows)) (sym is) h
+room_in map wrapping blocks row count (Many rows) is h = subst (λ (m : MapView). HasRoom m row count (Many rows)) (sym is) h
 
-pub replace_few-requires-clause-rows : goal.replace_few-requires-clause-rows
-replace_few-requires-clause-rows c =
-    omega (arith, (sums (goal.at.replace_few-requires-clause-rows c).After-sums_of-old).visual, ap (λ (t : NewRows). row_total (rows_in t)) c.in-Few.is)
+pub put_rows-requires-clause-room : goal.put_rows-requires-clause-room
+put_rows-requires-clause-room c =
+    room_in c.args.self.now c.self.inside.wrapping c.self.inside.blocks c.args.prepared.row c.args.prepared.count c.args.prepared.rows c.self.view_is c.requires.room
 
-pub replace_many-requires-clause-lines : goal.replace_many-requires-clause-lines
-replace_many-requires-clause-lines c =
-    omega (arith, (sums (goal.at.replace_many-requires-clause-lines c).After-sums_of-old).lines, ap (λ (t : NewRows). length (rows_in t)) c.in-Many.is)
+pub put_rows-requires-clause-lines : goal.put_rows-requires-clause-lines
+put_rows-requires-clause-lines c = (sums (goal.at.put_rows-requires-clause-lines c).After-sums_of-old).lines
 
-pub replace_many-requires-clause-rows : goal.replace_many-requires-clause-rows
-replace_many-requires-clause-rows c =
-    omega (arith, (sums (goal.at.replace_many-requires-clause-rows c).After-sums_of-old).visual, ap (λ (t : NewRows). row_total (rows_in t)) c.in-Many.is)
-
--- the rows when the new ones are in, by whichever way; the numbers of all are still those from before
-put : (c : Joined-rows) → (all_rows c.match-rows.self-inside.blocks.blocks ≡ replaced (all_rows c.self.inside.blocks.blocks) c.args.prepared.row c.args.prepared.count (rows_in c.args.prepared.rows)) × (c.match-rows.self-inside.total ≡ c.self.inside.total) × (c.match-rows.self-inside.size ≡ c.self.inside.size)
-put c =
-    let rows = all_rows c.self.inside.blocks.blocks in
-    let row = c.args.prepared.row in
-    let count = c.args.prepared.count in
-    elim c.match-rows.branch [
-      | in-Few w ↦ (
-        ap (λ (i : Inside). all_rows i.blocks.blocks) w.self-inside-is ∙ w.replace_few.ensures ∙ ap (λ (t : NewRows). replaced rows row count (rows_in t)) (sym w.in-Few.is),
-        ap (λ (i : Inside). i.total) w.self-inside-is,
-        ap (λ (i : Inside). i.size) w.self-inside-is,
-      )
-      | in-Many w ↦ (
-        ap (λ (i : Inside). all_rows i.blocks.blocks) w.self-inside-is ∙ w.replace_many.ensures ∙ ap (λ (t : NewRows). replaced rows row count (rows_in t)) (sym w.in-Many.is),
-        ap (λ (i : Inside). i.total) w.self-inside-is,
-        ap (λ (i : Inside). i.size) w.self-inside-is,
-      )
-    ]
+pub put_rows-requires-clause-rows : goal.put_rows-requires-clause-rows
+put_rows-requires-clause-rows c = (sums (goal.at.put_rows-requires-clause-rows c).After-sums_of-old).visual
 
 pub overflow_sub-self : goal.overflow_sub-self
-overflow_sub-self c =
-    let at = goal.at.overflow_sub-self c in
-    omega (arith, (put at.Joined-rows).1, (sums at.After-sums_of-old).gone_is)
+overflow_sub-self c = (sums (goal.at.overflow_sub-self c).After-sums_of-old).gone_is
 
 pub overflow_add-self : goal.overflow_add-self
 overflow_add-self c =
-    let at = goal.at.overflow_add-self c in
-    let known = sums at.After-sums_of-old in
-    omega (arith, (put at.Joined-rows).1, known.total_is, known.few)
+    let known = sums (goal.at.overflow_add-self c).After-sums_of-old in
+    omega (arith, known.total_is, known.few)
 
 pub overflow_sub-self-2 : goal.overflow_sub-self-2
-overflow_sub-self-2 c =
-    let at = goal.at.overflow_sub-self-2 c in
-    omega (arith, (put at.Joined-rows).2, (sums at.After-sums_of-old).gone_size_is)
+overflow_sub-self-2 c = (sums (goal.at.overflow_sub-self-2 c).After-sums_of-old).gone_size_is
 
 pub overflow_add-self-2 : goal.overflow_add-self-2
 overflow_add-self-2 c =
-    let at = goal.at.overflow_add-self-2 c in
-    let known = sums at.After-sums_of-old in
-    omega (arith, (put at.Joined-rows).2, known.size_is, known.small)
+    let known = sums (goal.at.overflow_add-self-2 c).After-sums_of-old in
+    omega (arith, known.size_is, known.small)
 
 pub invariant_of-self : goal.invariant_of-self
 invariant_of-self c =
-    let at = goal.at.invariant_of-self c in
-    let known = sums at.After-sums_of-old in
-    let now = put at.Joined-rows in
-    let row = c.args.prepared.row in
-    let count = c.args.prepared.count in
-    let new = rows_in c.args.prepared.rows in
-    rw now.0
-    (record {
-      all = omega (arith, now.1, known.total_is);
-      size_is = omega (arith, now.2, known.size_is);
-      limit = record { size = known.small; few = known.few };
-    })
+    let known = sums (goal.at.invariant_of-self c).After-sums_of-old in
+    rw c.put_rows.ensures (record { all = known.total_is; size_is = known.size_is; limit = record { size = known.small; few = known.few } })

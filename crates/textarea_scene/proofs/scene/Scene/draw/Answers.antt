@@ -1,8 +1,6 @@
-use Rattle.std.proofs.Common.{◌≡◌, ℕ, ◌+◌, Result, Ok, Err, ap, subst, ◌∙◌}
+use Rattle.std.proofs.Common.{◌+◌, Result, Ok, Err, subst, ◌∙◌}
 use Rattle.std.specs.Result.{OnErr}
 use Rattle.textarea_highlight.specs.Row.{ShowsRow}
-use Rattle.textarea_paint.specs.Row.{row_cell}
-use Rattle.textarea_screen.specs.Buffer.{Changes}
 use Rattle.textarea_screen.specs.Text.{shown_line}
 use Rattle.textarea_scene.specs.Rows.{row_highlights}
 use Rattle.textarea_scene.specs.Scene.{SceneState}
@@ -19,10 +17,10 @@ returns-in_err-show_in-clause-err c =
     also_on_err c.from_residual-in_err-show_in.result
     (drawn_inside c.args.self.now c.args.top c.args.rows c.args.buffer.now c.loop-i.buffer c.loop-i.i c.loop-i.invariant.2)
 
-pub returns-in_err-draw_row-clause-err : goal.returns-in_err-draw_row-clause-err
-returns-in_err-draw_row-clause-err c =
-    also_on_err c.from_residual-in_err-draw_row.result
-    (failed_inside c.args.self.now c.args.top c.args.rows c.args.buffer.now c.loop-i.buffer c.draw_row.new.buffer c.loop-i.i _ c.loop-i.invariant.2 c.in_err-draw_row.ensures.err)
+pub returns-in_err-draw_below-clause-err : goal.returns-in_err-draw_below-clause-err
+returns-in_err-draw_below-clause-err c =
+    also_on_err c.from_residual-in_err-draw_below.result
+    (failed_inside c.args.self.now c.args.top c.args.rows c.args.buffer.now c.loop-i.buffer c.draw_below.new.buffer c.loop-i.i _ c.loop-i.invariant.2 c.in_err-draw_below.ensures.err)
 
 pub loop-i-init : goal.loop-i-init
 loop-i-init c = (
@@ -34,11 +32,10 @@ loop-i-init c = (
 pub loop-i-preserved : goal.loop-i-preserved
 loop-i-preserved c =
     let known = c.loop-i.invariant in
-    let line = shown_line c.show_in.new.line in
-    let y : c.y.result ≡ c.args.rows.area.y = c.y.ensures in (
+    let line = shown_line c.show_in.new.line in (
       c.in_ok-show_in.ensures.same ∙ known.0,
       known.1,
-      drawn_more c.args.self.now c.args.top c.args.rows c.args.buffer.now c.loop-i.buffer c.draw_row.new.buffer c.loop-i.i line known.2
+      drawn_more c.args.self.now c.args.top c.args.rows c.args.buffer.now c.loop-i.buffer c.draw_below.new.buffer c.loop-i.i line known.2
           (subst (λ (s : SceneState). ShowsRow (row_highlights s (c.args.top + c.loop-i.i)) line) known.1 c.in_ok-show_in.ensures.shown)
-          (subst (λ (n : ℕ). Changes c.loop-i.buffer c.draw_row.new.buffer (row_cell c.args.rows n line)) (ap (λ n. n + c.loop-i.i) y) c.in_ok-draw_row.ensures.ok),
+          c.in_ok-draw_below.ensures.ok,
     )

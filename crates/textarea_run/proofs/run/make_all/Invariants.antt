@@ -2,7 +2,7 @@ use Rattle.std.proofs.Common.{◌≡◌, ◌≤◌, map, take, length, vec_len, 
 use Rattle.textarea_run.specs.Goes.{AllStemInRun}
 use Rattle.textarea_run.specs.Run.{Leads}
 use Rattle.textarea_run.specs.Said.{said}
-use Rattle.textarea_run.proofs.run.run.Given as goal
+use Rattle.textarea_run.proofs.run.make_all.Given as goal
 
 abbrev pub invariant-loop-index : goal.invariant-loop-index
 invariant-loop-index l = record {

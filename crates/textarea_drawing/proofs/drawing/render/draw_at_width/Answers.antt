@@ -1,0 +1,17 @@
+use Rattle.std.proofs.Common.{ap, subst}
+use Rattle.textarea_drawing.specs.Frame.{FrameState, Parts, frame_of}
+use Rattle.textarea_drawing.specs.State.{DrawingState}
+use Rattle.textarea_drawing.specs.Steps.{IsFrameDrawn}
+use Rattle.textarea_viewport.specs.Viewport.{ViewportState}
+use Rattle.textarea_drawing.proofs.Layers.{if_ok}
+use Rattle.textarea_drawing.proofs.drawing.render.draw_at_width.Goals as goal
+
+pub returns-clause-ok : goal.returns-clause-ok
+returns-clause-ok c =
+    let parts : Parts = record { document = c.args.document.now; pattern = c.args.search.now; surround = c.args.surround.now; drawing = c.args.drawing.now } in
+    if_ok c.draw_frame.result c.draw_frame.ensures.ok (λ placing h. record {
+      rows = c.view_with.result;
+      rows_are = c.view_with.ensures;
+      drawn = subst (λ (v : ViewportState). IsFrameDrawn (frame_of parts c.view_with.result) v c.args.area c.args.inner c.args.buffer.now c.draw_frame.new.buffer placing) (ap (λ (d : DrawingState). d.viewport) c.drawing.view_is)
+          (subst (λ (f : FrameState). IsFrameDrawn f c.drawing.inside.viewport c.args.area c.args.inner c.args.buffer.now c.draw_frame.new.buffer placing) c.frame-frame.ensures.frame h);
+    })

@@ -1,0 +1,17 @@
+use Rattle.std.proofs.Common.{List, subst}
+use Rattle.textarea_screen.specs.Buffer.{Changes, area_of}
+use Rattle.textarea_screen.specs.Text.{ShownLine}
+use Rattle.textarea_drawing.specs.Cells.{AreLinesOf, frame_change}
+use Rattle.textarea_drawing.specs.Placed.{Placing}
+use Rattle.textarea_drawing.proofs.drawing.render.draw_frame.Goals as goal
+
+pub returns-clause-ok : goal.returns-clause-ok
+returns-clause-ok c =
+    let drawn = subst (λ (p : Placing). (lines : List ShownLine) × AreLinesOf c.args.frame.now p.viewport c.args.inner (area_of c.args.buffer.now) lines
+    × Changes c.args.buffer.now c.draw.new.buffer (frame_change c.args.frame.now p.viewport c.args.area c.args.inner lines)) c.placing-2.view_is c.in_ok-draw.ensures.ok in
+    record {
+      placing_is = c.in_ok-placing.ensures;
+      lines = drawn.0;
+      lines_are = drawn.1;
+      cells = drawn.2;
+    }

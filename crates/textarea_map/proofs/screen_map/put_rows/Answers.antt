@@ -1,0 +1,21 @@
+use Rattle.std.proofs.Common.{ap, arith, length}
+use Rattle.textarea_map.specs.Map.{row_total}
+use Rattle.textarea_map.specs.Prepared.{rows_in}
+use Rattle.textarea_map.specs.declared.screen_map.NewRows.{NewRows}
+use Rattle.textarea_map.proofs.screen_map.put_rows.Goals as goal
+
+pub replace_few-requires-clause-lines : goal.replace_few-requires-clause-lines
+replace_few-requires-clause-lines c =
+    omega (arith, c.requires.lines, ap (λ (t : NewRows). length (rows_in t)) c.in-Few.is, c.in-Few.rows.ok.0)
+
+pub replace_few-requires-clause-rows : goal.replace_few-requires-clause-rows
+replace_few-requires-clause-rows c =
+    omega (arith, c.requires.rows, ap (λ (t : NewRows). row_total (rows_in t)) c.in-Few.is)
+
+pub replace_many-requires-clause-lines : goal.replace_many-requires-clause-lines
+replace_many-requires-clause-lines c =
+    omega (arith, c.requires.lines, ap (λ (t : NewRows). length (rows_in t)) c.in-Many.is)
+
+pub replace_many-requires-clause-rows : goal.replace_many-requires-clause-rows
+replace_many-requires-clause-rows c =
+    omega (arith, c.requires.rows, ap (λ (t : NewRows). row_total (rows_in t)) c.in-Many.is)

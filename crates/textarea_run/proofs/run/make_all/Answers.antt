@@ -1,0 +1,56 @@
+use Rattle.std.proofs.Common.{◌≡◌, ◌+◌, ◌<◌, ◌∷◌, [], ◌++◌, ◌∙◌, ap, cond, inr, length, map, refl, sym, subst, take, List, arith, is_ok, rules, true, vec_len, vec_capacity}
+use Rattle.std.proofs.lemmas.Option.{slice_get_read}
+use Rattle.textarea_run.specs.Goes.{AllStemInRun}
+use Rattle.textarea_run.specs.Run.{Leads}
+use Rattle.textarea_run.specs.Said.{said}
+use Rattle.textarea_calls.specs.declared.answer.Answer.{Answer}
+use Rattle.textarea_run.proofs.Going.{stem_at_start, stem_counted, stem_left, stem_next}
+use Rattle.textarea_run.proofs.Runs.{leads_more}
+use Rattle.textarea_run.proofs.run.make_all.Goals as goal
+
+pub loop-index-init : goal.loop-index-init
+loop-index-init c =
+    record {
+      led = subst (λ (all : List Answer). Leads c.args.area.now c.args.buffer.now [] (map said all) c.args.area.now c.args.buffer.now) (sym c.requires.none) (refl, refl);
+      stem = subst (λ (all : List Answer). AllStemInRun c.args.area.now c.args.buffer.now [] (map said all) c.args.area.now) (sym c.requires.none)
+          (stem_at_start c.args.area.now c.args.buffer.now c.requires.sound);
+      counted = search rules;
+      room = search rules;
+    }
+
+pub loop-index-preserved : goal.loop-index-preserved
+loop-index-preserved c =
+    let before = c.loop-index.invariant in
+    let did = c.in-Ok.ensures in
+    let within = c.loop-index-test.true in
+    let free : vec_len c.loop-index.answers < vec_capacity c.loop-index.answers = omega (arith, before.counted, before.room, within) in
+    let pushed : is_ok c.push.result ≡ true = c.push.ensures.succeeds free in
+    let items : c.push.new.self.items ≡ c.loop-index.answers.items ++ (c.in-Ok.answer ∷ []) =
+    c.push.ensures.items ∙ ap (λ b. cond b (c.loop-index.answers.items ++ c.in-Ok.answer ∷ []) c.loop-index.answers.items) pushed in
+    record {
+      led = subst (λ (all : List Answer). Leads c.args.area.now c.args.buffer.now (take (c.loop-index.index + 1) c.args.calls.now) (map said all) c.make.new.area c.make.new.buffer) (sym items)
+          (leads_more c.args.area.now c.loop-index.area c.make.new.area c.args.buffer.now c.loop-index.buffer c.make.new.buffer c.args.calls.now c.loop-index.answers.items c.loop-index.index c.index-calls-index.result c.in-Ok.answer within c.index-calls-index.is before.led did.made);
+      stem = subst (λ (all : List Answer). AllStemInRun c.args.area.now c.args.buffer.now (take (c.loop-index.index + 1) c.args.calls.now) (map said all) c.make.new.area) (sym items)
+          (stem_next c.args.area.now c.loop-index.area c.make.new.area c.args.buffer.now c.loop-index.buffer c.make.new.buffer c.args.calls.now c.loop-index.answers.items c.loop-index.index c.index-calls-index.result c.in-Ok.answer within c.index-calls-index.is did.before did.behind before.led did.made did.goes before.stem);
+      counted = c.push.ensures.len ∙ ap (λ b. cond b (vec_len c.loop-index.answers + 1) (vec_len c.loop-index.answers)) pushed ∙ ap (λ n. n + 1) before.counted;
+      room = omega (arith, before.room, c.push.ensures.capacity);
+    }
+
+pub returns-in-Err-clause-led : goal.returns-in-Err-clause-led
+returns-in-Err-clause-led c =
+    inr (record {
+      call = c.index-calls-index.result;
+      here = slice_get_read c.args.calls.now (length c.args.calls.now) c.loop-index.index c.index-calls-index.result refl c.loop-index-test.true c.index-calls-index.is;
+      before = c.loop-index.area;
+      screen = c.loop-index.buffer;
+      led = c.loop-index.invariant.led;
+      refused = c.in-Err.ensures.err;
+      spared = c.in-Err.ensures.spared;
+    })
+
+pub returns-in-Err-clause-ranges : goal.returns-in-Err-clause-ranges
+returns-in-Err-clause-ranges c =
+    let before = c.loop-index.invariant in
+    let counted : length c.loop-index.answers.items ≡ c.loop-index.index = omega (arith, c.loop-index.answers.ok, before.counted) in
+    stem_counted c.args.area.now c.make.new.area c.args.buffer.now c.args.calls.now c.loop-index.answers.items c.loop-index.index counted
+    (stem_left c.args.area.now c.loop-index.area c.make.new.area c.args.buffer.now (take c.loop-index.index c.args.calls.now) (map said c.loop-index.answers.items) c.in-Err.ensures.before c.in-Err.ensures.left before.stem)
