@@ -1,11 +1,12 @@
--- Printable ASCII: before another such character each one is a cluster by itself, and what stands behind it is cut as if it began
--- the text.
-use Rattle.std.proofs.Common.{◌≡◌, ℕ, ◌<◌, ◌≤◌, Bool, true, false, cond, not, ◌&&◌, ◌||◌, ◌==◌, leb, ltb, unwrap_or, List, [], ◌∷◌, ◌++◌, map, length, take, drop, slice_index_or, Option, None, Some, IsSome, IfSome, IsCharBoundary, refl, sym, ap, ap₂, ◌∙◌, arith}
+-- Printable ASCII: before another such character, and at a text's end, each one is a cluster by itself, and what stands behind it is
+-- cut as if it began the text.
+use Rattle.std.proofs.Common.{◌≡◌, ℕ, ◌<◌, Bool, true, false, cond, not, ◌&&◌, ◌||◌, ◌==◌, leb, ltb, unwrap_or, List, [], ◌∷◌, ◌++◌, map, length, take, drop, Option, None, Some, IsSome, IfSome, IsCharBoundary, refl, sym, ap, ap₂, ◌∙◌, arith}
 use Rattle.std.proofs.lemmas.Bool.{cond-true}
 use Rattle.std.proofs.lemmas.Bool.Decides.{nat_tests}
 use Rattle.std.proofs.lemmas.Str.{IsUtf8-drop, chars_past_char, encode_ascii}
 use Rattle.std.specs.Prelude.{encode_utf8_all}
 use Rattle.std.specs.Str.{chars, IsUtf8}
+use Rattle.textarea_paint.specs.Plain.{BeginsPlain, IsPrintable}
 use Rattle.ucd_breaks.specs.declared.GraphemeClusterBreak.TheVariants.{Other}
 use Rattle.ucd_breaks.proofs.GraphemeClusterBreakLemmas.{grapheme_cluster_break_number_injective}
 use Rattle.ucd_derived.specs.declared.IndicConjunctBreak.TheVariants as conjunct
@@ -20,10 +21,6 @@ use Rattle.unicode_segmentation.proofs.Computing.{unicode_segmentation}
 use Rattle.unicode_segmentation.proofs.GraphemeLemmas.{is_grapheme_break-others}
 
 -- ---- what the tables give
-
-pub record IsPrintable (c : ℕ) : Type 0 where
-  pub low : 32 ≤ c
-  pub high : c < 127
 
 abbrev has_no_part : ℕ → Bool
 has_no_part c = (grapheme_cluster_break_number (grapheme_cluster_break c) == 12) && (indic_conjunct_break_number (indic_conjunct_break c) == 3) && not (is_extended_pictographic c)
@@ -43,8 +40,8 @@ record IsPlain (c : ℕ) : Type 0 where
 
 plain : (c : ℕ) → IsPrintable c → IsPlain c
 plain c printable =
-    let printable_test : (leb 32 c && ltb c 127) ≡ true = grind (arith, nat_tests, printable.low, printable.high) in
-    let tested = sym (cond-true (leb 32 c && ltb c 127) (has_no_part c) true printable_test) ∙ all_below-at passes 127 c all_pass printable.high in
+    let printable_test : (leb 32 c && ltb c 127) ≡ true = grind (arith, nat_tests, printable.0, printable.1) in
+    let tested = sym (cond-true (leb 32 c && ltb c 127) (has_no_part c) true printable_test) ∙ all_below-at passes 127 c all_pass printable.1 in
     record {
       other = grapheme_cluster_break_number_injective _ _ (grind (arith, nat_tests));
       no_conjunct = indic_conjunct_break_number_injective _ _ (grind (arith, nat_tests));
@@ -110,26 +107,42 @@ cut-two c d cs first second early =
     cond-true (is_grapheme_break true (c ∷ []) (d ∷ (cs ++ []))) _ _ (sym breaks)
     ∙ ap (λ rest. (c ∷ []) ∷ rest) (cut-first c first [] (d ∷ cs))
 
+cut-only : (c : ℕ) → encode_utf8_all (c ∷ []) ≡ c ∷ [] → map encode_utf8_all (cut (is_grapheme_break true) [] (c ∷ []) []) ≡ (c ∷ []) ∷ []
+unfolding cut is_grapheme_break
+cut-only c encoded = ap (λ piece. piece ∷ []) encoded
+
 pub graphemes-plain : (c d : ℕ) (text rest behind : List ℕ) → IsUtf8 text → IsUtf8 rest → text ≡ c ∷ rest → rest ≡ d ∷ behind → IsPrintable c → IsPrintable d →
     graphemes true text ≡ (c ∷ []) ∷ graphemes true rest
 unfolding segments
 graphemes-plain c d text rest behind text_utf8 rest_utf8 text_is rest_is first second =
-    let encoded = encode_ascii c (omega (arith, first.high)) in
+    let encoded = encode_ascii c (omega (arith, first.1)) in
     let all = chars_past_char text rest c text_utf8 (text_is ∙ ap (λ front. front ++ rest) (sym encoded)) in
-    let others = chars_past_char rest behind d rest_utf8 (rest_is ∙ ap (λ front. front ++ behind) (sym (encode_ascii d (omega (arith, second.high))))) in
+    let others = chars_past_char rest behind d rest_utf8 (rest_is ∙ ap (λ front. front ++ behind) (sym (encode_ascii d (omega (arith, second.1))))) in
     ap (λ cs. map encode_utf8_all (cut (is_grapheme_break true) [] cs [])) (all ∙ ap (λ cs. c ∷ cs) others)
-    ∙ ap (map encode_utf8_all) (cut-two c d (chars behind) (plain c first) (plain d second) (omega (arith, second.high)))
+    ∙ ap (map encode_utf8_all) (cut-two c d (chars behind) (plain c first) (plain d second) (omega (arith, second.1)))
     ∙ ap₂ (λ (bytes : List ℕ) (cs : List ℕ). bytes ∷ map encode_utf8_all (cut (is_grapheme_break true) [] cs [])) (ap (λ front. front ++ []) encoded) (sym others)
 
+no-chars : chars [] ≡ []
+unfolding chars
+no-chars = refl
+
+-- the last character of a text
+graphemes-only : (c : ℕ) → IsUtf8 (c ∷ []) → IsPrintable c → graphemes true (c ∷ []) ≡ (c ∷ []) ∷ graphemes true []
+unfolding segments
+graphemes-only c utf8 printable =
+    let encoded = encode_ascii c (omega (arith, printable.1)) in
+    let only = chars_past_char (c ∷ []) [] c utf8 (ap (λ front. front ++ []) (sym encoded)) ∙ ap (λ cs. c ∷ cs) no-chars in
+    ap (λ cs. map encode_utf8_all (cut (is_grapheme_break true) [] cs [])) only
+    ∙ cut-only c (ap (λ front. front ++ []) encoded) ∙ ap (λ rest. (c ∷ []) ∷ rest) (sym graphemes-nil)
+
 -- the text is split behind its first character
-pub split-plain : {X : Type 0} (r : Option X) (front back : X → List ℕ) (text : List ℕ) (d e : ℕ) → IsUtf8 text → 1 < length text →
-    (32 ≤ slice_index_or text 0 d) × (slice_index_or text 0 d < 127) → (32 ≤ slice_index_or text 1 e) × (slice_index_or text 1 e < 127) →
+pub split-plain : {X : Type 0} (r : Option X) (front back : X → List ℕ) (text : List ℕ) → IsUtf8 text → BeginsPlain text →
     (IsSome r → IsCharBoundary text 1) → IfSome r (λ x. front x ≡ take 1 text) → IfSome r (λ x. back x ≡ drop 1 text) →
     IfSome r (λ x. graphemes true text ≡ front x ∷ graphemes true (back x))
-split-plain None front back text d e utf8 long first second boundary is_front is_back = tt
-split-plain (Some x) front back [] d e utf8 long first second boundary is_front is_back = absurd (omega (arith, long))
-split-plain (Some x) front back (a ∷ []) d e utf8 long first second boundary is_front is_back = absurd (omega (arith, long))
-split-plain (Some x) front back (a ∷ b ∷ bytes) d e utf8 long first second boundary is_front is_back =
-    graphemes-plain a b (a ∷ b ∷ bytes) (b ∷ bytes) bytes utf8 (IsUtf8-drop (a ∷ b ∷ bytes) 1 utf8 (boundary refl)) refl refl
-    (record { low = first.0; high = first.1 }) (record { low = second.0; high = second.1 })
+split-plain None front back text utf8 plain boundary is_front is_back = tt
+split-plain (Some x) front back [] utf8 plain boundary is_front is_back = absurd plain
+split-plain (Some x) front back (a ∷ []) utf8 plain boundary is_front is_back =
+    graphemes-only a utf8 plain ∙ ap₂ (λ (f : List ℕ) (t : List ℕ). f ∷ graphemes true t) (sym is_front) (sym is_back)
+split-plain (Some x) front back (a ∷ b ∷ bytes) utf8 plain boundary is_front is_back =
+    graphemes-plain a b (a ∷ b ∷ bytes) (b ∷ bytes) bytes utf8 (IsUtf8-drop (a ∷ b ∷ bytes) 1 utf8 (boundary refl)) refl refl plain.0 plain.1
     ∙ ap₂ (λ (f : List ℕ) (t : List ℕ). f ∷ graphemes true t) (sym is_front) (sym is_back)

@@ -3,4 +3,5 @@ pub mod Cells
 pub mod Clusters
 pub mod Columns
 pub mod LineClusters
+pub mod Plain
 pub mod Row

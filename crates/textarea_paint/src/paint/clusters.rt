@@ -4,6 +4,7 @@ ghost use Rattle.unicode_segmentation.specs.Grapheme.{graphemes};
 ghost use Rattle.std.specs.Iterator.{YieldsFirstBy, item_count};
 ghost use Rattle.textarea_screen.specs.Text.{shown_line};
 ghost use Rattle.textarea_paint.specs.Clusters.{row_clusters};
+ghost use Rattle.textarea_paint.specs.Plain.{BeginsPlain, IsPrintable};
 
 use std::slice;
 use textarea_screen::screen::{Line, Span, Style};
@@ -81,23 +82,33 @@ impl<'a, 'b> Iterator for LineClusters<'a, 'b> {
     }
 }
 
-/// The first character of a text, and the text behind it, where the two that the text begins with are
-/// printable ASCII: the first is a cluster by itself, and is found without a table.
+/// The first character of a text, and the text behind it, where the text begins with printable ASCII: the first is a cluster by
+/// itself, and is found without a table.
 fn split_plain<'a>(text: &'a str) -> Option<(&'a str, &'a str)>
     ensures first { IfSome result (λ parts.
         graphemes true text.now ≡ parts.0.now ∷ graphemes true parts.1.now) }
     ensures shorter { IfSome result (λ parts. length parts.1.now < length text.now) }
 {
-    let bytes = text.as_bytes();
-    if bytes.len() > 1 && is_printable(bytes[0]) && is_printable(bytes[1]) {
+    if begins_plain(text.as_bytes()) {
         text.split_at_checked(1)
     } else {
         None
     }
 }
 
+/// Whether a text of these bytes begins with printable ASCII: its first two characters are, or the only one that it has.
+fn begins_plain(bytes: &[u8]) -> bool
+    ensures { IsTrue result ↔ BeginsPlain bytes.now }
+{
+    match bytes {
+        [] => false,
+        [only] => is_printable(*only),
+        [first, second, ..] => is_printable(*first) && is_printable(*second),
+    }
+}
+
 fn is_printable(byte: u8) -> bool
-    ensures { IsTrue result ↔ ((32 ≤ byte) × (byte < 127)) }
+    ensures { IsTrue result ↔ IsPrintable byte }
 {
     32 <= byte && byte < 127
 }
