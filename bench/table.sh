@@ -9,7 +9,7 @@
 # - A character that is typed, or removed by Backspace, in a line that isn't wrapped, by the line's length in characters: of one
 #   byte and of two, at the line's end and in its middle, where what stands behind it in the line is moved; and that move alone.
 # - A width that changes, and one whose rows were measured before: the time for each line.
-# - A key and the frame of 80 by 24 behind it; a frame alone; and one with line numbers, all lines selected and a match in each
+# - A key and the frame of 80 by 24 behind it; a frame alone; and one with line numbers, all lines selected and matches in each
 #   row. Where valgrind is there, also how often a frame asks for memory for each of its rows.
 # - Scripts of `tascript`: edits all over a text, a quarter of them line breaks, each undone and made again; all lines cut, and
 #   put back by an undo; a run of characters typed and removed by Backspace, reading and printing included.
@@ -27,11 +27,17 @@ trap 'rm -f "$script" "$script.held"' EXIT
 
 program() { echo "$crates/$1/out/$1"; }
 
-# the nanoseconds of processor time that the fastest of so many runs of a program on the script takes
+# the nanoseconds of processor time that a run of a program on the script takes
+run_time() {
+    local TIMEFORMAT='%U %S'
+    { time "$1" < "$script" > /dev/null 2>&1; } 2>&1 | awk '{ printf "%.0f", ($1 + $2) * 1e9 }'
+}
+
+# the same of the fastest of so many runs
 best() {
-    local fastest= taken TIMEFORMAT='%U %S'
+    local fastest= taken
     for (( turn = 0; turn < $2; turn++ )); do
-        taken=$( { time "$1" < "$script" > /dev/null 2>&1; } 2>&1 | awk '{ printf "%.0f", ($1 + $2) * 1e9 }')
+        taken=$(run_time "$1")
         if [ -z "$fastest" ] || [ "$taken" -lt "$fastest" ]; then fastest=$taken; fi
     done
     echo "$fastest"
@@ -83,6 +89,38 @@ lines_row() {
         shift
     done
     row "$what" "nanoseconds a line" "${values[@]}"
+}
+
+# rows of plain frames, of full ones, and how many times a plain one a full one takes; for each size how many frames are drawn. Both
+# are run by turns, so that a machine that gets slower meanwhile slows both
+frame_rows() {
+    local path plain=() full=() times=() both
+    path=$(program frame_bench)
+    [ -x "$path" ] || return 0
+    for size in "${sizes[@]}"; do
+        read -r -a both <<< "$(frames_by_turns "$path" "$size" "$1")"
+        plain+=("$(quotient "${both[0]}" $(( $1 * 1000 )))")
+        full+=("$(quotient "${both[1]}" $(( $1 * 1000 )))")
+        times+=("$(quotient "${both[1]}" "${both[0]}")")
+        shift
+    done
+    row "a plain frame, by lines" microseconds "${plain[@]}"
+    row "a frame with numbers, selection and matches, by lines" microseconds "${full[@]}"
+    row "the same, to a plain one" times "${times[@]}"
+}
+
+# the nanoseconds of so many plain frames at a size, and those of as many full ones
+frames_by_turns() {
+    local -A least=()
+    local job taken
+    for (( turn = 0; turn < $(turns "$2"); turn++ )); do
+        for job in "plain $2 0" "full $2 0" "plain $2 $3" "full $2 $3"; do
+            echo "$job" > "$script"
+            taken=$(run_time "$1")
+            if [ "$taken" -lt "${least[$job]:-$(( taken + 1 ))}" ]; then least[$job]=$taken; fi
+        done
+    done
+    echo $(( ${least[plain $2 $3]} - ${least[plain $2 0]} )) $(( ${least[full $2 $3]} - ${least[full $2 0]} ))
 }
 
 # how often a frame asks for memory, for each of its 24 rows
@@ -228,8 +266,7 @@ lines_row "another width, by lines" typing_bench width 400 40 6 2
 lines_row "another width, measured before, by lines" typing_bench measured 400 40 6 2
 jobs_row "a key and a frame, wrapped at words, by lines" frame_bench Word 10000 10000 10000 100000
 jobs_row "a key and a frame, not wrapped, by lines" frame_bench None 10000 10000 10000 100000
-jobs_row "a plain frame, by lines" frame_bench plain 10000 10000 10000 100000
-jobs_row "a frame with numbers, selection and matches, by lines" frame_bench full 10000 10000 10000 100000
+frame_rows 10000 10000 10000 100000
 requests_row "a plain frame" plain
 requests_row "a frame with numbers, selection and matches" full
 script_row "an edit, undone and made again, by lines" microseconds 1000 edits 4000 4000 2000 200
