@@ -12,3 +12,4 @@ mod Cutting
 mod Stepping
 mod Going
 mod WorkedCounts
+mod Lifted
