@@ -1,7 +1,10 @@
-use Rattle.std.proofs.Common.{ap, arith, length}
+use Rattle.std.proofs.Common.{ap, arith, length, subst, sym, ◌∙◌}
 use Rattle.textarea_map.specs.Map.{row_total}
 use Rattle.textarea_map.specs.Prepared.{rows_in}
 use Rattle.textarea_map.specs.declared.screen_map.NewRows.{NewRows}
+use Rattle.textarea_map.specs.Blocks.{all_rows}
+use Rattle.textarea_map.specs.Room.{HasRoomIn}
+use Rattle.textarea_text.specs.Replaced.{replaced}
 use Rattle.textarea_map.proofs.screen_map.put_rows.Goals as goal
 
 pub replace_few-requires-clause-lines : goal.replace_few-requires-clause-lines
@@ -19,3 +22,14 @@ replace_many-requires-clause-lines c =
 pub replace_many-requires-clause-rows : goal.replace_many-requires-clause-rows
 replace_many-requires-clause-rows c =
     omega (arith, c.requires.rows, ap (λ (t : NewRows). row_total (rows_in t)) c.in-Many.is)
+
+pub returns-in-Many : goal.returns-in-Many
+returns-in-Many c =
+    c.replace_many.ensures ∙ ap (λ (t : NewRows). replaced (all_rows c.args.blocks.now.blocks) c.args.row c.args.count (rows_in t)) (sym c.in-Many.is)
+
+pub returns-in-Few : goal.returns-in-Few
+returns-in-Few c =
+    c.replace_few.ensures ∙ ap (λ (t : NewRows). replaced (all_rows c.args.blocks.now.blocks) c.args.row c.args.count (rows_in t)) (sym c.in-Few.is)
+
+pub replace_few-requires-clause-room : goal.replace_few-requires-clause-room
+replace_few-requires-clause-room c = (subst (λ (t : NewRows). HasRoomIn c.args.blocks.now c.args.row c.args.count t) c.in-Few.is c.requires.room).1

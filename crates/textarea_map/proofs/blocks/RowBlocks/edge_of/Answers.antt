@@ -1,5 +1,5 @@
-use Rattle.std.proofs.Common.{arith, length}
-use Rattle.textarea_map.proofs.InBlocks.{before_within, edge_there, lines_sum}
+use Rattle.std.proofs.Common.{arith, length, sym, ◌∙◌}
+use Rattle.textarea_map.proofs.InBlocks.{before_within, edge_there, lines_sum, before_all}
 use Rattle.textarea_map.proofs.blocks.RowBlocks.edge_of.Goals as goal
 
 pub place_of-requires : goal.place_of-requires
@@ -9,3 +9,9 @@ place_of-requires c =
 pub returns-clause-edge : goal.returns-clause-edge
 returns-clause-edge c =
     edge_there c.args.self.now.blocks c.args.line c.place_of.result.0 c.requires c.place_of.ensures.block
+
+pub returns-then-line-line_count-clause-edge : goal.returns-then-line-line_count-clause-edge
+returns-then-line-line_count-clause-edge c =
+    before_all length c.args.self.now.blocks c.block_count.result (omega (arith, c.block_count.ensures))
+    ∙ sym c.line_count.ensures
+    ∙ sym c.if-line-line_count.true

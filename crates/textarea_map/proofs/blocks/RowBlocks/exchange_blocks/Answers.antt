@@ -3,7 +3,7 @@ use Rattle.textarea_text.specs.Replaced.{replaced}
 use Rattle.textarea_map.specs.Blocks.{BlocksView, all_rows, lines_before, rows_of_each}
 use Rattle.textarea_map.specs.Map.{row_total}
 use Rattle.textarea_map.specs.declared.blocks.numbers.Exchanged.{Exchanged}
-use Rattle.textarea_map.proofs.InBlocks.{before_ordered, before_within, blocks_exchanged, lines_sum, rows_sum, total_before}
+use Rattle.textarea_map.proofs.InBlocks.{before_ordered, before_within, blocks_exchanged, lines_sum, rows_sum, total_before, block_count}
 use Rattle.textarea_map.proofs.Totals.{all_exchanged, totals_exchanged}
 use Rattle.textarea_map.proofs.blocks.RowBlocks.exchange_blocks.Goals as goal
 use Rattle.textarea_map.proofs.blocks.RowBlocks.exchange_blocks.Goals.{After-lines_before, After-rows_before}
@@ -104,3 +104,7 @@ returns c =
     ∙ blocks_exchanged c.self.inside.blocks.items c.new.inside.blocks.items from (to - from)
     ∙ ap (λ (v : BlocksView). replaced v.blocks from (to - from) (rows_of_each c.new.inside.blocks.items)) c.self.view_is
     ∙ ap (λ (v : BlocksView). replaced c.args.self.now.blocks from (to - from) v.blocks) c.new.view_is
+
+pub replace_items-requires-clause-room : goal.replace_items-requires-clause-room
+replace_items-requires-clause-room c =
+    omega (arith, c.requires.room, ap (λ (v : BlocksView). v.more) c.self.view_is, ap (λ (v : BlocksView). length v.blocks) c.new.view_is, block_count c.new.inside.blocks.items, c.new.inside.blocks.ok.0, c.self.inside.blocks.ok.0)

@@ -1,11 +1,11 @@
-use Rattle.std.proofs.Common.{List, [], Result, Ok, Err, arith, subst, sym}
+use Rattle.std.proofs.Common.{List, [], Result, Ok, Err, arith, subst, sym, ap, length, ◌++◌, ◌∙◌}
 use Rattle.std.specs.Result.{IfOk}
-use Rattle.std.proofs.lemmas.Result.{on_ok_weaker}
+use Rattle.std.proofs.lemmas.Result.{on_ok_weaker, IfOk-weaker}
 use Rattle.textarea_text.specs.Text.{lines_of}
 use Rattle.textarea_wrap.specs.RowsView.{RowsView}
 use Rattle.textarea_map.specs.declared.layout.Wrapping.{Wrapping}
 use Rattle.textarea_map.specs.Blocks.{all_rows}
-use Rattle.textarea_map.specs.Layout.{AreRowsOf}
+use Rattle.textarea_map.specs.Layout.{AreRowsOf, ticks_behind, ticks_of}
 use Rattle.textarea_map.specs.Map.{IsWithinLimit}
 use Rattle.textarea_map.proofs.RowSizes.{size_of_items}
 use Rattle.textarea_map.proofs.screen_map.ScreenMap.new.Goals as goal
@@ -35,3 +35,12 @@ returns-clause-limit c =
     let known = right (goal.at.returns-clause-limit c).In_ok-push_lines in
     on_ok_weaker c.of_blocks.result
     (λ (within : IsWithinLimit (all_rows c.push_lines.new.self.blocks)). omega (arith, within.size, (size_of_items c.args.wrapping c.args.lines.now (all_rows c.push_lines.new.self.blocks) known).0)) c.of_blocks.ensures.limit
+
+pub returns-clause-wrapping : goal.returns-clause-wrapping
+returns-clause-wrapping c = c.of_blocks.ensures.wrapping
+
+pub returns-clause-ticks : goal.returns-clause-ticks
+returns-clause-ticks c =
+    IfOk-weaker c.of_blocks.result _ _
+    (λ map e. ap ticks_of e ∙ c.in_ok-push_lines.ensures.ticks ∙ ap (λ (t : List (List RowsView)). ticks_of (all_rows t) ++ ticks_behind c.args.counter.now (length c.args.lines.now)) c.new-blocks.ensures)
+    c.of_blocks.ensures.rows

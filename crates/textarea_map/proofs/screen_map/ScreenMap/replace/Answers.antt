@@ -80,3 +80,6 @@ pub invariant_of-self : goal.invariant_of-self
 invariant_of-self c =
     let known = sums (goal.at.invariant_of-self c).After-sums_of-old in
     rw c.put_rows.ensures (record { all = known.total_is; size_is = known.size_is; limit = record { size = known.small; few = known.few } })
+
+pub returns-clause-wrapping : goal.returns-clause-wrapping
+returns-clause-wrapping c = refl

@@ -62,3 +62,15 @@ pub returns-clause-short : goal.returns-clause-short
 returns-clause-short c =
     let is = (found (goal.at.returns-clause-short c).After-as_str-text).text_is in
     omega (arith, is.short, is.placed.end.0, c.range-2.ensures.len)
+
+pub range-requires-clause-start_le_end : goal.range-requires-clause-start_le_end
+range-requires-clause-start_le_end c = omega arith
+
+pub range-requires-clause-start_boundary : goal.range-requires-clause-start_boundary
+range-requires-clause-start_boundary c = λ h. absurd (omega (arith, h))
+
+pub returns-clause-number : goal.returns-clause-number
+returns-clause-number c = c.line_of_row-line.ensures.row
+
+pub returns-clause-line : goal.returns-clause-line
+returns-clause-line c = c.line_of_row-line.ensures.line

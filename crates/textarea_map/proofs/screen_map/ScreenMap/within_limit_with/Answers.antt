@@ -76,3 +76,13 @@ returns-clause-limit c =
       },
       λ within. refl,
     )
+
+pub returns-clause-total : goal.returns-clause-total
+returns-clause-total c =
+    let known = sums (goal.at.returns-clause-total c).After-sums_of-total in
+    omega (arith, c.in_ok-within_limit-2.ensures.limit.0 refl, known.come_is, c.saturating_add-2.ensures)
+
+pub returns-clause-size : goal.returns-clause-size
+returns-clause-size c =
+    let known = sums (goal.at.returns-clause-size c).After-sums_of-total in
+    omega (arith, c.in_ok-within_limit.ensures.limit.0 refl, known.come_size_is, c.saturating_add.ensures)

@@ -54,3 +54,15 @@ pub returns : goal.returns
 returns c =
     let known = (goal.at.returns c).After-move_numbers-2 in
     rw (not_turned c.len-self-inside.result c.exchange_numbers.new.numbers.items, ← old known, ← new known) c.exchange_numbers.ensures
+
+pub invariant_of-self : goal.invariant_of-self
+invariant_of-self c = record {
+  enough = λ k behind there. absurd (omega (arith, behind, there, c.len-self-inside.ensures, c.exchange_numbers.new.numbers.ok.0));
+  small = λ k behind there. absurd (omega (arith, behind, there, c.len-self-inside.ensures, c.exchange_numbers.new.numbers.ok.0));
+}
+
+pub move_numbers-requires-2-clause-enough : goal.move_numbers-requires-2-clause-enough
+move_numbers-requires-2-clause-enough c = λ k behind there. c.self.invariant.enough k behind (omega (arith, there, c.self.inside.items.ok.0))
+
+pub move_numbers-requires-2-clause-small : goal.move_numbers-requires-2-clause-small
+move_numbers-requires-2-clause-small c = λ k behind there. omega (arith, c.self.invariant.small k behind (omega (arith, there, c.self.inside.items.ok.0)))

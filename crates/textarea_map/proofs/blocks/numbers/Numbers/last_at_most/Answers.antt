@@ -12,3 +12,19 @@ halving-init c =
       c.requires.first,
       λ more. absurd (omega (arith, size, more)),
     )
+
+pub halving-preserved : goal.halving-preserved
+halving-preserved c = (
+  omega arith,
+  omega (arith, c.halving.invariant.1),
+  c.halving.invariant.2,
+  λ more. omega (arith, c.if-at-number.false, c.at.ensures),
+)
+
+pub halving-preserved-then-at-number : goal.halving-preserved-then-at-number
+halving-preserved-then-at-number c = (
+  omega arith,
+  c.halving.invariant.1,
+  omega (arith, c.if-at-number.true, c.at.ensures),
+  c.halving.invariant.3,
+)

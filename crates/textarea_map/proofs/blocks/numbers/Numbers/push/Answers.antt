@@ -15,3 +15,9 @@ returns c =
     not_turned c.len-self-inside.result now
     ∙ pushed c.push.result items now number c.push.ensures.items (c.push.ensures.succeeds (omega (arith, c.requires, room, turned.len, turned.capacity)))
     ∙ ap (λ t. t ++ number ∷ []) (settled inside.items c.move_numbers.new.numbers inside.from inside.less inside.more turned.len turned.above turned.moved ∙ ap (λ (v : NumbersView). v.numbers) c.self.view_is)
+
+pub invariant_of-self : goal.invariant_of-self
+invariant_of-self c = record {
+  enough = λ k behind there. absurd (omega (arith, behind, there, c.len-self-inside.ensures, c.push.new.self.ok.0));
+  small = λ k behind there. absurd (omega (arith, behind, there, c.len-self-inside.ensures, c.push.new.self.ok.0));
+}

@@ -66,3 +66,6 @@ returns-clause-moved c = (one (goal.at.returns-clause-moved c).After-saturating_
 
 pub returns-clause-len : goal.returns-clause-len
 returns-clause-len c = (one (goal.at.returns-clause-len c).After-saturating_sub-self-inside-3).len
+
+pub returns-then-gone-come-clause-moved : goal.returns-then-gone-come-clause-moved
+returns-then-gone-come-clause-moved c = λ k behind there. ap (λ n. get_or c.args.self.now.numbers k 0 + n) c.if-gone-come.true

@@ -1,0 +1,6 @@
+use Rattle.textarea_map.specs.Map.{MapView, row_total}
+use Rattle.std.proofs.Common.{ap, take, ◌∙◌}
+use Rattle.textarea_map.proofs.screen_map.ScreenMap.first_row.Goals as goal
+
+pub returns : goal.returns
+returns c = c.first_row.ensures ∙ ap (λ (v : MapView). row_total (take c.args.line v.rows)) c.self.view_is

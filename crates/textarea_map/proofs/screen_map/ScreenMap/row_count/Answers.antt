@@ -1,0 +1,6 @@
+use Rattle.textarea_map.specs.Map.{MapView, row_total}
+use Rattle.std.proofs.Common.{ap, ◌∙◌}
+use Rattle.textarea_map.proofs.screen_map.ScreenMap.row_count.Goals as goal
+
+pub returns : goal.returns
+returns c = c.self.invariant.all ∙ ap (λ (v : MapView). row_total v.rows) c.self.view_is

@@ -1,0 +1,6 @@
+use Rattle.textarea_map.specs.Map.{MapView, ranges_at}
+use Rattle.std.proofs.Common.{ap, ◌∙◌}
+use Rattle.textarea_map.proofs.screen_map.ScreenMap.rows_of.Goals as goal
+
+pub returns : goal.returns
+returns c = c.rows_of.ensures ∙ ap (λ (v : MapView). ranges_at v.rows c.args.line) c.self.view_is
