@@ -49,6 +49,14 @@ edited_is laid new cursor ahead anchor ranges held log after splice typed now la
     ∙ ap (λ (r : List AtomicRange). document_of (applied_to laid splice) (place_after splice) None r after) held_is
     ∙ ap (λ (l : Log). document_of (applied_to laid splice) (place_after splice) None (moved_ranges ranges splice) l) log_is
 
+-- parts that a change left, with this log, are those of the document after it
+pub changed_is : (laid new : LaidOut) (cursor ahead : Place) (anchor : Option Place) (ranges held : List AtomicRange) (log after left : Log) (splice : Splice) → new ≡ applied_to laid splice → ahead ≡ place_after splice → held ≡ moved_ranges ranges splice → after ≡ left → document_of new ahead None held after ≡ after_change (document_of laid cursor anchor ranges log) splice left
+changed_is laid new cursor ahead anchor ranges held log after left splice laid_is cursor_is held_is log_is =
+    ap (λ (l : LaidOut). document_of l ahead None held after) laid_is
+    ∙ ap (λ (p : Place). document_of (applied_to laid splice) p None held after) cursor_is
+    ∙ ap (λ (r : List AtomicRange). document_of (applied_to laid splice) (place_after splice) None r after) held_is
+    ∙ ap (λ (l : Log). document_of (applied_to laid splice) (place_after splice) None (moved_ranges ranges splice) l) log_is
+
 -- what is seen of the text changes nothing of this
 pub resound : (document : DocumentState) (layout : Layout) → IsSound document → IsSound (record document { layout = layout })
 resound document layout h = record { cursor = h.cursor; anchor = h.anchor; ranges = h.ranges; in_order = h.in_order; undo = h.undo; redo = h.redo; bounded = h.bounded }

@@ -1,4 +1,5 @@
-use Rattle.std.proofs.Common.{◌≤◌, ◌∙◌, ap, filter_map, subst, sym}
+use Rattle.std.proofs.Common.{◌≤◌, ◌∙◌, ap, Err, Ok, Result, filter_map, refl, subst, sym}
+use Rattle.std.specs.Result.{OnErr}
 use Rattle.textarea_size.specs.Limit.{size_limit}
 use Rattle.textarea_text.specs.Place.{Place}
 use Rattle.textarea_text.specs.Splice.{place_before}
@@ -23,3 +24,14 @@ returns-clause-ranges c =
     ∙ ap (λ (p : Place). filter_map (moved_by p c.cursor_before-old.result c.cursor_after-new.result) ranges) c.start-start.ensures
     ∙ ap (λ (p : Place). filter_map (moved_by splice.place p c.cursor_after-new.result) ranges) c.cursor_before-old.ensures
     ∙ ap (λ (p : Place). filter_map (moved_by splice.place (place_before splice) p) ranges) c.cursor_after-new.ensures
+
+pub returns-clause-cursor : goal.returns-clause-cursor
+returns-clause-cursor c = c.cursor_after-new.ensures
+
+-- what holds anyway holds after an error
+if_err : {T E P : Type 0} (r : Result T E) → P → OnErr r P
+if_err (Ok x) h = tt
+if_err (Err e) h = h
+
+pub returns-in_err-change_lines-clause-ranges_stay : goal.returns-in_err-change_lines-clause-ranges_stay
+returns-in_err-change_lines-clause-ranges_stay c = if_err c.from_residual.result refl

@@ -1,10 +1,13 @@
-use Rattle.std.proofs.Common.{sym, subst}
+use Rattle.std.proofs.Common.{◌∙◌, List, Option, ap, sym, subst}
 use Rattle.std.specs.Option.{IfSome}
 use Rattle.textarea_text.specs.Text.{lines}
-use Rattle.textarea_text.specs.Place.{IsPlace}
+use Rattle.textarea_text.specs.Place.{IsPlace, Place}
+use Rattle.textarea_ranges.specs.declared.atomic.AtomicRange.{AtomicRange}
+use Rattle.textarea_ranges.specs.declared.atomic.AtomicCursorBias.TheVariants.{Forward}
+use Rattle.textarea_ranges.specs.Held.{moved_out}
 use Rattle.textarea_ranges.specs.Valid.{AreValid}
-use Rattle.textarea_document.specs.Ranges.{unless_empty}
-use Rattle.textarea_document.specs.State.{DocumentState}
+use Rattle.textarea_document.specs.Ranges.{anchor_out, holding, unless_empty}
+use Rattle.textarea_document.specs.State.{DocumentState, document_of}
 use Rattle.textarea_document.proofs.Ranges.{anchor_place}
 use Rattle.textarea_document.proofs.document.Document.hold.Goals as goal
 
@@ -26,3 +29,15 @@ invariant_of-self c =
       redo = old.redo;
       bounded = old.bounded;
     }
+
+pub returns : goal.returns
+returns c =
+    let inside = c.self.inside in
+    let given = c.args.ranges.items in
+    let at = c.move_out-cursor.result in
+    ap (λ (o : Option Place). document_of inside.laid at o given inside.history.log)
+    (c.unless_empty-self-inside.ensures
+    ∙ ap (λ (o : Option Place). unless_empty o at) (c.anchor_out-anchor.ensures ∙ ap (λ (r : List AtomicRange). anchor_out r inside.anchor) c.as_slice-2.ensures.value))
+    ∙ ap (λ (p : Place). document_of inside.laid p (unless_empty (anchor_out given inside.anchor) p) given inside.history.log)
+    (c.move_out-cursor.ensures.value ∙ ap (λ (r : List AtomicRange). moved_out r inside.cursor Forward) c.as_slice.ensures.value)
+    ∙ ap (λ (s : DocumentState). holding s given) c.self.view_is

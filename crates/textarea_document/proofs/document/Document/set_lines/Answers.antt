@@ -1,9 +1,11 @@
-use Rattle.std.proofs.Common.{refl, subst, sym}
+use Rattle.std.proofs.Common.{◌∙◌, ℕ, List, ap, refl, subst, sym}
 use Rattle.textarea_text.specs.Text.{lines_of, text_of}
-use Rattle.textarea_text.specs.Place.{IsPlaceOf}
+use Rattle.textarea_text.specs.Place.{IsPlaceOf, Place}
 use Rattle.textarea_text.proofs.Befores.{text_place}
+use Rattle.textarea_pieces.specs.Part.{clip}
+use Rattle.textarea_document.specs.State.{DocumentState, fresh_document}
 use Rattle.textarea_document.specs.Sound.{IsSound}
-use Rattle.textarea_document.proofs.Sounds.{same_document, sound_laid}
+use Rattle.textarea_document.proofs.Sounds.{fresh_is, same_document, sound_laid}
 use Rattle.textarea_document.proofs.document.Document.set_lines.Goals as goal
 
 pub invariant_of-self : goal.invariant_of-self
@@ -16,3 +18,16 @@ invariant_of-self-2 c =
     let items = c.args.lines.items in
     let cursor = c.clip-place.result in
     sound_laid (text_of items) c.self.inside.laid.layout.settings c.self.inside.laid.layout.count cursor c.max_items.result c.set_lines.new.self c.clear.new.self.items c.new-history.result.log c.in_ok-set_lines.ensures.ok c.clear.ensures.items c.new-history.ensures (text_place items cursor (subst (λ t. IsPlaceOf (lines_of t) cursor) c.as_slice.ensures.value c.clip-place.ensures.is_place))
+
+pub returns-clause-ok : goal.returns-clause-ok
+returns-clause-ok c =
+    let inside = c.self.inside in
+    let items = c.args.lines.items in
+    let text = text_of items in
+    let settings = inside.laid.layout.settings in
+    let count = inside.laid.layout.count in
+    let place = clip (lines_of items) c.args.cursor in
+    fresh_is text settings count c.clip-place.result c.max_items.result c.set_lines.new.self c.clear.new.self.items c.new-history.result.log c.in_ok-set_lines.ensures.ok c.clear.ensures.items c.new-history.ensures
+    ∙ ap (λ (p : Place). fresh_document text settings count p c.max_items.result) (c.clip-place.ensures.value ∙ ap (λ (l : List (List ℕ)). clip l c.args.cursor) (ap lines_of c.as_slice.ensures.value))
+    ∙ ap (λ (n : ℕ). fresh_document text settings count place n) c.max_items.ensures.value
+    ∙ ap (λ (s : DocumentState). fresh_document text s.layout.settings s.layout.count place s.log.maximum) c.self.view_is

@@ -1,0 +1,8 @@
+use Rattle.std.proofs.Common.{subst}
+use Rattle.textarea_document.specs.State.{DocumentState}
+use Rattle.textarea_document.specs.Rows.{IsAboveCursor}
+use Rattle.textarea_document.proofs.document.Document.above.Goals as goal
+
+pub returns-clause-above : goal.returns-clause-above
+unfolding IsAboveCursor
+returns-clause-above c = subst (λ (s : DocumentState). IsAboveCursor s c.above.result) c.self.view_is c.above.ensures.above

@@ -1,0 +1,11 @@
+use Rattle.std.proofs.Common.{◌∙◌, ap}
+use Rattle.textarea_history.specs.Log.{Log}
+use Rattle.textarea_document.specs.State.{DocumentState, document_of}
+use Rattle.textarea_document.specs.Outcomes.{moved}
+use Rattle.textarea_document.proofs.document.Document.move_to.Goals as goal
+
+pub returns : goal.returns
+returns c =
+    let inside = c.self.inside in
+    ap (λ (l : Log). document_of inside.laid c.args.cursor c.args.anchor inside.ranges.items l) c.break_run.ensures
+    ∙ ap (λ (s : DocumentState). moved s c.args.cursor c.args.anchor) c.self.view_is

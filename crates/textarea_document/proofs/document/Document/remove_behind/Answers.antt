@@ -1,0 +1,32 @@
+use Rattle.std.proofs.Common.{◌≡◌, ◌∙◌, Bool, Option, ap, not, subst, sym}
+use Rattle.std.specs.Duration.{as_nanos}
+use Rattle.std.specs.Result.{IfOk}
+use Rattle.std.proofs.lemmas.Result.{on_ok_weaker}
+use Rattle.textarea_ranges.specs.declared.atomic.AtomicRange.{AtomicRange}
+use Rattle.textarea_document.specs.Edits.{is_at_end, range_removed_or, removed_behind, symbol_removed_behind}
+use Rattle.textarea_document.specs.State.{DocumentState}
+use Rattle.textarea_document.proofs.document.Document.remove_behind.Goals as goal
+
+-- where no range is hit nothing changes
+stays : (c : goal.After-remove_symbol_behind) → c.remove_hit.new.self ≡ c.args.self.now
+stays c =
+    let document = c.args.self.now in
+    c.in_ok-remove_hit.ensures.ok
+    ∙ ap (λ (o : Option AtomicRange). range_removed_or o document (as_nanos c.args.now) document)
+    (sym c.in_ok-remove_hit.ensures.removed ∙ c.in-None.is)
+
+pub returns-in-None-clause-removed : goal.returns-in-None-clause-removed
+returns-in-None-clause-removed c =
+    subst (λ (s : DocumentState). IfOk c.remove_symbol_behind.result (λ (removed : Bool). removed ≡ not (is_at_end s))) (stays c) c.remove_symbol_behind.ensures.removed
+
+pub returns-in-None-clause-ok : goal.returns-in-None-clause-ok
+unfolding removed_behind
+returns-in-None-clause-ok c =
+    let document = c.args.self.now in
+    let now = as_nanos c.args.now in
+    on_ok_weaker c.remove_symbol_behind.result
+    (λ e. e
+    ∙ ap (λ (s : DocumentState). symbol_removed_behind s c.args.typed now) (stays c)
+    ∙ ap (λ (o : Option AtomicRange). range_removed_or o document now (symbol_removed_behind document c.args.typed now))
+    (sym (sym c.in_ok-remove_hit.ensures.removed ∙ c.in-None.is)))
+    c.remove_symbol_behind.ensures.ok

@@ -1,0 +1,15 @@
+use Rattle.std.proofs.Common.{◌≡◌, ℕ, subst, true}
+use Rattle.std.specs.Result.{IfOk, IsOk}
+use Rattle.textarea_lines.specs.Layout.{is_cut_at}
+use Rattle.textarea_document.specs.State.{DocumentState}
+use Rattle.textarea_document.specs.Rows.{HasRowsAt, laid_out_of}
+use Rattle.textarea_document.proofs.document.Document.rows_at_width.Goals as goal
+
+pub returns-clause-rows : goal.returns-clause-rows
+unfolding HasRowsAt
+returns-clause-rows c =
+    subst (λ (s : DocumentState). IfOk c.rows_at_width.result (λ (n : ℕ). HasRowsAt s c.args.inner_width n)) c.self.view_is c.rows_at_width.ensures.rows
+
+pub returns-clause-no_memory : goal.returns-clause-no_memory
+returns-clause-no_memory c =
+    subst (λ (s : DocumentState). is_cut_at (laid_out_of s) c.args.inner_width ≡ true → IsOk c.rows_at_width.result) c.self.view_is c.rows_at_width.ensures.no_memory

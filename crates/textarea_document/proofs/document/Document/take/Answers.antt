@@ -1,0 +1,25 @@
+use Rattle.std.proofs.Common.{◌∙◌, List, ap, false}
+use Rattle.std.specs.Duration.{as_nanos}
+use Rattle.textarea_text.specs.Text.{Symbol, joined, text_of}
+use Rattle.textarea_text.specs.Place.{Place}
+use Rattle.textarea_pieces.specs.Part.{part}
+use Rattle.textarea_document.specs.Edits.{part_removed, removal}
+use Rattle.textarea_document.specs.Outcomes.{edited}
+use Rattle.textarea_document.proofs.document.Document.take.Goals as goal
+
+pub returns-clause-taken_symbols : goal.returns-clause-taken_symbols
+returns-clause-taken_symbols c =
+    let text = c.args.self.now.text in
+    let wide = c.widen.result in
+    ap joined c.in_ok-taken.ensures.same
+    ∙ ap text_of c.as_slice.ensures.value
+    ∙ c.in_ok-pieces.ensures.text
+    ∙ ap (λ (t : List Symbol). part t wide.0 wide.1) c.lines.ensures.value
+    ∙ ap (λ (w : Place × Place). part text w.0 w.1) c.widen.ensures.value
+
+pub returns-clause-ok : goal.returns-clause-ok
+unfolding part_removed
+returns-clause-ok c =
+    let document = c.args.self.now in
+    c.in_ok-remove_whole.ensures.ok
+    ∙ ap (λ (w : Place × Place). edited document (removal document.text w.0 w.1) false (as_nanos c.args.now)) c.widen.ensures.value
