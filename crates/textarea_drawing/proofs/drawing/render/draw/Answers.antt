@@ -26,3 +26,9 @@ returns-clause-ok c = rendered (parts_of c) c.args.area c.inner_area-inner.resul
 pub returns-clause-cells : goal.returns-clause-cells
 unfolding parts_of
 returns-clause-cells c = drawn (parts_of c) c.args.area c.inner_area-inner.result c.in_ok-prepared.prepared.inner_width c.args.buffer.now c.draw_at_width.new.buffer c.in_ok-placing.placing c.keep.new.document c.keep.new.drawing (steps c)
+
+pub draw_at_width-requires-clause-within : goal.draw_at_width-requires-clause-within
+draw_at_width-requires-clause-within c = c.inner_area-inner.ensures.within
+
+pub returns-clause-outside : goal.returns-clause-outside
+returns-clause-outside c = c.draw_at_width.ensures.outside

@@ -15,3 +15,9 @@ returns-clause-ok c =
       lines_are = drawn.1;
       cells = drawn.2;
     }
+
+pub returns-clause-outside : goal.returns-clause-outside
+returns-clause-outside c = c.draw.ensures.outside
+
+pub draw-requires-clause-within : goal.draw-requires-clause-within
+draw-requires-clause-within c = c.requires.within
