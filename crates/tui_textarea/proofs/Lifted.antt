@@ -40,7 +40,7 @@ pub move_lifted : {view state : State} → view ≡ state → (new : DocumentSta
 move_lifted {view} {state} is new shift cursor_move place out ranges bias anchor new_is out_is ranges_are bias_is anchor_is =
     ap (with_document view) (new_is
     ∙ ap (λ (p : Place). moved view.document p anchor)
-      (out_is ∙ ap (λ (r : List AtomicRange). moved_out r place bias) ranges_are ∙ ap (λ (b : AtomicCursorBias). moved_out view.document.ranges place b) bias_is)
+    (out_is ∙ ap (λ (r : List AtomicRange). moved_out r place bias) ranges_are ∙ ap (λ (b : AtomicCursorBias). moved_out view.document.ranges place b) bias_is)
     ∙ ap (λ (a : Option Place). moved view.document (moved_out view.document.ranges place (bias_of cursor_move)) a) anchor_is)
     ∙ ap (λ (s : State). with_document s (moved s.document (moved_out s.document.ranges place (bias_of cursor_move)) (anchor_with shift state.document))) is
 
