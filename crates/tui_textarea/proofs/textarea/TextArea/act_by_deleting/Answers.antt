@@ -10,4 +10,5 @@ returns-in-DeleteNextWord-clause-answer c =
 
 pub returns-in-DeleteNextWord-clause-ok : goal.returns-in-DeleteNextWord-clause-ok
 returns-in-DeleteNextWord-clause-ok c =
-    subst (λ (a : Action). OnOk c.delete_next_word.result (IsActed c.args.self.now a c.delete_next_word.new.self)) (sym c.in-DeleteNextWord.is) c.delete_next_word.ensures.ok
+    subst (λ (a : Action). OnOk c.delete_next_word.result (IsActed c.args.self.now a c.delete_next_word.new.self))
+    (sym c.in-DeleteNextWord.is) c.delete_next_word.ensures.ok

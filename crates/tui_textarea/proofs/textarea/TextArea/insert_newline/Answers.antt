@@ -3,4 +3,6 @@ use Rattle.tui_textarea.proofs.Lifted.{unselected_lifted}
 use Rattle.tui_textarea.proofs.textarea.TextArea.insert_newline.Goals as goal
 
 pub returns-clause-ok : goal.returns-clause-ok
-returns-clause-ok c = unselected_lifted c.insert_break.result break_inserted c.self.view_is c.remove_selection.new.self c.insert_break.new.self c.in_ok-remove_selection.ensures.ok c.insert_break.ensures.ok
+returns-clause-ok c =
+    unselected_lifted c.insert_break.result break_inserted c.self.view_is c.remove_selection.new.self c.insert_break.new.self
+    c.in_ok-remove_selection.ensures.ok c.insert_break.ensures.ok
