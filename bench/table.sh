@@ -17,7 +17,7 @@
 #   and that many short commands. Where GNU time is there, also how many bytes are held at the most for each byte of the script,
 #   and the same where the `set_lines` is run and printed.
 # CRATES is the folder with the crates in which `rt run` built typing_bench, frame_bench and tascript; without it, that of this
-# repository. Rows whose program isn't there are left out. It takes some twelve minutes.
+# repository. Rows whose program isn't there are left out. It takes some twenty minutes.
 # usage: bench/table.sh [CRATES]
 set -e
 crates=${1:-$(dirname "$0")/../crates}
@@ -92,7 +92,7 @@ lines_row() {
 }
 
 # rows of plain frames, of full ones, and how many times a plain one a full one takes; for each size how many frames are drawn. Both
-# are run by turns, so that a machine that gets slower meanwhile slows both
+# are run by turns, in short runs and three times as often, so that a machine that is slower at times slows both
 frame_rows() {
     local path plain=() full=() times=() both
     path=$(program frame_bench)
@@ -113,7 +113,7 @@ frame_rows() {
 frames_by_turns() {
     local -A least=()
     local job taken
-    for (( turn = 0; turn < $(turns "$2"); turn++ )); do
+    for (( turn = 0; turn < 3 * $(turns "$2"); turn++ )); do
         for job in "plain $2 0" "full $2 0" "plain $2 $3" "full $2 $3"; do
             echo "$job" > "$script"
             taken=$(run_time "$1")
@@ -266,7 +266,7 @@ lines_row "another width, by lines" typing_bench width 400 40 6 2
 lines_row "another width, measured before, by lines" typing_bench measured 400 40 6 2
 jobs_row "a key and a frame, wrapped at words, by lines" frame_bench Word 10000 10000 10000 100000
 jobs_row "a key and a frame, not wrapped, by lines" frame_bench None 10000 10000 10000 100000
-frame_rows 10000 10000 10000 100000
+frame_rows 2000 2000 2000 40000
 requests_row "a plain frame" plain
 requests_row "a frame with numbers, selection and matches" full
 script_row "an edit, undone and made again, by lines" microseconds 1000 edits 4000 4000 2000 200
