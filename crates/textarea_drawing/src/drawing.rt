@@ -15,9 +15,11 @@ use std::marker::Model;
 use textarea_data::scroll::Scrolling;
 use textarea_look::look::{CustomHighlight, Look};
 use textarea_screen::screen::Position;
+use textarea_search::search::KeptMatches;
 use textarea_viewport::Viewport;
 
-/// A look, highlights of the caller's own, which part of the visual rows is shown, and where the last drawing was.
+/// A look, highlights of the caller's own, which part of the visual rows is shown, and where the last drawing was. It keeps the
+/// matches in the lines that were drawn last, of which contracts see nothing.
 #[derive(Drop)]
 pub struct Drawing {
     look: Look,
@@ -26,6 +28,7 @@ pub struct Drawing {
     corner: Position,
     height: u16,
     caret: Option<Position>,
+    kept_matches: KeptMatches,
 }
 
 impl Model for Drawing {
@@ -47,7 +50,7 @@ impl Model for Drawing {
 impl Clone for Drawing {
     ghost is_clone = { λ drawing copy. copy ≡ drawing };
 
-    /// The same drawing, or an error where there is no memory for its highlights.
+    /// The same drawing with no match kept, or an error where there is no memory for its highlights.
     fn clone(&self) -> Result<Drawing, AllocError> {
         Ok(Drawing {
             look: self.look,
@@ -56,6 +59,7 @@ impl Clone for Drawing {
             corner: self.corner,
             height: self.height,
             caret: self.caret,
+            kept_matches: KeptMatches::new(*self.highlights.allocator()),
         })
     }
 }
@@ -72,6 +76,7 @@ impl Drawing {
             corner: Position { x: 0, y: 0 },
             height: 0,
             caret: None,
+            kept_matches: KeptMatches::new(alloc),
         }
     }
 

@@ -7,4 +7,3 @@ pub mod Rows
 pub mod Seen
 pub mod Shown
 pub mod Turned
-pub mod Room

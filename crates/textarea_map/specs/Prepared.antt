@@ -5,7 +5,7 @@ use Rattle.textarea_wrap.specs.RowsView.{RowsView}
 use Rattle.textarea_map.specs.declared.screen_map.NewRows.{NewRows}
 use Rattle.textarea_map.specs.declared.screen_map.NewRows.TheVariants as new
 use Rattle.textarea_map.specs.declared.screen_map.PreparedRows.{PreparedRows}
-use Rattle.textarea_map.specs.Blocks.{FitsInBlock, IsEdge, all_rows}
+use Rattle.textarea_map.specs.Blocks.{BlocksView, FitsInBlock, IsEdge, all_rows}
 use Rattle.textarea_map.specs.Map.{IsWithinLimit, MapView, row_total, size_total}
 
 -- rows that are to be put in, in order
@@ -17,17 +17,18 @@ rows_in (new.Many rows) = all_rows rows.blocks
 abbrev pub rows_with : List RowsView → PreparedRows → List RowsView
 rows_with rows prepared = replaced rows prepared.row prepared.count (rows_in prepared.rows)
 
--- There is room for rows in the place of those of `count` lines from `row` on: for a few in the block of the first of these lines,
--- which is there, and for many where a block begins with it, or behind the last one, beside all blocks.
-abbrev pub HasRoom : MapView → ℕ → ℕ → NewRows → Type 0
-HasRoom map row count (new.Few rows) = (row < length map.rows) × FitsInBlock map.room row count (vec_len rows)
-HasRoom map row count (new.Many rows) = IsEdge map.room.blocks row × (length rows.blocks ≤ map.room.more)
+-- There is room in the blocks, which hold all these rows, for rows in the place of those of `count` lines from `row` on: for a
+-- few in the block of the first of these lines, which is there, and for many where a block begins with it, or behind the last
+-- one, beside all blocks.
+abbrev pub HasRoom : List RowsView → BlocksView → ℕ → ℕ → NewRows → Type 0
+HasRoom all blocks row count (new.Few rows) = (row < length all) × FitsInBlock blocks row count (vec_len rows)
+HasRoom all blocks row count (new.Many rows) = IsEdge blocks.blocks row × (length rows.blocks ≤ blocks.more)
 
 -- The rows can be put into the map without memory: they take the place of those of lines that are there, there is room for
 -- them, their number and the size of their lines are known, and the map is within the limit afterwards.
 pub record IsReady (map : MapView) (prepared : PreparedRows) : Type 0 where
   pub within : prepared.row + prepared.count ≤ length map.rows
-  pub room : HasRoom map prepared.row prepared.count prepared.rows
+  pub room : HasRoom map.rows map.room prepared.row prepared.count prepared.rows
   pub total : prepared.total ≡ row_total (rows_in prepared.rows)
   pub size : prepared.size ≡ size_total (rows_in prepared.rows)
   pub limit : IsWithinLimit (rows_with map.rows prepared)

@@ -9,7 +9,6 @@ ghost use Rattle.textarea_map.specs.Layout.{AreRowsOf, ticks_behind, ticks_of, w
 ghost use Rattle.textarea_map.specs.Blocks.{IsEdge, all_rows};
 ghost use Rattle.textarea_map.specs.Map.{IsWithinLimit, ranges_at, row_total, size_total};
 ghost use Rattle.textarea_map.specs.Prepared.{HasRoom, IsReady, rows_in, rows_with};
-ghost use Rattle.textarea_map.specs.Room.{HasRoomIn};
 
 use crate::blocks::{BLOCK, RowBlocks};
 use crate::layout::{Wrapping, count_rows, rows_of, size_of_rows};
@@ -141,7 +140,7 @@ fn sums_within_limit(blocks: &RowBlocks) -> Result<(usize, usize), AllocError>
 // Puts rows in the place of those of the `count` lines from `row` on, for which there is room, without memory.
 fn put_rows(blocks: &mut RowBlocks, row: usize, count: usize, rows: NewRows)
     requires within { row + count ≤ length (all_rows blocks.old.blocks) }
-    requires room { HasRoomIn blocks.old row count rows }
+    requires room { HasRoom (all_rows blocks.old.blocks) blocks.old row count rows }
     requires lines { length (all_rows blocks.old.blocks) + length (rows_in rows)
         ≤ 2 * size_limit }
     requires rows { row_total (all_rows blocks.old.blocks) + row_total (rows_in rows)
@@ -256,7 +255,7 @@ impl ScreenMap {
         requires { row + count ≤ length self.old.rows }
         ensures same { self.new.rows ≡ self.old.rows }
         ensures same_wrapping { self.new.wrapping ≡ self.old.wrapping }
-        ensures room { IfOk result (HasRoom self.new row count) }
+        ensures room { IfOk result (HasRoom self.new.rows self.new.room row count) }
         ensures rows { IfOk result (λ same. rows_in same ≡ rows_in rows) }
     {
         match rows {
@@ -278,7 +277,7 @@ impl ScreenMap {
         requires { row + count ≤ length self.old.rows }
         ensures same { self.new.rows ≡ self.old.rows }
         ensures same_wrapping { self.new.wrapping ≡ self.old.wrapping }
-        ensures room { IfOk result (HasRoom self.new row count) }
+        ensures room { IfOk result (HasRoom self.new.rows self.new.room row count) }
         ensures rows { IfOk result (λ same. rows_in same ≡ rows.items) }
     {
         if row < self.blocks.line_count() {

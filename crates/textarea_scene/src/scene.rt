@@ -23,7 +23,7 @@ use textarea_lines::view::LaidOutView;
 use textarea_look::look::{CursorRenderMode, CustomHighlight, Look};
 use textarea_paint::paint::row::{RowArea, draw_row, row_start};
 use textarea_screen::screen::{Alignment, Buffer, Line, Rect, Style};
-use textarea_search::search::Search;
+use textarea_search::search::{KeptMatches, Search};
 
 /// What a frame is drawn from, lent.
 #[derive(Drop)]
@@ -58,10 +58,12 @@ impl<'a> Model for Scene<'a> {
 impl<'a> Scene<'a> {
     /// Draws the visual rows from `top` on into the rows of the area, as far as there are rows of both and the buffer goes.
     ///
-    /// A cell on which nothing stands is left as it is. Out of memory, cells of the area may be drawn already.
+    /// A cell on which nothing stands is left as it is. Matches that are kept aren't looked for again, and those that are found
+    /// are kept. Out of memory, cells of the area may be drawn already.
     pub fn draw(
         &self,
         alloc: Global,
+        kept: &mut KeptMatches,
         buffer: &mut Buffer,
         rows: RowArea,
         top: usize,
@@ -72,14 +74,15 @@ impl<'a> Scene<'a> {
             × Changes buffer.old buffer.new (lines_change rows rows.area.y lines)) }
         ensures err { OnErr result (KeepsOutside (contains rows.area) buffer.old buffer.new) }
     {
+        let room = rows_above_end(rows.area, buffer.area());
+        let lines = self.rows.lines();
         let frame = Frame::new(self);
-        let mut matches = FoundMatches::new(alloc, self.search, self.rows.lines())?;
+        let mut matches = FoundMatches::new(alloc, self.search, lines, kept, usize::from(room))?;
         let mut highlighter = frame.highlighter(alloc);
         let mut line = Line {
             spans: Vec::new(alloc),
             style: Style::new(),
         };
-        let room = rows_above_end(rows.area, buffer.area());
         for i in 0..rows_drawn(room, self.rows.row_count(), top) {
             frame.show_in(&mut line, top + i, &mut matches, &mut highlighter)?;
             draw_below(buffer, rows, i, &line)?;
@@ -119,7 +122,9 @@ impl<'a> Scene<'a> {
         ensures { IfOk result (λ start. IsRowStart self.now rows row start) }
     {
         let frame = Frame::new(self);
-        let mut matches = FoundMatches::new(alloc, self.search, self.rows.lines())?;
+        let mut kept = KeptMatches::new(alloc);
+        let lines = self.rows.lines();
+        let mut matches = FoundMatches::new(alloc, self.search, lines, &mut kept, 0)?;
         let mut highlighter = frame.highlighter(alloc);
         let mut line = Line {
             spans: Vec::new(alloc),

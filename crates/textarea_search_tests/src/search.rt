@@ -2,7 +2,7 @@
 use std::alloc::{AllocError, Global};
 use std::process::Abort;
 use std::test::Fail;
-use textarea_search::search::{Search, SearchError};
+use textarea_search::search::{KeptMatches, Search, SearchError};
 
 fn strings(alloc: Global, lines: &[&str]) -> Result<Vec<String>, AllocError> {
     let mut strings = Vec::new(alloc);
@@ -83,6 +83,50 @@ fn line_after_line(rt: HostRuntime) -> Result<(), Fail> {
         matcher.spans_into("a fo", &mut spans)?;
     }
     assert!(rt; spans.as_slice() == [(2, 4)].as_slice());
+    Ok(())
+}
+
+// Lists the matches of a line, where those of one line are kept, into a vector that may hold others.
+fn expect_kept(
+    rt: &impl Abort,
+    search: &Search,
+    kept: &mut KeptMatches,
+    line: (usize, &str),
+    spans: &mut Vec<(usize, usize)>,
+    listed: &[(usize, usize)],
+) -> Result<(), AllocError> {
+    let mut matcher = search.keeping_matcher(kept, 1)?;
+    matcher.spans_into(line.0, line.1, spans)?;
+    assert!(rt; spans.as_slice() == listed);
+    Ok(())
+}
+
+#[test]
+fn kept_line_after_line(rt: HostRuntime) -> Result<(), Fail> {
+    let search = search_for(&rt, "fo+");
+    let other = search_for(&rt, "o");
+    let none = Search::default();
+    let mut kept = KeptMatches::new(rt.alloc());
+    let mut spans = Vec::new(rt.alloc());
+    expect_kept(
+        &rt,
+        &search,
+        &mut kept,
+        (0, "foo fo"),
+        &mut spans,
+        &[(0, 3), (4, 6)],
+    )?;
+    expect_kept(
+        &rt,
+        &search,
+        &mut kept,
+        (0, "foo fo"),
+        &mut spans,
+        &[(0, 3), (4, 6)],
+    )?;
+    expect_kept(&rt, &search, &mut kept, (7, "a fo"), &mut spans, &[(2, 4)])?;
+    expect_kept(&rt, &other, &mut kept, (7, "a fo"), &mut spans, &[(3, 4)])?;
+    expect_kept(&rt, &none, &mut kept, (7, "a fo"), &mut spans, &[])?;
     Ok(())
 }
 

@@ -19,7 +19,7 @@ use textarea_paint::paint::block::draw_block;
 use textarea_scene::scene::Scene;
 use textarea_scene::scene::placeholder::draw_placeholder;
 use textarea_screen::screen::{Buffer, Rect};
-use textarea_search::search::Search;
+use textarea_search::search::{KeptMatches, Search};
 use textarea_surround::Surround;
 use textarea_viewport::Viewport;
 use textarea_wrap::wrap::WrapMode;
@@ -94,6 +94,7 @@ impl Frame<'_, '_> {
     pub(super) fn draw(
         &self,
         alloc: Global,
+        kept: &mut KeptMatches,
         buffer: &mut Buffer,
         area: Rect,
         viewport: Viewport,
@@ -107,13 +108,14 @@ impl Frame<'_, '_> {
         ensures outside { KeepsOutside (contains area) buffer.old buffer.new }
     {
         self.draw_around(buffer, area)?;
-        self.draw_inside(alloc, buffer, viewport, inner)
+        self.draw_inside(alloc, kept, buffer, viewport, inner)
     }
 
     // Draws the rows or the placeholder into the inner area.
     fn draw_inside(
         &self,
         alloc: Global,
+        kept: &mut KeptMatches,
         buffer: &mut Buffer,
         viewport: Viewport,
         inner: Rect,
@@ -127,7 +129,7 @@ impl Frame<'_, '_> {
         if self.shows_placeholder() {
             draw_placeholder_of(alloc, buffer, self.surround, &self.scene, viewport, inner)
         } else {
-            draw_rows(alloc, buffer, &self.scene, viewport, inner)
+            draw_rows(alloc, kept, buffer, &self.scene, viewport, inner)
         }
     }
 
@@ -171,6 +173,7 @@ fn draw_placeholder_of(
 // Draws the visual rows over the style of the text area.
 fn draw_rows(
     alloc: Global,
+    kept: &mut KeptMatches,
     buffer: &mut Buffer,
     scene: &Scene<'_>,
     viewport: Viewport,
@@ -185,5 +188,5 @@ fn draw_rows(
     let rows = row_area(scene.look, viewport, inner);
     let (top, _) = viewport.scroll_top();
     buffer.set_style(inner, scene.look.style);
-    scene.draw(alloc, buffer, rows, top)
+    scene.draw(alloc, kept, buffer, rows, top)
 }

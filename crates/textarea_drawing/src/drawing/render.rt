@@ -15,10 +15,11 @@ use super::caret::{caret_has_room, caret_leads_back};
 use super::frame::Frame;
 use super::placing::Placing;
 use std::alloc::{AllocError, Global};
+use std::mem::replace;
 use textarea_document::Document;
 use textarea_lines::laid_out::PreparedWidth;
 use textarea_screen::screen::{Buffer, Position, Rect};
-use textarea_search::search::Search;
+use textarea_search::search::{KeptMatches, Search};
 use textarea_surround::Surround;
 use textarea_viewport::Viewport;
 
@@ -89,9 +90,22 @@ impl Drawing {
         self.height = inner.height();
         self.caret = placing.caret;
     }
+
+    // The matches that are kept, which are lent for a drawing; none is kept until they are put back.
+    fn take_matches(&mut self, alloc: Global) -> KeptMatches
+        ensures { self.new ≡ self.old }
+    {
+        replace(&mut self.kept_matches, KeptMatches::new(alloc))
+    }
+
+    fn put_matches(&mut self, kept: KeptMatches)
+        ensures { self.new ≡ self.old }
+    {
+        self.kept_matches = kept;
+    }
 }
 
-// The same, without what the laws say of the caret.
+// Draws as `Drawing::render` does, without what the laws say of the caret.
 fn draw(
     drawing: &mut Drawing,
     document: &mut Document,
@@ -123,9 +137,12 @@ fn draw(
 {
     let inner = surround.inner_area(area);
     let prepared = document.prepare_width(inner.width())?;
-    let placing = draw_at_width(
-        drawing, document, &prepared, surround, search, buffer, area, inner,
-    )?;
+    let mut kept = drawing.take_matches(document.allocator());
+    let drawn = draw_at_width(
+        drawing, document, &prepared, surround, search, &mut kept, buffer, area, inner,
+    );
+    drawing.put_matches(kept);
+    let placing = drawn?;
     keep(drawing, document, prepared, inner, placing);
     Ok(())
 }
@@ -137,6 +154,7 @@ fn draw_at_width(
     prepared: &PreparedWidth,
     surround: &Surround<'_>,
     search: &Search,
+    kept: &mut KeptMatches,
     buffer: &mut Buffer,
     area: Rect,
     inner: Rect,
@@ -155,6 +173,7 @@ fn draw_at_width(
     draw_frame(
         &frame,
         document.allocator(),
+        kept,
         buffer,
         area,
         drawing.viewport,
@@ -166,6 +185,7 @@ fn draw_at_width(
 fn draw_frame(
     frame: &Frame<'_, '_>,
     alloc: Global,
+    kept: &mut KeptMatches,
     buffer: &mut Buffer,
     area: Rect,
     viewport: Viewport,
@@ -177,7 +197,7 @@ fn draw_frame(
     ensures outside { KeepsOutside (contains area) buffer.old buffer.new }
 {
     let placing = frame.placing(alloc, viewport, inner)?;
-    frame.draw(alloc, buffer, area, placing.viewport, inner)?;
+    frame.draw(alloc, kept, buffer, area, placing.viewport, inner)?;
     Ok(placing)
 }
 

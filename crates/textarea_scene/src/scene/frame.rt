@@ -74,7 +74,7 @@ impl<'f, 'a> Frame<'f, 'a> {
         &self,
         line: &mut Line<'a>,
         row: usize,
-        matches: &mut FoundMatches<'_>,
+        matches: &mut FoundMatches<'_, '_>,
         highlighter: &mut LineHighlighter<'a>,
     ) -> Result<(), AllocError>
         requires row { row < row_total self.now.rows.rows }

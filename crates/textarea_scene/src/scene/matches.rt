@@ -1,24 +1,22 @@
 //! The matches of one line after another, looked for once a line.
-ghost use Rattle.std.specs.Prelude.{◌≡◌, ◌<◌, [], length, IfOk, None, OnOk};
-ghost use Rattle.std.specs.Option.{option_map_or};
+ghost use Rattle.std.specs.Prelude.{◌≡◌, ◌<◌, length, IfOk, OnOk};
 ghost use Rattle.textarea_text.specs.Text.{lines_of};
-ghost use Rattle.textarea_search.specs.Matches.{match_spans};
 ghost use Rattle.textarea_scene.specs.Rows.{matches_in};
 
 use std::alloc::{AllocError, Global};
 use std::marker::Model;
-use textarea_search::search::{LineMatcher, Search};
+use textarea_search::search::{KeepingMatcher, KeptMatches, Search};
 
-/// The matches of the line that was asked for last, found by one matcher.
+/// The matches of the line that was asked for last, kept or found by one matcher.
 #[derive(Drop)]
-pub(super) struct FoundMatches<'a> {
-    matcher: Option<LineMatcher<'a>>,
+pub(super) struct FoundMatches<'a, 'k> {
+    matcher: KeepingMatcher<'a, 'k>,
     lines: &'a [String],
     line: Option<usize>,
     found: Vec<(usize, usize)>,
 }
 
-impl<'a> Model for FoundMatches<'a> {
+impl<'a, 'k> Model for FoundMatches<'a, 'k> {
     ghost use Rattle.textarea_text.specs.Text.{lines_of};
     ghost use Rattle.textarea_scene.specs.Rows.{FoundIn, AreMatchesOf};
 
@@ -33,17 +31,20 @@ impl<'a> Model for FoundMatches<'a> {
         (record { pattern = m.matcher; lines = lines_of m.lines.now }) m.line m.found.items };
 }
 
-impl<'a> FoundMatches<'a> {
+impl<'a, 'k> FoundMatches<'a, 'k> {
+    /// For lines of which so many follow one another.
     pub(super) fn new(
         alloc: Global,
         search: &'a Search,
         lines: &'a [String],
-    ) -> Result<FoundMatches<'a>, AllocError>
+        kept: &'k mut KeptMatches,
+        count: usize,
+    ) -> Result<FoundMatches<'a, 'k>, AllocError>
         ensures { IfOk result (λ m. m.searched
             ≡ record { pattern = search.now; lines = lines_of lines.now }) }
     {
         Ok(FoundMatches {
-            matcher: search.line_matcher()?,
+            matcher: search.keeping_matcher(kept, count)?,
             lines,
             line: None,
             found: Vec::new(alloc),
@@ -61,7 +62,7 @@ impl<'a> FoundMatches<'a> {
         }
         self.line = None;
         let text = self.lines[line].as_str();
-        find_in(&mut self.matcher, text, &mut self.found)?;
+        self.matcher.spans_into(line, text, &mut self.found)?;
         self.line = Some(line);
         Ok(())
     }
@@ -71,25 +72,5 @@ impl<'a> FoundMatches<'a> {
         ensures { result.now ≡ self.now.found }
     {
         self.found.as_slice()
-    }
-}
-
-// Puts the matches of a text into a vector, in the place of those that it holds; none without a matcher.
-fn find_in(
-    matcher: &mut Option<LineMatcher<'_>>,
-    text: &str,
-    found: &mut Vec<(usize, usize)>,
-) -> Result<(), AllocError>
-    ensures found { OnOk result (found.new.items
-        ≡ option_map_or (λ pattern. match_spans pattern text.now) matcher.old []) }
-    ensures none { matcher.old ≡ None → found.new.items ≡ [] }
-    ensures same { matcher.new ≡ matcher.old }
-{
-    match matcher {
-        Some(matcher) => matcher.spans_into(text, found),
-        None => {
-            found.clear();
-            Ok(())
-        }
     }
 }

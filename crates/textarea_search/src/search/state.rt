@@ -6,6 +6,8 @@ ghost use Rattle.textarea_search.specs.Starts.{starts_of, next_start, previous_s
 
 use crate::search::compiled::Compiled;
 use crate::search::error::SearchError;
+use crate::search::keeping_matcher::KeepingMatcher;
+use crate::search::kept_matches::KeptMatches;
 use crate::search::line_matcher::LineMatcher;
 use crate::search::lines::{next_start, previous_start};
 use crate::search::matches::Matches;
@@ -81,6 +83,20 @@ impl Search {
             Some(compiled) => Ok(Some(compiled.line_matcher()?)),
             None => Ok(None),
         }
+    }
+
+    /// What lists the matches of lines of which so many follow one another, and finds those that aren't kept.
+    pub fn keeping_matcher<'a, 'k>(
+        &'a self,
+        kept: &'k mut KeptMatches,
+        count: usize,
+    ) -> Result<KeepingMatcher<'a, 'k>, AllocError>
+        ensures { IfOk result (λ matcher. matcher ≡ self.now) }
+    {
+        if self.compiled.is_some() {
+            kept.reserve(count)?;
+        }
+        Ok(KeepingMatcher::new(self, kept))
     }
 
     /// The row and column, in characters, of the next start of a match behind the cursor or, with `match_cursor`, at

@@ -1,9 +1,8 @@
 use Rattle.std.proofs.Common.{ap, arith, length, subst, sym, ◌∙◌}
 use Rattle.textarea_map.specs.Map.{row_total}
-use Rattle.textarea_map.specs.Prepared.{rows_in}
+use Rattle.textarea_map.specs.Prepared.{HasRoom, rows_in}
 use Rattle.textarea_map.specs.declared.screen_map.NewRows.{NewRows}
 use Rattle.textarea_map.specs.Blocks.{all_rows}
-use Rattle.textarea_map.specs.Room.{HasRoomIn}
 use Rattle.textarea_text.specs.Replaced.{replaced}
 use Rattle.textarea_map.proofs.screen_map.put_rows.Goals as goal
 
@@ -32,4 +31,4 @@ returns-in-Few c =
     c.replace_few.ensures ∙ ap (λ (t : NewRows). replaced (all_rows c.args.blocks.now.blocks) c.args.row c.args.count (rows_in t)) (sym c.in-Few.is)
 
 pub replace_few-requires-clause-room : goal.replace_few-requires-clause-room
-replace_few-requires-clause-room c = (subst (λ (t : NewRows). HasRoomIn c.args.blocks.now c.args.row c.args.count t) c.in-Few.is c.requires.room).1
+replace_few-requires-clause-room c = (subst (λ (t : NewRows). HasRoom (all_rows c.args.blocks.now.blocks) c.args.blocks.now c.args.row c.args.count t) c.in-Few.is c.requires.room).1

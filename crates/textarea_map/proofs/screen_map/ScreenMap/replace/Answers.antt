@@ -1,13 +1,9 @@
 use Rattle.std.proofs.Common.{◌≡◌, ◌+◌, ◌-◌, ◌≤◌, List, ap, arith, drop, length, refl, subst, sym, take, ℕ}
 use Rattle.textarea_text.specs.Replaced.{replaced}
 use Rattle.textarea_wrap.specs.RowsView.{RowsView}
-use Rattle.textarea_map.specs.declared.layout.Wrapping.{Wrapping}
-use Rattle.textarea_map.specs.Blocks.{BlocksView, all_rows}
+use Rattle.textarea_map.specs.Blocks.{all_rows}
 use Rattle.textarea_map.specs.Map.{MapView, row_total, size_total}
 use Rattle.textarea_map.specs.Prepared.{HasRoom, rows_in}
-use Rattle.textarea_map.specs.Room.{HasRoomIn}
-use Rattle.textarea_map.specs.declared.screen_map.NewRows.{NewRows}
-use Rattle.textarea_map.specs.declared.screen_map.NewRows.TheVariants.{Few, Many}
 use Rattle.textarea_map.proofs.InBlocks.{rows_sum}
 use Rattle.textarea_map.proofs.RowSizes.{exchange, lines_few, size_total-append}
 use Rattle.textarea_map.proofs.screen_map.ScreenMap.replace.Goals as goal
@@ -45,14 +41,10 @@ sums c =
       visual = omega (arith, visual.part, visual.after, c.self.invariant.limit.few, few, c.requires.limit.few);
     }
 
--- room in a map is room in its blocks
-room_in : (map : MapView) (wrapping : Wrapping) (blocks : BlocksView) (row count : ℕ) (rows : NewRows) → record { rows = all_rows blocks.blocks; wrapping = wrapping; room = blocks } ≡ map → HasRoom map row count rows → HasRoomIn blocks row count rows
-room_in map wrapping blocks row count (Few rows) is h = subst (λ (m : MapView). HasRoom m row count (Few rows)) (sym is) h
-room_in map wrapping blocks row count (Many rows) is h = subst (λ (m : MapView). HasRoom m row count (Many rows)) (sym is) h
-
 pub put_rows-requires-clause-room : goal.put_rows-requires-clause-room
 put_rows-requires-clause-room c =
-    room_in c.args.self.now c.self.inside.wrapping c.self.inside.blocks c.args.prepared.row c.args.prepared.count c.args.prepared.rows c.self.view_is c.requires.room
+    let prepared = c.args.prepared in
+    subst (λ (map : MapView). HasRoom map.rows map.room prepared.row prepared.count prepared.rows) (sym c.self.view_is) c.requires.room
 
 pub put_rows-requires-clause-lines : goal.put_rows-requires-clause-lines
 put_rows-requires-clause-lines c = (sums (goal.at.put_rows-requires-clause-lines c).After-sums_of-old).lines

@@ -24,7 +24,7 @@ returns-in_err-draw_below-clause-err c =
 
 pub loop-i-init : goal.loop-i-init
 loop-i-init c = (
-  rw (c.new-frame.ensures, ← c.self.view_is, ← c.lines.ensures.lines) c.in_ok-matches.ensures,
+  rw (c.new-frame.ensures, ← c.self.view_is, ← c.lines-lines.ensures.lines) c.in_ok-matches.ensures,
   c.new-frame.ensures,
   drawn_none c.args.self.now c.args.top c.args.rows c.args.buffer.now,
 )

@@ -7,10 +7,10 @@ use Rattle.textarea_scene.proofs.scene.matches.FoundMatches.turn_to.Goals as goa
 pub invariant_of-self-2 : goal.invariant_of-self-2
 invariant_of-self-2 c =
     let inside = c.self.inside in
-    let items = c.find_in.new.found.items in
+    let items = c.spans_into.new.spans.items in
     let within = subst (λ (v : FoundIn). c.args.line < length v.searched.lines) (sym c.self.view_is) c.requires in
-    let is = c.in_ok-find_in.ensures.found in
-    subst (λ (p : Option (List ℕ)). AreMatchesOf (record { pattern = p; lines = lines_of inside.lines.now }) (Some c.args.line) items) (sym c.in_ok-find_in.ensures.same)
+    let is = c.in_ok-spans_into.ensures.found in
+    subst (λ (p : Option (List ℕ)). AreMatchesOf (record { pattern = p; lines = lines_of inside.lines.now }) (Some c.args.line) items) (sym c.in_ok-spans_into.ensures.same)
     (record {
       none = none_without inside.matcher c.as_str-text.result.now items is;
       of_line = found_in inside.matcher inside.lines.now c.args.line c.index-self-line.result c.as_str-text.result.now items within c.index-self-line.is (c.as_str-text.ensures.value ∙ ap string_bytes (sym c.index-self-line.is)) is;
@@ -20,5 +20,5 @@ pub returns-clause-found : goal.returns-clause-found
 returns-clause-found c =
     let inside = c.self.inside in
     let within = subst (λ (v : FoundIn). c.args.line < length v.searched.lines) (sym c.self.view_is) c.requires in
-    found_in inside.matcher inside.lines.now c.args.line c.index-self-line.result c.as_str-text.result.now c.find_in.new.found.items within c.index-self-line.is (c.as_str-text.ensures.value ∙ ap string_bytes (sym c.index-self-line.is)) c.in_ok-find_in.ensures.found
+    found_in inside.matcher inside.lines.now c.args.line c.index-self-line.result c.as_str-text.result.now c.spans_into.new.spans.items within c.index-self-line.is (c.as_str-text.ensures.value ∙ ap string_bytes (sym c.index-self-line.is)) c.in_ok-spans_into.ensures.found
     ∙ ap (λ (v : FoundIn). matches_in v.searched c.args.line) c.self.view_is

@@ -1,0 +1,82 @@
+ghost use Rattle.std.specs.Prelude.{◌≡◌, [], None, OnOk};
+ghost use Rattle.std.specs.Option.{option_map_or};
+ghost use Rattle.textarea_search.specs.Matches.{match_spans};
+
+use crate::search::kept_matches::KeptMatches;
+use crate::search::line_matcher::LineMatcher;
+use crate::search::state::Search;
+use std::alloc::AllocError;
+use std::marker::Model;
+
+/// Lists the matches of line after line: those that were kept, and others with a matcher that is made for the first of them
+/// and keeps what it finds. Contracts see the text of the pattern, if there is one.
+#[derive(Drop)]
+pub struct KeepingMatcher<'a, 'k> {
+    search: &'a Search,
+    matcher: Option<LineMatcher<'a>>,
+    kept: &'k mut KeptMatches,
+}
+
+impl<'a, 'k> Model for KeepingMatcher<'a, 'k> {
+    ghost use Rattle.std.specs.Prelude.{◌≡◌, ℕ, IfSome, List, Option, Some};
+
+    ghost Value = { Option (List ℕ) };
+
+    ghost view = { λ m. m.search.now };
+
+    ghost invariant = { λ m. IfSome m.matcher (λ pattern. m.search.now ≡ Some pattern) };
+}
+
+impl<'a, 'k> KeepingMatcher<'a, 'k> {
+    pub(crate) fn new(search: &'a Search, kept: &'k mut KeptMatches) -> KeepingMatcher<'a, 'k>
+        ensures { result ≡ search.now }
+    {
+        KeepingMatcher {
+            search,
+            matcher: None,
+            kept,
+        }
+    }
+
+    /// Puts the matches of a line of this number, as `Search::matches` lists them, into a vector, in the place of what it
+    /// holds and in its memory; none without a pattern.
+    pub fn spans_into(
+        &mut self,
+        number: usize,
+        line: &str,
+        spans: &mut Vec<(usize, usize)>,
+    ) -> Result<(), AllocError>
+        ensures found { OnOk result (spans.new.items
+            ≡ option_map_or (λ pattern. match_spans pattern line.now) self.old []) }
+        ensures none { self.old ≡ None → spans.new.items ≡ [] }
+        ensures same { self.new ≡ self.old }
+    {
+        let search = self.search;
+        spans.clear();
+        let Some(pattern) = search.pattern() else {
+            return Ok(());
+        };
+        if let Some(found) = self.kept.get(number, pattern, line) {
+            spans.extend_from_slice(found)?;
+            return Ok(());
+        }
+        self.find(line, spans)?;
+        self.kept.put(number, pattern, line, spans.as_slice())
+    }
+
+    // Looks for the matches of a line, whatever is kept.
+    fn find(&mut self, line: &str, spans: &mut Vec<(usize, usize)>) -> Result<(), AllocError>
+        requires { spans.old.items ≡ [] }
+        ensures found { OnOk result (spans.new.items
+            ≡ option_map_or (λ pattern. match_spans pattern line.now) self.old []) }
+        ensures same { self.new ≡ self.old }
+    {
+        if self.matcher.is_none() {
+            self.matcher = self.search.line_matcher()?;
+        }
+        match &mut self.matcher {
+            Some(matcher) => matcher.spans_into(line, spans),
+            None => Ok(()),
+        }
+    }
+}

@@ -1,0 +1,139 @@
+ghost use Rattle.std.specs.Prelude.{◌≡◌, IfOk, IfSome, string_bytes};
+ghost use Rattle.textarea_search.specs.Matches.{match_spans};
+
+use std::alloc::{AllocError, Global};
+use std::marker::Model;
+
+const LONGEST_KEPT: usize = 4096;
+
+/// Lists of matches that were found, each beside the pattern and the line's text that it was found for. What they say stays
+/// true whatever is changed, so contracts see nothing of them.
+#[derive(Drop)]
+pub struct KeptMatches {
+    alloc: Global,
+    lines: Vec<Option<KeptLine>>,
+}
+
+impl Model for KeptMatches {
+    ghost use Rattle.std.specs.Prelude.{⊤};
+
+    ghost Value = { ⊤ };
+
+    ghost view = { λ kept. tt };
+}
+
+impl KeptMatches {
+    /// None is kept.
+    pub fn new(alloc: Global) -> KeptMatches {
+        KeptMatches {
+            alloc,
+            lines: Vec::new(alloc),
+        }
+    }
+
+    /// Keeps the matches of at least so many lines that follow one another.
+    pub(crate) fn reserve(&mut self, count: usize) -> Result<(), AllocError> {
+        for _ in self.lines.len()..count {
+            self.lines.push(None)?;
+        }
+        Ok(())
+    }
+
+    /// The matches of a line, if they were kept for a line of its number.
+    pub(crate) fn get(&self, number: usize, pattern: &str, line: &str) -> Option<&[(usize, usize)]>
+        ensures { IfSome result (λ spans. spans.now ≡ match_spans pattern.now line.now) }
+    {
+        if self.lines.is_empty() {
+            return None;
+        }
+        match &self.lines[number % self.lines.len()] {
+            Some(kept) => kept.spans_of(pattern, line),
+            None => None,
+        }
+    }
+
+    /// Keeps the matches of a line, in the place of those of another whose number leaves the same remainder; not those of a
+    /// line of more than 4,096 bytes.
+    pub(crate) fn put(
+        &mut self,
+        number: usize,
+        pattern: &str,
+        line: &str,
+        spans: &[(usize, usize)],
+    ) -> Result<(), AllocError>
+        requires { spans.now ≡ match_spans pattern.now line.now }
+    {
+        if self.lines.is_empty() || line.len() > LONGEST_KEPT {
+            return Ok(());
+        }
+        let place = number % self.lines.len();
+        let before = self.lines[place].take();
+        self.lines[place] = Some(kept_line(self.alloc, before, pattern, line, spans)?);
+        Ok(())
+    }
+}
+
+// The matches of a pattern in a text.
+#[derive(Drop)]
+struct KeptLine {
+    pattern: String,
+    text: String,
+    spans: Vec<(usize, usize)>,
+    ghost found: { spans.items ≡ match_spans (string_bytes pattern) (string_bytes text) },
+}
+
+impl KeptLine {
+    // Its matches, if they are those of this pattern in this line.
+    fn spans_of(&self, pattern: &str, line: &str) -> Option<&[(usize, usize)]>
+        ensures { IfSome result (λ spans. spans.now ≡ match_spans pattern.now line.now) }
+    {
+        if self.pattern.as_str() != pattern || self.text.as_str() != line {
+            return None;
+        }
+        Some(self.spans.as_slice())
+    }
+}
+
+// The matches of a line to be kept, in the memory of those that were kept before.
+fn kept_line(
+    alloc: Global,
+    before: Option<KeptLine>,
+    pattern: &str,
+    line: &str,
+    spans: &[(usize, usize)],
+) -> Result<KeptLine, AllocError>
+    requires { spans.now ≡ match_spans pattern.now line.now }
+{
+    let (kept_pattern, text, list) = match before {
+        Some(kept) => (kept.pattern, kept.text, kept.spans),
+        None => (String::new(alloc), String::new(alloc), Vec::new(alloc)),
+    };
+    Ok(KeptLine {
+        pattern: with_text(kept_pattern, pattern)?,
+        text: with_text(text, line)?,
+        spans: with_spans(list, spans)?,
+    })
+}
+
+// A string of this text, in the memory of another.
+fn with_text(memory: String, text: &str) -> Result<String, AllocError>
+    ensures { IfOk result (λ string. string_bytes string ≡ text.now) }
+{
+    let mut string = memory;
+    string.clear();
+    string.push_str(text)?;
+    Ok(string)
+}
+
+// A vector of these spans, in the memory of another.
+fn with_spans(
+    memory: Vec<(usize, usize)>,
+    spans: &[(usize, usize)],
+) -> Result<Vec<(usize, usize)>, AllocError>
+    ensures { IfOk result (λ list. list.items ≡ spans.now) }
+{
+    let mut list = memory;
+    list.clear();
+    list.extend_from_slice(spans)?;
+    Ok(list)
+}
