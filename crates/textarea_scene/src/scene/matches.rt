@@ -32,7 +32,7 @@ impl<'a, 'k> Model for FoundMatches<'a, 'k> {
 }
 
 impl<'a, 'k> FoundMatches<'a, 'k> {
-    /// For lines of which so many follow one another.
+    /// Of that many lines in a row all are kept.
     pub(super) fn new(
         alloc: Global,
         search: &'a Search,

@@ -31,7 +31,7 @@ impl KeptMatches {
         }
     }
 
-    /// Keeps the matches of at least so many lines that follow one another.
+    /// Has room for the matches of at least so many lines in a row.
     pub(crate) fn reserve(&mut self, count: usize) -> Result<(), AllocError> {
         for _ in self.lines.len()..count {
             self.lines.push(None)?;

@@ -85,7 +85,8 @@ impl Search {
         }
     }
 
-    /// What lists the matches of lines of which so many follow one another, and finds those that aren't kept.
+    /// What lists the matches of line after line, as `matches` does, and looks only for those that aren't kept. Of that many lines
+    /// in a row all are kept.
     pub fn keeping_matcher<'a, 'k>(
         &'a self,
         kept: &'k mut KeptMatches,
