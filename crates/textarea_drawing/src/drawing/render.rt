@@ -98,6 +98,7 @@ impl Drawing {
         replace(&mut self.kept_matches, KeptMatches::new(alloc))
     }
 
+    // Puts them back.
     fn put_matches(&mut self, kept: KeptMatches)
         ensures { self.new ≡ self.old }
     {
