@@ -108,22 +108,9 @@ fn kept_line_after_line(rt: HostRuntime) -> Result<(), Fail> {
     let none = Search::default();
     let mut kept = KeptMatches::new(rt.alloc());
     let mut spans = Vec::new(rt.alloc());
-    expect_kept(
-        &rt,
-        &search,
-        &mut kept,
-        (0, "foo fo"),
-        &mut spans,
-        &[(0, 3), (4, 6)],
-    )?;
-    expect_kept(
-        &rt,
-        &search,
-        &mut kept,
-        (0, "foo fo"),
-        &mut spans,
-        &[(0, 3), (4, 6)],
-    )?;
+    let two = [(0, 3), (4, 6)];
+    expect_kept(&rt, &search, &mut kept, (0, "foo fo"), &mut spans, &two)?;
+    expect_kept(&rt, &search, &mut kept, (0, "foo fo"), &mut spans, &two)?;
     expect_kept(&rt, &search, &mut kept, (7, "a fo"), &mut spans, &[(2, 4)])?;
     expect_kept(&rt, &other, &mut kept, (7, "a fo"), &mut spans, &[(3, 4)])?;
     expect_kept(&rt, &none, &mut kept, (7, "a fo"), &mut spans, &[])?;

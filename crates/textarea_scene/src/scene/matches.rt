@@ -32,7 +32,7 @@ impl<'a, 'k> Model for FoundMatches<'a, 'k> {
 }
 
 impl<'a, 'k> FoundMatches<'a, 'k> {
-    /// Of that many lines in a row all are kept.
+    /// Keeps the matches of up to `count` lines in a row.
     pub(super) fn new(
         alloc: Global,
         search: &'a Search,

@@ -1,4 +1,4 @@
-ghost use Rattle.std.specs.Prelude.{◌≡◌, [], None, OnOk};
+ghost use Rattle.std.specs.Prelude.{◌≡◌, [], IsOk, None, OnOk};
 ghost use Rattle.std.specs.Option.{option_map_or};
 ghost use Rattle.textarea_search.specs.Matches.{match_spans};
 
@@ -49,6 +49,7 @@ impl<'a, 'k> KeepingMatcher<'a, 'k> {
         ensures found { OnOk result (spans.new.items
             ≡ option_map_or (λ pattern. match_spans pattern line.now) self.old []) }
         ensures none { self.old ≡ None → spans.new.items ≡ [] }
+        ensures no_pattern { self.old ≡ None → IsOk result }
         ensures same { self.new ≡ self.old }
     {
         let search = self.search;
@@ -66,7 +67,6 @@ impl<'a, 'k> KeepingMatcher<'a, 'k> {
 
     // Looks for the matches of a line, whatever is kept.
     fn find(&mut self, line: &str, spans: &mut Vec<(usize, usize)>) -> Result<(), AllocError>
-        requires { spans.old.items ≡ [] }
         ensures found { OnOk result (spans.new.items
             ≡ option_map_or (λ pattern. match_spans pattern line.now) self.old []) }
         ensures same { self.new ≡ self.old }
@@ -76,7 +76,10 @@ impl<'a, 'k> KeepingMatcher<'a, 'k> {
         }
         match &mut self.matcher {
             Some(matcher) => matcher.spans_into(line, spans),
-            None => Ok(()),
+            None => {
+                spans.clear();
+                Ok(())
+            }
         }
     }
 }

@@ -85,14 +85,15 @@ impl Search {
         }
     }
 
-    /// What lists the matches of line after line, as `matches` does, and looks only for those that aren't kept. Of that many lines
-    /// in a row all are kept.
+    /// What lists the matches of line after line, as `matches` does, and looks only for those that aren't kept. It keeps those of
+    /// up to `count` lines in a row.
     pub fn keeping_matcher<'a, 'k>(
         &'a self,
         kept: &'k mut KeptMatches,
         count: usize,
     ) -> Result<KeepingMatcher<'a, 'k>, AllocError>
-        ensures { IfOk result (λ matcher. matcher ≡ self.now) }
+        ensures pattern { IfOk result (λ matcher. matcher ≡ self.now) }
+        ensures no_pattern { IsNone self.now → IsOk result }
     {
         if self.compiled.is_some() {
             kept.reserve(count)?;
