@@ -1,7 +1,8 @@
 #!/bin/sh
-# Times the drawing of frames of 24 rows of 80 columns into one buffer (PROGRAM is what `rt run paint_bench` builds), and counts
-# what drawing asks for: the number of allocations of a run of ten frames and of a run of ninety, which valgrind counts where
-# it is there. A frame of ASCII should take at most 80 microseconds, and the two numbers be the same. The rows are full of the text.
+# Times the drawing of frames of 24 rows of 80 columns into one buffer (PROGRAM is what `rt run` in crates/textarea_bench builds),
+# and counts what drawing asks for: the number of allocations of a run of ten frames and of a run of ninety, which valgrind counts
+# where it is there. A frame of ASCII should take at most 80 microseconds, and the two numbers be the same. The rows are full of
+# the text.
 # usage: bench/paint.sh PROGRAM
 set -e
 program=$1
@@ -10,13 +11,13 @@ program=$1
 # one job: frames, width, height, text
 nanoseconds() {
     begin=$(date +%s%N)
-    printf '%s\n' "$1 $2 $3 $4" | "$program" > /dev/null
+    printf '%s\n' "paint $1 $2 $3 $4" | "$program" > /dev/null
     end=$(date +%s%N)
     echo $(( (end - begin) / $1 ))
 }
 
 allocations() {
-    printf '%s\n' "$1 $2 $3 $4" | valgrind "$program" 2>&1 > /dev/null | sed -n 's/.*heap usage: \([0-9,]*\) allocs.*/\1/p'
+    printf '%s\n' "paint $1 $2 $3 $4" | valgrind "$program" 2>&1 > /dev/null | sed -n 's/.*heap usage: \([0-9,]*\) allocs.*/\1/p'
 }
 
 # the best of five runs

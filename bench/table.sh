@@ -16,8 +16,8 @@
 # - Reading alone: scripts whose last line isn't read, so that nothing is run. A `set_lines` of that many lines of 100 bytes,
 #   and that many short commands. Where GNU time is there, also how many bytes are held at the most for each byte of the script,
 #   and the same where the `set_lines` is run and printed.
-# CRATES is the folder with the crates in which `rt run` built typing_bench, frame_bench and tascript; without it, that of this
-# repository. Rows whose program isn't there are left out. It takes some twenty minutes.
+# CRATES is the folder with the crates in which `rt run` built textarea_bench and tascript; without it, that of this repository.
+# Rows whose program isn't there are left out. It takes some twenty minutes.
 # usage: bench/table.sh [CRATES]
 set -e
 crates=${1:-$(dirname "$0")/../crates}
@@ -60,32 +60,32 @@ row() {
 
 quotient() { awk -v n="$1" -v d="$2" 'BEGIN { printf "%.2f", n / d }'; }
 
-# the time of one job of a program in microseconds: its word, the size, and how many times it is done
+# the time of one job in microseconds: its topic, its word, the size, and how many times it is done
 once() {
     local path none
-    path=$(program "$1")
-    echo "$2 $3 0" > "$script"
+    path=$(program textarea_bench)
+    echo "$1 $2 $3 0" > "$script"
     none=$(best "$path" "$(turns "$3")")
-    echo "$2 $3 $4" > "$script"
+    echo "$1 $2 $3 $4" > "$script"
     quotient $(( $(best "$path" "$(turns "$3")") - none )) $(( $4 * 1000 ))
 }
 
-# a row of a job: what it is, the program, the word, and how many times it is done at each size
+# a row of a job: what it is, the topic, the word, and how many times it is done at each size
 jobs_row() {
-    local what=$1 name=$2 word=$3 values=()
+    local what=$1 topic=$2 word=$3 values=()
     shift 3
-    [ -x "$(program "$name")" ] || return 0
-    for size in "${sizes[@]}"; do values+=("$(once "$name" "$word" "$size" "$1")"); shift; done
+    [ -x "$(program textarea_bench)" ] || return 0
+    for size in "${sizes[@]}"; do values+=("$(once "$topic" "$word" "$size" "$1")"); shift; done
     row "$what" microseconds "${values[@]}"
 }
 
 # the same for each line, in nanoseconds
 lines_row() {
-    local what=$1 name=$2 word=$3 values=()
+    local what=$1 topic=$2 word=$3 values=()
     shift 3
-    [ -x "$(program "$name")" ] || return 0
+    [ -x "$(program textarea_bench)" ] || return 0
     for size in "${sizes[@]}"; do
-        values+=("$(quotient "$(once "$name" "$word" "$size" "$1")" "$(quotient "$size" 1000)")")
+        values+=("$(quotient "$(once "$topic" "$word" "$size" "$1")" "$(quotient "$size" 1000)")")
         shift
     done
     row "$what" "nanoseconds a line" "${values[@]}"
@@ -95,7 +95,7 @@ lines_row() {
 # are run by turns, in short runs and three times as often, so that a machine that is slower at times slows both
 frame_rows() {
     local path plain=() full=() times=() both
-    path=$(program frame_bench)
+    path=$(program textarea_bench)
     [ -x "$path" ] || return 0
     for size in "${sizes[@]}"; do
         read -r -a both <<< "$(frames_by_turns "$path" "$size" "$1")"
@@ -115,7 +115,7 @@ frames_by_turns() {
     local job taken
     for (( turn = 0; turn < 3 * $(turns "$2"); turn++ )); do
         for job in "plain $2 0" "full $2 0" "plain $2 $3" "full $2 $3"; do
-            echo "$job" > "$script"
+            echo "frames $job" > "$script"
             taken=$(run_time "$1")
             if [ "$taken" -lt "${least[$job]:-$(( taken + 1 ))}" ]; then least[$job]=$taken; fi
         done
@@ -126,7 +126,7 @@ frames_by_turns() {
 # how often a frame asks for memory, for each of its 24 rows
 requests_row() {
     local path values=()
-    path=$(program frame_bench)
+    path=$(program textarea_bench)
     [ -x "$path" ] && command -v valgrind > /dev/null || return 0
     for size in 1000 10000; do
         values+=("$(quotient $(( $(requests "$path" "$2 $size 60") - $(requests "$path" "$2 $size 10") )) $(( 50 * 24 )))")
@@ -135,7 +135,7 @@ requests_row() {
 }
 
 requests() {
-    echo "$2" | valgrind "$1" 2>&1 > /dev/null | sed -n 's/.*heap usage: \([0-9,]*\) allocs.*/\1/p' | tr -d ,
+    echo "frames $2" | valgrind "$1" 2>&1 > /dev/null | sed -n 's/.*heap usage: \([0-9,]*\) allocs.*/\1/p' | tr -d ,
 }
 
 # ---- scripts: each is written by a function, for a size and for how many times
@@ -252,20 +252,20 @@ run_row() {
 }
 
 printf '| what | unit | 1,000 | 10,000 | 100,000 | 1,000,000 | last to first |\n|---|---|---:|---:|---:|---:|---:|\n'
-jobs_row "a key into a long wrapped line, by lines" typing_bench text 100000 100000 100000 200000
-jobs_row "a key that changes a line's rows, by lines" typing_bench rows 200000 200000 400000 1000000
-jobs_row "a line break in the first line, by lines" typing_bench breaks 100000 50000 4000 200
-jobs_row "a line break in the last line, by lines" typing_bench last_breaks 100000 100000 200000 1000000
-jobs_row "the same in the screen map alone, by lines" typing_bench map 400000 400000 400000 1000000
-jobs_row "the same move of the lines' headers alone, by lines" typing_bench headers 1000000 100000 4000 400
-jobs_row "a character of one byte at a line's end, by its length" typing_bench ascii 1000000 1000000 1000000 1000000
-jobs_row "a character of two bytes at a line's end, by its length" typing_bench wide 1000000 1000000 1000000 1000000
-jobs_row "a character of two bytes in a line's middle, by its length" typing_bench middle 100000 100000 20000 4000
-jobs_row "the same move of bytes alone, by the length of the line" typing_bench bytes 100000 100000 20000 4000
-lines_row "another width, by lines" typing_bench width 400 40 6 2
-lines_row "another width, measured before, by lines" typing_bench measured 400 40 6 2
-jobs_row "a key and a frame, wrapped at words, by lines" frame_bench Word 10000 10000 10000 100000
-jobs_row "a key and a frame, not wrapped, by lines" frame_bench None 10000 10000 10000 100000
+jobs_row "a key into a long wrapped line, by lines" typing text 100000 100000 100000 200000
+jobs_row "a key that changes a line's rows, by lines" typing rows 200000 200000 400000 1000000
+jobs_row "a line break in the first line, by lines" typing breaks 100000 50000 4000 200
+jobs_row "a line break in the last line, by lines" typing last_breaks 100000 100000 200000 1000000
+jobs_row "the same in the screen map alone, by lines" typing map 400000 400000 400000 1000000
+jobs_row "the same move of the lines' headers alone, by lines" typing headers 1000000 100000 4000 400
+jobs_row "a character of one byte at a line's end, by its length" typing ascii 1000000 1000000 1000000 1000000
+jobs_row "a character of two bytes at a line's end, by its length" typing wide 1000000 1000000 1000000 1000000
+jobs_row "a character of two bytes in a line's middle, by its length" typing middle 100000 100000 20000 4000
+jobs_row "the same move of bytes alone, by the length of the line" typing bytes 100000 100000 20000 4000
+lines_row "another width, by lines" typing width 400 40 6 2
+lines_row "another width, measured before, by lines" typing measured 400 40 6 2
+jobs_row "a key and a frame, wrapped at words, by lines" frames Word 10000 10000 10000 100000
+jobs_row "a key and a frame, not wrapped, by lines" frames None 10000 10000 10000 100000
 frame_rows 2000 2000 2000 40000
 requests_row "a plain frame" plain
 requests_row "a frame with numbers, selection and matches" full

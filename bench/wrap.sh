@@ -1,6 +1,7 @@
 #!/bin/sh
 # Times the wrapping of lines of 10, 100 and 1,000 KB in each mode, of the same number of bytes in all (PROGRAM is what
-# `rt run wrap_bench` builds). A line of n bytes costs O(n): the times of one mode and text should lie within 2x of each other.
+# `rt run` in crates/textarea_bench builds). A line of n bytes costs O(n): the times of one mode and text should lie within 2x of
+# each other.
 # usage: bench/wrap.sh PROGRAM
 set -e
 program=$1
@@ -13,7 +14,7 @@ joined=$(printf '\360\237\221\251\342\200\215')
 # one job: mode, kilobytes, times, width, text
 seconds() {
     begin=$(date +%s%N)
-    printf '%s\n' "$1 $2 $3 $4 $5" | "$program" > /tmp/wrap_bench_rows.$$
+    printf '%s\n' "wrap $1 $2 $3 $4 $5" | "$program" > /tmp/wrap_rows.$$
     end=$(date +%s%N)
     echo $(( (end - begin) / 1000000 ))
 }
@@ -23,7 +24,7 @@ row() {
     for size in "10 1000" "100 100" "1000 10"; do
         set -- "$1" "$2" "$3" "$4" $size
         printf '%8s ms' "$(seconds "$1" "$5" "$6" "$3" "$4")"
-        printf ' (%s rows)' "$(cat /tmp/wrap_bench_rows.$$)"
+        printf ' (%s rows)' "$(cat /tmp/wrap_rows.$$)"
     done
     printf '\n'
 }
@@ -41,4 +42,4 @@ for mode in Word Glyph; do
     row "$mode" "prose, width 1" 1 "The quick brown fox jumps over the lazy dog, 12 times. "
     row "$mode" "one line of marks" 80 "$(printf '\314\201\314\201\314\201\314\201')"
 done
-rm -f /tmp/wrap_bench_rows.$$
+rm -f /tmp/wrap_rows.$$

@@ -44,19 +44,32 @@ pub enum Asked {
     Hit(u16, u16),
 }
 
-fn call_of<'a>(
-    asked: Asked,
-    block: &'a Block<'static>,
-    placeholder: &'a Text<'static>,
-) -> Call<'a> {
+// What is lent to calls.
+#[derive(Drop)]
+struct Lent {
+    block: Block<'static>,
+    placeholder: Text<'static>,
+}
+
+impl Lent {
+    // A block with a title, and a placeholder of two lines.
+    fn new(alloc: Global) -> Result<Lent, AllocError> {
+        Ok(Lent {
+            block: titled(alloc)?,
+            placeholder: two_lines(alloc)?,
+        })
+    }
+}
+
+fn call_of(asked: Asked, lent: &Lent) -> Call<'_> {
     match asked {
         Asked::SetPlaceholderText(text) => Call::SetPlaceholderText(text),
         Asked::SetPlaceholderStyle(style) => Call::SetPlaceholderStyle(style),
-        Asked::SetStyledPlaceholder => Call::SetStyledPlaceholder(placeholder),
+        Asked::SetStyledPlaceholder => Call::SetStyledPlaceholder(&lent.placeholder),
         Asked::SetMinRows(rows) => Call::SetMinRows(rows),
         Asked::SetMaxRows(rows) => Call::SetMaxRows(rows),
         Asked::SetLineNumberStyle(style) => Call::SetLineNumberStyle(style),
-        Asked::SetBlock => Call::SetBlock(block),
+        Asked::SetBlock => Call::SetBlock(&lent.block),
         Asked::RemoveBlock => Call::RemoveBlock,
         _ => text_call_of(asked),
     }
@@ -107,21 +120,29 @@ pub fn make_asked(
     asked: &[Asked],
     buffer: &mut Buffer,
 ) -> Result<Vec<Answer>, Fail> {
-    let block = titled(rt.alloc())?;
-    let placeholder = two_lines(rt.alloc())?;
-    let calls = calls_of(rt.alloc(), asked, &block, &placeholder)?;
+    let lent = Lent::new(rt.alloc())?;
+    make_lent(rt, area, asked, &lent, buffer)
+}
+
+fn make_lent(
+    rt: &(impl Abort + AllocGlobal),
+    area: &mut TextArea<'_>,
+    asked: &[Asked],
+    lent: &Lent,
+    buffer: &mut Buffer,
+) -> Result<Vec<Answer>, Fail> {
+    let calls = calls_of(rt.alloc(), asked, lent)?;
     Ok(answers_of(rt, area, calls.as_slice(), buffer))
 }
 
 fn calls_of<'a>(
     alloc: Global,
     asked: &[Asked],
-    block: &'a Block<'static>,
-    placeholder: &'a Text<'static>,
+    lent: &'a Lent,
 ) -> Result<Vec<Call<'a>>, AllocError> {
     let mut calls = Vec::new(alloc);
     for asked in asked {
-        calls.push(call_of(*asked, block, placeholder))?;
+        calls.push(call_of(*asked, lent))?;
     }
     Ok(calls)
 }

@@ -14,7 +14,7 @@ use std::alloc::{AllocError, Global};
 use std::process::Abort;
 use std::test::Fail;
 use textarea_calls::{Answer, Call};
-use textarea_commands::commands::{calls, read};
+use textarea_commands::commands::{Command, calls, read};
 use textarea_run::run::run;
 use tui_textarea::{Buffer, Rect, TextArea};
 
@@ -80,8 +80,17 @@ impl Trial {
 /// Tries it with a new text area, and with a buffer of 12 by 6 cells.
 pub fn try_in_new_area(rt: &(impl Abort + AllocGlobal), trial: Trial) -> Result<(), Fail> {
     let mut buffer = Buffer::empty(rt.alloc(), Rect::new(0, 0, 12, 6))?;
+    try_with(rt, trial, &mut buffer)
+}
+
+// Tries it with a new text area, and with this buffer.
+fn try_with(
+    rt: &(impl Abort + AllocGlobal),
+    trial: Trial,
+    buffer: &mut Buffer,
+) -> Result<(), Fail> {
     let mut area = TextArea::new(trial.lines(rt.alloc())?)?;
-    trial.check(rt, &mut area, &mut buffer)
+    trial.check(rt, &mut area, buffer)
 }
 
 /// Makes the calls of a script.
@@ -92,7 +101,17 @@ pub fn make(
     buffer: &mut Buffer,
 ) -> Result<(), Fail> {
     let commands = read(rt.alloc(), script.as_bytes())?;
-    let calls = calls(rt.alloc(), commands.as_slice())?;
+    make_commands(rt, area, commands.as_slice(), buffer)
+}
+
+// Makes the calls that the commands lend.
+fn make_commands(
+    rt: &(impl Abort + AllocGlobal),
+    area: &mut TextArea<'_>,
+    commands: &[Command],
+    buffer: &mut Buffer,
+) -> Result<(), Fail> {
+    let calls = calls(rt.alloc(), commands)?;
     answers_of(rt, area, calls.as_slice(), buffer);
     Ok(())
 }

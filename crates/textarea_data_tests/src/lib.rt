@@ -1,6 +1,9 @@
-//! Tests of the text area's plain data: defaults and conversions, the forms in which serde writes it, inputs as keys of maps.
+//! Tests of the text area's plain data: defaults and conversions, the forms in which serde writes it, inputs as keys of maps,
+//! and what the keys ask for.
 #![tactic(auto)]
 
+#[cfg(test)]
+mod actions;
 #[cfg(test)]
 mod hashed;
 #[cfg(test)]

@@ -1,4 +1,5 @@
-//! Worked cases of a text area: transcripts of scripts, and streams that fail.
+//! Worked cases of a text area: transcripts of scripts, streams that fail, keys with shortcuts and without, and the program of
+//! README.
 #![tactic(auto)]
 
 #[cfg(test)]
@@ -10,11 +11,15 @@ mod heights;
 #[cfg(test)]
 mod hostile;
 #[cfg(test)]
+mod inputs;
+#[cfg(test)]
 mod keys;
 #[cfg(test)]
 mod moves;
 #[cfg(test)]
 mod over;
+#[cfg(test)]
+mod quick_start;
 #[cfg(test)]
 mod ranges;
 #[cfg(test)]

@@ -1,0 +1,60 @@
+//! Does jobs by which the parts of a text area are timed, and prints what each answers with.
+//!
+//! Each line of standard input is a job: its topic, which is `paint`, `wrap`, `typing` or `frames`, and behind one space what the
+//! module of that name says.
+#![tactic(auto)]
+
+mod frames;
+mod paint;
+mod typing;
+mod wrap;
+
+use anyhow::{Context, Result};
+use std::alloc::Global;
+
+/// A job of one of the topics.
+#[derive(Drop)]
+enum Job<'a> {
+    Paint(paint::Job<'a>),
+    Wrap(wrap::Job<'a>),
+    Typing(typing::Job),
+    Frames(frames::Job),
+}
+
+impl<'a> Job<'a> {
+    /// Reads a topic, and behind it a job of that topic.
+    fn parse(line: &'a str) -> Option<Job<'a>> {
+        let (topic, job) = line.split_once(' ')?;
+        match topic {
+            "paint" => Some(Job::Paint(paint::Job::parse(job)?)),
+            "wrap" => Some(Job::Wrap(wrap::Job::parse(job)?)),
+            "typing" => Some(Job::Typing(typing::Job::parse(job)?)),
+            "frames" => Some(Job::Frames(frames::Job::parse(job)?)),
+            _ => None,
+        }
+    }
+
+    /// Does the job, and answers with what is printed of it.
+    fn run(&self, alloc: Global) -> Result<String> {
+        match self {
+            Job::Paint(job) => Ok(job.run(alloc)?),
+            Job::Wrap(job) => Ok(format!(in alloc; "{}", job.run(alloc)?)?),
+            Job::Typing(job) => {
+                let (rows, column) = job.run(alloc)?;
+                Ok(format!(in alloc; "{rows} {column}")?)
+            }
+            Job::Frames(job) => job.run(alloc),
+        }
+    }
+}
+
+fn main(rt: HostRuntime) -> Result<()> {
+    let alloc = rt.alloc();
+    for input in rt.lines(alloc) {
+        let input = input?;
+        let job = Job::parse(input.as_str()).context("a line that is no job")?;
+        let answer = job.run(alloc)?;
+        println!(rt; "{answer}")?;
+    }
+    Ok(())
+}

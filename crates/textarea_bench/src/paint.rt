@@ -1,0 +1,82 @@
+//! Draws frames, and answers with the first row of the last one.
+//!
+//! A job has four parts with one space between them: how many frames, a width, a height, and a text, which a line has once for
+//! each column. Each frame draws that line into each row.
+
+use std::alloc::{AllocError, Global};
+use textarea_paint::paint::{RowArea, draw_row};
+use textarea_screen::screen::{Alignment, Buffer, Line, Rect, Span, Style};
+
+/// How many frames, of which size, with which text in each row.
+#[derive(Drop)]
+pub struct Job<'a> {
+    frames: usize,
+    width: u16,
+    height: u16,
+    text: &'a str,
+}
+
+impl<'a> Job<'a> {
+    /// Reads the four parts of a job.
+    pub fn parse(line: &'a str) -> Option<Job<'a>> {
+        let mut parts = line.splitn(4, ' ');
+        let frames = parts.next()?.parse().ok()?;
+        let width = parts.next()?.parse().ok()?;
+        let height = parts.next()?.parse().ok()?;
+        let text = parts.next()?;
+        Some(Job {
+            frames,
+            width,
+            height,
+            text,
+        })
+    }
+
+    /// The symbols of the first row, once all frames are drawn into one buffer.
+    pub fn run(&self, alloc: Global) -> Result<String, AllocError> {
+        let text = repeat(alloc, self.text, usize::from(self.width))?;
+        let mut spans = Vec::new(alloc);
+        spans.push(Span::raw(text.as_str()))?;
+        let line = Line::from_spans(spans);
+        let area = Rect::new(0, 0, self.width, self.height);
+        let mut buffer = Buffer::empty(alloc, area)?;
+        for _ in 0..self.frames {
+            draw_frame(&mut buffer, area, &line)?;
+        }
+        first_row(alloc, &buffer)
+    }
+}
+
+// The text, so many times.
+fn repeat(alloc: Global, text: &str, times: usize) -> Result<String, AllocError> {
+    let mut line = String::new(alloc);
+    for _ in 0..times {
+        line.push_str(text)?;
+    }
+    Ok(line)
+}
+
+// One line in each row of the area.
+fn draw_frame(buffer: &mut Buffer, area: Rect, line: &Line) -> Result<(), AllocError> {
+    let rows = RowArea {
+        area,
+        alignment: Alignment::Left,
+        left: 0,
+        style: Style::new(),
+    };
+    for y in area.y()..area.y() + area.height() {
+        draw_row(buffer, rows, y, line)?;
+    }
+    Ok(())
+}
+
+fn first_row(alloc: Global, buffer: &Buffer) -> Result<String, AllocError> {
+    let mut row = String::new(alloc);
+    let area = buffer.area();
+    for x in area.x()..area.x() + area.width() {
+        if let Some(cell) = buffer.cell(x, area.y()) {
+            row.push_str(cell.symbol())?;
+        }
+    }
+    Ok(row)
+}

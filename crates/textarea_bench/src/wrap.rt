@@ -1,0 +1,88 @@
+//! Wraps lines of given sizes, and answers with how many rows they take.
+//!
+//! A job has five parts with one space between them: a mode's name, a number of thousands of bytes, how often to wrap, a width,
+//! and a text, which is repeated until the line has that many bytes. The tab length is 4.
+ghost use Rattle.std.specs.Prelude.{◌≡◌, ℕ, max, List, length, IfOk};
+ghost use Rattle.textarea_wrap.specs.Wrapped.{IsWrapped};
+
+use std::alloc::{AllocError, Global};
+use textarea_wrap::wrap::{WrapCount, WrapMode, line_ranges};
+
+const TAB_LEN: u8 = 4;
+
+/// What to wrap: a text, repeated to a number of bytes, at a width, so many times.
+#[derive(Drop)]
+pub struct Job<'a> {
+    mode: WrapMode,
+    kilobytes: usize,
+    times: usize,
+    width: usize,
+    text: &'a str,
+}
+
+impl<'a> Job<'a> {
+    /// Reads the five parts of a job.
+    pub fn parse(line: &'a str) -> Option<Job<'a>> {
+        let mut parts = line.splitn(5, ' ');
+        let mode = mode_named(parts.next()?)?;
+        let kilobytes = parts.next()?.parse().ok()?;
+        let times = parts.next()?.parse().ok()?;
+        let width = parts.next()?.parse().ok()?;
+        let text = parts.next()?;
+        Some(Job {
+            mode,
+            kilobytes,
+            times,
+            width,
+            text,
+        })
+    }
+
+    /// The number of rows, the same each time.
+    pub fn run(&self, alloc: Global) -> Result<usize, AllocError> {
+        let line = repeat(alloc, self.text, self.kilobytes.saturating_mul(1000))?;
+        let mut rows = 0;
+        for _ in 0..self.times {
+            rows = count_rows(alloc, line.as_str(), self.mode, self.width)?;
+        }
+        Ok(rows)
+    }
+}
+
+fn mode_named(name: &str) -> Option<WrapMode> {
+    match name {
+        "None" => Some(WrapMode::None),
+        "Word" => Some(WrapMode::Word),
+        "Glyph" => Some(WrapMode::Glyph),
+        "WordOrGlyph" => Some(WrapMode::WordOrGlyph),
+        _ => None,
+    }
+}
+
+// The text, again and again, until there are so many bytes.
+fn repeat(alloc: Global, text: &str, len: usize) -> Result<String, AllocError> {
+    let mut line = String::new(alloc);
+    if text.is_empty() {
+        return Ok(line);
+    }
+    for _ in 0..len / text.len() {
+        line.push_str(text)?;
+    }
+    Ok(line)
+}
+
+/// How many rows the line takes.
+pub fn count_rows(
+    alloc: Global,
+    line: &str,
+    mode: WrapMode,
+    width: usize,
+) -> Result<usize, AllocError>
+    ensures { IfOk result
+        (λ rows. (ranges : List (ℕ × ℕ)) × IsWrapped mode 4 (max width 1) line.now ranges
+        × (rows ≡ length ranges)) }
+{
+    let mut count = WrapCount::new();
+    let rows = line_ranges(alloc, line, mode, width, TAB_LEN, &mut count)?;
+    Ok(rows.as_slice().len())
+}

@@ -1,5 +1,0 @@
-//! Worked cases of the keys of a text area.
-#![tactic(auto)]
-
-#[cfg(test)]
-mod tests;

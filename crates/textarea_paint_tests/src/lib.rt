@@ -1,5 +1,0 @@
-//! Worked drawings of rows and blocks.
-#![tactic(auto)]
-
-#[cfg(test)]
-mod tests;

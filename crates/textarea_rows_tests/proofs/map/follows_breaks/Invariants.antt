@@ -1,8 +1,0 @@
-use Rattle.std.proofs.Common.{◌≡◌}
-use Rattle.textarea_text.specs.Text.{lines_of}
-use Rattle.textarea_map.specs.Layout.{AreRowsOf}
-use Rattle.textarea_rows_tests.proofs.map.follows_breaks.Given as goal
-
--- the map has right rows of the lines
-abbrev pub invariant-loop-step : goal.invariant-loop-step
-invariant-loop-step l = AreRowsOf l.wrapping (lines_of l.lines.items) l.map.rows × (l.map.wrapping ≡ l.wrapping)
