@@ -122,7 +122,16 @@ fn judge_area(
 fn write(area: &mut TextArea<'_>, script: &str) -> Result<(), NotJudged> {
     let alloc = *area.lines()[0].allocator();
     let commands = read(alloc, script.as_bytes())?;
-    let calls = calls(alloc, commands.as_slice())?;
+    make_commands(alloc, area, commands.as_slice())
+}
+
+// Makes the calls that the commands lend.
+fn make_commands(
+    alloc: Global,
+    area: &mut TextArea<'_>,
+    commands: &[Command],
+) -> Result<(), NotJudged> {
+    let calls = calls(alloc, commands)?;
     make_unseen(alloc, area, calls.as_slice())
 }
 

@@ -116,8 +116,20 @@ fn make_line(
     let text = expanded(alloc, line)?;
     match step_of(text.as_str(), lent) {
         Some(step) => make_step(area, step, times, told),
-        None => make_script(area, repeated(alloc, times, text.as_str())?.as_str(), told),
+        None => make_repeated(area, text.as_str(), times, told),
     }
+}
+
+// Makes so many times the calls of a line.
+fn make_repeated(
+    area: &mut TextArea<'_>,
+    line: &str,
+    times: usize,
+    told: &mut Told,
+) -> Result<(), Stop> {
+    let alloc = *area.lines()[0].allocator();
+    let script = repeated(alloc, times, line)?;
+    make_script(area, script.as_str(), told)
 }
 
 fn make_step(

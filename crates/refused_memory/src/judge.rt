@@ -9,7 +9,7 @@ use crate::step::{Step, make};
 use crate::words::{Lent, script_of, step_of};
 use std::alloc::{AllocError, Global};
 use textarea_calls::{Answer, Call};
-use textarea_commands::commands::{calls, read};
+use textarea_commands::commands::{Command, calls, read};
 use textarea_run::RunEnd;
 use textarea_run::run::run;
 use tui_textarea::{Buffer, Rect, TextArea};
@@ -124,7 +124,17 @@ fn make_script(area: &mut TextArea<'_>, script: &str, judge: &mut Judge) -> Resu
 fn judge_script(area: &mut TextArea<'_>, script: &str, judge: &mut Judge) -> Result<(), Stop> {
     let alloc = *area.lines()[0].allocator();
     let commands = read(alloc, script.as_bytes())?;
-    let calls = calls(alloc, commands.as_slice())?;
+    judge_commands(area, commands.as_slice(), judge)
+}
+
+// Makes the calls that the commands lend, each behind a clone.
+fn judge_commands(
+    area: &mut TextArea<'_>,
+    commands: &[Command],
+    judge: &mut Judge,
+) -> Result<(), Stop> {
+    let alloc = *area.lines()[0].allocator();
+    let calls = calls(alloc, commands)?;
     for call in calls.as_slice() {
         judge_step(area, Step::Call(*call), judge)?;
     }
@@ -216,7 +226,17 @@ fn drawn_area(step: Step<'_>) -> Rect {
 fn judge_run(area: &mut TextArea<'_>, script: &str, judge: &mut Judge) -> Result<(), Stop> {
     let alloc = *area.lines()[0].allocator();
     let commands = read(alloc, script.as_bytes())?;
-    let calls = calls(alloc, commands.as_slice())?;
+    judge_run_commands(area, commands.as_slice(), judge)
+}
+
+// Makes the calls that the commands lend by one run.
+fn judge_run_commands(
+    area: &mut TextArea<'_>,
+    commands: &[Command],
+    judge: &mut Judge,
+) -> Result<(), Stop> {
+    let alloc = *area.lines()[0].allocator();
+    let calls = calls(alloc, commands)?;
     judge_calls(area, calls.as_slice(), judge)
 }
 

@@ -1,6 +1,6 @@
 //! The calls of a script, made by one run.
 use crate::end::Stop;
-use textarea_commands::commands::{calls, read};
+use textarea_commands::commands::{Command, calls, read};
 use textarea_run::RunEnd;
 use textarea_run::run::run;
 use tui_textarea::{Buffer, TextArea};
@@ -13,6 +13,16 @@ pub fn run_script(
 ) -> Result<RunEnd, Stop> {
     let alloc = *area.lines()[0].allocator();
     let commands = read(alloc, script.as_bytes())?;
-    let calls = calls(alloc, commands.as_slice())?;
+    run_commands(area, commands.as_slice(), buffer)
+}
+
+// Makes the calls that the commands lend.
+fn run_commands(
+    area: &mut TextArea<'_>,
+    commands: &[Command],
+    buffer: &mut Buffer,
+) -> Result<RunEnd, Stop> {
+    let alloc = *area.lines()[0].allocator();
+    let calls = calls(alloc, commands)?;
     Ok(run(area, calls.as_slice(), buffer))
 }
