@@ -166,6 +166,43 @@ pub run_some : (items : List Stored) (index : ℕ) (run : Option ℕ) → RunIs 
 run_some items index None h e = absurd (let no : false ≡ true = e in cc)
 run_some items index (Some edge) h e = (h.0, h.1)
 
+-- the newest edit of an open run grows
+newest_run : (items : List Stored) (index edge : ℕ) (edit : Stored) → RunIs items index (Some edge) → edit ≡ get_or items (index - 1) edit → IsRun edit edge
+newest_run items index edge edit run_is read =
+    subst (λ (o : Option Stored). IfSome o (λ s. IsRun s edge)) (last_read items index edit run_is.0 (omega (arith, run_is.0, run_is.1)) read) run_is.2
+
+pub newest_grows : (items : List Stored) (index : ℕ) (run : Option ℕ) (edit : Stored) → RunIs items index run → is_some run ≡ true → edit ≡ get_or items (index - 1) edit → edit.grows ≡ true
+newest_grows items index None edit run_is is_open read = absurd (let no : false ≡ true = is_open in cc)
+newest_grows items index (Some edge) edit run_is is_open read = (newest_run items index edge edit run_is read).grows
+
+-- it is written again as the same change
+run_ready : (items : List Stored) (index : ℕ) (run : Option ℕ) (edit new : Stored) → RunIs items index run → edit ≡ get_or items (index - 1) edit → new.splice ≡ edit.splice → new.grows ≡ true → RunIs (set items (index - 1) new) index run
+run_ready items index None edit new run_is read same grows = tt
+run_ready items index (Some edge) edit new run_is read same grows =
+    let size : length (set items (index - 1) new) ≡ length items = length-set items (index - 1) new in
+    let whole : index ≡ length (set items (index - 1) new) = run_is.0 ∙ sym size in
+    let some : 0 < index = omega (arith, run_is.0, run_is.1) in
+    let last = last_read (set items (index - 1) new) index new whole some (sym (get_or-set_same items (index - 1) new new (omega (arith, run_is.0, some)))) in (
+      whole,
+      omega (arith, whole, some),
+      subst (λ (o : Option Stored). IfSome o (λ s. IsRun s edge)) (sym last)
+          (record { grows = grows; edge_is = ap edge_of same ∙ (newest_run items index edge edit run_is read).edge_is }),
+    )
+
+pub store_ready : (items : List Stored) (index maximum : ℕ) (run : Option ℕ) (edit new : Stored) → IsStore items index maximum run → edit ≡ get_or items (index - 1) edit → new.splice ≡ edit.splice → new.grows ≡ true → IsWellFormed new → IsStore (set items (index - 1) new) index maximum run
+store_ready items index maximum run edit new store read same grows formed =
+    let size : length (set items (index - 1) new) ≡ length items = length-set items (index - 1) new in
+    record {
+      sound = All-set IsWellFormed items (index - 1) new formed store.sound;
+      within = omega (arith, size, store.within);
+      bounded = omega (arith, size, store.bounded);
+      run_is = run_ready items index run edit new store.run_is read same grows;
+    }
+
+-- the same edits are as good
+pub store_same : (items now : List Stored) (index maximum : ℕ) (run : Option ℕ) → now ≡ items → IsStore items index maximum run → IsStore now index maximum run
+store_same items now index maximum run same store = subst (λ (t : List Stored). IsStore t index maximum run) (sym same) store
+
 -- room, once the newest edit can grow
 pub room_ready : (items : List Stored) (index : ℕ) (run : Option ℕ) (free : ℕ) (new : Stored) → index ≡ length items → 0 < length items → 0 < free → 4 ≤ new.spare → 0 < room_at (set items (index - 1) new) run free
 room_ready items index None free new whole some room ready = room

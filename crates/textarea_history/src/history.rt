@@ -113,8 +113,7 @@ impl History {
         self.items.reserve(1)?;
         if self.run.is_some() {
             let alloc = *self.items.allocator();
-            let newest = &mut self.items[self.index - 1];
-            newest.reserve(alloc)?;
+            return self.items[self.index - 1].reserve(alloc);
         }
         Ok(())
     }

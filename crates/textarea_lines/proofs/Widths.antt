@@ -65,10 +65,16 @@ cut_for old settings items count rows laid before after cut h differs whole =
     }
 
 -- rows that are kept beside those that stand are all lines of the text, cut
-pub whole_kept : {Z : Type 0} (settings : LayoutSettings) (items : List (String Z)) (count : ℕ) (rows : List RowsView) (laid : LaidOut) (wrapping : Wrapping) (next : Option CutAnew) (cut : CutAnew) → 0 < length items → seen settings items count rows ≡ laid → next ≡ Some cut → IfSome next (IsNextCut count items) → cut.map.wrapping ≡ wrapping → IsWholeCut laid wrapping cut
+whole_kept : {Z : Type 0} (settings : LayoutSettings) (items : List (String Z)) (count : ℕ) (rows : List RowsView) (laid : LaidOut) (wrapping : Wrapping) (next : Option CutAnew) (cut : CutAnew) → 0 < length items → seen settings items count rows ≡ laid → next ≡ Some cut → IfSome next (IsNextCut count items) → cut.map.wrapping ≡ wrapping → IsWholeCut laid wrapping cut
 whole_kept settings items count rows laid wrapping next cut some is there kept wrapping_is =
     let known : IsNextCut count items cut = rw there at kept in
     whole_cut settings items items count cut.count rows cut.map laid wrapping some is refl wrapping_is known.rows known.ticks known.count_is
+
+-- and so are those that are taken of them
+pub whole_taken : {Z : Type 0} (settings : LayoutSettings) (items : List (String Z)) (count : ℕ) (rows : List RowsView) (laid : LaidOut) (wrapping : Wrapping) (next taken : Option CutAnew) → 0 < length items → seen settings items count rows ≡ laid → IfSome next (IsNextCut count items) → IfSome taken (λ cut. next ≡ Some cut) → IfSome taken (λ cut. cut.map.wrapping ≡ wrapping) → IfSome taken (IsWholeCut laid wrapping)
+whole_taken settings items count rows laid wrapping next None some is kept there wrapping_is = tt
+whole_taken settings items count rows laid wrapping next (Some cut) some is kept there wrapping_is =
+    whole_kept settings items count rows laid wrapping next cut some is there kept wrapping_is
 
 -- all lines of the text, cut, can be kept beside those that stand
 pub next_cut : {Z : Type 0} (settings : LayoutSettings) (items : List (String Z)) (count : ℕ) (rows : List RowsView) (laid : LaidOut) (wrapping : Wrapping) (cut : CutAnew) → 0 < length items → seen settings items count rows ≡ laid → IsWholeCut laid wrapping cut → IsNextCut count items cut

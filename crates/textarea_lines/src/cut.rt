@@ -1,8 +1,9 @@
 //! Rows of some lines, cut one after the other.
-ghost use Rattle.std.specs.Prelude.{◌≡◌, ◌+◌, ◌-◌, ◌^◌, ◌<◌, ◌≤◌, ◌++◌, List, ℕ, [], encode_utf8_all, get_or, length, vec_capacity, vec_len, IfOk, OnOk};
+ghost use Rattle.std.specs.Prelude.{◌≡◌, ◌+◌, ◌-◌, ◌^◌, ◌<◌, ◌≤◌, ◌++◌, List, ℕ, [], encode_utf8_all, get_or, length, vec_capacity, vec_len, IfOk, IfSome, None, OnOk, Some};
 ghost use Rattle.textarea_text.specs.Text.{lines_of};
 ghost use Rattle.textarea_map.specs.Layout.{AreRowsOf, ticks_behind, ticks_of};
 ghost use Rattle.textarea_map.specs.Blocks.{all_rows};
+ghost use Rattle.textarea_map.specs.Map.{row_total};
 ghost use Rattle.textarea_map.specs.Prepared.{IsReady, rows_in, rows_with};
 ghost use Rattle.textarea_lines.specs.Rows.{CanStayWhole, HasWholeLine};
 ghost use Rattle.textarea_lines.specs.Layout.{after_replacement, count_after, layout_of, lines_after};
@@ -21,6 +22,63 @@ use textarea_wrap::wrap::{Rows, WrapCount, WrapMode, line_ranges};
 pub struct CutAnew {
     pub map: ScreenMap,
     pub count: WrapCount,
+}
+
+impl CutAnew {
+    // These rows in the place of others, and the count in the place of theirs.
+    pub(crate) fn put_in(self, map: &mut ScreenMap, count: &mut WrapCount)
+        ensures map { map.new ≡ self.map }
+        ensures count { count.new ≡ self.count }
+    {
+        let CutAnew {
+            map: new_map,
+            count: new_count,
+        } = self;
+        *map = new_map;
+        *count = new_count;
+    }
+}
+
+// The same rows and the same count, or an error where there is no memory for them.
+pub(crate) fn copy_of(map: &ScreenMap, count: &WrapCount) -> Result<CutAnew, AllocError>
+    ensures rows { IfOk result (λ cut. cut.map.rows ≡ map.now.rows) }
+    ensures wrapping { IfOk result (λ cut. cut.map.wrapping ≡ map.now.wrapping) }
+    ensures count { IfOk result (λ cut. cut.count ≡ count.now) }
+{
+    Ok(CutAnew {
+        map: map.clone()?,
+        count: count.clone()?,
+    })
+}
+
+// The rows, if they are cut so; none are kept any more.
+pub(crate) fn take_if_cut(kept: &mut Option<CutAnew>, wrapping: Wrapping) -> Option<CutAnew>
+    ensures none { kept.new ≡ None }
+    ensures taken { IfSome result (λ cut. kept.old ≡ Some cut) }
+    ensures wrapping { IfSome result (λ cut. cut.map.wrapping ≡ wrapping) }
+{
+    let cut = kept.take()?;
+    if cut.map.wrapping() != wrapping {
+        return None;
+    }
+    Some(cut)
+}
+
+// Keeps the rows in the place of others, and gives how many they are in all.
+pub(crate) fn keep(kept: &mut Option<CutAnew>, cut: CutAnew) -> usize
+    ensures kept { kept.new ≡ Some cut }
+    ensures rows { result ≡ row_total cut.map.rows }
+{
+    let rows = cut.map.row_count();
+    *kept = Some(cut);
+    rows
+}
+
+// Lets go of the rows that are kept, if there are any.
+pub(crate) fn let_go(kept: &mut Option<CutAnew>)
+    ensures { kept.new ≡ None }
+{
+    *kept = None;
 }
 
 // The rows of all lines after the replacement: of those above it, of its lines, and of those below it.

@@ -16,7 +16,7 @@ ghost use Rattle.textarea_lines.specs.Layout.{applied_to, is_cut_at, laid_out_an
 ghost use Rattle.textarea_lines.specs.Stored.{size_after};
 ghost use Rattle.textarea_lines.specs.Wrappings.{is_wrapped};
 
-use crate::cut::CutAnew;
+use crate::cut::{CutAnew, copy_of, keep, let_go};
 use crate::exchange::{change_line, exchange_lines};
 use crate::measured::Measured;
 use crate::settings::{LayoutSettings, is_same, is_wrapped, wrapping_at, wrapping_for};
@@ -70,11 +70,13 @@ impl Clone for LaidOutLines {
 
     /// The same lines with the same rows, or an error where there is no memory for them. No line is cut.
     fn clone(&self) -> Result<LaidOutLines, AllocError> {
+        let lines = self.lines.clone()?;
+        let cut = copy_of(&self.map, &self.count)?;
         Ok(LaidOutLines {
-            lines: self.lines.clone()?,
+            lines,
             size: self.size,
-            map: self.map.clone()?,
-            count: self.count.clone()?,
+            map: cut.map,
+            count: cut.count,
             settings: self.settings,
             measured: self.measured,
             kept: None,
@@ -262,13 +264,9 @@ impl LaidOutLines {
         ensures same { self.new ≡ self.old }
         ensures rows { IfOk result (IsRowCount wrapping (lines self.old.text)) }
     {
-        let _ = self.take_kept(wrapping);
+        let_go(&mut self.kept);
         match self.cut_anew(wrapping) {
-            Ok(cut) => {
-                let rows = cut.map.row_count();
-                self.kept = Some(cut);
-                Ok(rows)
-            }
+            Ok(cut) => Ok(keep(&mut self.kept, cut)),
             Err(_) => rows_in(*self.lines.allocator(), self.lines.as_slice(), wrapping),
         }
     }
@@ -334,7 +332,7 @@ impl LaidOutLines {
         )?;
         self.size = size;
         self.measured = None;
-        self.kept = None;
+        let_go(&mut self.kept);
         self.found = Pos::new(row, column, offset);
         Ok(())
     }
@@ -358,7 +356,7 @@ impl LaidOutLines {
         )?;
         self.size = size;
         self.measured = None;
-        self.kept = None;
+        let_go(&mut self.kept);
         self.found = Pos::new(0, 0, 0);
         self.count = count;
         Ok(())

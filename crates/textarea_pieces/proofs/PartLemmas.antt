@@ -98,10 +98,16 @@ abbrev pub PiecesSoFar : {Z : Type 0} → List (String Z) → List (List ℕ) �
 PiecesSoFar pieces rows from to row column =
     lines_of pieces ++ lines_from_column column (drop row (lines_until rows to)) ≡ part_lines rows from to
 
-pub pieces_more : {Z : Type 0} (pieces more : List (String Z)) (piece : String Z) (rows : List (List ℕ)) (from to : Place) (row column next_row : ℕ) → to.0 < length rows → row < to.0 → PiecesSoFar pieces rows from to row column → more ≡ pieces ++ piece ∷ [] → characters_of piece ≡ drop column (get_or rows row []) → next_row ≡ row + 1 → PiecesSoFar more rows from to next_row 0
+-- there is no piece before the first
+pub pieces_none : {Z : Type 0} (pieces : List (String Z)) (rows : List (List ℕ)) (from to : Place) (row : ℕ) → pieces ≡ [] → row ≡ from.0 → PiecesSoFar pieces rows from to row from.1
+pieces_none pieces rows from to row none first =
+    ap (λ (t : List (String _)). lines_of t ++ lines_from_column from.1 (drop row (lines_until rows to))) none
+    ∙ ap (λ n. lines_from_column from.1 (drop n (lines_until rows to))) first
+
+pub pieces_more : {Z : Type 0} (pieces more : List (String Z)) (piece : List ℕ) (rows : List (List ℕ)) (from to : Place) (row column next_row : ℕ) → to.0 < length rows → row < to.0 → PiecesSoFar pieces rows from to row column → lines_of more ≡ lines_of pieces ++ piece ∷ [] → piece ≡ drop column (get_or rows row []) → next_row ≡ row + 1 → PiecesSoFar more rows from to next_row 0
 pieces_more pieces more piece rows from to row column next_row within below h is cut next = grind (arith, common_steps, nat_tests)
 
-pub pieces_done : {Z : Type 0} (pieces more : List (String Z)) (piece : String Z) (rows : List (List ℕ)) (from to : Place) (row column : ℕ) → to.0 < length rows → row ≡ to.0 → PiecesSoFar pieces rows from to row column → more ≡ pieces ++ piece ∷ [] → characters_of piece ≡ drop column (take to.1 (get_or rows to.0 [])) → lines_of more ≡ part_lines rows from to
+pub pieces_done : {Z : Type 0} (pieces more : List (String Z)) (piece : List ℕ) (rows : List (List ℕ)) (from to : Place) (row column : ℕ) → to.0 < length rows → row ≡ to.0 → PiecesSoFar pieces rows from to row column → lines_of more ≡ lines_of pieces ++ piece ∷ [] → piece ≡ drop column (take to.1 (get_or rows to.0 [])) → lines_of more ≡ part_lines rows from to
 pieces_done pieces more piece rows from to row column within last h is cut = grind (arith, common_steps, nat_tests)
 
 pub part_from_lines : {Z : Type 0} (lines pieces : List (String Z)) (from to : Place) → IsPlaceOf (lines_of lines) from → IsPlaceOf (lines_of lines) to → IsUpTo from to → lines_of pieces ≡ part_lines (lines_of lines) from to → text_of pieces ≡ part (text_of lines) from to

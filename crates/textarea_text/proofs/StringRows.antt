@@ -2,7 +2,7 @@
 use Rattle.std.proofs.Common.{subst, encode_utf8_all, ◌≡◌, ℕ, ◌+◌, ◌<◌, ◌≤◌, List, [], ◌∷◌, ◌++◌, length, take, drop, sym, ap, refl, ◌∙◌, arith, get_or, String, string_bytes, ◌^◌}
 use Rattle.std.specs.Str.{chars, IsCharBoundary}
 use Rattle.textarea_text.specs.Replaced.{replaced}
-use Rattle.std.proofs.lemmas.List.{append-nil, append_assoc, length-append, take-append-drop, map-append, get_or-map, take_more, take_at, drop_at, take-map, drop-map, length-map}
+use Rattle.std.proofs.lemmas.List.{append-nil, append_assoc, length-append, take-append-drop, map-append, get_or-map, take_all, take_more, take_at, drop_at, take-map, drop-map, length-map}
 use Rattle.std.proofs.lemmas.Str.{IsUtf8-string_bytes, encodes-chars, length-le-encodes}
 use Rattle.textarea_text.specs.Text.{Symbol, Character, Break, characters, following, leading, joined, characters_of, lines_of, text_of}
 use Rattle.textarea_text.specs.Place.{Place, IsPlaceOf, IsPlace, StandsAt, end, index_of, changed, removed, ReplacesRows}
@@ -52,15 +52,21 @@ rows_more rows more line next_line first rest number h is within e =
     ∙ ap (λ t. characters first ++ t) (sym (following-append (take number rest) (get_or rest number [] ∷ [])))
     ∙ ap (λ t. characters first ++ following t) (sym (take_more rest number [] within))
 
+-- before the first of them, and behind the last
+pub rows_none : {Z : Type 0} (rows : List (String Z)) (line : String Z) (rest : List (List ℕ)) → rows ≡ [] → RowsSoFar rows line (characters_of line) rest 0
+rows_none rows line rest none = ap (λ t. joined (lines_of t ++ characters_of line ∷ [])) none
+
+pub rows_all : {Z : Type 0} (rows : List (String Z)) (line : String Z) (first : List ℕ) (rest : List (List ℕ)) (number : ℕ) → RowsSoFar rows line first rest number → length rest ≤ number → joined (lines_of rows ++ characters_of line ∷ []) ≡ characters first ++ following rest
+rows_all rows line first rest number h all = h ∙ ap (λ t. characters first ++ following t) (take_all number rest all)
+
 -- the last line gets the tail, and is put to the others
-pub rows_done : {Z : Type 0} (rows new : List (String Z)) (line last : String Z) (head first tail : List ℕ) (whole_first : List ℕ) (rest : List (List ℕ)) (number : ℕ) → RowsSoFar rows line whole_first rest number → whole_first ≡ head ++ first → take number rest ≡ rest → characters_of last ≡ characters_of line ++ tail → new ≡ rows ++ last ∷ [] → joined (lines_of new) ≡ characters head ++ ((characters first ++ following rest) ++ characters tail)
-rows_done rows new line last head first tail whole_first rest number h begins all e is =
+pub rows_done : {Z : Type 0} (rows new : List (String Z)) (line last : String Z) (head first tail : List ℕ) (whole_first : List ℕ) (rest : List (List ℕ)) → joined (lines_of rows ++ characters_of line ∷ []) ≡ characters whole_first ++ following rest → whole_first ≡ head ++ first → characters_of last ≡ characters_of line ++ tail → new ≡ rows ++ last ∷ [] → joined (lines_of new) ≡ characters head ++ ((characters first ++ following rest) ++ characters tail)
+rows_done rows new line last head first tail whole_first rest h begins e is =
     ap (λ t. joined (lines_of t)) is
     ∙ ap joined (map-append characters_of rows (last ∷ []))
     ∙ ap (λ t. joined (lines_of rows ++ t ∷ [])) e
     ∙ joined_last (lines_of rows) (characters_of line) tail
     ∙ ap (λ t. t ++ characters tail) h
-    ∙ ap (λ t. (characters whole_first ++ following t) ++ characters tail) all
     ∙ ap (λ t. (t ++ following rest) ++ characters tail) (ap characters begins ∙ characters-append head first)
     ∙ ap (λ t. t ++ characters tail) (append_assoc (characters head) (characters first) (following rest))
     ∙ append_assoc (characters head) (characters first ++ following rest) (characters tail)

@@ -1,8 +1,8 @@
 //! Lines that take the place of others: made ready while the old lines stand, and put there without memory.
-ghost use Rattle.std.specs.Prelude.{◌≡◌, ◌+◌, ◌-◌, ◌<◌, ◌≤◌, ◌++◌, ◌∷◌, ◌↔◌, length, take, drop, MatchOption, encode_utf8_all, vec_len, vec_capacity, min, IfOk, IsOk, OnOk, OnErr};
+ghost use Rattle.std.specs.Prelude.{◌≡◌, ◌+◌, ◌-◌, ◌<◌, ◌≤◌, ◌++◌, ◌∷◌, ◌↔◌, [], length, string_bytes, take, drop, MatchOption, encode_utf8_all, vec_len, vec_capacity, min, IfOk, IsOk, OnOk, OnErr};
 ghost use Rattle.std.specs.Str.{chars};
 ghost use Rattle.textarea_size.specs.Limit.{size_limit};
-ghost use Rattle.textarea_text.specs.Text.{characters, following, lines_of, symbol_in, text_of};
+ghost use Rattle.textarea_text.specs.Text.{characters, following, joined, lines_of, symbol_in, text_of};
 ghost use Rattle.textarea_text.specs.Offset.{offset_at};
 ghost use Rattle.textarea_text.specs.Place.{IsPlaceOf, IsSymbolBefore, ReplacesRows, changed, index_of};
 ghost use Rattle.textarea_text.specs.Replaced.{replaced};
@@ -204,16 +204,55 @@ fn new_rows(
     let behind = lines[end.0].as_str();
     let tail = &behind[end_offset(behind, end, start, offset)..];
     let mut rows = Vec::with_capacity(alloc, rest.len() + 1)?;
-    let mut line = String::from_str(alloc, head)?;
-    line.push_str(first)?;
-    for piece in rest {
-        let next = String::from_str(alloc, piece.as_str())?;
-        rows.push(line)?;
-        line = next;
-    }
+    push_rows(&mut rows, head, first, rest, tail)?;
+    Ok(rows)
+}
+
+// Puts lines where there is none yet: the head with the first text, and the further ones; the tail stands behind the last of them.
+fn push_rows(
+    rows: &mut Vec<String>,
+    head: &str,
+    first: &str,
+    rest: &[String],
+    tail: &str,
+) -> Result<(), AllocError>
+    requires none { rows.old.items ≡ [] }
+    ensures rows { OnOk result (joined (lines_of rows.new.items) ≡ characters (chars head.now)
+        ++ ((characters (chars first.now) ++ following (lines_of rest.now))
+        ++ characters (chars tail.now))) }
+    ensures len { OnOk result (vec_len rows.new ≡ length rest.now + 1) }
+{
+    let mut line = put_together(*rows.allocator(), head, first)?;
+    push_pieces(rows, &mut line, rest)?;
     line.push_str(tail)?;
     rows.push(line)?;
-    Ok(rows)
+    Ok(())
+}
+
+// Two texts, one behind the other.
+fn put_together(alloc: Global, front: &str, back: &str) -> Result<String, AllocError>
+    ensures { IfOk result (λ line.
+        chars (string_bytes line) ≡ chars front.now ++ chars back.now) }
+{
+    let mut line = String::from_str(alloc, front)?;
+    line.push_str(back)?;
+    Ok(line)
+}
+
+// Puts the line and the further ones where there is none yet, but for the last of them, which becomes the line.
+fn push_pieces(rows: &mut Vec<String>, line: &mut String, rest: &[String]) -> Result<(), AllocError>
+    requires none { rows.old.items ≡ [] }
+    ensures rows { OnOk result
+        (joined (lines_of rows.new.items ++ chars (string_bytes line.new) ∷ [])
+        ≡ characters (chars (string_bytes line.old)) ++ following (lines_of rest.now)) }
+    ensures len { OnOk result (vec_len rows.new ≡ length rest.now) }
+{
+    let alloc = *rows.allocator();
+    for piece in rest {
+        let next = String::from_str(alloc, piece.as_str())?;
+        rows.push(std::mem::replace(line, next))?;
+    }
+    Ok(())
 }
 
 // The byte at which the end's column begins in its line, of the byte at which the start's does in its own.

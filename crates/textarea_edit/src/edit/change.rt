@@ -1,5 +1,5 @@
 //! Changes: edits that are lent with the direction in which they go.
-ghost use Rattle.std.specs.Prelude.{◌≡◌, ◌<◌, ◌≤◌, ◌+◌, ◌++◌, ◌↔◌, length, min, IsTrue, IsOk, OnOk, OnErr, IfOk, true, false, vec_len};
+ghost use Rattle.std.specs.Prelude.{◌≡◌, ◌<◌, ◌≤◌, ◌+◌, ◌++◌, ◌↔◌, length, min, reverse, IsTrue, IsOk, OnOk, OnErr, IfOk, true, false, vec_len};
 ghost use Rattle.std.specs.Str.{chars};
 ghost use Rattle.textarea_text.specs.Text.{characters, following, lines_of, text_of};
 ghost use Rattle.textarea_text.specs.Size.{weight};
@@ -149,8 +149,7 @@ impl<'a> Change<'a> {
                 if edit.inserts {
                     self.insert_inside(lines, offset, text.as_str())
                 } else {
-                    let restored = reverse_text(*lines.allocator(), text.as_str())?;
-                    self.insert_inside(lines, offset, restored.as_str())
+                    self.insert_reversed(lines, offset, text.as_str())
                 }
             }
             Content::Break | Content::Chunk(_) => unreachable!(),
@@ -195,6 +194,28 @@ impl<'a> Change<'a> {
         insert_inside(lines, self.start(), offset, text)
     }
 
+    // Inserts its symbols, which are this text from its end on, in place, behind so many bytes of their line.
+    fn insert_reversed(
+        &self,
+        lines: &mut Vec<String>,
+        offset: usize,
+        text: &str,
+    ) -> Result<(), AllocError>
+        requires inserts { self.now.inserts ≡ true }
+        requires symbols { characters (reverse (chars text.now)) ≡ self.now.symbols }
+        requires nonempty { 0 < vec_len lines.old }
+        requires fits { Fits (text_of lines.old.items) self.now }
+        requires offset { offset ≡ offset_at (lines_of lines.old.items) self.now.place }
+        ensures ok { OnOk result (Makes self.now lines.old.items lines.new.items) }
+        ensures err { OnErr result (lines.new.items ≡ lines.old.items) }
+        ensures len { vec_len lines.new ≡ vec_len lines.old }
+        ensures start { IsPlaceOf (lines_of lines.new.items) self.now.place }
+        ensures offset { offset ≡ offset_at (lines_of lines.new.items) self.now.place }
+    {
+        let restored = reverse_text(*lines.allocator(), text)?;
+        self.insert_inside(lines, offset, restored.as_str())
+    }
+
     /// The lines that take the place of others when the change is made; the lines stay.
     pub fn prepare(&self, alloc: Global, lines: &[String]) -> Result<Replacement, AllocError>
         requires nonempty { 0 < length lines.now }
@@ -215,8 +236,7 @@ impl<'a> Change<'a> {
                 if edit.inserts {
                     self.prepare_insertion(alloc, lines, text.as_str(), &[])
                 } else {
-                    let restored = reverse_text(alloc, text.as_str())?;
-                    self.prepare_insertion(alloc, lines, restored.as_str(), &[])
+                    self.prepare_reversed(alloc, lines, text.as_str())
                 }
             }
             Content::Break => self.prepare_insertion(alloc, lines, "", &[String::new(alloc)]),
@@ -255,6 +275,23 @@ impl<'a> Change<'a> {
     {
         let start = self.start();
         prepare_replacement(alloc, lines, start, start, first, rest)
+    }
+
+    // The lines with its symbols, which are this text from its end on.
+    fn prepare_reversed(
+        &self,
+        alloc: Global,
+        lines: &[String],
+        text: &str,
+    ) -> Result<Replacement, AllocError>
+        requires inserts { self.now.inserts ≡ true }
+        requires symbols { characters (reverse (chars text.now)) ≡ self.now.symbols }
+        requires nonempty { 0 < length lines.now }
+        requires fits { Fits (text_of lines.now) self.now }
+        ensures { IfOk result (IsReplacementFor lines.now self.now) }
+    {
+        let restored = reverse_text(alloc, text)?;
+        self.prepare_insertion(alloc, lines, restored.as_str(), &[])
     }
 }
 

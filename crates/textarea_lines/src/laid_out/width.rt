@@ -4,7 +4,7 @@ ghost use Rattle.textarea_lines.specs.Layout.{at_width, laid_out_with, stays_cut
 ghost use Rattle.textarea_lines.specs.View.{IsCutWhereOther, IsPrepared, IsViewOf, IsWholeCut};
 
 use super::LaidOutLines;
-use crate::cut::CutAnew;
+use crate::cut::{CutAnew, let_go, take_if_cut};
 use crate::settings::{LayoutSettings, is_same, is_wrapped, wrapping_for};
 use crate::view::LaidOutView;
 use std::alloc::AllocError;
@@ -64,11 +64,7 @@ impl LaidOutLines {
         ensures same { self.new ≡ self.old }
         ensures kept { IfSome result (IsWholeCut self.old wrapping) }
     {
-        let kept = self.kept.take()?;
-        if kept.map.wrapping() != wrapping {
-            return None;
-        }
-        Some(kept)
+        take_if_cut(&mut self.kept, wrapping)
     }
 
     // All lines, each cut once.
@@ -88,10 +84,8 @@ impl LaidOutLines {
     {
         match cut {
             Some(cut) => {
-                let CutAnew { map, count } = cut;
-                self.map = map;
-                self.count = count;
-                self.kept = None;
+                cut.put_in(&mut self.map, &mut self.count);
+                let_go(&mut self.kept);
             }
             None => {
                 if !is_wrapped(settings) {

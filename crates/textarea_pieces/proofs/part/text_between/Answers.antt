@@ -1,4 +1,4 @@
-use Rattle.std.proofs.Common.{◌≡◌, ◌∙◌, ◌-◌, ◌+◌, ◌++◌, ℕ, arith, ap, subst, sym, take, drop, length, string_bytes, encode_utf8_all}
+use Rattle.std.proofs.Common.{◌≡◌, ◌∙◌, ◌-◌, ◌+◌, ◌++◌, arith, ap, subst, sym, take, drop, length, string_bytes, encode_utf8_all}
 use Rattle.std.specs.Str.{IsCharBoundary, chars}
 use Rattle.std.proofs.lemmas.List.{drop-take, drop_at, take-take}
 use Rattle.std.proofs.lemmas.Result.{IfOk-weaker}

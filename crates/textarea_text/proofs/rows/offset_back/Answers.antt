@@ -1,4 +1,4 @@
-use Rattle.std.proofs.Common.{◌≡◌, ◌+◌, ◌-◌, arith, encode_utf8, length}
+use Rattle.std.proofs.Common.{◌≡◌, ◌+◌, ◌-◌, arith}
 use Rattle.std.specs.Str.{chars}
 use Rattle.textarea_text.proofs.Columns.{offset_in, offset_less}
 use Rattle.textarea_text.proofs.rows.offset_back.Goals as goal

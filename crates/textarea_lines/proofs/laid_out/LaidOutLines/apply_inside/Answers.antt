@@ -48,7 +48,7 @@ pub invariant_of-self-2 : goal.invariant_of-self-2
 invariant_of-self-2 c = record {
   held = holds_inside _ _ _ _ _ _ _ _ _ _ _ (steps (goal.at.invariant_of-self-2 c).In_ok-change_line) c.in_ok-change_line.ensures.line c.in_ok-change_line.ensures.wrapping;
   measured = tt;
-  kept = tt;
+  kept = rw c.let_go.ensures tt;
   place = found_at c.change_line.new.lines.items c.new-self-inside.result c.start-row.result c.args.change.place c.offset_of-offset.result c.new-self-inside.ensures c.start-row.ensures c.in_ok-change_line.ensures.start c.in_ok-change_line.ensures.offset;
 }
 

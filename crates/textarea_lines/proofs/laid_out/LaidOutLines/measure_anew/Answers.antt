@@ -1,4 +1,4 @@
-use Rattle.std.proofs.Common.{◌≡◌, ◌∙◌, ℕ, List, ap, subst, sym}
+use Rattle.std.proofs.Common.{◌≡◌, ◌∙◌, ℕ, List, ap, refl, subst, sym}
 use Rattle.std.specs.Result.{IfOk}
 use Rattle.textarea_text.specs.Text.{lines, lines_of}
 use Rattle.textarea_map.specs.Map.{IsRowCount}
@@ -9,11 +9,15 @@ use Rattle.textarea_lines.proofs.laid_out.LaidOutLines.measure_anew.Goals as goa
 
 pub invariant_of-self : goal.invariant_of-self
 invariant_of-self c =
+    record { held = c.self.invariant.held; measured = c.self.invariant.measured; kept = rw c.let_go.ensures tt; place = c.self.invariant.place }
+
+pub invariant_of-self-in-Ok : goal.invariant_of-self-in-Ok
+invariant_of-self-in-Ok c =
     let inside = c.self.inside in
     record {
       held = c.self.invariant.held;
       measured = c.self.invariant.measured;
-      kept = next_cut inside.settings inside.lines.items inside.count inside.map.rows _ c.args.wrapping c.in-Ok.cut c.self.invariant.held.stored.some c.self.view_is c.in-Ok.ensures;
+      kept = rw c.keep.ensures.kept (next_cut inside.settings inside.lines.items inside.count inside.map.rows _ c.args.wrapping c.in-Ok.cut c.self.invariant.held.stored.some refl c.in-Ok.ensures);
       place = c.self.invariant.place;
     }
 
@@ -21,5 +25,5 @@ pub returns-in-Err-clause-rows : goal.returns-in-Err-clause-rows
 returns-in-Err-clause-rows c =
     let items = c.self.inside.lines.items in
     let same : lines_of c.as_slice.result.now ≡ lines c.args.self.now.text =
-    ap lines_of c.as_slice.ensures.value ∙ sym (lines_held items c.self.invariant.held.stored.some) ∙ ap (λ (l : LaidOut). lines l.text) (c.self.view_is ∙ c.take_kept.ensures.same) in
+    ap lines_of c.as_slice.ensures.value ∙ sym (lines_held items c.self.invariant.held.stored.some) ∙ ap (λ (l : LaidOut). lines l.text) c.self.view_is in
     subst (λ (t : List (List ℕ)). IfOk c.rows_in.result (IsRowCount c.args.wrapping t)) same c.rows_in.ensures.rows

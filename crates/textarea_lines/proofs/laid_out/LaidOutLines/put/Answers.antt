@@ -10,7 +10,7 @@ use Rattle.textarea_lines.specs.Stored.{IsFound, IsNextCut}
 use Rattle.textarea_lines.specs.View.{IsCutWhereOther}
 use Rattle.textarea_lines.proofs.Widths.{Holds, holds_cut, holds_kept_whole, holds_kept_wrapped}
 use Rattle.textarea_lines.proofs.laid_out.LaidOutLines.put.Goals as goal
-use Rattle.textarea_lines.proofs.laid_out.LaidOutLines.put.Goals.{in-Some+in-Some-1, in-Some+in-None-1, in-None+else-not-is_wrapped, in-None+then-not-is_wrapped}
+use Rattle.textarea_lines.proofs.laid_out.LaidOutLines.put.Goals.{in-Some, in-None+else-not-is_wrapped, in-None+then-not-is_wrapped}
 
 -- the lines as they are held under the settings, and what was measured of them
 record HoldsAll (inside : Inside) (settings : LayoutSettings) (laid : LaidOut) : Type 0 where
@@ -27,14 +27,15 @@ held c =
     let laid = c.args.self.now in
     let before : Holds inside.settings items inside.size inside.count inside.map laid = record { rows = c.self.invariant.held; is = c.self.view_is } in
     elim c.match-cut.branch [
-      | in-Some+in-Some-1 w ↦
+      | in-Some w ↦
           let cut = subst (λ (o : Option CutAnew). IsCutWhereOther laid settings o) w.in-Some.is c.requires in
           subst (λ (v : Inside). HoldsAll v settings laid) (sym w.self-inside-is)
-          (record { rows = holds_cut inside.settings settings items inside.size inside.count inside.map laid w.in-Some.cut before cut; measured = c.self.invariant.measured; kept = tt; place = c.self.invariant.place })
-      | in-Some+in-None-1 w ↦
-          let cut = subst (λ (o : Option CutAnew). IsCutWhereOther laid settings o) w.in-Some.is c.requires in
-          subst (λ (v : Inside). HoldsAll v settings laid) (sym w.self-inside-is)
-          (record { rows = holds_cut inside.settings settings items inside.size inside.count inside.map laid w.in-Some.cut before cut; measured = c.self.invariant.measured; kept = tt; place = c.self.invariant.place })
+          (record {
+            rows = rw (w.put_in.ensures.map, w.put_in.ensures.count) (holds_cut inside.settings settings items inside.size inside.count inside.map laid w.in-Some.cut before cut);
+            measured = c.self.invariant.measured;
+            kept = rw w.let_go.ensures tt;
+            place = c.self.invariant.place;
+          })
       | in-None+else-not-is_wrapped w ↦
           let stays = subst (λ (o : Option CutAnew). IsCutWhereOther laid settings o) w.in-None.is c.requires in
           subst (λ (v : Inside). HoldsAll v settings laid) (sym w.self-inside-is)

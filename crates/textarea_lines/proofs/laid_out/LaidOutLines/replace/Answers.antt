@@ -23,7 +23,7 @@ invariant_of-self-2 c =
     record {
       held = holds_replaced _ _ _ _ _ _ _ _ _ known c.args.replacement.lines.ok.0 c.in_ok-count.ensures.wrapping c.in_ok-count.ensures.rows (rw (← c.self.view_is) at c.requires.size) c.requires.limit;
       measured = tt;
-      kept = tt;
+      kept = rw c.let_go.ensures tt;
       place = found_first c.exchange_lines.new.lines.items c.new-self-inside.result c.new-self-inside.ensures (some_now _ _ _ _ _ known);
     }
 

@@ -93,3 +93,26 @@ returns c =
     blocks_set c.self.inside.blocks.items c.args.block c.replace_items.new.items
     ∙ ap (set blocks c.args.block) known.now_is
     ∙ ap (λ (v : BlocksView). set v.blocks c.args.block (replaced (get_or v.blocks c.args.block []) c.args.start c.args.count c.args.rows.items)) c.self.view_is
+
+pub index-requires : goal.index-requires
+index-requires c =
+    omega (arith, c.requires.block, ap (λ (v : BlocksView). length v.blocks) c.self.view_is, block_count c.self.inside.blocks.items, c.self.inside.blocks.ok.0)
+
+pub index_mut-requires : goal.index_mut-requires
+index_mut-requires c =
+    omega (arith, c.requires.block, ap (λ (v : BlocksView). length v.blocks) c.self.view_is, block_count c.self.inside.blocks.items, c.self.inside.blocks.ok.0)
+
+pub overflow_add-block : goal.overflow_add-block
+overflow_add-block c =
+    omega (arith, c.requires.block, ap (λ (v : BlocksView). length v.blocks) c.self.view_is, block_count c.self.inside.blocks.items, c.self.inside.blocks.ok.0, c.self.inside.blocks.small)
+
+pub overflow_add-block-2 : goal.overflow_add-block-2
+overflow_add-block-2 c =
+    omega (arith, c.requires.block, ap (λ (v : BlocksView). length v.blocks) c.self.view_is, block_count c.self.inside.blocks.items, c.self.inside.blocks.ok.0, c.self.inside.blocks.small)
+
+pub replace_items-requires-clause-within : goal.replace_items-requires-clause-within
+replace_items-requires-clause-within c =
+    let items = c.self.inside.blocks.items in
+    let block = c.args.block in
+    let here : block < length items = omega (arith, c.requires.block, ap (λ (v : BlocksView). length v.blocks) c.self.view_is, block_count items) in
+    omega (arith, c.requires.within, ap (λ (v : BlocksView). length (get_or v.blocks block [])) c.self.view_is, ap length (rows_are items block c.index_mut.result.now here c.index_mut.ensures.value), c.index_mut.result.now.ok.0)

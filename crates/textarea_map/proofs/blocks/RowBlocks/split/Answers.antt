@@ -5,7 +5,7 @@ use Rattle.textarea_text.proofs.Replacing.{length-replaced}
 use Rattle.textarea_wrap.specs.RowsView.{RowsView}
 use Rattle.textarea_map.specs.Blocks.{BlocksView, all_rows, lines_before}
 use Rattle.textarea_map.specs.Map.{row_total}
-use Rattle.textarea_map.proofs.InBlocks.{behind_set, block_split, lines_sum, rows_sum}
+use Rattle.textarea_map.proofs.InBlocks.{behind_set, block_count, block_split, lines_sum, rows_sum}
 use Rattle.textarea_map.proofs.Numbers.{row_total-take_drop}
 use Rattle.textarea_map.proofs.Totals.{all_set, take_above}
 use Rattle.textarea_map.proofs.blocks.RowBlocks.split.Goals as goal
@@ -99,3 +99,11 @@ returns-clause-edge c =
         length-take-le c.args.at here c.requires.at,
       ),
     )
+
+pub overflow_add-block : goal.overflow_add-block
+overflow_add-block c =
+    omega (arith, c.requires.block, ap (λ (v : BlocksView). length v.blocks) c.self.view_is, block_count c.self.inside.blocks.items, c.self.inside.blocks.ok.0, c.self.inside.blocks.small)
+
+pub overflow_add-block-2 : goal.overflow_add-block-2
+overflow_add-block-2 c =
+    omega (arith, c.requires.block, ap (λ (v : BlocksView). length v.blocks) c.self.view_is, block_count c.self.inside.blocks.items, c.self.inside.blocks.ok.0, c.self.inside.blocks.small)

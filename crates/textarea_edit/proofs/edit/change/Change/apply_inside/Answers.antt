@@ -1,5 +1,4 @@
-use Rattle.std.proofs.Common.{◌∙◌, ap, arith, sym}
-use Rattle.textarea_text.proofs.StringRows.{rows_place}
+use Rattle.std.proofs.Common.{◌∙◌, ap, sym}
 use Rattle.textarea_edit.specs.Edit.{symbols_in}
 use Rattle.textarea_edit.proofs.Changes.{characters_of_one, has_break, symbols_of_change}
 use Rattle.textarea_edit.proofs.edit.change.Change.apply_inside.Goals as goal
@@ -15,8 +14,3 @@ insert_inside-requires-clause-symbols c =
     characters_of_one c.encode_utf8.result.now c.in-Character.c c.encode_utf8.utf8 c.encode_utf8.ensures.value
     ∙ ap (symbols_in inside.inserts) (sym c.in-Character.is)
     ∙ symbols_of_change inside.content inside.inserts c.self.inside.inserts inside.start inside.end c.self.inside.edit.now c.args.self.now c.edit.view_is c.self.view_is
-
-pub returns-in_err-restored-in-Typed-clause-start :
-    goal.returns-in_err-restored-in-Typed-clause-start
-returns-in_err-restored-in-Typed-clause-start c =
-    rows_place c.args.lines.now.items c.args.self.now.place (omega (arith, c.requires.nonempty, c.args.lines.now.ok.0)) c.requires.fits.is_place

@@ -1,7 +1,7 @@
 use Rattle.std.proofs.Common.{◌≡◌, vec_len}
 use Rattle.textarea_text.specs.Text.{lines_of, characters_of}
 use Rattle.textarea_text.proofs.StringRows.{RowsSoFar}
-use Rattle.textarea_text.proofs.rows.new_rows.Given as goal
+use Rattle.textarea_text.proofs.rows.push_pieces.Given as goal
 
 -- the lines so far hold what the first line began with and the pieces so far, and are as many
 abbrev pub invariant-loop-piece : goal.invariant-loop-piece

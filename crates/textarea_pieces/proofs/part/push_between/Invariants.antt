@@ -1,7 +1,7 @@
 use Rattle.std.proofs.Common.{◌≡◌, ◌+◌, ◌<◌, vec_len}
 use Rattle.textarea_text.specs.Text.{lines_of}
 use Rattle.textarea_pieces.proofs.PartLemmas.{PiecesSoFar}
-use Rattle.textarea_pieces.proofs.part.between.Given as goal
+use Rattle.textarea_pieces.proofs.part.push_between.Given as goal
 
 -- each row so far has its piece, and only the first row begins behind its start
 abbrev pub invariant-loop-line : goal.invariant-loop-line
