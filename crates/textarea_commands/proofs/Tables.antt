@@ -1,8 +1,14 @@
 -- The table of commands: names that it doesn't have, and what a name that it has means.
-use Rattle.std.proofs.Common.{◌≡◌, ◌≢◌, ℕ, Bool, true, false, List, [], ◌∷◌, ◌++◌, Option, Some, None, ◌⊎◌, inl, inr, refl, if◌then◌else◌, ◌∙◌, ap, sym}
+use Rattle.std.proofs.Common.{◌≡◌, ◌≢◌, ℕ, Bool, true, false, List, [], ◌∷◌, ◌++◌, Option, Some, None, ◌⊎◌, inl, inr, refl, if◌then◌else◌, ◌∙◌, ap, sym, subst, Result, Ok, Err, IsOkAnd, MatchResult}
 use Rattle.std.proofs.lemmas.Slice.Eq.{bytes_eq-Decides}
 use Rattle.std.specs.Prelude.{bytes_eq, option_and_then, option_map}
-use Rattle.textarea_commands.specs.Arguments.{named}
+use Rattle.textarea_commands.specs.Arguments.{IsReadAs, named}
+use Rattle.textarea_calls.specs.declared.call.Call.{Call}
+use Rattle.textarea_commands.specs.Script.{meaning_of}
+use Rattle.textarea_commands.specs.declared.arguments.Unread.{Unread}
+use Rattle.textarea_commands.specs.declared.arguments.Unread.TheVariants.{NoCommand, Memory}
+use Rattle.textarea_commands.specs.declared.commands.Content.{Content}
+use Rattle.textarea_commands.specs.declared.commands.Content.TheVariants.{Plain}
 use Rattle.textarea_commands.specs.Commands.{Meaning, borrowing_commands, plain_commands, meant, meant_by, plain_meant}
 
 -- each row has another name, or means nothing by these arguments
@@ -30,9 +36,18 @@ meant_by-other name arguments row rows other =
     elim (bytes_eq name row.0) as (λ test. (test ≡ true → name ≡ row.0) → chosen test ≡ chosen false) [ true ↦ λ so. absurd (other (so refl)) | false ↦ λ so. refl ] same
 
 -- each row has another name
-abbrev pub IsOther : List ℕ → List (List ℕ × (Option (List ℕ) → Option Meaning)) → Type 0
+abbrev pub IsOther : {A : Type 0} → List ℕ → List (List ℕ × A) → Type 0
 IsOther name [] = Unit {0}
 IsOther name (row ∷ rows) = (name ≢ row.0) × IsOther name rows
+
+-- a table names nothing by another name
+pub named-none : {A : Type 0} → (name : List ℕ) (rows : List (List ℕ × A)) → IsOther name rows → named rows name ≡ None
+named-none name [] others = refl
+named-none {A} name (row ∷ rows) others =
+    let rest = named-none name rows others.1 in
+    let chosen : Bool → Option A = λ test. if test then Some row.1 else named rows name in
+    let same : bytes_eq name row.0 ≡ true → name ≡ row.0 = (bytes_eq-Decides name row.0).0 in
+    elim (bytes_eq name row.0) as (λ test. (test ≡ true → name ≡ row.0) → chosen test ≡ None) [ true ↦ λ so. absurd (others.0 (so refl)) | false ↦ λ so. rest ] same
 
 pub meant_by-behind : (name : List ℕ) (arguments : Option (List ℕ)) (rows more : List (List ℕ × (Option (List ℕ) → Option Meaning))) → IsOther name rows → meant_by (rows ++ more) name arguments ≡ meant_by more name arguments
 meant_by-behind name arguments [] more others = refl
@@ -52,3 +67,21 @@ meant-read meant means name row arguments reading read value meaning named by_ro
     ∙ sym (ap (option_map means) valued)
     ∙ sym by_row
     ∙ sym (ap (λ given. meant given (Some arguments)) named)
+
+-- a name means nothing by arguments that aren't read
+pub meant-unread : (meant : List ℕ → Option (List ℕ) → Option Meaning) {A : Type 0} (means : A → Meaning) (name row : List ℕ) (arguments : List ℕ) (reading : Option A) (made : Option Call) → made ≡ None → name ≡ row → meant row (Some arguments) ≡ option_map means reading → None ≡ reading → option_map (λ call. meaning_of (Plain call)) made ≡ meant name (Some arguments)
+meant-unread meant means name row arguments reading made none named by_row unread =
+    ap (λ (made : Option Call). option_map (λ call. meaning_of (Plain call)) made) none
+    ∙ ap (option_map means) unread
+    ∙ sym by_row
+    ∙ sym (ap (λ given. meant given (Some arguments)) named)
+
+-- what is read is made a command's content, and means what was read
+pub read-made : {A V : Type 0} → (view : A → V) (content : A → Content) (means : V → Meaning) (given : Option V) (read : Result A Unread) (made : Result Content Unread) → ((x : A) → meaning_of (content x) ≡ means (view x)) → IsReadAs view given read → MatchResult read (λ x. IsOkAnd made (λ one. one ≡ content x)) (λ unread. made ≡ Err unread) → IsReadAs meaning_of (option_map means given) made
+read-made view content means given (Ok x) (Ok one) told so cases =
+    ap (option_map means) so ∙ ap Some (sym (told x)) ∙ ap (λ (one : Content). Some (meaning_of one)) (sym cases)
+read-made view content means given (Ok x) (Err unread) told so cases = absurd cases
+read-made view content means given (Err NoCommand) made told so cases =
+    subst (λ (made : Result Content Unread). IsReadAs meaning_of (option_map means given) made) (sym cases) (ap (option_map means) so)
+read-made view content means given (Err Memory) made told so cases =
+    subst (λ (made : Result Content Unread). IsReadAs meaning_of (option_map means given) made) (sym cases) tt

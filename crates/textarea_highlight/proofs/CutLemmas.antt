@@ -1,5 +1,5 @@
 -- A row that is cut border by border.
-use Rattle.std.proofs.Common.{◌≡◌, ℕ, ◌+◌, ◌-◌, ◌*◌, ◌^◌, ◌<◌, ◌≤◌, Bool, true, false, nat_le, List, [], ◌∷◌, ◌++◌, map, take, drop, length, get_or, slice_range, Option, refl, sym, ap, ◌∙◌, subst, inl, inr, ⊎_elim, arith, IsUtf8, IsCharBoundary, encode_utf8_all, ◌⊎◌}
+use Rattle.std.proofs.Common.{◌≡◌, ◌↔◌, ℕ, ◌+◌, ◌-◌, ◌*◌, ◌^◌, ◌<◌, ◌≤◌, Bool, true, false, nat_le, List, [], ◌∷◌, ◌++◌, map, take, drop, length, get_or, slice_range, Option, refl, sym, ap, ◌∙◌, subst, inl, inr, ⊎_elim, arith, IsUtf8, IsCharBoundary, encode_utf8_all, ◌⊎◌}
 use Rattle.std.specs.List.{filter, All, Any}
 use Rattle.std.specs.Str.{chars}
 use Rattle.std.proofs.lemmas.Bool.{cases_lt}
@@ -16,7 +16,9 @@ use Rattle.textarea_highlight.specs.declared.highlight.display.Display.{Display}
 use Rattle.textarea_highlight.specs.declared.highlight.borders.Border.{Border}
 use Rattle.textarea_highlight.specs.OpenStyles.{IsBehind, base_of}
 use Rattle.textarea_wrap.specs.Columns.{column_after, end_column}
-use Rattle.textarea_highlight.specs.Display.{shown}
+use Rattle.textarea_highlight.specs.Display.{shown, shown_bytes, IsShownAsItIs}
+use Rattle.textarea_highlight.specs.Texts.{bytes_of, IsLent}
+use Rattle.textarea_highlight.specs.Brackets.{IsStyleBehind}
 use Rattle.textarea_highlight.specs.Cut.{marks_upto, piece_of, shown_piece, ShowsPiece, IsCut, ShowsNext, AddsPiece}
 
 -- ---- the column behind a piece
@@ -132,6 +134,19 @@ pieces_more row borders base tab_len mask before spans start to span h piece = (
   IsCut-push row borders base tab_len mask h.0 span 0 start to h.1 piece,
   ap (λ ss. ss ++ span ∷ []) h.2 ∙ append_assoc before h.0 (span ∷ []),
 )
+
+-- a piece is shown by one span more
+pub piece_added : (row : List ℕ) (display : Display) (styles : OpenStyles) (from to : ℕ) (piece : List ℕ) (span : ShownSpan) (old new : List ShownSpan) → from < to →
+    piece ≡ slice_range row from to → bytes_of span.content ≡ shown_bytes display.mask display.tab_len display.column piece →
+    (IsLent span.content ↔ IsShownAsItIs display.mask display.tab_len display.column piece) →
+    ((marks : List Mark) → IsBehind styles marks → IsStyleBehind marks (base_of styles) span.style) → new ≡ old ++ span ∷ [] → AddsPiece row display styles from to old new
+piece_added row display styles from to piece span old new below is text lent style added =
+    let next : ShowsNext row display styles from to span = record {
+      style = style;
+      text = text ∙ ap (shown_bytes display.mask display.tab_len display.column) is;
+      borrowed = subst (λ (bytes : List ℕ). IsLent span.content ↔ IsShownAsItIs display.mask display.tab_len display.column bytes) is lent;
+    } in
+    inr (below, (span, next, added))
 
 pub cut_more : (row : List ℕ) (borders : List Border) (base : Style) (tab_len : ℕ) (mask : Option ℕ) (before : List ShownSpan) (n start to : ℕ) (display display' : Display) (styles : OpenStyles) (spans spans' : List ShownSpan) →
     IsUtf8 row → IsCutSoFar row borders base tab_len mask before n start display styles spans → start ≤ to → IsCharBoundary row to → IsEdge row borders to →

@@ -1,5 +1,5 @@
 -- The spans of a row, put together from its parts.
-use Rattle.std.proofs.Common.{arith, ◌≡◌, List, ◌++◌, Option}
+use Rattle.std.proofs.Common.{arith, ◌≡◌, List, ◌++◌, Option, refl, sym, ap, subst, ◌∙◌}
 use Rattle.std.proofs.lemmas.Grind.{common_steps}
 use Rattle.textarea_screen.specs.declared.screen.style.Style.{Style}
 use Rattle.textarea_screen.specs.Style.{empty_style}
@@ -8,10 +8,26 @@ use Rattle.textarea_highlight.specs.declared.highlight.borders.Border.{Border}
 use Rattle.textarea_highlight.specs.Borders.{IsBorderOrder}
 use Rattle.textarea_highlight.specs.Cut.{AddsPieces}
 use Rattle.textarea_highlight.specs.Highlights.{Highlights, end_style, end_cell}
-use Rattle.textarea_highlight.specs.Row.{ShowsRow}
+use Rattle.textarea_highlight.specs.Row.{AddsRow, ShowsRow}
 
 -- v is the highlighter as its fields show it
 pub row_shown : (v h : Highlights) → v ≡ h → (sorted cut : List Border) (after all : List ShownSpan) (style : Style) (end : Option Style) →
     IsBorderOrder v.borders sorted → cut ≡ sorted → AddsPieces v.row cut v.base v.tab_len v.mask v.numbers after →
     end ≡ end_style h → all ≡ after ++ end_cell end → style ≡ empty_style → ShowsRow h (record { spans = all; style = style })
 row_shown v h same sorted cut after all style end order sliced parts ends done plain = grind (arith, common_steps)
+
+-- the pieces of a row, and then the cell behind it
+pub added_row : (v h : Highlights) → v ≡ h → (borders : List Border) (old front new : List ShownSpan) (end : Option Style) → borders ≡ v.borders →
+    AddsPieces v.row borders v.base v.tab_len v.mask old front → end ≡ end_style h → new ≡ front ++ end_cell end → AddsRow h old new
+added_row v h same borders old front new end are cut ends added =
+    subst (λ (k : Highlights). AddsRow k old new) same (record {
+      front = front;
+      cut = subst (λ (bs : List Border). AddsPieces v.row bs v.base v.tab_len v.mask old front) are cut;
+      spans = added ∙ ap (λ (e : Option Style). front ++ end_cell e) (ends ∙ ap end_style (sym same));
+    })
+
+-- the same of a row that was added behind what stands in front of it, its borders sorted
+pub row_added : (v h : Highlights) (sorted : List Border) (numbers all : List ShownSpan) (style : Style) → v ≡ h → IsBorderOrder v.borders sorted →
+    AddsRow (record v { numbers = numbers; borders = sorted }) v.numbers all → style ≡ empty_style → ShowsRow h (record { spans = all; style = style })
+row_added v h sorted numbers all style same order added plain =
+    row_shown v h same sorted sorted added.front all style (end_style v) order refl added.cut (ap end_style same) added.spans plain

@@ -6,8 +6,14 @@ use Rattle.textarea_screen.specs.Text.{ShownSpan, ShownLine}
 use Rattle.textarea_highlight.specs.declared.highlight.borders.Border.{Border}
 use Rattle.textarea_highlight.specs.Borders.{IsBorderOrder}
 use Rattle.textarea_highlight.specs.Display.{shown}
-use Rattle.textarea_highlight.specs.Cut.{IsCut, text_of_spans}
+use Rattle.textarea_highlight.specs.Cut.{AddsPieces, IsCut, text_of_spans}
 use Rattle.textarea_highlight.specs.Highlights.{Highlights, end_style, end_cell}
+
+-- the pieces of the row, cut at its borders as they stand, and the cell behind it were added to the spans
+pub record AddsRow (h : Highlights) (old new : List ShownSpan) : Type 0 where
+  pub front : List ShownSpan
+  pub cut : AddsPieces h.row h.borders h.base h.tab_len h.mask old front
+  pub spans : new ≡ front ++ end_cell (end_style h)
 
 -- the line shows the row: what stands in front of it, its pieces, and the cell behind it
 pub record ShowsRow (h : Highlights) (line : ShownLine) : Type 0 where

@@ -1,11 +1,12 @@
 -- The cells of a block's sides, corners and title.
-use Rattle.std.proofs.Common.{◌≡◌, ℕ, ◌+◌, ◌-◌, ◌<◌, ◌≤◌, Bool, true, false, cond, eqb, ◌&&◌, List, refl, ap, ap₂, ◌∙◌, arith}
+use Rattle.std.proofs.Common.{◌≡◌, ℕ, ◌+◌, ◌-◌, ◌<◌, ◌≤◌, min, Bool, true, false, cond, eqb, ◌&&◌, List, refl, ap, ap₂, ◌∙◌, arith}
 use Rattle.std.proofs.lemmas.Bool.Decides.{nat_tests}
 use Rattle.textarea_screen.specs.Block.{has_border, left_side, right_side}
 use Rattle.textarea_screen.specs.Buffer.{Change, Changes}
 use Rattle.textarea_screen.specs.Cell.{ShownCell, with_symbol}
 use Rattle.textarea_screen.specs.Inset.{inset_of}
 use Rattle.textarea_screen.specs.Rect.{contains}
+use Rattle.textarea_screen.proofs.BufferLemmas.{is_before_column, is_before_row}
 use Rattle.textarea_screen.proofs.ChangeLemmas.{Changes-none, Changes-then}
 use Rattle.textarea_screen.specs.declared.screen.block.Borders.{Borders}
 use Rattle.textarea_screen.specs.declared.screen.buffer.Buffer.{Buffer}
@@ -26,20 +27,45 @@ Changes-in_area area f g h first second same =
 
 -- ---- the cells of a rectangle inside of the area
 
--- one column
-pub contains-column : (area part : Rect) (at : ℕ) → part.x ≡ at → part.width ≡ 1 → part.y ≡ area.y → part.height ≡ area.height → area.x ≤ at → at < area.x + area.width → (x y : ℕ) →
+-- it is one of so many from the first on
+abbrev pub IsAmong : ℕ → ℕ → ℕ → Type 0
+IsAmong first count at = (first ≤ at) × (at < first + count)
+
+pub among_first : (first count : ℕ) → 0 < count → IsAmong first count first
+among_first first count some = (omega arith, omega arith)
+
+pub among_last : (first count : ℕ) → 0 < count → IsAmong first count (first + count - 1)
+among_last first count some = (omega arith, omega arith)
+
+one_column : (area part : Rect) (at : ℕ) → part.x ≡ at → part.width ≡ 1 → part.y ≡ area.y → part.height ≡ area.height → area.x ≤ at → at < area.x + area.width → (x y : ℕ) →
     contains part x y ≡ (contains area x y && eqb x at)
-contains-column area part at is_x is_width is_y is_height left right x y = grind (arith, nat_tests)
+one_column area part at is_x is_width is_y is_height left right x y = grind (arith, nat_tests)
+
+-- one column, cut where the screen ends
+pub contains-column : (area part : Rect) (at : ℕ) → part.x ≡ at → part.width ≡ min 1 (65535 - at) → part.y ≡ area.y → part.height ≡ min area.height (65535 - area.y) →
+    IsAmong area.x area.width at → (x y : ℕ) → contains part x y ≡ (contains area x y && eqb x at)
+contains-column area part at is_x is_width is_y is_height among =
+    one_column area part at is_x (omega (arith, area.right, among.1)) is_y (omega (arith, area.bottom)) among.0 among.1
+
+one_row : (area part : Rect) (at : ℕ) → part.x ≡ area.x → part.width ≡ area.width → part.y ≡ at → part.height ≡ 1 → area.y ≤ at → at < area.y + area.height → (x y : ℕ) →
+    contains part x y ≡ (contains area x y && eqb y at)
+one_row area part at is_x is_width is_y is_height top bottom x y = grind (arith, nat_tests)
 
 -- one row
-pub contains-row : (area part : Rect) (at : ℕ) → part.x ≡ area.x → part.width ≡ area.width → part.y ≡ at → part.height ≡ 1 → area.y ≤ at → at < area.y + area.height → (x y : ℕ) →
-    contains part x y ≡ (contains area x y && eqb y at)
-contains-row area part at is_x is_width is_y is_height top bottom x y = grind (arith, nat_tests)
+pub contains-row : (area part : Rect) (at : ℕ) → part.x ≡ area.x → part.width ≡ min area.width (65535 - area.x) → part.y ≡ at → part.height ≡ min 1 (65535 - at) →
+    IsAmong area.y area.height at → (x y : ℕ) → contains part x y ≡ (contains area x y && eqb y at)
+contains-row area part at is_x is_width is_y is_height among =
+    one_row area part at is_x (omega (arith, area.right)) is_y (omega (arith, area.bottom, among.1)) among.0 among.1
+
+one_cell : (area part : Rect) (at_x at_y : ℕ) → part.x ≡ at_x → part.width ≡ 1 → part.y ≡ at_y → part.height ≡ 1 → area.x ≤ at_x → at_x < area.x + area.width →
+    area.y ≤ at_y → at_y < area.y + area.height → (x y : ℕ) → contains part x y ≡ (contains area x y && (eqb x at_x && eqb y at_y))
+one_cell area part at_x at_y is_x is_width is_y is_height left right top bottom x y = grind (arith, nat_tests)
 
 -- one cell
-pub contains-cell : (area part : Rect) (at_x at_y : ℕ) → part.x ≡ at_x → part.width ≡ 1 → part.y ≡ at_y → part.height ≡ 1 → area.x ≤ at_x → at_x < area.x + area.width →
-    area.y ≤ at_y → at_y < area.y + area.height → (x y : ℕ) → contains part x y ≡ (contains area x y && (eqb x at_x && eqb y at_y))
-contains-cell area part at_x at_y is_x is_width is_y is_height left right top bottom x y = grind (arith, nat_tests)
+pub contains-cell : (area part : Rect) (at_x at_y : ℕ) → part.x ≡ at_x → part.width ≡ min 1 (65535 - at_x) → part.y ≡ at_y → part.height ≡ min 1 (65535 - at_y) →
+    IsAmong area.x area.width at_x → IsAmong area.y area.height at_y → (x y : ℕ) → contains part x y ≡ (contains area x y && (eqb x at_x && eqb y at_y))
+contains-cell area part at_x at_y is_x is_width is_y is_height column row =
+    one_cell area part at_x at_y is_x (omega (arith, area.right, column.1)) is_y (omega (arith, area.bottom, row.1)) column.0 column.1 row.0 row.1
 
 -- ---- a side or a corner
 
@@ -64,6 +90,20 @@ Changes-border area part done drawn' test text' style before change is_drawn is_
     (λ x y cell.
     ap₂ (λ d t. cond (d && contains part x y) (with_symbol t style (in_area area done x y cell)) (in_area area done x y cell)) is_drawn is_text
     ∙ bordered (contains area x y) drawn' (contains part x y) (test x y) (done x y) (with_symbol text' style) cell (where_it_is x y))
+
+-- ---- cells outside of the area
+
+pub is_before_row-outside : (area : Rect) (row x y : ℕ) → row ≤ area.y + area.height → contains area x y ≡ false → is_before_row area row x y ≡ false
+is_before_row-outside area row x y above outside = grind (arith, nat_tests)
+
+pub is_before_column-outside : (area : Rect) (row column x y : ℕ) → area.y ≤ row → row < area.y + area.height → column ≤ area.x + area.width → contains area x y ≡ false →
+    is_before_column area.x row column x y ≡ false
+is_before_column-outside area row column x y first last left outside = grind (arith, nat_tests)
+
+-- of two areas' common cells none is outside of the first
+pub common-outside : (area other common : Rect) → ((x y : ℕ) → contains common x y ≡ (contains area x y && contains other x y)) → (x y : ℕ) → contains area x y ≡ false →
+    contains common x y ≡ false
+common-outside area other common is x y outside = is x y ∙ ap (λ b. b && contains other x y) outside
 
 -- ---- the title
 

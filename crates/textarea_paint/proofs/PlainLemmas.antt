@@ -1,6 +1,6 @@
 -- Printable ASCII: before another such character, and at a text's end, each one is a cluster by itself, and what stands behind it is
 -- cut as if it began the text.
-use Rattle.std.proofs.Common.{◌≡◌, ℕ, ◌<◌, Bool, true, false, cond, not, ◌&&◌, ◌||◌, ◌==◌, leb, ltb, unwrap_or, List, [], ◌∷◌, ◌++◌, map, length, take, drop, Option, None, Some, IsSome, IfSome, IsCharBoundary, refl, sym, ap, ap₂, ◌∙◌, arith}
+use Rattle.std.proofs.Common.{◌≡◌, ℕ, ◌<◌, Bool, true, false, cond, not, ◌&&◌, ◌||◌, ◌==◌, leb, ltb, unwrap_or, List, [], ◌∷◌, ◌++◌, map, take, drop, Option, None, Some, IsSome, IfSome, IsCharBoundary, refl, sym, ap, ap₂, ◌∙◌, arith}
 use Rattle.std.proofs.lemmas.Bool.{cond-true}
 use Rattle.std.proofs.lemmas.Bool.Decides.{nat_tests}
 use Rattle.std.proofs.lemmas.Str.{IsUtf8-drop, chars_past_char, encode_ascii}

@@ -1,6 +1,7 @@
 -- A row that is drawn cluster by cluster, and the clusters that fit it.
-use Rattle.std.proofs.Common.{◌≡◌, ℕ, ◌+◌, ◌-◌, ◌<◌, ◌≤◌, min, List, [], ◌∷◌, filter, refl, sym, ap, arith}
+use Rattle.std.proofs.Common.{◌≡◌, ℕ, ◌+◌, ◌-◌, ◌<◌, ◌≤◌, min, List, [], ◌∷◌, filter, refl, sym, ap, ◌∙◌, arith}
 use Rattle.std.proofs.lemmas.Bool.Decides.{nat_tests}
+use Rattle.std.proofs.lemmas.List.Sums.{sum_by-cons}
 use Rattle.textarea_screen.specs.Buffer.{area_of, Changes, KeepsOutside}
 use Rattle.textarea_screen.proofs.ChangeLemmas.{Changes-inside, Changes-none, Changes-then, KeepsOutside-from_changes, KeepsOutside-then, KeepsOutside-same}
 use Rattle.textarea_screen.specs.declared.screen.buffer.Buffer.{Buffer}
@@ -87,3 +88,35 @@ fitting_ahead-fits width room cluster clusters narrow fits = grind (arith, nat_t
 pub record IsMeasuring (width : ℕ) (row : List Cluster) (room : ℕ) (ahead : List Cluster) : Type 0 where
   pub bound : room ≤ width
   pub sum : (width - room) + row_width (fitting_ahead width room ahead) ≡ row_width (fitting width row)
+
+pub measuring_start : (width : ℕ) (row ahead : List Cluster) → ahead ≡ row → IsMeasuring width row width ahead
+measuring_start width row ahead all = record {
+  bound = omega arith;
+  sum = omega (arith, ap (λ clusters. row_width (fitting width clusters)) all);
+}
+
+pub measuring_wide : {width room : ℕ} {row ahead : List Cluster} (cluster : Cluster) (behind : List Cluster) → IsMeasuring width row room ahead → ahead ≡ cluster ∷ behind →
+    width < columns_of cluster.text → IsMeasuring width row room behind
+measuring_wide {width} {room} {row} {ahead} cluster behind m taken wide = record {
+  bound = m.bound;
+  sum = omega (arith, m.sum, ap (λ clusters. row_width (fitting_ahead width room clusters)) taken, ap row_width (fitting_ahead-wide width room cluster behind wide));
+}
+
+pub measuring_fits : {width room : ℕ} {row ahead : List Cluster} (cluster : Cluster) (behind : List Cluster) → IsMeasuring width row room ahead → ahead ≡ cluster ∷ behind →
+    columns_of cluster.text ≤ width → columns_of cluster.text ≤ room → IsMeasuring width row (room - columns_of cluster.text) behind
+measuring_fits {width} {room} {row} {ahead} cluster behind m taken narrow fits =
+    let columns = columns_of cluster.text in
+    let more : row_width (fitting_ahead width room (cluster ∷ behind)) ≡ columns + row_width (fitting_ahead width (room - columns) behind) =
+    ap row_width (fitting_ahead-fits width room cluster behind narrow fits) ∙ sum_by-cons (λ c. columns_of c.text) cluster (fitting_ahead width (room - columns) behind) in
+    record {
+      bound = omega (arith, m.bound);
+      sum = omega (arith, m.bound, m.sum, fits, ap (λ clusters. row_width (fitting_ahead width room clusters)) taken, more);
+    }
+
+pub measuring_full : {width room : ℕ} {row ahead : List Cluster} (cluster : Cluster) (behind : List Cluster) → IsMeasuring width row room ahead → ahead ≡ cluster ∷ behind →
+    columns_of cluster.text ≤ width → room < columns_of cluster.text → width - room ≡ row_width (fitting width row)
+measuring_full {width} {room} {row} {ahead} cluster behind m taken narrow full =
+    omega (arith, m.sum, ap (λ clusters. row_width (fitting_ahead width room clusters)) taken, ap row_width (fitting_ahead-full width room cluster behind narrow full))
+
+pub measuring_end : {width room : ℕ} {row ahead : List Cluster} → IsMeasuring width row room ahead → ahead ≡ [] → width - room ≡ row_width (fitting width row)
+measuring_end {width} {room} {row} {ahead} m none = omega (arith, m.sum, ap (λ clusters. row_width (fitting_ahead width room clusters)) none)

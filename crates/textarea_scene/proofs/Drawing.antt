@@ -12,7 +12,7 @@ use Rattle.textarea_screen.specs.Text.{ShownLine}
 use Rattle.textarea_screen.specs.declared.screen.buffer.Buffer.{Buffer}
 use Rattle.textarea_screen.specs.declared.screen.rect.Rect.{Rect}
 use Rattle.textarea_screen.proofs.ChangeLemmas.{Changes-none, Changes-then, KeepsOutside-from_changes, KeepsOutside-then, KeepsOutside-wider}
-use Rattle.textarea_scene.specs.Drawn.{AreShown, lines_change}
+use Rattle.textarea_scene.specs.Drawn.{AreShown, DrawnTo, lines_change}
 use Rattle.textarea_map.specs.Rows.{VisualRow, row_at}
 use Rattle.textarea_scene.specs.Rows.{highlights_of, row_highlights}
 use Rattle.textarea_scene.specs.Scene.{SceneState}
@@ -21,13 +21,6 @@ use Rattle.textarea_scene.specs.Scene.{SceneState}
 pub told : (scene : SceneState) (number : ℕ) (row : VisualRow) → row ≡ row_at scene.rows.lines scene.rows.rows number → highlights_of scene row ≡ row_highlights scene number
 unfolding row_highlights
 told scene number row e = ap (highlights_of scene) e
-
--- so many rows are drawn from the top on
-pub record DrawnTo (scene : SceneState) (top : ℕ) (rows : RowArea) (old new : Buffer) (count : ℕ) : Type 0 where
-  pub lines : List ShownLine
-  pub many : length lines ≡ count
-  pub shown : AreShown scene top lines
-  pub change : Changes old new (lines_change rows rows.area.y lines)
 
 AreShown-push : (scene : SceneState) (row : ℕ) (lines : List ShownLine) (line : ShownLine) → AreShown scene row lines → ShowsRow (row_highlights scene (row + length lines)) line → AreShown scene row (lines ++ line ∷ [])
 AreShown-push scene row [] line h shows = (subst (λ n. ShowsRow (row_highlights scene n) line) (omega arith) shows, tt)

@@ -1,12 +1,12 @@
 -- The lines of a placeholder, drawn one below the other.
-use Rattle.std.proofs.Common.{◌≡◌, ℕ, ◌+◌, ◌<◌, ◌==◌, ◌++◌, true, false, List, [], ◌∷◌, length, map, take, get_or, zero, suc, cond, refl, sym, ap, ◌∙◌, arith}
+use Rattle.std.proofs.Common.{◌≡◌, ℕ, ◌+◌, ◌<◌, ◌==◌, ◌++◌, true, false, List, [], ◌∷◌, length, map, take, get_or, zero, suc, cond, refl, sym, ap, ap₂, ◌∙◌, arith}
 use Rattle.std.specs.List.{flat_map}
 use Rattle.std.proofs.lemmas.Bool.{cond-false}
 use Rattle.std.proofs.lemmas.Bool.Decides.{nat_tests}
-use Rattle.std.proofs.lemmas.List.{length-take, take_more}
+use Rattle.std.proofs.lemmas.List.{length-take, map-append, map_more, take_more}
 use Rattle.textarea_highlight.specs.declared.highlight.highlighter.CursorCellRender.{CursorCellRender}
 use Rattle.textarea_highlight.specs.declared.highlight.highlighter.CursorCellRender.TheVariants.{Draw, Hidden}
-use Rattle.textarea_paint.specs.Clusters.{row_clusters, span_clusters}
+use Rattle.textarea_paint.specs.Clusters.{content_bytes, row_clusters, span_clusters}
 use Rattle.textarea_paint.specs.Row.{cells_of_row, first_shown, placed_row, row_cell}
 use Rattle.textarea_paint.specs.Cells.{row_change}
 use Rattle.textarea_paint.specs.declared.paint.row.RowArea.{RowArea}
@@ -14,9 +14,13 @@ use Rattle.textarea_screen.specs.Buffer.{Changes}
 use Rattle.textarea_screen.specs.Cell.{ShownCell}
 use Rattle.textarea_screen.specs.Rect.{is_in_row}
 use Rattle.textarea_screen.specs.Style.{patched}
-use Rattle.textarea_screen.specs.Text.{ShownLine, ShownSpan}
+use Rattle.textarea_screen.specs.Text.{ShownContent, ShownLine, ShownSpan, shown_content, shown_span, text_bytes}
+use Rattle.textarea_screen.specs.Text.ShownContent.{Lent}
+use Rattle.textarea_screen.specs.declared.screen.text.SpanText.{SpanText}
+use Rattle.textarea_screen.specs.declared.screen.text.SpanText.TheVariants.{Borrowed, Owned}
 use Rattle.textarea_screen.specs.declared.screen.buffer.Buffer.{Buffer}
 use Rattle.textarea_screen.specs.declared.screen.style.Style.{Style}
+use Rattle.textarea_screen.specs.declared.screen.text.Span.{Span}
 use Rattle.textarea_screen.proofs.ChangeLemmas.{Changes-as, Changes-then}
 use Rattle.textarea_scene.specs.Drawn.{lines_change}
 use Rattle.textarea_scene.specs.Placeholder.{behind_cursor, blank, cell_of_line, lent_line, lent_span, placeholder_lines}
@@ -39,6 +43,28 @@ line_at cursor_cell (line ∷ lines) (suc i) d within = ap (λ cell. behind_curs
 
 pub cell_of_line-hidden : (line : ℕ) → cell_of_line Hidden line ≡ Hidden
 cell_of_line-hidden line = elim (line == 0) as (λ b. cond b Hidden Hidden ≡ Hidden) [ true ↦ refl | false ↦ refl ]
+
+-- a span whose text is lent from another shows the same
+shown_bytes : (text : SpanText) → text_bytes text ≡ content_bytes (shown_content text)
+shown_bytes (Borrowed text) = refl
+shown_bytes (Owned text) = refl
+
+abbrev made : ShownContent → Style → ShownSpan
+made content style = record { content = content; style = style }
+
+pub lent_from : (item lent : Span) (bytes : List ℕ) → shown_content lent.content ≡ Lent bytes → lent.style ≡ item.style → bytes ≡ text_bytes item.content →
+    shown_span lent ≡ lent_span (shown_span item)
+lent_from item lent bytes content style are = ap₂ made (content ∙ ap Lent (are ∙ shown_bytes item.content)) style
+
+-- one span more is lent, behind the blank
+pub lent_more : (items done more : List Span) (i : ℕ) (item lent : Span) (style : Style) → i < length items → map shown_span done ≡ blank style ∷ map lent_span (map shown_span (take i items)) →
+    item ≡ get_or items i item → shown_span lent ≡ lent_span (shown_span item) → more ≡ done ++ lent ∷ [] → map shown_span more ≡ blank style ∷ map lent_span (map shown_span (take (i + 1) items))
+lent_more items done more i item lent style within known is same pushed =
+    let before = map shown_span (take i items) in
+    ap (map shown_span) pushed ∙ map-append shown_span done (lent ∷ []) ∙ ap (λ (spans : List ShownSpan). spans ++ shown_span lent ∷ []) known
+    ∙ ap (λ (spans : List ShownSpan). blank style ∷ spans)
+    (ap (λ (span : ShownSpan). map lent_span before ++ span ∷ []) (same ∙ ap (λ (span : Span). lent_span (shown_span span)) is)
+    ∙ sym (map-append lent_span before (shown_span (get_or items i item) ∷ [])) ∙ ap (map lent_span) (sym (map_more shown_span items i item within)))
 
 -- ---- the cells
 

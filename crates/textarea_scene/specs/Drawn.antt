@@ -5,8 +5,9 @@ use Rattle.textarea_map.specs.Map.{row_total}
 use Rattle.textarea_paint.specs.Clusters.{row_clusters}
 use Rattle.textarea_paint.specs.Row.{row_cell, row_start}
 use Rattle.textarea_paint.specs.declared.paint.row.RowArea.{RowArea}
-use Rattle.textarea_screen.specs.Buffer.{Change}
+use Rattle.textarea_screen.specs.Buffer.{Change, Changes}
 use Rattle.textarea_screen.specs.Text.{ShownLine}
+use Rattle.textarea_screen.specs.declared.screen.buffer.Buffer.{Buffer}
 use Rattle.textarea_screen.specs.declared.screen.rect.Rect.{Rect}
 use Rattle.textarea_scene.specs.Rows.{row_highlights}
 use Rattle.textarea_scene.specs.Scene.{SceneState}
@@ -29,6 +30,13 @@ pub record FillsArea (scene : SceneState) (top : ℕ) (area buffer : Rect) (line
 abbrev pub lines_change : RowArea → ℕ → List ShownLine → Change
 lines_change rows y [] column row cell = cell
 lines_change rows y (line ∷ lines) column row cell = lines_change rows (y + 1) lines column row (row_cell rows y line column row cell)
+
+-- The buffer was `old`, and is `new`: so many visual rows from the top on are drawn one below the other.
+pub record DrawnTo (scene : SceneState) (top : ℕ) (rows : RowArea) (old new : Buffer) (count : ℕ) : Type 0 where
+  pub lines : List ShownLine
+  pub many : length lines ≡ count
+  pub shown : AreShown scene top lines
+  pub change : Changes old new (lines_change rows rows.area.y lines)
 
 -- the line that shows the visual row begins so many columns behind the left edge of the area
 abbrev pub IsRowStart : SceneState → RowArea → ℕ → ℕ → Type 0

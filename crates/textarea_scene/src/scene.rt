@@ -4,14 +4,15 @@ mod matches;
 mod parts;
 pub mod placeholder;
 
-ghost use Rattle.std.specs.Prelude.{◌≡◌, ◌≢◌, ◌+◌, ◌-◌, ◌<◌, min, List, IfOk, OnErr, OnOk};
+ghost use Rattle.std.specs.Prelude.{◌≡◌, ◌≢◌, ◌+◌, ◌-◌, ◌^◌, ◌<◌, ◌≤◌, min, List, IfOk, OnErr, OnOk};
+ghost use Rattle.textarea_highlight.specs.Row.{ShowsRow};
 ghost use Rattle.textarea_map.specs.Map.{row_total};
 ghost use Rattle.textarea_screen.specs.Buffer.{area_of, Changes, KeepsOutside};
 ghost use Rattle.textarea_screen.specs.Rect.{contains, is_in_row};
 ghost use Rattle.textarea_screen.specs.Text.{ShownLine, shown_line};
 ghost use Rattle.textarea_paint.specs.Row.{row_cell};
-ghost use Rattle.textarea_scene.specs.Drawn.{FillsArea, IsRowStart, lines_change, rows_above_end};
-ghost use Rattle.textarea_scene.specs.Rows.{cursor_cell};
+ghost use Rattle.textarea_scene.specs.Drawn.{DrawnTo, FillsArea, IsRowStart, lines_change, rows_above_end};
+ghost use Rattle.textarea_scene.specs.Rows.{cursor_cell, row_highlights, searched};
 ghost use Rattle.textarea_scene.specs.Scene.{HasPlaces};
 
 use frame::Frame;
@@ -22,7 +23,7 @@ use textarea_highlight::highlight::CursorCellRender;
 use textarea_lines::view::LaidOutView;
 use textarea_look::look::{CursorRenderMode, CustomHighlight, Look};
 use textarea_paint::paint::row::{RowArea, draw_row, row_start};
-use textarea_screen::screen::{Alignment, Buffer, Line, Rect, Style};
+use textarea_screen::screen::{Alignment, Buffer, Line, Rect};
 use textarea_search::search::{KeptMatches, Search};
 
 /// What a frame is drawn from, lent.
@@ -75,19 +76,11 @@ impl<'a> Scene<'a> {
         ensures err { OnErr result (KeepsOutside (contains rows.area) buffer.old buffer.new) }
     {
         let room = rows_above_end(rows.area, buffer.area());
-        let lines = self.rows.lines();
         let frame = Frame::new(self);
+        let lines = self.rows.lines();
         let mut matches = FoundMatches::new(alloc, self.search, lines, kept, usize::from(room))?;
-        let mut highlighter = frame.highlighter(alloc);
-        let mut line = Line {
-            spans: Vec::new(alloc),
-            style: Style::new(),
-        };
-        for i in 0..rows_drawn(room, self.rows.row_count(), top) {
-            frame.show_in(&mut line, top + i, &mut matches, &mut highlighter)?;
-            draw_below(buffer, rows, i, &line)?;
-        }
-        Ok(())
+        let count = rows_drawn(room, self.rows.row_count(), top);
+        draw_rows(alloc, &frame, &mut matches, buffer, rows, top, count)
     }
 
     /// How the cell at the cursor is drawn: in the cursor's style, or as any other.
@@ -121,18 +114,48 @@ impl<'a> Scene<'a> {
         requires row { row < row_total self.now.rows.rows }
         ensures { IfOk result (λ start. IsRowStart self.now rows row start) }
     {
+        let line = self.row_line(alloc, row)?;
+        Ok(row_start(rows, &line))
+    }
+
+    // The line that shows a visual row.
+    fn row_line(&self, alloc: Global, row: usize) -> Result<Line<'a>, AllocError>
+        requires places { HasPlaces self.now }
+        requires row { row < row_total self.now.rows.rows }
+        ensures { IfOk result (λ line. ShowsRow (row_highlights self.now row) (shown_line line)) }
+    {
         let frame = Frame::new(self);
         let mut kept = KeptMatches::new(alloc);
         let lines = self.rows.lines();
         let mut matches = FoundMatches::new(alloc, self.search, lines, &mut kept, 0)?;
-        let mut highlighter = frame.highlighter(alloc);
-        let mut line = Line {
-            spans: Vec::new(alloc),
-            style: Style::new(),
-        };
-        frame.show_in(&mut line, row, &mut matches, &mut highlighter)?;
-        Ok(row_start(rows, &line))
+        frame.row_line(alloc, row, &mut matches)
     }
+}
+
+// Draws so many visual rows from `top` on, one below the other.
+fn draw_rows<'a>(
+    alloc: Global,
+    frame: &Frame<'_, 'a>,
+    matches: &mut FoundMatches<'_, '_>,
+    buffer: &mut Buffer,
+    rows: RowArea,
+    top: usize,
+    count: usize,
+) -> Result<(), AllocError>
+    requires matches { matches.old.searched ≡ searched frame.now }
+    requires shown { count ≤ row_total frame.now.rows.rows - top }
+    requires end { top + count < 2 ^ 64 }
+    requires room { count ≤ rows.area.height }
+    ensures ok { OnOk result (DrawnTo frame.now top rows buffer.old buffer.new count) }
+    ensures err { OnErr result (KeepsOutside (contains rows.area) buffer.old buffer.new) }
+{
+    let mut highlighter = frame.highlighter(alloc);
+    let mut line = Line::from_spans(Vec::new(alloc));
+    for i in 0..count {
+        frame.show_in(&mut line, top + i, matches, &mut highlighter)?;
+        draw_below(buffer, rows, i, &line)?;
+    }
+    Ok(())
 }
 
 // How many of so many visual rows are drawn from `top` on, where there is room for so many.

@@ -1,5 +1,5 @@
 -- Where the cells of a rectangle stand in the list of all of them, and what a write of one of them changes.
-use Rattle.std.proofs.Common.{◌≡◌, ◌≢◌, ℕ, zero, suc, ◌+◌, ◌-◌, ◌*◌, ◌/◌, ◌%◌, ◌<◌, ◌≤◌, Bool, true, false, cond, eqb, leb, ltb, ◌&&◌, List, [], ◌∷◌, length, get_or, set, Option, None, Some, refl, sym, ap, ap₂, ◌∙◌, ⊎_elim, arith}
+use Rattle.std.proofs.Common.{◌≡◌, ◌≢◌, ℕ, zero, suc, ◌+◌, ◌-◌, ◌*◌, ◌/◌, ◌%◌, ◌<◌, ◌≤◌, Bool, true, false, cond, eqb, leb, ltb, ◌&&◌, ◌||◌, List, [], ◌∷◌, length, get_or, set, Option, None, Some, refl, sym, ap, ap₂, ◌∙◌, ⊎_elim, arith}
 use Rattle.std.specs.List.{slice_get, All}
 use Rattle.std.specs.Option.{option_map}
 use Rattle.std.proofs.lemmas.Bool.{cases_Bool, cond-true}
@@ -10,7 +10,7 @@ use Rattle.std.proofs.lemmas.Nat.{mul-add-lt, div-mul-add, mod-mul-add}
 use Rattle.std.proofs.lemmas.Option.{slice_get-get_or}
 use Rattle.textarea_screen.specs.Buffer.{place_in, cell_at, Changes}
 use Rattle.textarea_screen.specs.Cell.{ShownCell, shown_cell, fresh_cell}
-use Rattle.textarea_screen.specs.Rect.{contains}
+use Rattle.textarea_screen.specs.Rect.{contains, is_in_row}
 use Rattle.textarea_screen.specs.declared.screen.buffer.Buffer.{Buffer}
 use Rattle.textarea_screen.specs.declared.screen.cell.Cell.{Cell}
 use Rattle.textarea_screen.specs.declared.screen.rect.Rect.{Rect}
@@ -127,3 +127,27 @@ is_before_column left row column x y = eqb y row && (leb left x && ltb x column)
 
 abbrev pub is_before_row : Rect → ℕ → ℕ → ℕ → Bool
 is_before_row area row x y = leb area.x x && ltb x (area.x + area.width) && leb area.y y && ltb y row
+
+pub is_before_column-first : (left row x y : ℕ) → is_before_column left row left x y ≡ false
+is_before_column-first left row x y = grind (arith, nat_tests)
+
+pub is_before_column-apart : (left row column x y : ℕ) → (eqb x column && eqb y row) ≡ true → is_before_column left row column x y ≡ false
+is_before_column-apart left row column x y here = grind (arith, nat_tests)
+
+pub is_before_column-next : (left row column x y : ℕ) → left ≤ column →
+    (is_before_column left row column x y || (eqb x column && eqb y row)) ≡ is_before_column left row (column + 1) x y
+is_before_column-next left row column x y h = grind (arith, nat_tests)
+
+pub is_before_column-end : (area : Rect) (row x y : ℕ) → area.y ≤ row → row < area.y + area.height →
+    is_before_column area.x row (area.x + area.width) x y ≡ is_in_row area row x y
+is_before_column-end area row x y first last = grind (arith, nat_tests)
+
+pub is_before_row-first : (area : Rect) (x y : ℕ) → is_before_row area area.y x y ≡ false
+is_before_row-first area x y = grind (arith, nat_tests)
+
+pub is_before_row-apart : (area : Rect) (row x y : ℕ) → is_in_row area row x y ≡ true → is_before_row area row x y ≡ false
+is_before_row-apart area row x y here = grind (arith, nat_tests)
+
+pub is_before_row-next : (area : Rect) (row x y : ℕ) → area.y ≤ row → row < area.y + area.height →
+    (is_before_row area row x y || is_in_row area row x y) ≡ is_before_row area (row + 1) x y
+is_before_row-next area row x y first last = grind (arith, nat_tests)

@@ -1,5 +1,5 @@
 -- How changes of a buffer compose. Each lemma is over the words of specs/Buffer.antt alone, so crates above may cite it.
-use Rattle.std.proofs.Common.{◌≡◌, ℕ, Bool, true, false, Option, None, Some, refl, sym, ap, ◌∙◌, ⊎_elim}
+use Rattle.std.proofs.Common.{◌≡◌, ℕ, Bool, true, false, cond, ◌||◌, Option, None, Some, refl, sym, ap, ◌∙◌, ⊎_elim}
 use Rattle.std.specs.Option.{option_map}
 use Rattle.std.proofs.lemmas.Bool.{cases_Bool, cond-false}
 use Rattle.textarea_screen.specs.Buffer.{area_of, cell_at, Change, Changes, KeepsOutside}
@@ -65,6 +65,22 @@ Changes-inside {a} {b} {f} g change same = record {
       ap (option_map (f x y)) none ∙ sym (ap (option_map (g x y)) none))
       (cases_Bool (contains (area_of a) x y));
 }
+
+-- a change of the cells that pass one test, and then the same of the cells that pass another
+cond-or : (before here : Bool) (f : ShownCell → ShownCell) (cell : ShownCell) → (here ≡ true → before ≡ false) →
+    cond here (f (cond before (f cell) cell)) (cond before (f cell) cell) ≡ cond (before || here) (f cell) cell
+cond-or true true f cell apart = cc (apart refl)
+cond-or true false f cell apart = refl
+cond-or false true f cell apart = refl
+cond-or false false f cell apart = refl
+
+pub Changes-more : {a b c : Buffer} (f : ShownCell → ShownCell) (before here after : ℕ → ℕ → Bool) →
+    Changes a b (λ x y cell. cond (before x y) (f cell) cell) → Changes b c (λ x y cell. cond (here x y) (f cell) cell) →
+    ((x y : ℕ) → here x y ≡ true → before x y ≡ false) → ((x y : ℕ) → (before x y || here x y) ≡ after x y) →
+    Changes a c (λ x y cell. cond (after x y) (f cell) cell)
+Changes-more f before here after first second apart both =
+    Changes-then (λ x y cell. cond (after x y) (f cell) cell) first second
+    (λ x y cell. cond-or (before x y) (here x y) f cell (apart x y) ∙ ap (λ test. cond test (f cell) cell) (both x y))
 
 -- ---- cells that stay
 

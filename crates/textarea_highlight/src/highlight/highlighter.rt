@@ -1,11 +1,12 @@
 //! What is highlighted in a row, and the spans that it gives.
-ghost use Rattle.std.specs.Prelude.{◌≡◌, ◌+◌, ◌^◌, ◌<◌, ◌≤◌, ℕ, List, length, chars, IfOk, IfNone, IfSome, OnOk, OnErr, IsErr, IsOk};
+ghost use Rattle.std.specs.Prelude.{◌≡◌, ◌+◌, ◌^◌, ◌<◌, ◌≤◌, ℕ, None, List, [], map, length, chars, IfOk, IfNone, IfSome, OnOk, OnErr, IsErr, IsOk};
 ghost use Rattle.std.specs.Fmt.{decimal};
 ghost use Rattle.std.specs.Iterator.{IsFinite, Drains};
 ghost use Rattle.textarea_size.specs.Limit.{size_limit};
-ghost use Rattle.textarea_screen.specs.Text.{shown_line};
+ghost use Rattle.textarea_screen.specs.Text.{shown_line, shown_span};
+ghost use Rattle.textarea_highlight.specs.Cut.{IsAscending};
 ghost use Rattle.textarea_highlight.specs.Highlights.{byte_of, plain_row, with_number, with_placeholder, with_base, with_cursor_line, with_matches, with_range, with_selection, with_segment, end_style};
-ghost use Rattle.textarea_highlight.specs.Row.{ShowsNothing, ShowsRow};
+ghost use Rattle.textarea_highlight.specs.Row.{AddsRow, ShowsNothing, ShowsRow};
 
 use super::borders::{Border, borders_of_matches, push_highlight, sort};
 use super::brackets::OpenStyles;
@@ -325,27 +326,31 @@ impl<'a> LineHighlighter<'a> {
         if !is_short(self.row) {
             return Err(AllocError);
         }
+        sort(&mut self.borders)?;
+        mem::swap(&mut line.spans, &mut self.spans);
+        line.style = Style::new();
+        self.push_row(&mut line.spans)
+    }
+
+    // Adds the row's pieces to the spans, and behind them a blank for the cell behind the row where that is drawn.
+    fn push_row(&mut self, spans: &mut Vec<Span<'a>>) -> Result<(), AllocError>
+        requires short { length self.old.row < size_limit }
+        requires ordered { IsAscending self.old.borders }
+        ensures added { OnOk result (AddsRow self.old
+            (map shown_span spans.old.items) (map shown_span spans.new.items)) }
+        ensures nothing { self.old.row ≡ [] → self.old.borders ≡ [] → end_style self.old ≡ None
+            → IsOk result }
+    {
         let end_style = self.end_style();
         let row_style = RowStyle {
             base: self.base,
             tab_len: self.tab_len,
             mask: self.mask,
         };
-        sort(&mut self.borders)?;
-        mem::swap(&mut line.spans, &mut self.spans);
-        line.style = Style::new();
         let borders = self.borders.as_slice();
         let styles = &mut self.styles;
-        cut(
-            self.alloc,
-            &mut line.spans,
-            styles,
-            self.row,
-            borders,
-            row_style,
-        )?;
-        push_end_cell(&mut line.spans, end_style)?;
-        Ok(())
+        cut(self.alloc, spans, styles, self.row, borders, row_style)?;
+        push_end_cell(spans, end_style)
     }
 
     /// The style of the cell behind the row, if it is drawn.

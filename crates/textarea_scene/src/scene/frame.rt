@@ -1,5 +1,5 @@
 //! One visual row after another, cut into spans.
-ghost use Rattle.std.specs.Prelude.{◌≡◌, ◌<◌, chars, encode_utf8_all, length, OnOk};
+ghost use Rattle.std.specs.Prelude.{◌≡◌, ◌<◌, chars, encode_utf8_all, length, IfOk, OnOk};
 ghost use Rattle.textarea_highlight.specs.Highlights.{plain_row};
 ghost use Rattle.textarea_highlight.specs.Row.{ShowsRow};
 ghost use Rattle.textarea_map.specs.Map.{row_total};
@@ -82,14 +82,46 @@ impl<'f, 'a> Frame<'f, 'a> {
         ensures shown { OnOk result (ShowsRow (row_highlights self.now row) (shown_line line.new)) }
         ensures same { matches.new.searched ≡ matches.old.searched }
     {
-        let scene = self.scene;
-        let shown = scene.rows.row_at(row);
-        matches.turn_to(shown.line)?;
-        self.tell(highlighter, row, shown, matches.as_slice())?;
+        self.tell_row(highlighter, row, matches)?;
         highlighter.show_in(line)
     }
 
-    // Begins with a visual row, and tells all that it shows.
+    /// A new line with the spans of a visual row.
+    pub(super) fn row_line(
+        &self,
+        alloc: Global,
+        row: usize,
+        matches: &mut FoundMatches<'_, '_>,
+    ) -> Result<Line<'a>, AllocError>
+        requires row { row < row_total self.now.rows.rows }
+        requires matches { matches.old.searched ≡ searched self.now }
+        ensures { IfOk result (λ line. ShowsRow (row_highlights self.now row) (shown_line line)) }
+    {
+        let mut highlighter = self.highlighter(alloc);
+        let mut line = Line::from_spans(Vec::new(alloc));
+        self.show_in(&mut line, row, matches, &mut highlighter)?;
+        Ok(line)
+    }
+
+    // Begins with the visual row of this number, and tells all that it shows.
+    fn tell_row(
+        &self,
+        highlighter: &mut LineHighlighter<'a>,
+        row: usize,
+        matches: &mut FoundMatches<'_, '_>,
+    ) -> Result<(), AllocError>
+        requires row { row < row_total self.now.rows.rows }
+        requires matches { matches.old.searched ≡ searched self.now }
+        ensures told { OnOk result (highlighter.new ≡ row_highlights self.now row) }
+        ensures same { matches.new.searched ≡ matches.old.searched }
+    {
+        let scene = self.scene;
+        let shown = scene.rows.row_at(row);
+        matches.turn_to(shown.line)?;
+        self.tell(highlighter, row, shown, matches.as_slice())
+    }
+
+    // Begins with a visual row that is cut out already, and tells all that it shows.
     fn tell<'t>(
         &self,
         highlighter: &mut LineHighlighter<'t>,

@@ -1,11 +1,11 @@
 //! What is shown in place of an empty text.
-ghost use Rattle.std.specs.Prelude.{◌≡◌, [], IsOk, OnErr, OnOk, length};
-ghost use Rattle.textarea_screen.specs.Text.{shown_text};
+ghost use Rattle.std.specs.Prelude.{◌≡◌, [], IfOk, IsOk, OnErr, OnOk, length, map};
+ghost use Rattle.textarea_screen.specs.Text.{shown_line, shown_text};
 ghost use Rattle.textarea_surround.specs.State.{first_bytes, style_with_lines};
-ghost use Rattle.textarea_surround.specs.Outcomes.{with_placeholder_style, with_placeholder_text};
+ghost use Rattle.textarea_surround.specs.Outcomes.{plain_lines, with_placeholder_style, with_placeholder_text};
 
 use crate::surround::Surround;
-use std::alloc::AllocError;
+use std::alloc::{AllocError, Global};
 use textarea_screen::screen::{Line, Style, Text};
 
 impl<'a> Surround<'a> {
@@ -17,11 +17,7 @@ impl<'a> Surround<'a> {
         ensures empty { text.now ≡ [] → IsOk result }
     {
         let alloc = *self.placeholder.lines.allocator();
-        let mut lines = Vec::new(alloc);
-        if !text.is_empty() {
-            lines.push(Line::raw(String::from_str(alloc, text)?)?)?;
-        }
-        self.placeholder.lines = lines;
+        self.placeholder.lines = plain_lines(alloc, text)?;
         Ok(())
     }
 
@@ -76,4 +72,16 @@ impl<'a> Surround<'a> {
     {
         self.placeholder.lines.len()
     }
+}
+
+// One line of this text, a line feed in it included, and of the empty text no line.
+fn plain_lines<'a>(alloc: Global, text: &str) -> Result<Vec<Line<'a>>, AllocError>
+    ensures ok { IfOk result (λ lines. map shown_line lines.items ≡ plain_lines text.now) }
+    ensures empty { text.now ≡ [] → IsOk result }
+{
+    let mut lines = Vec::new(alloc);
+    if !text.is_empty() {
+        lines.push(Line::raw(String::from_str(alloc, text)?)?)?;
+    }
+    Ok(lines)
 }

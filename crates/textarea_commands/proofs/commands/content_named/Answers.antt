@@ -1,9 +1,12 @@
-use Rattle.std.proofs.Common.{rules, ◌≡◌, sym, subst, Option}
-use Rattle.std.specs.Prelude.{option_copied}
+use Rattle.std.proofs.Common.{rules, ◌≡◌, ℕ, List, ap, refl, sym, subst, Option, Global, Vec}
+use Rattle.std.specs.Prelude.{option_copied, string_bytes}
 use Rattle.textarea_commands.specs.Arguments.{IsReadAs}
 use Rattle.textarea_commands.specs.Commands.{Meaning, meant, plain_meant}
+use Rattle.textarea_commands.specs.Commands as meaning
+use Rattle.textarea_commands.specs.declared.commands.Content.TheVariants as content
+use Rattle.textarea_ranges.specs.declared.atomic.AtomicRange.{AtomicRange}
 use Rattle.textarea_commands.specs.Script.{meaning_of}
-use Rattle.textarea_commands.proofs.Tables.{meant-plain}
+use Rattle.textarea_commands.proofs.Tables.{meant-plain, read-made}
 use Rattle.textarea_commands.proofs.commands.content_named.Goals as goal
 
 pub returns-in_default-clause-means : goal.returns-in_default-clause-means
@@ -12,3 +15,37 @@ returns-in_default-clause-means c =
     meant-plain c.args.name.now (option_copied c.args.arguments)
     (c.in_default.not-insert_str, (c.in_default.not-set_yank_text, (c.in_default.not-set_search_pattern, (c.in_default.not-ranges, (c.in_default.not-set_lines, (c.in_default.not-input, tt)))))) in
     subst (λ (means : Option Meaning). IsReadAs meaning_of means c.ok_or-in_default.result) (sym behind) (search rules)
+
+pub returns-in-insert_str-clause-means : goal.returns-in-insert_str-clause-means
+unfolding meant
+returns-in-insert_str-clause-means c =
+    let by_row = ap (λ (name : List ℕ). meant name (option_copied c.args.arguments)) c.in-insert_str.is in
+    subst (λ (means : Option Meaning). IsReadAs meaning_of means c.map.result) (sym by_row)
+    (read-made string_bytes content.InsertStr meaning.InsertStr _ c.text.result c.map.result (λ x. refl) c.text.ensures c.map.ensures.cases)
+
+pub returns-in-set_yank_text-clause-means : goal.returns-in-set_yank_text-clause-means
+unfolding meant
+returns-in-set_yank_text-clause-means c =
+    let by_row = ap (λ (name : List ℕ). meant name (option_copied c.args.arguments)) c.in-set_yank_text.is in
+    subst (λ (means : Option Meaning). IsReadAs meaning_of means c.map-in-set_yank_text.result) (sym by_row)
+    (read-made string_bytes content.SetYankText meaning.SetYankText _ c.text-in-set_yank_text.result c.map-in-set_yank_text.result (λ x. refl) c.text-in-set_yank_text.ensures c.map-in-set_yank_text.ensures.cases)
+
+pub returns-in-set_search_pattern-clause-means : goal.returns-in-set_search_pattern-clause-means
+unfolding meant
+returns-in-set_search_pattern-clause-means c =
+    let by_row = ap (λ (name : List ℕ). meant name (option_copied c.args.arguments)) c.in-set_search_pattern.is in
+    subst (λ (means : Option Meaning). IsReadAs meaning_of means c.map-in-set_search_pattern.result) (sym by_row)
+    (read-made string_bytes content.SetSearchPattern meaning.SetSearchPattern _ c.text-in-set_search_pattern.result c.map-in-set_search_pattern.result (λ x. refl) c.text-in-set_search_pattern.ensures c.map-in-set_search_pattern.ensures.cases)
+
+pub returns-in-ranges-clause-means : goal.returns-in-ranges-clause-means
+unfolding meant
+returns-in-ranges-clause-means c =
+    let by_row = ap (λ (name : List ℕ). meant name (option_copied c.args.arguments)) c.in-ranges.is in
+    subst (λ (means : Option Meaning). IsReadAs meaning_of means c.map-in-ranges.result) (sym by_row)
+    (read-made (λ (read : Vec AtomicRange Global). read.items) content.TrySetAtomicRanges meaning.TrySetAtomicRanges _ c.some_ranges.result c.map-in-ranges.result (λ x. refl) c.some_ranges.ensures c.map-in-ranges.ensures.cases)
+
+pub returns-in-set_lines-clause-means : goal.returns-in-set_lines-clause-means
+unfolding meant
+returns-in-set_lines-clause-means c =
+    let by_row = ap (λ (name : List ℕ). meant name (option_copied c.args.arguments)) c.in-set_lines.is in
+    subst (λ (means : Option Meaning). IsReadAs meaning_of means c.set_lines.result) (sym by_row) c.set_lines.ensures.means

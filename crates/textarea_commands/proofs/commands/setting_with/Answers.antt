@@ -1,9 +1,9 @@
-use Rattle.std.proofs.Common.{rules, Some, ap, sym, inl, inr, refl, ◌∙◌, ◌++◌}
-use Rattle.textarea_commands.specs.Commands.{acting_commands, setting_commands, lone_commands, plain_meant, setting_meant, Plain}
+use Rattle.std.proofs.Common.{rules, Some, ap, sym, inl, inr, refl, ◌*◌, ◌++◌}
+use Rattle.textarea_commands.specs.Commands.{setting_commands, lone_commands, setting_meant, Plain, SetNow, line_numbers}
 use Rattle.textarea_commands.specs.Script.{meaning_of}
 use Rattle.textarea_calls.specs.declared.call.Call.TheVariants as call
 use Rattle.textarea_commands.specs.declared.commands.Content.TheVariants as content
-use Rattle.textarea_commands.proofs.Tables.{IsOther, MeansNothing, meant_by-behind, meant_by-none, meant-read}
+use Rattle.textarea_commands.proofs.Tables.{MeansNothing, meant_by-none, meant-read, meant-unread}
 use Rattle.textarea_commands.proofs.commands.setting_with.Goals as goal
 use Rattle.textarea_commands.proofs.commands.setting_with.Goals.{in-set_tab_length+in_ok-byte_number-in-set_tab_length, in-set_hard_tab_indent+in_ok-truth-in-set_hard_tab_indent, in-set_max_histories+in_ok-number-in-set_max_histories, in-set_undo_coalescing+in_ok-truth-in-set_undo_coalescing, in-set_wrap_mode+in_ok-mode_named-in-set_wrap_mode, in-set_mask_char+in_ok-one_character-in-set_mask_char, in-line_numbers+in_ok-truth-in-line_numbers, in-now+in_ok-number-in-now}
 
@@ -26,3 +26,35 @@ returns-clause-means c =
       | in-line_numbers+in_ok-truth-in-line_numbers w ↦ search rules
       | in-now+in_ok-number-in-now w ↦ search rules
     ]
+
+pub returns-in_err-byte_number-in-set_tab_length-clause-means : goal.returns-in_err-byte_number-in-set_tab_length-clause-means
+unfolding setting_meant
+returns-in_err-byte_number-in-set_tab_length-clause-means c = meant-unread setting_meant (λ value. Plain (call.SetTabLength value)) _ _ _ _ _ c.from_residual.ensures c.in-set_tab_length.is refl c.in_err-byte_number-in-set_tab_length.ensures
+
+pub returns-in_err-truth-in-set_hard_tab_indent-clause-means : goal.returns-in_err-truth-in-set_hard_tab_indent-clause-means
+unfolding setting_meant
+returns-in_err-truth-in-set_hard_tab_indent-clause-means c = meant-unread setting_meant (λ value. Plain (call.SetHardTabIndent value)) _ _ _ _ _ c.from_residual-in_err-truth-in-set_hard_tab_indent.ensures c.in-set_hard_tab_indent.is refl c.in_err-truth-in-set_hard_tab_indent.ensures
+
+pub returns-in_err-number-in-set_max_histories-clause-means : goal.returns-in_err-number-in-set_max_histories-clause-means
+unfolding setting_meant
+returns-in_err-number-in-set_max_histories-clause-means c = meant-unread setting_meant (λ value. Plain (call.SetMaxHistories value)) _ _ _ _ _ c.from_residual-in_err-number-in-set_max_histories.ensures c.in-set_max_histories.is refl c.in_err-number-in-set_max_histories.ensures
+
+pub returns-in_err-truth-in-set_undo_coalescing-clause-means : goal.returns-in_err-truth-in-set_undo_coalescing-clause-means
+unfolding setting_meant
+returns-in_err-truth-in-set_undo_coalescing-clause-means c = meant-unread setting_meant (λ value. Plain (call.SetUndoCoalescing value)) _ _ _ _ _ c.from_residual-in_err-truth-in-set_undo_coalescing.ensures c.in-set_undo_coalescing.is refl c.in_err-truth-in-set_undo_coalescing.ensures
+
+pub returns-in_err-mode_named-in-set_wrap_mode-clause-means : goal.returns-in_err-mode_named-in-set_wrap_mode-clause-means
+unfolding setting_meant
+returns-in_err-mode_named-in-set_wrap_mode-clause-means c = meant-unread setting_meant (λ value. Plain (call.SetWrapMode value)) _ _ _ _ _ c.from_residual-in_err-mode_named-in-set_wrap_mode.ensures c.in-set_wrap_mode.is refl c.in_err-mode_named-in-set_wrap_mode.ensures
+
+pub returns-in_err-one_character-in-set_mask_char-clause-means : goal.returns-in_err-one_character-in-set_mask_char-clause-means
+unfolding setting_meant
+returns-in_err-one_character-in-set_mask_char-clause-means c = meant-unread setting_meant (λ value. Plain (call.SetMaskChar value)) _ _ _ _ _ c.from_residual-in_err-one_character-in-set_mask_char.ensures c.in-set_mask_char.is refl c.in_err-one_character-in-set_mask_char.ensures
+
+pub returns-in_err-truth-in-line_numbers-clause-means : goal.returns-in_err-truth-in-line_numbers-clause-means
+unfolding setting_meant
+returns-in_err-truth-in-line_numbers-clause-means c = meant-unread setting_meant (λ shown. Plain (line_numbers shown)) _ _ _ _ _ c.from_residual-in_err-truth-in-line_numbers.ensures c.in-line_numbers.is refl c.in_err-truth-in-line_numbers.ensures
+
+pub returns-in_err-number-in-now-clause-means : goal.returns-in_err-number-in-now-clause-means
+unfolding setting_meant
+returns-in_err-number-in-now-clause-means c = meant-unread setting_meant (λ millis. SetNow (millis * 1_000_000)) _ _ _ _ _ c.from_residual-in_err-number-in-now.ensures c.in-now.is refl c.in_err-number-in-now.ensures

@@ -1,6 +1,8 @@
-use Rattle.std.proofs.Common.{◌-◌, drop, refl, arith}
-use Rattle.std.proofs.lemmas.List.{length-take}
-use Rattle.textarea_highlight.proofs.CutLemmas.{piece_empty}
+use Rattle.std.proofs.Common.{◌-◌, [], ◌∷◌, map, drop, refl, ap, ◌∙◌, arith}
+use Rattle.std.proofs.lemmas.List.{length-take, map-append}
+use Rattle.textarea_screen.specs.Text.{shown_span}
+use Rattle.textarea_screen.specs.declared.screen.text.Span.{Span}
+use Rattle.textarea_highlight.proofs.CutLemmas.{piece_added, piece_empty}
 use Rattle.textarea_highlight.proofs.highlight.cut.cut_to.Goals as goal
 
 pub returns-in_ok-push-clause-bound : goal.returns-in_ok-push-clause-bound
@@ -9,3 +11,10 @@ returns-in_ok-push-clause-bound c =
 
 pub returns-else-from-to-clause-shown : goal.returns-else-from-to-clause-shown
 returns-else-from-to-clause-shown c = rw (piece_empty c.args.row.now c.args.from c.args.to (omega arith)) refl
+
+pub returns-in_ok-push-clause-added : goal.returns-in_ok-push-clause-added
+returns-in_ok-push-clause-added c =
+    let span : Span = record { content = c.in_ok-content.content; style = c.style-style.result } in
+    piece_added c.args.row.now c.args.display.now c.args.styles.now c.args.from c.args.to c.range.result.now (shown_span span) (map shown_span c.args.spans.now.items) (map shown_span c.push.new.self.items)
+    c.if-from-to.true c.range.ensures.value
+    c.in_ok-content.ensures.text c.in_ok-content.ensures.borrowed c.style-style.ensures (ap (map shown_span) c.in_ok-push.ensures.items ∙ map-append shown_span c.args.spans.now.items (span ∷ []))

@@ -1,10 +1,37 @@
 use Rattle.std.proofs.Math.Bool.{and-true}
-use Rattle.std.proofs.Common.{◌≡◌, ◌+◌, cond, ◌&&◌, ap, ◌∙◌, arith}
+use Rattle.std.proofs.Common.{◌≡◌, ◌+◌, cond, ◌&&◌, ap, ◌∙◌, arith, rules}
+use Rattle.std.proofs.lemmas.Bool.{cond-false}
+use Rattle.textarea_screen.specs.Buffer.{KeepsOutside}
 use Rattle.textarea_screen.specs.Cell.{with_symbol}
-use Rattle.textarea_screen.specs.Rect.{contains}
-use Rattle.textarea_screen.proofs.ChangeLemmas.{Changes-inside}
-use Rattle.textarea_screen.proofs.BufferLemmas.{is_before_row}
+use Rattle.textarea_screen.specs.Rect.{contains, is_in_row}
+use Rattle.textarea_screen.proofs.ChangeLemmas.{Changes-inside, Changes-more, Changes-none, KeepsOutside-from_changes, KeepsOutside-then, KeepsOutside-wider}
+use Rattle.textarea_screen.proofs.BufferLemmas.{is_before_row, is_before_row-first, is_before_row-apart, is_before_row-next}
+use Rattle.textarea_paint.proofs.BlockLemmas.{common-outside, is_before_row-outside}
 use Rattle.textarea_paint.proofs.paint.block.draw_border.Goals as goal
+
+pub loop-y-init : goal.loop-y-init
+loop-y-init c =
+    let area = c.intersection-area.result in
+    Changes-none _ _ (λ x y cell. ap (λ test. cond test (with_symbol c.args.text.now c.args.style cell) cell) (is_before_row-first area x y))
+
+pub loop-y-preserved : goal.loop-y-preserved
+loop-y-preserved c =
+    let area = c.intersection-area.result in
+    let row = c.loop-y.y in
+    Changes-more (with_symbol c.args.text.now c.args.style) (is_before_row area row) (is_in_row area row) (is_before_row area (row + 1)) c.loop-y.invariant c.in_ok-draw_border_row.ensures.ok
+    (is_before_row-apart area row) (λ x y. is_before_row-next area row x y c.loop-y.auto.y c.loop-y-test.true)
+
+pub returns-in_err-draw_border_row-clause-err : goal.returns-in_err-draw_border_row-clause-err
+returns-in_err-draw_border_row-clause-err c =
+    let area = c.intersection-area.result in
+    let test = contains c.args.area in
+    let outside = common-outside c.args.area c.area.result area c.intersection-area.ensures in
+    let before : KeepsOutside test c.args.buffer.now c.loop-y.buffer =
+    KeepsOutside-from_changes test c.loop-y.invariant
+    (λ x y cell out. cond-false (is_before_row area c.loop-y.y x y) _ _ (is_before_row-outside area c.loop-y.y x y (omega (arith, c.loop-y-test.true)) (outside x y out))) in
+    let here : KeepsOutside test c.args.buffer.now c.draw_border_row.new.buffer =
+    KeepsOutside-then before (KeepsOutside-wider test c.in_err-draw_border_row.ensures.err outside) in
+    search rules
 
 pub returns-after-loop-y-clause-ok : goal.returns-after-loop-y-clause-ok
 returns-after-loop-y-clause-ok c =

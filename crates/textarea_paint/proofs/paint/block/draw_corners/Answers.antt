@@ -1,9 +1,9 @@
-use Rattle.std.proofs.Common.{◌+◌, ◌-◌, ◌&&◌, refl, ap₂, arith}
+use Rattle.std.proofs.Common.{◌+◌, ◌-◌, ◌&&◌, refl, ap₂}
 use lib.Utf8.{encode}
 use Rattle.std.specs.Prelude.{encode_utf8}
 use Rattle.std.proofs.lemmas.Result.{on_ok_weaker}
 use Rattle.textarea_paint.specs.Block.{on_left, on_top, on_right, on_bottom, on_both}
-use Rattle.textarea_paint.proofs.BlockLemmas.{Changes-begun, Changes-border, contains-cell}
+use Rattle.textarea_paint.proofs.BlockLemmas.{among_first, among_last, Changes-begun, Changes-border, contains-cell}
 use Rattle.textarea_paint.proofs.paint.block.draw_corners.Goals as goal
 
 pub returns-clause-ok : goal.returns-clause-ok
@@ -16,18 +16,22 @@ returns-clause-ok c =
     let bottom = c.contains-has_bottom.ensures in
     let at_right = area.x + area.width - 1 in
     let at_bottom = area.y + area.height - 1 in
+    let in_left = among_first area.x area.width c.requires.columns in
+    let in_right = among_last area.x area.width c.requires.columns in
+    let in_top = among_first area.y area.height c.requires.rows in
+    let in_bottom = among_last area.y area.height c.requires.rows in
     let bottom_right =
     Changes-border area c.new.result _ _ (on_both (on_right area) (on_bottom area)) (encode_utf8 0x2518) c.args.style (Changes-begun c.args.buffer.now area) c.in_ok-draw_border.ensures.ok
     (ap₂ (λ a b. a && b) right bottom) refl
-    (contains-cell area c.new.result at_right at_bottom (omega arith) (omega arith) (omega arith) (omega arith) (omega arith) (omega arith) (omega arith) (omega arith)) in
+    (contains-cell area c.new.result at_right at_bottom c.new.ensures.x c.new.ensures.width c.new.ensures.y c.new.ensures.height in_right in_bottom) in
     let top_right =
     Changes-border area c.new-2.result _ _ (on_both (on_right area) (on_top area)) (encode_utf8 0x2510) c.args.style bottom_right c.in_ok-draw_border-2.ensures.ok (ap₂ (λ a b. a && b) right top) refl
-    (contains-cell area c.new-2.result at_right area.y (omega arith) (omega arith) (omega arith) (omega arith) (omega arith) (omega arith) (omega arith) (omega arith)) in
+    (contains-cell area c.new-2.result at_right area.y c.new-2.ensures.x c.new-2.ensures.width c.new-2.ensures.y c.new-2.ensures.height in_right in_top) in
     let bottom_left =
     Changes-border area c.new-3.result _ _ (on_both (on_left area) (on_bottom area)) (encode_utf8 0x2514) c.args.style top_right c.in_ok-draw_border-3.ensures.ok (ap₂ (λ a b. a && b) left bottom) refl
-    (contains-cell area c.new-3.result area.x at_bottom (omega arith) (omega arith) (omega arith) (omega arith) (omega arith) (omega arith) (omega arith) (omega arith)) in
+    (contains-cell area c.new-3.result area.x at_bottom c.new-3.ensures.x c.new-3.ensures.width c.new-3.ensures.y c.new-3.ensures.height in_left in_bottom) in
     on_ok_weaker c.draw_border-4.result
     (λ last.
     Changes-border area c.new-4.result _ _ (on_both (on_left area) (on_top area)) (encode_utf8 0x250C) c.args.style bottom_left last (ap₂ (λ a b. a && b) left top) refl
-    (contains-cell area c.new-4.result area.x area.y (omega arith) (omega arith) (omega arith) (omega arith) (omega arith) (omega arith) (omega arith) (omega arith)))
+    (contains-cell area c.new-4.result area.x area.y c.new-4.ensures.x c.new-4.ensures.width c.new-4.ensures.y c.new-4.ensures.height in_left in_top))
     c.draw_border-4.ensures.ok

@@ -1,10 +1,10 @@
-use Rattle.std.proofs.Common.{◌+◌, ◌-◌, refl, arith}
+use Rattle.std.proofs.Common.{◌+◌, ◌-◌, refl}
 use lib.Utf8.{encode}
 use Rattle.std.specs.Prelude.{encode_utf8}
 use Rattle.std.proofs.lemmas.Result.{on_ok_weaker}
 use Rattle.textarea_screen.specs.Block.{has_border, left_side, top_side, right_side, bottom_side}
 use Rattle.textarea_paint.specs.Block.{on_left, on_top, on_right, on_bottom}
-use Rattle.textarea_paint.proofs.BlockLemmas.{Changes-begun, Changes-border, contains-column, contains-row}
+use Rattle.textarea_paint.proofs.BlockLemmas.{among_first, among_last, Changes-begun, Changes-border, contains-column, contains-row}
 use Rattle.textarea_paint.proofs.paint.block.draw_sides.Goals as goal
 
 pub returns-clause-ok : goal.returns-clause-ok
@@ -15,15 +15,15 @@ returns-clause-ok c =
     let left =
     Changes-border area c.new.result _ (has_border borders left_side) (on_left area) (encode_utf8 0x2502) c.args.style (Changes-begun c.args.buffer.now area) c.in_ok-draw_border.ensures.ok
     c.contains-has_left.ensures refl
-    (contains-column area c.new.result area.x (omega arith) (omega arith) (omega arith) (omega arith) (omega arith) (omega arith)) in
+    (contains-column area c.new.result area.x c.new.ensures.x c.new.ensures.width c.new.ensures.y c.new.ensures.height (among_first area.x area.width c.requires.columns)) in
     let top =
     Changes-border area c.new-2.result _ (has_border borders top_side) (on_top area) (encode_utf8 0x2500) c.args.style left c.in_ok-draw_border-2.ensures.ok c.contains-has_top.ensures refl
-    (contains-row area c.new-2.result area.y (omega arith) (omega arith) (omega arith) (omega arith) (omega arith) (omega arith)) in
+    (contains-row area c.new-2.result area.y c.new-2.ensures.x c.new-2.ensures.width c.new-2.ensures.y c.new-2.ensures.height (among_first area.y area.height c.requires.rows)) in
     let right =
     Changes-border area c.new-3.result _ (has_border borders right_side) (on_right area) (encode_utf8 0x2502) c.args.style top c.in_ok-draw_border-3.ensures.ok c.contains-has_right.ensures refl
-    (contains-column area c.new-3.result (area.x + area.width - 1) (omega arith) (omega arith) (omega arith) (omega arith) (omega arith) (omega arith)) in
+    (contains-column area c.new-3.result (area.x + area.width - 1) c.new-3.ensures.x c.new-3.ensures.width c.new-3.ensures.y c.new-3.ensures.height (among_last area.x area.width c.requires.columns)) in
     on_ok_weaker c.draw_border-4.result
     (λ last.
     Changes-border area c.new-4.result _ (has_border borders bottom_side) (on_bottom area) (encode_utf8 0x2500) c.args.style right last c.contains-has_bottom.ensures refl
-    (contains-row area c.new-4.result (area.y + area.height - 1) (omega arith) (omega arith) (omega arith) (omega arith) (omega arith) (omega arith)))
+    (contains-row area c.new-4.result (area.y + area.height - 1) c.new-4.ensures.x c.new-4.ensures.width c.new-4.ensures.y c.new-4.ensures.height (among_last area.y area.height c.requires.rows)))
     c.draw_border-4.ensures.ok

@@ -1,0 +1,16 @@
+use Rattle.std.proofs.Common.{length, get_or, ap, ◌∙◌, arith}
+use Rattle.textarea_screen.specs.Text.{shown_content}
+use Rattle.textarea_screen.specs.declared.screen.text.Span.{Span}
+use Rattle.textarea_scene.proofs.Placeholder.{lent_from, lent_more}
+use Rattle.textarea_scene.proofs.scene.placeholder.behind_blank.Goals as goal
+
+pub loop-span-preserved : goal.loop-span-preserved
+loop-span-preserved c =
+    let i = c.loop-span.span-index in
+    let item = c.span-item.result in
+    let lent = c.styled-in-loop-span.result in
+    let all = c.deref-span-items.ensures.value in
+    let styled = c.styled-in-loop-span.ensures in
+    let same = lent_from item lent c.as_str.result.now (ap (λ (span : Span). shown_content span.content) styled) (ap (λ (span : Span). span.style) styled) c.as_str.ensures in
+    lent_more c.args.line.now.spans.items c.loop-span.spans.items c.push-in-loop-span.new.self.items i item lent c.args.style (omega (arith, ap length all)) c.loop-span.invariant
+    (c.span-item.is ∙ ap (λ items. get_or items i item) all) same c.in_ok-push-2.ensures.items
