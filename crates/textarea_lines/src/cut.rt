@@ -1,5 +1,5 @@
 //! Rows of some lines, cut one after the other.
-ghost use Rattle.std.specs.Prelude.{◌≡◌, ◌+◌, ◌-◌, ◌^◌, ◌<◌, ◌≤◌, ◌++◌, List, ℕ, [], encode_utf8_all, get_or, length, vec_capacity, vec_len, IfOk, IfSome, None, OnOk, Some};
+ghost use Rattle.std.specs.Prelude.{◌≡◌, ◌≢◌, ◌+◌, ◌-◌, ◌^◌, ◌<◌, ◌≤◌, ◌++◌, List, ℕ, [], encode_utf8_all, get_or, length, vec_capacity, vec_len, IfNone, IfOk, IfSome, None, OnOk, Some};
 ghost use Rattle.textarea_text.specs.Text.{lines_of};
 ghost use Rattle.textarea_map.specs.Layout.{AreRowsOf, ticks_behind, ticks_of};
 ghost use Rattle.textarea_map.specs.Blocks.{all_rows};
@@ -56,6 +56,7 @@ pub(crate) fn take_if_cut(kept: &mut Option<CutAnew>, wrapping: Wrapping) -> Opt
     ensures none { kept.new ≡ None }
     ensures taken { IfSome result (λ cut. kept.old ≡ Some cut) }
     ensures wrapping { IfSome result (λ cut. cut.map.wrapping ≡ wrapping) }
+    ensures other { IfNone result (IfSome kept.old (λ cut. cut.map.wrapping ≢ wrapping)) }
 {
     let cut = kept.take()?;
     if cut.map.wrapping() != wrapping {
