@@ -1,7 +1,7 @@
 //! Draws frames of hostile texts, in many areas and settings and behind each call, and judges them.
 //!
-//! Standard input has blocks of lines, with an empty line between each two. The first block is a script: the calls that are made
-//! on each text, with a frame behind each. Each further block is a text: its first line is a name and, behind a space, the columns
+//! Standard input has blocks of lines, with an empty line between each two. The first block has the calls that are made on each
+//! text, with a frame behind each, as lines of a script or as words (`textarea_words`). Each further block is a text: its first line is a name and, behind a space, the columns
 //! of the widest cluster that isn't a tab; the lines behind it are a script that makes the text. A line is printed for each text:
 //! how many frames were drawn and calls made, how many carets were shown, had to be shown and were hit back, and what was wrong.
 //!
@@ -32,22 +32,22 @@ fn main(rt: HostRuntime) -> ExitCode {
     if rt.stdin().read_to_string(&mut given).is_err() {
         return ExitCode::from(STREAM_FAILED);
     }
-    let (script, texts) = given.split_once("\n\n").unwrap_or(("", ""));
+    let (asked, texts) = given.split_once("\n\n").unwrap_or(("", ""));
     let mut status = 0;
     for text in texts.split("\n\n") {
-        status = status.max(tell_text(&rt, script, text));
+        status = status.max(tell_text(&rt, asked, text));
     }
     ExitCode::from(status)
 }
 
 // Judges a text, and tells what was counted.
-fn tell_text(rt: &(impl Print + AllocGlobal), script: &str, text: &str) -> u8 {
+fn tell_text(rt: &(impl Print + AllocGlobal), asked: &str, text: &str) -> u8 {
     let (head, lines) = text.split_once('\n').unwrap_or((text, ""));
     let (name, widest) = head.split_once(' ').unwrap_or((head, ""));
     let Ok(widest) = widest.parse() else {
         return NOT_JUDGED;
     };
-    let Ok(tally) = tour(rt.alloc(), lines, widest, script) else {
+    let Ok(tally) = tour(rt.alloc(), lines, widest, asked) else {
         return NOT_JUDGED;
     };
     if println!(rt; "{name}: {tally}").is_err() {

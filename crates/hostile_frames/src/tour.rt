@@ -2,7 +2,7 @@
 ghost use Rattle.std.specs.Prelude.{All};
 ghost use Rattle.textarea_calls.specs.Made.{CanBeMade};
 
-use crate::asked::{Lent, all_calls};
+use crate::asked::{calls_of, lent, script_of};
 use crate::caret::has_tab;
 use crate::judge::Judge;
 use crate::setting::Setting;
@@ -11,6 +11,7 @@ use std::alloc::{AllocError, AllocFailed, Global};
 use textarea_calls::Call;
 use textarea_commands::commands::{Command, ReadError, calls, read};
 use textarea_run::run::run;
+use textarea_words::words::Lent;
 use tui_textarea::{Buffer, CursorMove, Rect, TextArea};
 
 /// The frames in each area, the cursor at another place in each.
@@ -47,33 +48,34 @@ impl From<ReadError> for NotJudged {
 }
 
 /// Judges the text that the lines of a script make, whose widest cluster that isn't a tab has so many columns, and makes the
-/// calls of another script on it.
-pub fn tour(alloc: Global, lines: &str, widest: usize, script: &str) -> Result<Tally, NotJudged> {
+/// calls of other lines on it, each a line of a script or words.
+pub fn tour(alloc: Global, lines: &str, widest: usize, asked: &str) -> Result<Tally, NotJudged> {
     let mut judge = Judge::new(alloc, widest)?;
-    judge_script(alloc, lines, script, &mut judge)?;
+    judge_lines(alloc, lines, asked, &mut judge)?;
     Ok(judge.tally())
 }
 
-// Judges a text in all settings, behind the calls of a script too.
-fn judge_script(
+// Judges a text in all settings, behind the calls of lines too.
+fn judge_lines(
     alloc: Global,
     lines: &str,
-    script: &str,
+    asked: &str,
     judge: &mut Judge,
 ) -> Result<(), NotJudged> {
+    let lent = lent(alloc)?;
+    let script = script_of(alloc, asked, &lent)?;
     let commands = read(alloc, script.as_bytes())?;
-    judge_commands(alloc, lines, commands.as_slice(), judge)
+    judge_commands(alloc, lines, (asked, commands.as_slice(), &lent), judge)
 }
 
-// Judges a text in all settings, behind the calls of these commands and behind those to which something is lent.
+// Judges a text in all settings, behind the calls of lines too, where the commands are those of the lines that are no words.
 fn judge_commands(
     alloc: Global,
     lines: &str,
-    commands: &[Command],
+    (asked, commands, lent): (&str, &[Command], &Lent),
     judge: &mut Judge,
 ) -> Result<(), NotJudged> {
-    let lent = Lent::new(alloc)?;
-    let asked = all_calls(alloc, commands, &lent)?;
+    let asked = calls_of(alloc, asked, commands, lent)?;
     judge_settings(alloc, lines, asked.as_slice(), judge)
 }
 

@@ -4,8 +4,9 @@ use crate::expand::{counted, expanded, repeated};
 use crate::script::run_script;
 use crate::step::{Step, make};
 use crate::tally::Tally;
-use crate::words::{Lent, script_of, step_of};
+use crate::words::{script_of, step_of};
 use std::alloc::{AllocError, Global};
+use textarea_words::words::Lent;
 use tui_textarea::{Buffer, Rect, TextArea};
 
 /// The columns of the buffer that the steps draw into.

@@ -6,12 +6,13 @@ use crate::compare::{are_alike_outside, compare, compare_shown};
 use crate::end::{Difference, End, Stop, same};
 use crate::script::run_script;
 use crate::step::{Step, make};
-use crate::words::{Lent, script_of, step_of};
+use crate::words::{script_of, step_of};
 use std::alloc::{AllocError, Global};
 use textarea_calls::{Answer, Call};
 use textarea_commands::commands::{Command, calls, read};
 use textarea_run::RunEnd;
 use textarea_run::run::run;
+use textarea_words::words::Lent;
 use tui_textarea::{Buffer, Rect, TextArea};
 
 /// The area of the buffer that the calls of a row draw into.

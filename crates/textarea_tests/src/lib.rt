@@ -1,36 +1,28 @@
-//! Worked cases of a text area: transcripts of scripts, streams that fail, keys with shortcuts and without, and the program of
-//! README.
+//! What worked cases can't hold: streams that fail, words behind the program's name, bytes that are no text, text areas of given lines
+//! and copies of them, each key, the program of README.
 #![tactic(auto)]
 
 #[cfg(test)]
-mod drawing;
+mod broken;
 #[cfg(test)]
-mod edits;
+mod calls;
 #[cfg(test)]
-mod heights;
-#[cfg(test)]
-mod hostile;
+mod given;
 #[cfg(test)]
 mod inputs;
 #[cfg(test)]
-mod keys;
-#[cfg(test)]
-mod moves;
-#[cfg(test)]
-mod over;
+mod many_lines;
 #[cfg(test)]
 mod quick_start;
 #[cfg(test)]
-mod ranges;
-#[cfg(test)]
 mod reading;
 #[cfg(test)]
-mod scrolling;
-#[cfg(test)]
-mod searches;
-#[cfg(test)]
-mod selection;
+mod served;
 #[cfg(test)]
 mod streams;
 #[cfg(test)]
-mod transcript;
+mod texts;
+#[cfg(test)]
+mod trial;
+#[cfg(test)]
+mod words;

@@ -1,44 +1,48 @@
 // The program of README, call by call, with what its comments say.
+use crate::trial::{Trial, succeeds};
 use std::alloc::AllocError;
-use std::process::Abort;
 use std::test::Fail;
 use tui_textarea::{CursorMove, Input, Key, TextArea, WrapMode};
 
 #[test]
 fn quick_start(rt: HostRuntime) -> Result<(), Fail> {
-    let mut area = TextArea::try_default(rt.alloc())?;
-    make_calls(&rt, &mut area)
-}
-
-fn make_calls(rt: &impl Abort, area: &mut TextArea<'_>) -> Result<(), Fail> {
-    edit(rt, area)?;
-    measure_and_paste(rt, area)?;
+    assert!(rt; succeeds(rt.alloc(), Trial::QuickStart)?);
     Ok(())
 }
 
-fn edit(rt: &impl Abort, area: &mut TextArea<'_>) -> Result<(), AllocError> {
+/// Whether the calls answer and leave what is said of them.
+pub fn is_as_told(area: &mut TextArea<'_>) -> Result<bool, AllocError> {
     area.insert_str("one two\nthree")?;
-    assert!(rt; area.delete_word()?);
-    assert!(rt; area.yank_text()?.as_str() == "three");
-    assert!(rt; area.undo()?);
-    assert!(rt; area.cursor() == (1, 5));
+    let is_edited = is_removed_and_back(area)? && is_cut(area)?;
+    Ok(is_edited && is_measured_and_pasted(area)?)
+}
+
+fn is_removed_and_back(area: &mut TextArea<'_>) -> Result<bool, AllocError> {
+    let is_removed = area.delete_word()? && is_yanked(area, "three")?;
+    let is_back = area.undo()? && area.cursor() == (1, 5);
+    Ok(is_removed && is_back)
+}
+
+fn is_cut(area: &mut TextArea<'_>) -> Result<bool, AllocError> {
     area.move_cursor(CursorMove::WordBack);
     area.start_selection();
     area.move_cursor(CursorMove::End);
-    assert!(rt; area.cut()?);
-    assert!(rt; area.yank_text()?.as_str() == "three");
-    Ok(())
+    Ok(area.cut()? && is_yanked(area, "three")?)
 }
 
-fn measure_and_paste(rt: &impl Abort, area: &mut TextArea<'_>) -> Result<(), AllocError> {
+fn is_yanked(area: &TextArea<'_>, wanted: &str) -> Result<bool, AllocError> {
+    let yanked = area.yank_text()?;
+    Ok(yanked.as_str() == wanted)
+}
+
+fn is_measured_and_pasted(area: &mut TextArea<'_>) -> Result<bool, AllocError> {
     area.set_wrap_mode(WrapMode::Word)?;
-    assert!(rt; area.measure(5)?.content_rows == 3);
+    let is_measured = area.measure(5)?.content_rows == 3;
     let ctrl_y = Input {
         key: Key::Char('y'),
         ctrl: true,
         ..Input::default()
     };
-    assert!(rt; area.input(ctrl_y)?);
-    assert!(rt; area.cursor() == (1, 5));
-    Ok(())
+    let is_pasted = area.input(ctrl_y)? && area.cursor() == (1, 5);
+    Ok(is_measured && is_pasted)
 }

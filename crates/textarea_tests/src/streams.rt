@@ -1,9 +1,10 @@
-// `serve` over streams that fail.
-use std::alloc::Global;
-use std::io;
-use std::io::{ErrorKind, Read, Write};
+// Scripts and sessions over streams that fail.
+use crate::broken::{BrokenReader, BrokenWriter};
+use crate::texts::{strings, text_of};
+use std::process::Abort;
 use std::test::Fail;
-use textarea_script::serve::{DONE, LINE_NOT_READ, STREAM_FAILED, serve};
+use textarea_script::serve::{DONE, LINE_NOT_READ, STREAM_FAILED};
+use textarea_session::serve::{NOT_READ, serve_words};
 
 const SCRIPT: &str = "insert_char a
 insert_newline
@@ -18,7 +19,7 @@ render 0 0 3 2
 undo
 ";
 
-const PRINTED: &str = "1 ok
+const SCRIPT_PRINTED: &str = "1 ok
 2 ok
 3 ok
 4 true
@@ -38,151 +39,138 @@ screen 2
 |   |
 ";
 
-// Gives its text in pieces, each behind an interruption where it is interrupted, until its reads are used up; then each read
-// fails.
-#[derive(Drop)]
-struct BrokenReader<'a> {
-    text: &'a [u8],
-    piece: usize,
-    reads: usize,
-    is_interrupted: bool,
-    is_next_interrupted: bool,
-    has_failed: bool,
-}
+const KEYS: &str = "i\u{72ac}b\n\u{1b}kA!\u{1b}0vl";
 
-impl<'a> BrokenReader<'a> {
-    fn new(text: &'a str, piece: usize, is_interrupted: bool, reads: usize) -> BrokenReader<'a> {
-        BrokenReader {
-            text: text.as_bytes(),
-            piece,
-            reads,
-            is_interrupted,
-            is_next_interrupted: is_interrupted,
-            has_failed: false,
-        }
-    }
-}
+const KEYS_PRINTED: &str = "mode visual
+taken 12
+end
+lines 2
+|\u{72ac}b!
+|
+cursor 0 1
+selection 0 0 0 1
+";
 
-impl Read for BrokenReader<'_> {
-    fn read(&mut self, buf: &mut [u8]) -> io::Result<usize> {
-        if self.is_next_interrupted {
-            self.is_next_interrupted = false;
-            return Err(io::Error::from(ErrorKind::Interrupted));
-        }
-        self.is_next_interrupted = self.is_interrupted;
-        let Some(left) = self.reads.checked_sub(1) else {
-            self.has_failed = true;
-            return Err(io::Error::from(ErrorKind::BrokenPipe));
-        };
-        self.reads = left;
-        let count = self.piece.min(self.text.len()).min(buf.len());
-        let (piece, rest) = self.text.split_at(count);
-        buf[..count].copy_from_slice(piece);
-        self.text = rest;
-        Ok(count)
-    }
-}
+// Words behind the program's name, what is read, and what is printed.
+type Row = (&'static [&'static str], &'static str, &'static str);
 
-// Takes a few bytes a write, until its writes are used up; then each write and flush fails.
-#[derive(Drop)]
-struct BrokenWriter {
-    page: Vec<u8>,
-    piece: usize,
-    writes: usize,
-}
-
-impl BrokenWriter {
-    fn new(alloc: Global, piece: usize, writes: usize) -> BrokenWriter {
-        BrokenWriter {
-            page: Vec::new(alloc),
-            piece,
-            writes,
-        }
-    }
-
-    fn text(&self) -> &[u8] {
-        self.page.as_slice()
-    }
-}
-
-impl Write for BrokenWriter {
-    fn write(&mut self, buf: &[u8]) -> io::Result<usize> {
-        let Some(left) = self.writes.checked_sub(1) else {
-            return Err(io::Error::from(ErrorKind::BrokenPipe));
-        };
-        self.writes = left;
-        let count = self.piece.min(buf.len());
-        self.page.extend_from_slice(&buf[..count])?;
-        Ok(count)
-    }
-
-    fn flush(&mut self) -> io::Result<()> {
-        match self.writes {
-            0 => Err(io::Error::from(ErrorKind::BrokenPipe)),
-            _ => Ok(()),
-        }
-    }
-}
+static ROWS: [Row; 2] = [
+    (&[], SCRIPT, SCRIPT_PRINTED),
+    (&["modal"], KEYS, KEYS_PRINTED),
+];
 
 // At each read in turn, and at none.
 #[test]
 fn readers_that_fail(rt: HostRuntime) -> Result<(), Fail> {
-    for (piece, is_interrupted) in [(1, false), (1, true), (7, false), (64, true)] {
-        for reads in 0..SCRIPT.len() + 2 {
-            let mut reader = BrokenReader::new(SCRIPT, piece, is_interrupted, reads);
-            let mut output = Vec::new(rt.alloc());
-            let mut errors = Vec::new(rt.alloc());
-            let status = serve(rt.alloc(), &mut reader, &mut output, &mut errors);
-            let printed = if reader.has_failed { "" } else { PRINTED };
-            assert!(rt;
-                status
-                    == if reader.has_failed {
-                        STREAM_FAILED
-                    } else {
-                        DONE
-                    }
-            );
-            assert!(rt; output.as_slice() == printed.as_bytes());
-            assert!(rt; errors.is_empty());
-            // As many reads as bytes, and one that tells the end.
-            assert!(rt; piece != 1 || reader.has_failed == (reads <= SCRIPT.len()));
-        }
+    for (words, given, printed) in &ROWS {
+        let words = strings(rt.alloc(), words)?;
+        read_in_pieces(&rt, words.as_slice(), given, printed);
     }
     Ok(())
+}
+
+fn read_in_pieces(rt: &(impl Abort + AllocGlobal), words: &[String], given: &str, printed: &str) {
+    for (piece, is_interrupted) in [(1, false), (1, true), (7, false), (64, true)] {
+        for reads in 0..given.len() + 2 {
+            let mut reader = BrokenReader::new(given, piece, is_interrupted, reads);
+            read_from(rt, words, &mut reader, printed);
+            // As many reads as bytes, and one that tells the end.
+            assert!(rt; piece != 1 || reader.has_failed() == (reads <= given.len()));
+        }
+    }
+}
+
+// Where a read fails nothing is printed.
+fn read_from(
+    rt: &(impl Abort + AllocGlobal),
+    words: &[String],
+    reader: &mut BrokenReader<'_>,
+    printed: &str,
+) {
+    let mut output = Vec::new(rt.alloc());
+    let mut errors = Vec::new(rt.alloc());
+    let status = serve_words(rt.alloc(), words, reader, &mut output, &mut errors);
+    let found = (
+        status,
+        text_of(output.as_slice()),
+        text_of(errors.as_slice()),
+    );
+    let wanted = match reader.has_failed() {
+        true => (STREAM_FAILED, "", ""),
+        false => (DONE, printed, ""),
+    };
+    assert_eq!(rt; found, wanted);
 }
 
 #[test]
 fn writers_that_fail(rt: HostRuntime) -> Result<(), Fail> {
-    for piece in [1, 7, 64] {
-        let all = PRINTED.len().div_ceil(piece);
-        for writes in 0..all + 2 {
-            let mut output = BrokenWriter::new(rt.alloc(), piece, writes);
-            let mut errors = Vec::new(rt.alloc());
-            let status = serve(rt.alloc(), &mut SCRIPT.as_bytes(), &mut output, &mut errors);
-            // One write more than the text takes is left for the flush.
-            assert!(rt; status == if writes > all { DONE } else { STREAM_FAILED });
-            assert!(rt; PRINTED.as_bytes().starts_with(output.text()));
-            assert!(rt; output.text().len() == PRINTED.len().min(writes * piece));
-            assert!(rt; errors.is_empty());
-        }
+    for (words, given, printed) in &ROWS {
+        let words = strings(rt.alloc(), words)?;
+        write_in_pieces(&rt, words.as_slice(), given, printed);
     }
     Ok(())
 }
 
+fn write_in_pieces(rt: &(impl Abort + AllocGlobal), words: &[String], given: &str, printed: &str) {
+    for piece in [1, 7, 64] {
+        let all = printed.len().div_ceil(piece);
+        for writes in 0..all + 2 {
+            let mut output = BrokenWriter::new(rt.alloc(), piece, writes);
+            let status = write_to(rt, words, given, &mut output);
+            // One write more than the text takes is left for the flush.
+            assert!(rt; status == if writes > all { DONE } else { STREAM_FAILED });
+            assert!(rt; printed.as_bytes().starts_with(output.text()));
+            assert!(rt; output.text().len() == printed.len().min(writes * piece));
+        }
+    }
+}
+
+// The status; of errors nothing is told.
+fn write_to(
+    rt: &(impl Abort + AllocGlobal),
+    words: &[String],
+    given: &str,
+    output: &mut BrokenWriter,
+) -> u8 {
+    let mut errors = Vec::new(rt.alloc());
+    let status = serve_words(
+        rt.alloc(),
+        words,
+        &mut given.as_bytes(),
+        output,
+        &mut errors,
+    );
+    assert!(rt; errors.is_empty());
+    status
+}
+
+// Words, what is read, the status and what is told of errors.
+type Refused = (&'static [&'static str], &'static [u8], u8, &'static str);
+
+static REFUSED: [Refused; 2] = [
+    (&[], b"nothing", LINE_NOT_READ, "line 1: not read\n"),
+    (&["modal"], b"i\xff", NOT_READ, "not read\n"),
+];
+
 #[test]
 fn failing_errors_change_no_status(rt: HostRuntime) -> Result<(), Fail> {
-    for writes in 0..20 {
-        let mut output = Vec::new(rt.alloc());
-        let mut errors = BrokenWriter::new(rt.alloc(), 1, writes);
-        let status = serve(
-            rt.alloc(),
-            &mut b"nothing".as_slice(),
-            &mut output,
-            &mut errors,
-        );
-        assert!(rt; status == LINE_NOT_READ);
-        assert!(rt; output.is_empty());
-        assert!(rt; b"line 1: not read\n".starts_with(errors.text()));
+    for row in &REFUSED {
+        let words = strings(rt.alloc(), row.0)?;
+        refuse(&rt, words.as_slice(), row);
     }
     Ok(())
+}
+
+fn refuse(rt: &(impl Abort + AllocGlobal), words: &[String], row: &Refused) {
+    let (_, given, status, told) = *row;
+    for writes in 0..20 {
+        let mut reader = given;
+        let mut output = Vec::new(rt.alloc());
+        let mut errors = BrokenWriter::new(rt.alloc(), 1, writes);
+        let ended = serve_words(rt.alloc(), words, &mut reader, &mut output, &mut errors);
+        assert!(rt; ended == status);
+        assert!(rt; output.is_empty());
+        assert!(rt; told.as_bytes().starts_with(errors.text()));
+        assert!(rt; errors.text().len() == told.len().min(writes));
+    }
 }

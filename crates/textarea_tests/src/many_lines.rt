@@ -1,0 +1,57 @@
+// More lines than a height counts.
+use crate::trial::{Trial, succeeds};
+use std::alloc::{AllocError, Global};
+use std::test::Fail;
+use tui_textarea::{Buffer, Position, Rect, Scrolling, TextArea, TextAreaMeasure};
+
+#[test]
+fn many_lines(rt: HostRuntime) -> Result<(), Fail> {
+    assert!(rt; succeeds(rt.alloc(), Trial::ManyLines)?);
+    Ok(())
+}
+
+/// 70,000 lines.
+pub fn lines_of_x(alloc: Global) -> Result<Vec<String>, AllocError> {
+    let mut lines = Vec::new(alloc);
+    for _ in 0..70_000 {
+        lines.push(String::from_str(alloc, "x")?)?;
+    }
+    Ok(lines)
+}
+
+/// Many lines are selected, drawn and scrolled: whether all is where it must be.
+pub fn are_shown_and_scrolled(alloc: Global, area: &mut TextArea<'_>) -> Result<bool, AllocError> {
+    area.select_all();
+    draw(alloc, area)?;
+    Ok(are_shown(area)? && are_scrolled(area))
+}
+
+fn draw(alloc: Global, area: &mut TextArea<'_>) -> Result<(), AllocError> {
+    let mut buffer = Buffer::empty(alloc, Rect::new(0, 0, 10, 5))?;
+    area.render(Rect::new(0, 0, 10, 5), &mut buffer)
+}
+
+const HEIGHT: TextAreaMeasure = TextAreaMeasure {
+    content_rows: 65535,
+    preferred_rows: 65535,
+    min_rows: 1,
+    max_rows: 65535,
+};
+
+fn are_shown(area: &mut TextArea<'_>) -> Result<bool, AllocError> {
+    let is_at_end = area.cursor() == (69_999, 1)
+        && area.rendered_cursor_position() == Some(Position { x: 1, y: 4 })
+        && area.viewport().scroll_top() == (69_995, 0);
+    Ok(is_at_end && area.measure(10)? == HEIGHT)
+}
+
+// As far up as a scroll goes; the cursor goes with it, and so does the end of what is selected.
+fn are_scrolled(area: &mut TextArea<'_>) -> bool {
+    area.scroll(Scrolling::Delta {
+        rows: -32768,
+        cols: 0,
+    });
+    area.cursor() == (37_231, 1)
+        && area.selection_range() == Some(((0, 0), (37_231, 1)))
+        && area.viewport().scroll_top() == (37_227, 0)
+}

@@ -1,0 +1,224 @@
+//! What a text area and a buffer tell, beside what calls answer.
+use crate::end::Stop;
+use std::alloc::{AllocError, Global};
+use std::fmt;
+use textarea_calls::Answer;
+use textarea_calls::printing::Escaped;
+use textarea_words::styles::style_name;
+use tui_textarea::{AtomicRange, Buffer, Color, Rect, Style, TextArea, WrapMode};
+
+/// A style, by its name.
+#[derive(Clone, Copy)]
+pub struct Named(pub Style);
+
+impl fmt::Display for Named {
+    fn fmt<W: fmt::Write>(&self, f: &mut fmt::Formatter<W>) -> fmt::Result {
+        match style_name(self.0) {
+            Some(name) => write!(f, "{name}"),
+            None => write!(f, "{:?}", self.0),
+        }
+    }
+}
+
+/// Ranges, with a blank between each two.
+#[derive(Clone, Copy)]
+struct Ranges<'a>(&'a [AtomicRange]);
+
+impl fmt::Display for Ranges<'_> {
+    fn fmt<W: fmt::Write>(&self, f: &mut fmt::Formatter<W>) -> fmt::Result {
+        for (index, range) in self.0.iter().enumerate() {
+            if index != 0 {
+                write!(f, " ")?;
+            }
+            write!(f, "{}", Answer::Range(Some(*range)))?;
+        }
+        Ok(())
+    }
+}
+
+/// An answer as scripts print it, a style by its name.
+pub fn told_answer(alloc: Global, answer: &Answer) -> Result<String, AllocError> {
+    match answer {
+        Answer::Style(style) | Answer::StyleIfShown(Some(style)) => {
+            format!(in alloc; "{}", Named(*style))
+        }
+        Answer::StyleIfShown(None) => String::from_str(alloc, "none"),
+        _ => format!(in alloc; "{answer}"),
+    }
+}
+
+/// What is told where a line asks for what no call answers: what is read of a text area, or the styles of cells.
+pub fn told_of(
+    alloc: Global,
+    area: &TextArea<'_>,
+    buffer: &Buffer,
+    line: &str,
+) -> Result<Option<String>, Stop> {
+    match line {
+        "unprinted" => Ok(Some(unprinted(alloc, area)?)),
+        "atomic_ranges" => Ok(Some(told_ranges(alloc, area.atomic_ranges())?)),
+        "viewport" => Ok(Some(told_viewport(alloc, area)?)),
+        _ => match line.strip_prefix("styles ") {
+            Some(place) => Ok(Some(told_styles(alloc, buffer, place)?)),
+            None => Ok(None),
+        },
+    }
+}
+
+fn told_ranges(alloc: Global, ranges: &[AtomicRange]) -> Result<String, AllocError> {
+    if ranges.is_empty() {
+        return String::from_str(alloc, "none");
+    }
+    format!(in alloc; "{}", Ranges(ranges))
+}
+
+fn told_viewport(alloc: Global, area: &TextArea<'_>) -> Result<String, AllocError> {
+    let viewport = area.viewport();
+    let (top, left) = viewport.scroll_top();
+    let (row, column, width, height) = viewport.rect();
+    let (first, start, last, end) = viewport.position();
+    format!(in alloc; "{top} {left}; {row} {column} {width} {height}; {first} {start} {last} {end}")
+}
+
+// The styles of the cells of a part of the buffer, row after row, those that are alike counted.
+fn told_styles(alloc: Global, buffer: &Buffer, place: &str) -> Result<String, Stop> {
+    let Some(place) = area_of(place) else {
+        return Err(Stop::Unread);
+    };
+    let mut told = String::new(alloc);
+    let (mut count, mut last) = (0usize, Style::new());
+    for y in place.y..place.y + place.height {
+        for x in place.x..place.x + place.width {
+            let style = style_of(buffer, x, y);
+            if style != last && count != 0 {
+                write!(told, "{count} {}, ", Named(last))?;
+                count = 0;
+            }
+            count = count.saturating_add(1);
+            last = style;
+        }
+    }
+    write!(told, "{count} {}", Named(last))?;
+    Ok(told)
+}
+
+// The style of a cell, without the colours of the terminal's own.
+fn style_of(buffer: &Buffer, x: u16, y: u16) -> Style {
+    let Some(cell) = buffer.cell(x, y) else {
+        return Style::new();
+    };
+    let style = cell.style();
+    Style {
+        fg: own_color(style.fg),
+        bg: own_color(style.bg),
+        ..style
+    }
+}
+
+fn own_color(color: Option<Color>) -> Option<Color> {
+    match color {
+        Some(Color::Reset) => None,
+        _ => color,
+    }
+}
+
+fn area_of(text: &str) -> Option<Rect> {
+    let mut parts = text.split(' ');
+    let x = parts.next()?.parse().ok()?;
+    let y = parts.next()?.parse().ok()?;
+    let width = parts.next()?.parse().ok()?;
+    let height = parts.next()?.parse().ok()?;
+    Some(Rect::new(x, y, width, height))
+}
+
+// What other calls read, where it isn't as of a new text area that holds a text.
+fn unprinted(alloc: Global, area: &TextArea<'_>) -> Result<String, AllocError> {
+    let mut told = String::new(alloc);
+    push_state(&mut told, area)?;
+    push_tabs(&mut told, area)?;
+    push_edits(&mut told, area)?;
+    push_rows(&mut told, area)?;
+    push_surround(&mut told, area)?;
+    match told.strip_prefix(", ") {
+        Some(parts) => String::from_str(alloc, parts),
+        None => String::from_str(alloc, "nothing"),
+    }
+}
+
+// What tells whether there is a text, and a selection.
+fn push_state(told: &mut String, area: &TextArea<'_>) -> Result<(), AllocError> {
+    if area.is_empty() {
+        write!(told, ", empty")?;
+    }
+    if area.is_selecting() {
+        write!(told, ", selecting")?;
+    }
+    Ok(())
+}
+
+// What tells what a tab is.
+fn push_tabs(told: &mut String, area: &TextArea<'_>) -> Result<(), AllocError> {
+    if area.tab_length() != 4 {
+        write!(told, ", tab_length {}", area.tab_length())?;
+    }
+    if area.indent() != "    " {
+        write!(told, ", indent \"{}\"", Escaped(area.indent()))?;
+    }
+    if area.hard_tab_indent() {
+        write!(told, ", hard_tab_indent")?;
+    }
+    Ok(())
+}
+
+// What tells how edits are remembered.
+fn push_edits(told: &mut String, area: &TextArea<'_>) -> Result<(), AllocError> {
+    if area.undo_coalescing() {
+        write!(told, ", undo_coalescing")?;
+    }
+    if area.max_histories() != 50 {
+        write!(told, ", max_histories {}", area.max_histories())?;
+    }
+    Ok(())
+}
+
+// What tells how lines become rows, and what is looked for and held in them.
+fn push_rows(told: &mut String, area: &TextArea<'_>) -> Result<(), AllocError> {
+    if area.wrap_mode() != WrapMode::None {
+        write!(told, ", wrap_mode {:?}", area.wrap_mode())?;
+    }
+    if let Some(style) = area.line_number_style() {
+        write!(told, ", line_number_style {}", Named(style))?;
+    }
+    if let Some(pattern) = area.search_pattern() {
+        write!(told, ", search_pattern {pattern}")?;
+    }
+    if !area.atomic_ranges().is_empty() {
+        write!(told, ", atomic_ranges {}", Ranges(area.atomic_ranges()))?;
+    }
+    Ok(())
+}
+
+// What tells of what is around the rows, and in their place.
+fn push_surround(told: &mut String, area: &TextArea<'_>) -> Result<(), AllocError> {
+    if area.block().is_some() {
+        write!(told, ", block")?;
+    }
+    if area.min_rows() != 1 {
+        write!(told, ", min_rows {}", area.min_rows())?;
+    }
+    if area.max_rows() != 65535 {
+        write!(told, ", max_rows {}", area.max_rows())?;
+    }
+    let lines = area.placeholder().lines.len();
+    if lines != 0 {
+        write!(
+            told,
+            ", placeholder {lines} {}",
+            Escaped(area.placeholder_text())
+        )?;
+    }
+    if let Some(style) = area.placeholder_style() {
+        write!(told, ", placeholder_style {}", Named(style))?;
+    }
+    Ok(())
+}
