@@ -129,26 +129,77 @@ fn reading_look(name: &str) -> Option<Call<'static>>
 fn call_with<'a>(name: &str, arguments: &'a str) -> Option<Call<'a>>
     ensures { IfSome result CanBeMade }
 {
-    Some(match name {
-        "atomic_range_at_cursor" => Call::AtomicRangeAtCursor(direction(arguments)?),
-        "delete_atomic_range_at_cursor" => Call::DeleteAtomicRangeAtCursor(direction(arguments)?),
-        "normalize_cursor_around_atomic_ranges" => {
-            Call::NormalizeCursorAroundAtomicRanges(bias(arguments)?)
-        }
-        "set_placeholder_text" => Call::SetPlaceholderText(arguments),
-        "set_min_rows" => Call::SetMinRows(arguments.parse().ok()?),
-        "set_max_rows" => Call::SetMaxRows(arguments.parse().ok()?),
-        "set_cursor_render_mode" => Call::SetCursorRenderMode(render_mode(arguments)?),
-        "set_alignment" => Call::SetAlignment(alignment(arguments)?),
-        "custom_highlight" => return highlight(arguments),
-        _ => return setting_style(name, style_named(arguments)?),
-    })
+    if name == "set_placeholder_text" {
+        Some(Call::SetPlaceholderText(arguments))
+    } else {
+        call_of_parts(name, arguments)
+    }
+}
+
+// The same, where the arguments aren't lent.
+fn call_of_parts(name: &str, arguments: &str) -> Option<Call<'static>>
+    ensures { IfSome result CanBeMade }
+{
+    match name {
+        "set_min_rows" => setting_least(arguments),
+        "set_max_rows" => setting_greatest(arguments),
+        "set_cursor_render_mode" => setting_render_mode(arguments),
+        "set_alignment" => setting_alignment(arguments),
+        "normalize_cursor_around_atomic_ranges" => going_out_of_range(arguments),
+        "atomic_range_at_cursor" => finding_range(arguments),
+        "delete_atomic_range_at_cursor" => deleting_range(arguments),
+        "custom_highlight" => highlight(arguments),
+        _ => setting_style(name, arguments),
+    }
+}
+
+fn setting_least(rows: &str) -> Option<Call<'static>>
+    ensures { IfSome result CanBeMade }
+{
+    Some(Call::SetMinRows(rows.parse().ok()?))
+}
+
+fn setting_greatest(rows: &str) -> Option<Call<'static>>
+    ensures { IfSome result CanBeMade }
+{
+    Some(Call::SetMaxRows(rows.parse().ok()?))
+}
+
+fn setting_render_mode(mode: &str) -> Option<Call<'static>>
+    ensures { IfSome result CanBeMade }
+{
+    Some(Call::SetCursorRenderMode(render_mode(mode)?))
+}
+
+fn setting_alignment(name: &str) -> Option<Call<'static>>
+    ensures { IfSome result CanBeMade }
+{
+    Some(Call::SetAlignment(alignment(name)?))
+}
+
+fn going_out_of_range(side: &str) -> Option<Call<'static>>
+    ensures { IfSome result CanBeMade }
+{
+    Some(Call::NormalizeCursorAroundAtomicRanges(bias(side)?))
+}
+
+fn finding_range(side: &str) -> Option<Call<'static>>
+    ensures { IfSome result CanBeMade }
+{
+    Some(Call::AtomicRangeAtCursor(direction(side)?))
+}
+
+fn deleting_range(side: &str) -> Option<Call<'static>>
+    ensures { IfSome result CanBeMade }
+{
+    Some(Call::DeleteAtomicRangeAtCursor(direction(side)?))
 }
 
 // The call of this name that sets a style.
-fn setting_style(name: &str, style: Style) -> Option<Call<'static>>
+fn setting_style(name: &str, style: &str) -> Option<Call<'static>>
     ensures { IfSome result CanBeMade }
 {
+    let style = style_named(style)?;
     Some(match name {
         "set_style" => Call::SetStyle(style),
         "set_cursor_style" => Call::SetCursorStyle(style),

@@ -139,6 +139,7 @@ fn unprinted(alloc: Global, area: &TextArea<'_>) -> Result<String, AllocError> {
     push_edits(&mut told, area)?;
     push_rows(&mut told, area)?;
     push_surround(&mut told, area)?;
+    push_placeholder(&mut told, area)?;
     match told.strip_prefix(", ") {
         Some(parts) => String::from_str(alloc, parts),
         None => String::from_str(alloc, "nothing"),
@@ -147,78 +148,102 @@ fn unprinted(alloc: Global, area: &TextArea<'_>) -> Result<String, AllocError> {
 
 // What tells whether there is a text, and a selection.
 fn push_state(told: &mut String, area: &TextArea<'_>) -> Result<(), AllocError> {
-    if area.is_empty() {
-        write!(told, ", empty")?;
-    }
-    if area.is_selecting() {
-        write!(told, ", selecting")?;
-    }
-    Ok(())
+    push_flag(told, area.is_empty(), "empty")?;
+    push_flag(told, area.is_selecting(), "selecting")
 }
 
 // What tells what a tab is.
 fn push_tabs(told: &mut String, area: &TextArea<'_>) -> Result<(), AllocError> {
-    if area.tab_length() != 4 {
-        write!(told, ", tab_length {}", area.tab_length())?;
-    }
-    if area.indent() != "    " {
-        write!(told, ", indent \"{}\"", Escaped(area.indent()))?;
-    }
-    if area.hard_tab_indent() {
-        write!(told, ", hard_tab_indent")?;
-    }
-    Ok(())
+    push_number(told, usize::from(area.tab_length()), 4, "tab_length")?;
+    push_indent(told, area.indent())?;
+    push_flag(told, area.hard_tab_indent(), "hard_tab_indent")
 }
 
 // What tells how edits are remembered.
 fn push_edits(told: &mut String, area: &TextArea<'_>) -> Result<(), AllocError> {
-    if area.undo_coalescing() {
-        write!(told, ", undo_coalescing")?;
-    }
-    if area.max_histories() != 50 {
-        write!(told, ", max_histories {}", area.max_histories())?;
-    }
-    Ok(())
+    push_flag(told, area.undo_coalescing(), "undo_coalescing")?;
+    push_number(told, area.max_histories(), 50, "max_histories")
 }
 
 // What tells how lines become rows, and what is looked for and held in them.
 fn push_rows(told: &mut String, area: &TextArea<'_>) -> Result<(), AllocError> {
-    if area.wrap_mode() != WrapMode::None {
-        write!(told, ", wrap_mode {:?}", area.wrap_mode())?;
-    }
-    if let Some(style) = area.line_number_style() {
-        write!(told, ", line_number_style {}", Named(style))?;
-    }
-    if let Some(pattern) = area.search_pattern() {
-        write!(told, ", search_pattern {pattern}")?;
-    }
-    if !area.atomic_ranges().is_empty() {
-        write!(told, ", atomic_ranges {}", Ranges(area.atomic_ranges()))?;
+    push_mode(told, area.wrap_mode())?;
+    push_style(told, area.line_number_style(), "line_number_style")?;
+    push_pattern(told, area.search_pattern())?;
+    push_ranges(told, area.atomic_ranges())
+}
+
+// What tells of what is around the rows.
+fn push_surround(told: &mut String, area: &TextArea<'_>) -> Result<(), AllocError> {
+    push_flag(told, area.block().is_some(), "block")?;
+    push_number(told, usize::from(area.min_rows()), 1, "min_rows")?;
+    push_number(told, usize::from(area.max_rows()), 65535, "max_rows")
+}
+
+// What tells of the placeholder.
+fn push_placeholder(told: &mut String, area: &TextArea<'_>) -> Result<(), AllocError> {
+    let lines = area.placeholder().lines.len();
+    push_lines(told, lines, area.placeholder_text())?;
+    push_style(told, area.placeholder_style(), "placeholder_style")
+}
+
+fn push_flag(told: &mut String, is_set: bool, name: &str) -> Result<(), AllocError> {
+    if is_set {
+        write!(told, ", {name}")?;
     }
     Ok(())
 }
 
-// What tells of what is around the rows, and in their place.
-fn push_surround(told: &mut String, area: &TextArea<'_>) -> Result<(), AllocError> {
-    if area.block().is_some() {
-        write!(told, ", block")?;
+fn push_number(
+    told: &mut String,
+    number: usize,
+    at_first: usize,
+    name: &str,
+) -> Result<(), AllocError> {
+    if number != at_first {
+        write!(told, ", {name} {number}")?;
     }
-    if area.min_rows() != 1 {
-        write!(told, ", min_rows {}", area.min_rows())?;
+    Ok(())
+}
+
+fn push_style(told: &mut String, style: Option<Style>, name: &str) -> Result<(), AllocError> {
+    match style {
+        Some(style) => write!(told, ", {name} {}", Named(style)),
+        None => Ok(()),
     }
-    if area.max_rows() != 65535 {
-        write!(told, ", max_rows {}", area.max_rows())?;
+}
+
+fn push_indent(told: &mut String, indent: &str) -> Result<(), AllocError> {
+    if indent != "    " {
+        write!(told, ", indent \"{}\"", Escaped(indent))?;
     }
-    let lines = area.placeholder().lines.len();
+    Ok(())
+}
+
+fn push_mode(told: &mut String, mode: WrapMode) -> Result<(), AllocError> {
+    if mode != WrapMode::None {
+        write!(told, ", wrap_mode {mode:?}")?;
+    }
+    Ok(())
+}
+
+fn push_pattern(told: &mut String, pattern: Option<&str>) -> Result<(), AllocError> {
+    match pattern {
+        Some(pattern) => write!(told, ", search_pattern {pattern}"),
+        None => Ok(()),
+    }
+}
+
+fn push_ranges(told: &mut String, ranges: &[AtomicRange]) -> Result<(), AllocError> {
+    if !ranges.is_empty() {
+        write!(told, ", atomic_ranges {}", Ranges(ranges))?;
+    }
+    Ok(())
+}
+
+fn push_lines(told: &mut String, lines: usize, text: &str) -> Result<(), AllocError> {
     if lines != 0 {
-        write!(
-            told,
-            ", placeholder {lines} {}",
-            Escaped(area.placeholder_text())
-        )?;
-    }
-    if let Some(style) = area.placeholder_style() {
-        write!(told, ", placeholder_style {}", Named(style))?;
+        write!(told, ", placeholder {lines} {}", Escaped(text))?;
     }
     Ok(())
 }
