@@ -1,9 +1,10 @@
 //! Draws frames of hostile texts, in many areas and settings and behind each call, and judges them.
 //!
 //! Standard input has blocks of lines, with an empty line between each two. The first block has the calls that are made on each
-//! text, with a frame behind each, as lines of a script or as words (`textarea_words`). Each further block is a text: its first line is a name and, behind a space, the columns
-//! of the widest cluster that isn't a tab; the lines behind it are a script that makes the text. A line is printed for each text:
-//! how many frames were drawn and calls made, how many carets were shown, had to be shown and were hit back, and what was wrong.
+//! text, with a frame behind each, as lines of a script or as words (`textarea_words`). Each further block is a text: its first line
+//! is a name and, behind a space, the columns of the widest cluster that isn't a tab; the lines behind it are a script that makes the
+//! text. A line is printed for each text: how many frames were drawn and calls made, how many carets were shown, had to be shown and
+//! were hit back, and what was wrong.
 //!
 //! No call may fail. A caret that is shown has to lie in the inner area, and to be hit back to the cursor where no character of the
 //! cursor's visual row has display width 0; and a caret has to be shown where that is promised.

@@ -1,5 +1,5 @@
-//! What worked cases can't hold: streams that fail, words behind the program's name, bytes that are no text, text areas of given lines
-//! and copies of them, each key, the program of README.
+//! What worked cases can't hold: streams that fail, words behind the program's name, bytes that are no text, text areas of given
+//! lines and copies of them, each key, the program of README.
 #![tactic(auto)]
 
 #[cfg(test)]

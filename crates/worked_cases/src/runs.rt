@@ -1,8 +1,8 @@
 //! Runs of keys of the modal editor, with Ctrl and Alt, over what no session has: a search, a drawing, and what was yanked.
 //!
-//! The keys of runs stand one behind another, each but the last followed by `%`, behind which the text area is drawn into 20 columns
-//! and 4 rows. `^` holds Ctrl for the key behind it, and `~` Alt. The pattern is a small o. At the end is told the mode, how the last
-//! run ended, the text area, and what was yanked.
+//! The keys of runs stand one behind another, each but the last followed by `%`, behind which the text area is drawn into 20
+//! columns and 4 rows. `^` holds Ctrl for the key behind it, and `~` Alt. The pattern is a small o. At the end is told the mode, how
+//! the last run ended, the text area, and what was yanked.
 use crate::end::{Stop, compare};
 use crate::lines::keys_and_rest;
 use std::alloc::{AllocError, Global};

@@ -47,7 +47,8 @@ pub fn told_answer(alloc: Global, answer: &Answer) -> Result<String, AllocError>
     }
 }
 
-/// What is told where a line asks for what no call answers: what is read of a text area, or the styles of cells.
+/// What is told where a line asks for what no call answers: `unprinted`, `atomic_ranges` and `viewport` of the text area, or `styles`
+/// of the cells of a part of the buffer (its first column and row, its columns and its rows).
 pub fn told_of(
     alloc: Global,
     area: &TextArea<'_>,

@@ -1,10 +1,12 @@
 //! Transcripts: calls and what they answer, and the text area on the way.
 //!
 //! A line `CALL => ANSWER` is a call, as a line of a script or as words (`textarea_words`), and what it answers; `*` stands for any
-//! answer. The inputs of a line `input HELD KEY | HELD KEY .. => ANSWER` are tried one after another, each in a text area of its own.
+//! answer. `input_without_shortcuts` has the words of `input`, and the words of `told` tell what no call answers. The inputs of a
+//! line `input HELD KEY | HELD KEY .. => ANSWER` are tried one after another, each in a text area of its own.
+//!
 //! Any other line is as `tascript` prints it of the text area at that place: its lines, its cursor, its selection, its screen; what
-//! isn't shown is as it was shown last, also at the end, and before that there is no screen. Where all calls are lines of scripts, `tascript` must
-//! print the same of the script.
+//! isn't shown is as it was shown last, also at the end, and before that there is no screen. Where all calls are lines of scripts,
+//! `tascript` must print the same of the script.
 ghost use Rattle.std.specs.Prelude.{IfSome};
 ghost use Rattle.textarea_calls.specs.Made.{CanBeMade};
 
