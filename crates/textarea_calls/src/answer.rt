@@ -1,6 +1,6 @@
 //! What calls answer.
+use textarea_data::atomic::{AtomicRange, RejectedAtomicRange};
 use textarea_look::look::CursorRenderMode;
-use textarea_ranges::atomic::{AtomicRange, RejectedAtomicRange};
 use textarea_screen::screen::{Alignment, Position, Style};
 use textarea_surround::TextAreaMeasure;
 use textarea_wrap::wrap::WrapMode;

@@ -3,11 +3,11 @@ ghost use Rattle.std.specs.Prelude.{◌↔◌, IsTrue};
 ghost use Rattle.textarea_calls.specs.Made.{CanBeMade};
 
 use std::time::Duration;
+use textarea_data::atomic::{AtomicCursorBias, AtomicDeleteDirection, AtomicRange};
 use textarea_data::cursor::CursorMove;
 use textarea_data::input::Input;
 use textarea_data::scroll::Scrolling;
 use textarea_look::look::CursorRenderMode;
-use textarea_ranges::atomic::{AtomicCursorBias, AtomicDeleteDirection, AtomicRange};
 use textarea_screen::screen::{Alignment, Block, Position, Rect, Style, Text};
 use textarea_wrap::wrap::WrapMode;
 

@@ -19,9 +19,9 @@ use std::alloc::{AllocError, AllocFailed, Global};
 use std::str::from_utf8;
 use std::time::Duration;
 use textarea_calls::Call;
+use textarea_data::atomic::AtomicRange;
 use textarea_data::cursor::CursorMove;
 use textarea_data::input::Input;
-use textarea_ranges::atomic::AtomicRange;
 use textarea_screen::screen::{Position, Style};
 
 /// Why a script was not read.

@@ -1,7 +1,7 @@
 // The forms of atomic ranges, and of what is said of them.
 use crate::written::{check, check_refused};
 use std::test::Fail;
-use textarea_ranges::atomic::{
+use textarea_data::atomic::{
     AtomicCursorBias, AtomicDeleteDirection, AtomicRange, AtomicRangeError,
     AtomicRangeRejectReason, RejectedAtomicRange,
 };

@@ -27,12 +27,12 @@ ghost use Rattle.textarea_document.specs.Ranges.{CutsNone};
 use std::alloc::{AllocError, Global};
 use std::marker::Model;
 use std::time::Duration;
+use textarea_data::atomic::AtomicRange;
 use textarea_edit::edit::{Change, Edit};
 use textarea_history::history::History;
 use textarea_lines::laid_out::LaidOutLines;
 use textarea_lines::settings::LayoutSettings;
 use textarea_pieces::places::clip;
-use textarea_ranges::atomic::AtomicRange;
 use textarea_ranges::moved::move_ranges;
 
 /// Lines of text, a cursor, the place where a selection began, atomic ranges, and a history of edits.

@@ -7,15 +7,18 @@ use Rattle.textarea_drawing.proofs.Lent.{IsViewedOnce, lent_right}
 use Rattle.textarea_drawing.proofs.OneHit.{BeginsOnce, lies_once, some_same, wanted_at}
 use Rattle.textarea_drawing.proofs.Rects.{last_area_once}
 use Rattle.textarea_drawing.specs.Back.{IsHitBack}
-use Rattle.textarea_drawing.specs.Frame.{FrameState, Parts, frame_of, has_lines, number_width, shows_placeholder}
-use Rattle.textarea_drawing.specs.Hit.{IsHitBy, IsHitInRows, IsHitOf, IsHitWith, IsLastArea, IsNear, greatest_at}
-use Rattle.textarea_drawing.specs.Placed.{IsPlaced, IsPlacedInRows, IsPlacedWith, LiesAs, Placing, corner_caret, row_view}
+use Rattle.textarea_drawing.specs.Frame.{Parts, frame_of}
+use Rattle.textarea_frame.specs.Frame.{FrameState, has_lines, number_width, shows_placeholder}
+use Rattle.textarea_drawing.specs.Hit.{IsLastArea}
+use Rattle.textarea_frame.specs.Hit.{IsHitBy, IsHitInRows, IsHitOf, IsHitWith, IsNear, greatest_at}
+use Rattle.textarea_frame.specs.Placed.{IsPlaced, IsPlacedInRows, IsPlacedWith, LiesAs, Placing, corner_caret, row_view}
 use Rattle.textarea_drawing.specs.Rendered.{IsRendered, at_inner_width, drawn_into}
 use Rattle.textarea_lines.specs.Layout.{LaidOut, at_width, laid_out_with}
-use Rattle.textarea_lines.specs.View.{IsViewOf, LentRows}
+use Rattle.textarea_map.specs.Lent.{LentRows}
+use Rattle.textarea_lines.specs.View.{IsViewOf}
 use Rattle.textarea_lines.specs.declared.settings.LayoutSettings.{LayoutSettings}
 use Rattle.textarea_map.specs.Layout.{AreRowsOf}
-use Rattle.textarea_map.specs.Map.{row_total}
+use Rattle.textarea_blocks.specs.Sums.{row_total}
 use Rattle.textarea_map.specs.Rows.{greatest_column, row_at}
 use Rattle.textarea_map.specs.Seen.{HasNoZeroWidth, IsPlaceAt, IsVisualPosition}
 use Rattle.textarea_map.specs.declared.layout.Wrapping.{Wrapping}
@@ -30,7 +33,7 @@ use Rattle.textarea_viewport.specs.Caret.{caret_at, hit_column, hit_row, left_vi
 use Rattle.textarea_viewport.specs.Shown.{at_start}
 use Rattle.textarea_viewport.specs.Viewport.{ViewportState}
 use Rattle.textarea_viewport.specs.declared.row_view.RowView.{RowView}
-use Rattle.textarea_wrap.specs.RowsView.{RowsView}
+use Rattle.textarea_rows.specs.RowsView.{RowsView}
 
 -- ---- what the laws of the caret and of the map say
 

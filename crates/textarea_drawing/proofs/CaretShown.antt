@@ -7,16 +7,18 @@ use Rattle.textarea_document.specs.State.{DocumentState}
 use Rattle.textarea_drawing.proofs.CaretBack.{IsSeenAtColumn, IsSeenInRow, PutsSettings, made, made_area}
 use Rattle.textarea_drawing.proofs.Lent.{lent_right}
 use Rattle.textarea_drawing.proofs.Rects.{last_area_once}
-use Rattle.textarea_drawing.specs.Frame.{Parts, frame_of, number_width, scene_of, shows_placeholder}
-use Rattle.textarea_drawing.specs.Placed.{IsPlaced, IsPlacedInRows, IsPlacedWith, Placing, row_view, viewport_at}
+use Rattle.textarea_drawing.specs.Frame.{Parts, frame_of, scene_of}
+use Rattle.textarea_frame.specs.Frame.{number_width, shows_placeholder}
+use Rattle.textarea_frame.specs.Placed.{IsPlaced, IsPlacedInRows, IsPlacedWith, Placing, row_view, viewport_at}
 use Rattle.textarea_drawing.specs.Rendered.{IsRendered, at_inner_width}
 use Rattle.textarea_drawing.specs.Shown.{HasRoomForCaret, HasWidthForCaret, HasWidthForRows, IsCaretShown, number_columns}
 use Rattle.textarea_lines.specs.Layout.{at_width, wrapping_of}
-use Rattle.textarea_lines.specs.View.{IsViewOf, LentRows}
+use Rattle.textarea_map.specs.Lent.{LentRows}
+use Rattle.textarea_lines.specs.View.{IsViewOf}
 use Rattle.textarea_lines.specs.Wrappings.{is_wrapped, wrapping_for}
 use Rattle.textarea_lines.specs.declared.settings.LayoutSettings.{LayoutSettings}
 use Rattle.textarea_map.specs.Layout.{AreRowsOf}
-use Rattle.textarea_map.specs.Map.{row_total, size_total}
+use Rattle.textarea_blocks.specs.Sums.{row_total, size_total}
 use Rattle.textarea_map.specs.Rows.{greatest_column, row_at}
 use Rattle.textarea_map.specs.declared.layout.Wrapping.{Wrapping}
 use Rattle.textarea_screen.specs.declared.screen.alignment.Alignment.{Alignment}
@@ -32,7 +34,7 @@ use Rattle.textarea_viewport.specs.Viewport.{ViewportState}
 use Rattle.textarea_viewport.specs.declared.row_view.RowView.{RowView}
 use Rattle.textarea_wrap.specs.Fitting.{HaveFittingClusters}
 use Rattle.textarea_wrap.specs.Layout.{line_number_columns}
-use Rattle.textarea_wrap.specs.RowsView.{RowsView}
+use Rattle.textarea_rows.specs.RowsView.{RowsView}
 use Rattle.textarea_wrap.specs.declared.wrap.WrapMode.{WrapMode}
 use Rattle.textarea_wrap.specs.declared.wrap.WrapMode.TheVariants as wrap
 

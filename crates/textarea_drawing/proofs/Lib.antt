@@ -1,7 +1,5 @@
 mod CaretBack
 mod CaretShown
-mod Hits
-mod Layers
 mod Lent
 mod OneDrawing
 mod OneHit

@@ -4,10 +4,11 @@ use Rattle.std.specs.Option.{option_map}
 use Rattle.textarea_document.specs.Rows.{laid_out_of}
 use Rattle.textarea_drawing.proofs.Lent.{IsViewedOnce}
 use Rattle.textarea_drawing.proofs.Rects.{inner_once}
-use Rattle.textarea_drawing.specs.Cells.{AreLinesOf, AreLinesWith, frame_change}
-use Rattle.textarea_drawing.specs.Frame.{FrameState, Parts, frame_of, shows_placeholder}
+use Rattle.textarea_frame.specs.Cells.{AreLinesOf, AreLinesWith, frame_change}
+use Rattle.textarea_drawing.specs.Frame.{Parts, frame_of}
+use Rattle.textarea_frame.specs.Frame.{FrameState, shows_placeholder}
 use Rattle.textarea_drawing.specs.Rendered.{IsDrawn}
-use Rattle.textarea_lines.specs.View.{LentRows}
+use Rattle.textarea_map.specs.Lent.{LentRows}
 use Rattle.textarea_scene.specs.Drawn.{FillsArea}
 use Rattle.textarea_scene.specs.Scene.{SceneState}
 use Rattle.textarea_screen.specs.Buffer.{Changes, area_of, cell_at}

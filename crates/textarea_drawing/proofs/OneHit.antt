@@ -4,10 +4,12 @@ use Rattle.std.specs.Option.{is_some}
 use Rattle.textarea_document.specs.Rows.{laid_out_of}
 use Rattle.textarea_drawing.proofs.Lent.{IsPlacedOnce, IsViewedOnce, near_once}
 use Rattle.textarea_drawing.proofs.Rects.{last_area_once}
-use Rattle.textarea_drawing.specs.Frame.{FrameState, Parts, frame_of, number_width, shows_placeholder}
-use Rattle.textarea_drawing.specs.Hit.{IsHit, IsHitBy, IsHitInRows, IsHitOf, IsHitWith, IsLastArea, IsNear, greatest_at}
-use Rattle.textarea_drawing.specs.Placed.{IsStart, LiesAs, row_area, row_view}
-use Rattle.textarea_lines.specs.View.{LentRows}
+use Rattle.textarea_drawing.specs.Frame.{Parts, frame_of}
+use Rattle.textarea_frame.specs.Frame.{FrameState, number_width, shows_placeholder}
+use Rattle.textarea_drawing.specs.Hit.{IsHit, IsLastArea}
+use Rattle.textarea_frame.specs.Hit.{IsHitBy, IsHitInRows, IsHitOf, IsHitWith, IsNear, greatest_at}
+use Rattle.textarea_frame.specs.Placed.{IsStart, LiesAs, row_area, row_view}
+use Rattle.textarea_map.specs.Lent.{LentRows}
 use Rattle.textarea_paint.specs.declared.paint.row.RowArea.{RowArea}
 use Rattle.textarea_scene.specs.Drawn.{IsRowStart}
 use Rattle.textarea_scene.specs.Scene.{SceneState}

@@ -3,10 +3,12 @@ use Rattle.std.proofs.Common.{◌≡◌, ℕ, ◌-◌, Bool, true, false, sym, s
 use Rattle.textarea_document.specs.Rows.{laid_out_of}
 use Rattle.textarea_document.specs.State.{DocumentState}
 use Rattle.textarea_drawing.proofs.Lent.{IsPlacedOnce, IsSeenOnce, IsViewedOnce, near_once, seen_in}
-use Rattle.textarea_drawing.specs.Hit.{IsInside, IsReached, greatest_at}
+use Rattle.textarea_drawing.specs.Hit.{IsInside, IsReached}
+use Rattle.textarea_frame.specs.Hit.{greatest_at}
 use Rattle.textarea_lines.specs.Layout.{LaidOut}
-use Rattle.textarea_lines.specs.View.{IsViewOf, LentRows}
-use Rattle.textarea_map.specs.Map.{row_total}
+use Rattle.textarea_map.specs.Lent.{LentRows}
+use Rattle.textarea_lines.specs.View.{IsViewOf}
+use Rattle.textarea_blocks.specs.Sums.{row_total}
 use Rattle.textarea_map.specs.Seen.{IsVisualPosition}
 use Rattle.textarea_text.specs.Place.{Place, is_same_place}
 use Rattle.textarea_viewport.specs.Viewport.{ViewportState, clamped}

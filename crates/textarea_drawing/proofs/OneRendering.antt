@@ -4,10 +4,12 @@ use Rattle.textarea_document.specs.Rows.{laid_out_of, with_inner_width}
 use Rattle.textarea_drawing.proofs.Lent.{IsSeenOnce, IsViewedOnce, lent_right}
 use Rattle.textarea_drawing.proofs.OneHit.{BeginsOnce, lies_once}
 use Rattle.textarea_drawing.proofs.Rects.{inner_once}
-use Rattle.textarea_drawing.specs.Frame.{FrameState, Parts, frame_of, number_width, shows_placeholder}
-use Rattle.textarea_drawing.specs.Placed.{IsPlaced, IsPlacedInRows, IsPlacedWith, LiesAs, Placing, viewport_at}
+use Rattle.textarea_drawing.specs.Frame.{Parts, frame_of}
+use Rattle.textarea_frame.specs.Frame.{FrameState, number_width, shows_placeholder}
+use Rattle.textarea_frame.specs.Placed.{IsPlaced, IsPlacedInRows, IsPlacedWith, LiesAs, Placing, viewport_at}
 use Rattle.textarea_drawing.specs.Rendered.{IsRendered, at_inner_width, drawn_into}
-use Rattle.textarea_lines.specs.View.{IsViewOf, LentRows}
+use Rattle.textarea_map.specs.Lent.{LentRows}
+use Rattle.textarea_lines.specs.View.{IsViewOf}
 use Rattle.textarea_map.specs.Layout.{AreRowsOf}
 use Rattle.textarea_scene.specs.Scene.{SceneState}
 use Rattle.textarea_screen.specs.declared.screen.rect.Rect.{Rect}

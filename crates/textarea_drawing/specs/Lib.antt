@@ -1,7 +1,5 @@
 pub mod State
 pub mod Frame
-pub mod Placed
-pub mod Cells
 pub mod Hit
 pub mod Rendered
 pub mod Steps

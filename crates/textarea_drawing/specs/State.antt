@@ -3,7 +3,6 @@ use Rattle.std.specs.Prelude.{ℕ, List, [], Option, None}
 use Rattle.textarea_look.specs.Look.{default_look}
 use Rattle.textarea_look.specs.declared.look.CustomHighlight.{CustomHighlight}
 use Rattle.textarea_look.specs.declared.look.Look.{Look}
-use Rattle.textarea_screen.specs.declared.screen.rect.Position.{Position}
 use Rattle.textarea_viewport.specs.Viewport.{ViewportState, initial_viewport}
 
 -- how it looks; highlights of the caller's own, in the order in which they were added; the part of the visual rows that is shown;
@@ -39,7 +38,3 @@ with_viewport drawing viewport = record drawing { viewport = viewport }
 -- as it is for other lines: no highlight, and nothing scrolled; the look, the last area and the caret stay
 abbrev pub for_other_lines : DrawingState → DrawingState
 for_other_lines drawing = record drawing { highlights = []; viewport = initial_viewport }
-
--- a place of the screen by its column and its row
-abbrev pub cell_of_position : Position → ℕ × ℕ
-cell_of_position position = (position.x, position.y)

@@ -2,12 +2,12 @@
 mod caret;
 mod frame;
 mod hit;
-mod placing;
 mod render;
 
 ghost use Rattle.std.specs.Prelude.{◌≡◌, [], ◌∷◌, ◌++◌, OnErr, OnOk};
 ghost use Rattle.std.specs.Option.{option_map};
-ghost use Rattle.textarea_drawing.specs.State.{cell_of_position, for_other_lines, new_drawing, with_look, with_viewport};
+ghost use Rattle.textarea_drawing.specs.State.{for_other_lines, new_drawing, with_look, with_viewport};
+ghost use Rattle.textarea_frame.specs.Placed.{cell_of_position};
 ghost use Rattle.textarea_viewport.specs.Scrolled.{scrolled_by};
 
 use std::alloc::{AllocError, Global};
@@ -33,7 +33,8 @@ pub struct Drawing {
 
 impl Model for Drawing {
     ghost use Rattle.std.specs.Option.{option_map};
-    ghost use Rattle.textarea_drawing.specs.State.{DrawingState, cell_of_position};
+    ghost use Rattle.textarea_drawing.specs.State.{DrawingState};
+    ghost use Rattle.textarea_frame.specs.Placed.{cell_of_position};
 
     ghost Value = { DrawingState };
 

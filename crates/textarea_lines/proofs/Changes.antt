@@ -12,7 +12,7 @@ use Rattle.textarea_text.specs.declared.rows.Replacement.{Replacement}
 use Rattle.std.specs.declared.alloc.Global.{Global}
 use Rattle.textarea_text.proofs.Replacing.{length-replaced}
 use Rattle.textarea_text.proofs.Sizes.{size_of_text, weight_inserted, weight_removed}
-use Rattle.textarea_wrap.specs.RowsView.{RowsView}
+use Rattle.textarea_rows.specs.RowsView.{RowsView}
 use Rattle.textarea_map.specs.declared.layout.Wrapping.{Wrapping}
 use Rattle.textarea_map.specs.Layout.{AreRowsOf, ticks_behind, ticks_of, with_tab_len}
 use Rattle.textarea_map.specs.Map.{MapView}

@@ -3,7 +3,7 @@ use Rattle.std.proofs.Common.{◌≡◌, ℕ, ◌+◌, List, [], ◌++◌, lengt
 use Rattle.std.proofs.lemmas.List.{append_assoc, append-nil, drop_all, map-append, take-map, drop-map}
 use Rattle.textarea_text.specs.Replaced.{replaced}
 use Rattle.textarea_text.specs.Text.{lines_of}
-use Rattle.textarea_wrap.specs.RowsView.{RowsView}
+use Rattle.textarea_rows.specs.RowsView.{RowsView}
 use Rattle.textarea_map.specs.declared.layout.Wrapping.{Wrapping}
 use Rattle.textarea_map.specs.Layout.{AreRowsOf, ticks_behind}
 use Rattle.textarea_map.proofs.Layouts.{ticks_append}

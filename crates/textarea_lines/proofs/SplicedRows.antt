@@ -6,7 +6,7 @@ use Rattle.textarea_text.specs.Replaced.{replaced}
 use Rattle.textarea_text.specs.Splice.{Splice, applied}
 use Rattle.textarea_text.specs.Text.{Symbol, lines}
 use Rattle.textarea_text.specs.Touched.{lines_coming, lines_going}
-use Rattle.textarea_wrap.specs.RowsView.{RowsView}
+use Rattle.textarea_rows.specs.RowsView.{RowsView}
 use Rattle.textarea_map.specs.Layout.{AreRowsOf, ticks_behind, ticks_of}
 use Rattle.textarea_map.specs.declared.layout.Wrapping.{Wrapping}
 use Rattle.textarea_map.proofs.Layouts.{AreRowsOf-drop, AreRowsOf-take, length-AreRowsOf}

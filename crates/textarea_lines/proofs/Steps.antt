@@ -3,7 +3,7 @@ use Rattle.std.proofs.Common.{◌≡◌, ℕ, List, Option, None, Some, MatchOpt
 use Rattle.std.specs.Option.{IfSome}
 use Rattle.textarea_text.specs.Place.{Place, IsPlaceOf}
 use Rattle.textarea_text.specs.Text.{lines, lines_of}
-use Rattle.textarea_wrap.specs.RowsView.{RowsView}
+use Rattle.textarea_rows.specs.RowsView.{RowsView}
 use Rattle.textarea_map.specs.declared.layout.Wrapping.{Wrapping}
 use Rattle.textarea_map.specs.Layout.{AreRowsOf}
 use Rattle.textarea_map.specs.Map.{MapView}

@@ -9,7 +9,7 @@ use Rattle.textarea_text.specs.Size.{size_of, weight}
 use Rattle.textarea_text.proofs.Sizes.{length-le-size_of, size_of_text}
 use Rattle.textarea_text.proofs.Splices.{lines-joined}
 use Rattle.textarea_text.proofs.StringRows.{row_within, rows_place}
-use Rattle.textarea_wrap.specs.RowsView.{RowsView}
+use Rattle.textarea_rows.specs.RowsView.{RowsView}
 use Rattle.textarea_map.specs.Layout.{AreRowsOf, ticks_of}
 use Rattle.textarea_map.specs.declared.layout.Wrapping.{Wrapping}
 use Rattle.textarea_map.specs.Map.{MapView}

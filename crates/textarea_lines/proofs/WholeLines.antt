@@ -14,15 +14,17 @@ use Rattle.textarea_text.proofs.Sizes.{length-le-size_of, size_of_text, weight-a
 use Rattle.textarea_text.proofs.Splices.{following-append}
 use Rattle.textarea_text.proofs.Touching.{ChangesLine, changes_line, end_row}
 use Rattle.textarea_wrap.specs.Cutting.{ranges_from}
-use Rattle.textarea_wrap.specs.RowsView.{RowsView}
+use Rattle.textarea_rows.specs.RowsView.{RowsView}
 use Rattle.textarea_wrap.specs.Wrapped.{IsWrapped}
 use Rattle.textarea_wrap.specs.declared.wrap.WrapMode.TheVariants as mode
 use Rattle.textarea_map.specs.declared.layout.Wrapping.{Wrapping}
 use Rattle.textarea_map.specs.Layout.{AreRowsOf, AreRowsOfLine, ticks_of}
-use Rattle.textarea_map.specs.Map.{MapView, line_bytes, ranges_at, row_total, size_total}
+use Rattle.textarea_blocks.specs.Sums.{line_bytes, ranges_at, row_total, size_total}
+use Rattle.textarea_map.specs.Map.{MapView}
 use Rattle.textarea_map.proofs.Layouts.{AreRowsOf-drop, AreRowsOf-replaced, AreRowsOf-take, length-AreRowsOf}
-use Rattle.textarea_map.proofs.Numbers.{row_total-replaced}
-use Rattle.textarea_map.proofs.RowSizes.{size_of_lines, size_total-append}
+use Rattle.textarea_blocks.proofs.Numbers.{row_total-replaced}
+use Rattle.textarea_blocks.proofs.LineSums.{size_total-append}
+use Rattle.textarea_map.proofs.RowSizes.{size_of_lines}
 use Rattle.textarea_lines.specs.declared.settings.LayoutSettings.{LayoutSettings}
 use Rattle.textarea_lines.specs.Rows.{CanStayWhole, HasWholeLine, line_size}
 use Rattle.textarea_lines.specs.Layout.{Layout, applied_to, after_replacement, some_cut}

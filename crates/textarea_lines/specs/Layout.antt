@@ -6,7 +6,7 @@ use Rattle.textarea_text.specs.Replaced.{replaced}
 use Rattle.textarea_text.specs.Splice.{Splice, applied}
 use Rattle.textarea_text.specs.Touched.{lines_coming, lines_going}
 use Rattle.textarea_text.specs.declared.rows.Replacement.{Replacement}
-use Rattle.textarea_wrap.specs.RowsView.{RowsView}
+use Rattle.textarea_rows.specs.RowsView.{RowsView}
 use Rattle.textarea_map.specs.Layout.{ticks_behind, ticks_of}
 use Rattle.textarea_map.specs.declared.layout.Wrapping.{Wrapping}
 use Rattle.textarea_lines.specs.declared.settings.LayoutSettings.{LayoutSettings}

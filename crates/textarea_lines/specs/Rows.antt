@@ -5,11 +5,12 @@ use Rattle.textarea_size.specs.Limit.{size_limit}
 use Rattle.textarea_text.specs.Place.{Place}
 use Rattle.textarea_text.specs.Replaced.{replaced}
 use Rattle.textarea_text.specs.Text.{lines, lines_of}
-use Rattle.textarea_wrap.specs.RowsView.{RowsView}
+use Rattle.textarea_rows.specs.RowsView.{RowsView}
 use Rattle.textarea_wrap.specs.Wrapped.{IsWrapped}
 use Rattle.textarea_wrap.specs.declared.wrap.WrapMode.TheVariants as mode
 use Rattle.textarea_map.specs.Layout.{AreRowsOf, ticks_of}
-use Rattle.textarea_map.specs.Map.{IsRowCount, ranges_at, row_total, size_total}
+use Rattle.textarea_blocks.specs.Sums.{ranges_at, row_total, size_total}
+use Rattle.textarea_map.specs.Map.{IsRowCount}
 use Rattle.textarea_map.specs.Seen.{IsAbove, IsBelow, IsInFirstRow, IsInLastRow}
 use Rattle.textarea_lines.specs.Layout.{LaidOut, wrapping_at, wrapping_of}
 

@@ -1,33 +1,14 @@
 -- What is lent of lines with their rows, as they are seen now or at a width that is prepared.
-use Rattle.std.specs.Prelude.{◌≡◌, ℕ, ◌+◌, ◌<◌, ◌≤◌, true, false, List, Option, MatchOption, String, length}
-use Rattle.textarea_size.specs.Limit.{size_limit}
-use Rattle.textarea_text.specs.Size.{size_of}
-use Rattle.textarea_text.specs.Text.{lines, lines_of}
-use Rattle.textarea_wrap.specs.RowsView.{RowsView}
+use Rattle.std.specs.Prelude.{◌≡◌, ℕ, ◌+◌, true, false, Option, MatchOption, length}
+use Rattle.textarea_text.specs.Text.{lines}
 use Rattle.textarea_map.specs.Layout.{AreRowsOf, ticks_behind, ticks_of}
-use Rattle.textarea_map.specs.Map.{MapView}
+use Rattle.textarea_map.specs.Lent.{LentRows}
 use Rattle.textarea_map.specs.declared.layout.Wrapping.{Wrapping}
 use Rattle.textarea_lines.specs.declared.cut.CutAnew.{CutAnew}
 use Rattle.textarea_lines.specs.declared.settings.LayoutSettings.{LayoutSettings}
 use Rattle.textarea_lines.specs.Layout.{LaidOut, at_width, stays_cut, wrapping_of}
 use Rattle.textarea_lines.specs.Rows.{IsLaidOutAs}
 use Rattle.textarea_lines.specs.Wrappings.{wrapping_for}
-
--- lines, each by its characters, how they are cut, and the rows of each
-pub record LentRows : Type 0 where
-  pub lines : List (List ℕ)
-  pub wrapping : Wrapping
-  pub rows : List RowsView
-
--- what clauses see of lines that are lent with a map
-abbrev pub lent_rows : {Z : Type 0} → List (String Z) → MapView → LentRows
-lent_rows lines map = record { lines = lines_of lines; wrapping = map.wrapping; rows = map.rows }
-
--- there is a line; bytes and lines together are at most 2^48; and the map has right rows of the lines
-pub record IsLent {Z : Type 0} (lines : List (String Z)) (map : MapView) : Type 0 where
-  pub some : 0 < length lines
-  pub limit : size_of lines ≤ size_limit
-  pub right : AreRowsOf map.wrapping (lines_of lines) map.rows
 
 -- the text's lines are lent as they are laid out, with their right rows, ticks included
 pub record IsViewOf (laid : LaidOut) (view : LentRows) : Type 0 where

@@ -2,8 +2,8 @@
 ghost use Rattle.std.specs.Prelude.{◌≡◌, ◌≢◌, ◌+◌, ◌-◌, ◌^◌, ◌<◌, ◌≤◌, ◌++◌, List, ℕ, [], encode_utf8_all, get_or, length, vec_capacity, vec_len, IfNone, IfOk, IfSome, None, OnOk, Some};
 ghost use Rattle.textarea_text.specs.Text.{lines_of};
 ghost use Rattle.textarea_map.specs.Layout.{AreRowsOf, ticks_behind, ticks_of};
-ghost use Rattle.textarea_map.specs.Blocks.{all_rows};
-ghost use Rattle.textarea_map.specs.Map.{row_total};
+ghost use Rattle.textarea_blocks.specs.Blocks.{all_rows};
+ghost use Rattle.textarea_blocks.specs.Sums.{row_total};
 ghost use Rattle.textarea_map.specs.Prepared.{IsReady, rows_in, rows_with};
 ghost use Rattle.textarea_lines.specs.Rows.{CanStayWhole, HasWholeLine};
 ghost use Rattle.textarea_lines.specs.Layout.{after_replacement, count_after, layout_of, lines_after};
@@ -11,7 +11,7 @@ ghost use Rattle.textarea_lines.specs.Wrappings.{wrapping_for};
 
 use crate::settings::{LayoutSettings, is_same, wrapping_for};
 use std::alloc::{AllocError, Global};
-use textarea_map::blocks::RowBlocks;
+use textarea_map::blocks::{RowBlocks, push_lines};
 use textarea_map::layout::Wrapping;
 use textarea_map::screen_map::{NewRows, PreparedRows, ScreenMap};
 use textarea_text::rows::Replacement;
@@ -100,12 +100,13 @@ pub(crate) fn rows_after(
         ≡ ticks_behind count.old (count_after (length lines.now) replacement.now)) }
 {
     let mut rows = RowBlocks::new(alloc);
-    push_after(&mut rows, lines, replacement, wrapping, count)?;
+    push_after(alloc, &mut rows, lines, replacement, wrapping, count)?;
     Ok(rows)
 }
 
 // Cuts all lines after the replacement, and puts their rows where there are none.
 fn push_after(
+    alloc: Global,
     rows: &mut RowBlocks,
     lines: &[String],
     replacement: &Replacement,
@@ -122,10 +123,10 @@ fn push_after(
     ensures ticks { OnOk result (ticks_of (all_rows rows.new.blocks)
         ≡ ticks_behind count.old (count_after (length lines.now) replacement.now)) }
 {
-    rows.push_lines(&lines[..replacement.row], wrapping, count)?;
-    rows.push_lines(replacement.lines.as_slice(), wrapping, count)?;
+    push_lines(alloc, rows, &lines[..replacement.row], wrapping, count)?;
+    push_lines(alloc, rows, replacement.lines.as_slice(), wrapping, count)?;
     let below = &lines[replacement.row + replacement.count..];
-    rows.push_lines(below, wrapping, count)
+    push_lines(alloc, rows, below, wrapping, count)
 }
 
 // The rows for the lines after the replacement: those of its lines, or of all lines where their number changes how they are

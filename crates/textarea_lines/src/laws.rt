@@ -3,11 +3,12 @@ ghost use Rattle.std.specs.Prelude.{◌≡◌, ◌<◌, ◌≤◌, ℕ, List, Op
 ghost use Rattle.textarea_text.specs.Place.{Place};
 ghost use Rattle.textarea_text.specs.Splice.{Fits, Splice};
 ghost use Rattle.textarea_text.specs.Text.{Symbol};
-ghost use Rattle.textarea_wrap.specs.RowsView.{RowsView};
+ghost use Rattle.textarea_rows.specs.RowsView.{RowsView};
 ghost use Rattle.textarea_lines.specs.Rows.{IsFoundAbove, IsFoundBelow, IsLaidOutAs};
 ghost use Rattle.textarea_lines.specs.Cuts.{AreSpliced, CutsAllLines, IsSetTo, IsSpliced, IsWidened};
 ghost use Rattle.textarea_lines.specs.Layout.{LaidOut, applied_to, at_width, laid_out_anew, laid_out_with, wrapping_at, wrapping_of};
-ghost use Rattle.textarea_lines.specs.View.{IsViewOf, LentRows};
+ghost use Rattle.textarea_map.specs.Lent.{LentRows};
+ghost use Rattle.textarea_lines.specs.View.{IsViewOf};
 ghost use Rattle.textarea_lines.specs.declared.settings.LayoutSettings.{LayoutSettings};
 
 use textarea_map::laws::{one_map, seen_once};

@@ -7,4 +7,3 @@ pub mod laid_out;
 pub mod laws;
 mod measured;
 pub mod settings;
-pub mod view;

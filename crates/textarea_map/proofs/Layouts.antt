@@ -7,7 +7,7 @@ use Rattle.std.specs.Str.{all_scalars}
 use Rattle.textarea_size.specs.Limit.{size_limit}
 use Rattle.textarea_text.specs.Text.{characters_of, lines_of}
 use Rattle.textarea_text.proofs.StringRows.{line_at}
-use Rattle.textarea_wrap.specs.RowsView.{RowsView}
+use Rattle.textarea_rows.specs.RowsView.{RowsView}
 use Rattle.textarea_wrap.specs.Wrapped.{IsWrapped}
 use Rattle.textarea_wrap.specs.declared.wrap.WrapMode.TheVariants as mode
 use Rattle.textarea_map.specs.declared.layout.Wrapping.{Wrapping}

@@ -1,6 +1,5 @@
 pub mod RowColumns
 pub mod Layouts
-pub mod Numbers
 pub mod Parts
 pub mod Holding
 pub mod VisualRows
@@ -8,7 +7,3 @@ pub mod ThereAndBack
 pub mod Once
 pub mod RowSizes
 pub mod FittingRows
-pub mod InBlocks
-pub mod Totals
-pub mod Exchanging
-pub mod Turning

@@ -4,10 +4,10 @@ use Rattle.std.proofs.lemmas.Bool.{cases_lt}
 use Rattle.textarea_text.specs.Place.{Place}
 use Rattle.textarea_text.proofs.Columns.{offset_in}
 use Rattle.textarea_wrap.specs.Cutting.{ranges_from}
-use Rattle.textarea_wrap.specs.RowsView.{RowsView}
+use Rattle.textarea_rows.specs.RowsView.{RowsView}
 use Rattle.textarea_map.specs.declared.layout.Wrapping.{Wrapping}
 use Rattle.textarea_map.specs.Layout.{AreRowsOf}
-use Rattle.textarea_map.specs.Map.{ranges_at, range_at, row_total}
+use Rattle.textarea_blocks.specs.Sums.{ranges_at, range_at, row_total}
 use Rattle.textarea_map.specs.Rows.{row_at}
 use Rattle.textarea_map.specs.Seen.{IsAbove, IsBelow, IsVisualPosition}
 use Rattle.textarea_map.proofs.Holding.{cut_at}

@@ -1,74 +1,20 @@
 -- How large lines are by their rows, and that they have no more rows than that.
-use Rattle.std.proofs.Common.{◌≡◌, ℕ, ◌+◌, ◌-◌, ◌<◌, ◌≤◌, inl, inr, max, List, [], ◌∷◌, ◌++◌, length, take, drop, get_or, sym, ap, refl, ◌∙◌, arith, subst, encode_utf8_all, String}
+use Rattle.std.proofs.Common.{◌≡◌, ℕ, ◌+◌, ◌-◌, ◌<◌, ◌≤◌, inl, inr, max, List, [], ◌∷◌, ◌++◌, length, take, drop, ap, refl, ◌∙◌, arith, subst, encode_utf8_all, String}
 use Rattle.std.proofs.lemmas.Bool.{cases_lt}
-use Rattle.std.proofs.lemmas.List.{take_more, take-append-drop, drop-drop, length-append}
+use Rattle.std.proofs.lemmas.List.{take-append-drop, length-append}
 use Rattle.std.specs.List.{concat, AllByRecursion}
-use Rattle.textarea_text.specs.Replaced.{replaced}
 use Rattle.textarea_text.specs.Size.{size_of, weight}
 use Rattle.textarea_text.specs.Text.{characters, following, lines_of}
 use Rattle.textarea_text.proofs.Sizes.{size_of-append, weight-append, weight-characters, weight_of_following}
 use Rattle.textarea_wrap.specs.Cutting.{ranges_from}
-use Rattle.textarea_wrap.specs.RowsView.{RowsView}
+use Rattle.textarea_rows.specs.RowsView.{RowsView}
 use Rattle.textarea_wrap.specs.Wrapped.{AreRowTexts, IsRowRange, IsWrapped}
 use Rattle.textarea_wrap.specs.declared.wrap.WrapMode.{WrapMode}
 use Rattle.textarea_map.specs.declared.layout.Wrapping.{Wrapping}
 use Rattle.textarea_map.specs.Layout.{AreRowsOf}
-use Rattle.textarea_map.specs.Map.{line_bytes, row_total, size_total}
-use Rattle.textarea_map.proofs.Numbers.{row_total-append}
+use Rattle.textarea_blocks.specs.Sums.{line_bytes, row_total, size_total}
 use Rattle.textarea_wrap.proofs.FewestRowLemmas.{length-ranges_from}
 use Rattle.textarea_map.proofs.Holding.{last_range, some_rows}
-
-pub size_total-append : (rows more : List RowsView) → size_total (rows ++ more) ≡ size_total rows + size_total more
-size_total-append [] more = omega arith
-size_total-append (r ∷ rows) more = omega (arith, size_total-append rows more)
-
--- one line more
-pub size_total-more : (rows : List RowsView) (i : ℕ) (r : RowsView) → i < length rows → r ≡ get_or rows i r → size_total (take (i + 1) rows) ≡ size_total (take i rows) + line_bytes r.ranges + 1
-size_total-more rows i r within e =
-    rw (take_more rows i r within, ← e) (omega (arith, size_total-append (take i rows) (r ∷ [])))
-
--- ---- lines give place to others
-
--- A sum over lines: of their rows, or of their sizes.
-abbrev pub Sum : Type 0
-Sum = List RowsView → ℕ
-
-abbrev pub IsSum : Sum → Type 0
-IsSum total = (rows more : List RowsView) → total (rows ++ more) ≡ total rows + total more
-
--- what the lines that go have is part of the whole, and with what comes in its place it is what all have afterwards
-pub record Exchange (total : Sum) (rows going new : List RowsView) (row count : ℕ) : Type 0 where
-  pub part : total going ≤ total rows
-  pub after : total rows - total going + total new ≡ total (replaced rows row count new)
-
-pub exchange : (total : Sum) (rows going new : List RowsView) (row count : ℕ) → IsSum total → going ≡ take count (drop row rows) → Exchange total rows going new row count
-exchange total rows going new row count sum is =
-    let below = drop (row + count) rows in
-    let whole : total rows ≡ total (take row rows) + (total going + total below) =
-    sym (ap total (take-append-drop row rows)) ∙ sum (take row rows) (drop row rows)
-    ∙ ap (λ n. total (take row rows) + n) (sym (ap total (take-append-drop count (drop row rows))) ∙ sum (take count (drop row rows)) (drop count (drop row rows)) ∙ omega (arith, ap total is, ap total (drop-drop count row rows))) in
-    record {
-      part = omega (arith, whole);
-      after = omega (arith, whole, sum (take row rows) (new ++ below), sum new below);
-    }
-
--- the lines that go, as the code cuts them out of those that are kept
-abbrev pub going : List RowsView → ℕ → ℕ → List RowsView
-going kept row count = take (row + count - row) (drop row kept)
-
-pub going_are : (rows kept : List RowsView) (row count : ℕ) → kept ≡ rows → going kept row count ≡ take count (drop row rows)
-going_are rows kept row count is =
-    let size : row + count - row ≡ count = omega arith in rw (size, is)
-
-pub sizes_exchanged : (rows kept new : List RowsView) (row count : ℕ) → kept ≡ rows → Exchange size_total rows (going kept row count) new row count
-sizes_exchanged rows kept new row count is =
-    exchange size_total rows (going kept row count) new row count size_total-append (going_are rows kept row count is)
-
-pub rows_exchanged : (rows kept new : List RowsView) (row count : ℕ) → kept ≡ rows → Exchange row_total rows (going kept row count) new row count
-rows_exchanged rows kept new row count is =
-    exchange row_total rows (going kept row count) new row count row_total-append (going_are rows kept row count is)
-
--- ---- right rows
 
 -- rows that aren't empty are no more than their bytes
 rows_within : (line : List ℕ) (at : ℕ) (texts : List (List ℕ)) → (line ≡ [] → ⊥) → AllByRecursion (IsRowRange line) (ranges_from at texts) → length (ranges_from at texts) ≤ length (concat texts)
@@ -122,8 +68,3 @@ some_row w [] rows h some = absurd (omega (arith, some))
 some_row w (line ∷ lines) [] h some = absurd h
 some_row w (line ∷ lines) (r ∷ rest) h some =
     omega (arith, some_rows w.mode w.tab_len (max w.width 1) (encode_utf8_all line) r.ranges h.0.cut)
-
--- a line is one of its size at least
-pub lines_few : (rows : List RowsView) → length rows ≤ size_total rows
-lines_few [] = omega arith
-lines_few (r ∷ rows) = omega (arith, lines_few rows)

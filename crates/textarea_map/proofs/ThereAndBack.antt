@@ -5,10 +5,10 @@ use Rattle.std.proofs.Math.Seq.{take-length}
 use Rattle.textarea_size.specs.Limit.{size_limit}
 use Rattle.textarea_text.specs.Place.{Place, IsPlaceOf}
 use Rattle.textarea_wrap.specs.Columns.{display_end_column}
-use Rattle.textarea_wrap.specs.RowsView.{RowsView}
+use Rattle.textarea_rows.specs.RowsView.{RowsView}
 use Rattle.textarea_map.specs.declared.layout.Wrapping.{Wrapping}
 use Rattle.textarea_map.specs.Layout.{AreRowsOf}
-use Rattle.textarea_map.specs.Map.{row_total}
+use Rattle.textarea_blocks.specs.Sums.{row_total}
 use Rattle.textarea_map.specs.Rows.{VisualRow, visual_rows, row_at, column_at, greatest_column}
 use Rattle.textarea_map.specs.Seen.{HasNoZeroWidth, IsPlaceAt, IsPlaceNear, IsVisualPosition, LeadsTo}
 use Rattle.textarea_map.proofs.RowColumns.{column_at-le, column_at-less}

@@ -3,7 +3,7 @@ use Rattle.std.specs.Prelude.{◌≡◌, ℕ, ◌+◌, ◌<◌, max, true, lengt
 use Rattle.std.specs.List.{range_with_len}
 use Rattle.std.specs.Str.{all_scalars}
 use Rattle.textarea_size.specs.Limit.{size_limit}
-use Rattle.textarea_wrap.specs.RowsView.{RowsView}
+use Rattle.textarea_rows.specs.RowsView.{RowsView}
 use Rattle.textarea_wrap.specs.Wrapped.{IsWrapped}
 use Rattle.textarea_map.specs.declared.layout.Wrapping.{Wrapping}
 

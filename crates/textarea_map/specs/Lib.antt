@@ -1,9 +1,7 @@
-pub mod Blocks
 pub mod Layout
+pub mod Lent
 pub mod Map
-pub mod Numbered
 pub mod Prepared
 pub mod Rows
 pub mod Seen
 pub mod Shown
-pub mod Turned

@@ -1,9 +1,9 @@
--- What clauses see of a screen map.
-use Rattle.std.specs.Prelude.{◌≡◌, ℕ, ◌+◌, ◌-◌, ◌≤◌, List, [], ◌∷◌, map, length, get_or}
-use Rattle.textarea_size.specs.Limit.{size_limit}
-use Rattle.textarea_wrap.specs.RowsView.{RowsView}
+-- What clauses see of a screen map, and what it keeps.
+use Rattle.std.specs.Prelude.{◌≡◌, ℕ, List}
+use Rattle.textarea_rows.specs.RowsView.{RowsView}
+use Rattle.textarea_blocks.specs.Blocks.{BlocksView}
+use Rattle.textarea_blocks.specs.Sums.{IsWithinLimit, row_total, size_total}
 use Rattle.textarea_map.specs.declared.layout.Wrapping.{Wrapping}
-use Rattle.textarea_map.specs.Blocks.{BlocksView}
 use Rattle.textarea_map.specs.Layout.{AreRowsOf}
 
 -- the rows of each line, how the lines are cut, and what can be put in without memory: how the rows stand in blocks, and how much
@@ -13,34 +13,13 @@ pub record MapView : Type 0 where
   pub wrapping : Wrapping
   pub room : BlocksView
 
--- how many visual rows these lines have in all
-abbrev pub row_total : List RowsView → ℕ
-row_total [] = 0
-row_total (rows ∷ rest) = length rows.ranges + row_total rest
-
 -- lines that are cut so have this many visual rows in all
 abbrev pub IsRowCount : Wrapping → List (List ℕ) → ℕ → Type 0
 IsRowCount wrapping lines count = (rows : List RowsView) × AreRowsOf wrapping lines rows × (count ≡ row_total rows)
 
--- the byte ranges of a line's rows; none where there is no such line
-abbrev pub ranges_at : List RowsView → ℕ → List (ℕ × ℕ)
-ranges_at rows line = get_or (map (λ (r : RowsView). r.ranges) rows) line []
-
--- the byte range of a row, given by its number among the rows of its line
-abbrev pub range_at : List (ℕ × ℕ) → ℕ → ℕ × ℕ
-range_at ranges row = get_or ranges row (0, 0)
-
--- the bytes of the line that has these rows: its last row ends behind all of them
-abbrev pub line_bytes : List (ℕ × ℕ) → ℕ
-line_bytes ranges = (range_at ranges (length ranges - 1)).1
-
--- the bytes of the lines that have these rows and the number of lines, summed
-abbrev pub size_total : List RowsView → ℕ
-size_total [] = 0
-size_total (rows ∷ rest) = line_bytes rows.ranges + 1 + size_total rest
-
--- The lines that have these rows are within the limit: at most 2^48 bytes and lines together, and no more rows than that. Right
--- rows are never more than bytes and lines together (`laws::few_rows`), so of them the first says the second.
-pub record IsWithinLimit (rows : List RowsView) : Type 0 where
-  pub size : size_total rows ≤ size_limit
-  pub few : row_total rows ≤ size_limit
+-- What each map keeps: how many rows its lines have and how large these are is known, and they are within the limit. Right rows are
+-- never more than bytes and lines together (`laws::few_rows`), so of them the limit on bytes and lines says the one on rows.
+pub record IsCounted (rows : List RowsView) (total size : ℕ) : Type 0 where
+  pub all : total ≡ row_total rows
+  pub size_is : size ≡ size_total rows
+  pub limit : IsWithinLimit rows

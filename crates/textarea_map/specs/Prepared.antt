@@ -1,12 +1,13 @@
 -- Rows that are to take the place of others in a screen map.
 use Rattle.std.specs.Prelude.{◌≡◌, ℕ, ◌+◌, ◌<◌, ◌≤◌, List, length, vec_len}
 use Rattle.textarea_text.specs.Replaced.{replaced}
-use Rattle.textarea_wrap.specs.RowsView.{RowsView}
+use Rattle.textarea_rows.specs.RowsView.{RowsView}
 use Rattle.textarea_map.specs.declared.screen_map.NewRows.{NewRows}
 use Rattle.textarea_map.specs.declared.screen_map.NewRows.TheVariants as new
 use Rattle.textarea_map.specs.declared.screen_map.PreparedRows.{PreparedRows}
-use Rattle.textarea_map.specs.Blocks.{BlocksView, FitsInBlock, IsEdge, all_rows}
-use Rattle.textarea_map.specs.Map.{IsWithinLimit, MapView, row_total, size_total}
+use Rattle.textarea_blocks.specs.Blocks.{BlocksView, FitsInBlock, IsEdge, all_rows}
+use Rattle.textarea_blocks.specs.Sums.{IsWithinLimit, row_total, size_total}
+use Rattle.textarea_map.specs.Map.{MapView}
 
 -- rows that are to be put in, in order
 abbrev pub rows_in : NewRows → List RowsView

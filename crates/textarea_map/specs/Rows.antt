@@ -1,7 +1,7 @@
 -- The visual rows of some lines, one below the other, and the columns of their characters.
 use Rattle.std.specs.Prelude.{ℕ, ◌+◌, ◌-◌, Bool, true, false, List, [], ◌∷◌, ◌++◌, length, take, drop, get_or, chars, encode_utf8_all, if◌then◌else◌}
 use Rattle.textarea_wrap.specs.Columns.{display_end_column}
-use Rattle.textarea_wrap.specs.RowsView.{RowsView}
+use Rattle.textarea_rows.specs.RowsView.{RowsView}
 
 -- A row as it is seen: the number of its line, the bytes of that line before it, the column of that line at which it begins, its
 -- characters, and whether it is its line's last row.

@@ -3,7 +3,7 @@ use Rattle.std.specs.Prelude.{◌≡◌, ◌≢◌, ℕ, ◌+◌, ◌-◌, ◌<�
 use Rattle.std.specs.List.{AllByRecursion}
 use Rattle.textarea_text.specs.Place.{Place}
 use Rattle.textarea_wrap.specs.Columns.{plain_width}
-use Rattle.textarea_wrap.specs.RowsView.{RowsView}
+use Rattle.textarea_rows.specs.RowsView.{RowsView}
 use Rattle.textarea_map.specs.Rows.{VisualRow, visual_rows, row_at, column_at, greatest_column}
 
 -- The place belongs to the row: it is one of the row's line, from the row's first column on and before its end. In the line's last

@@ -1,148 +1,41 @@
-//! The rows of lines in blocks of lines, one behind the other, with the number of lines and of visual rows before each block. So
-//! rows take the place of others by a move of those that stand behind them in one block, or of whole blocks; of all that lies
-//! behind, only those two numbers of each block change, and where changes of one block follow one another, not even these are
-//! touched.
-ghost use Rattle.std.specs.Prelude.{◌≡◌, ◌+◌, ◌≤◌, ◌++◌, ◌∷◌, ℕ, List, [], length, OnOk};
+//! Lines that are cut, with their rows in blocks.
+ghost use Rattle.std.specs.Prelude.{◌≡◌, ◌+◌, ◌≤◌, ◌++◌, ℕ, List, length, OnOk};
 ghost use Rattle.textarea_text.specs.Text.{lines_of};
+ghost use Rattle.textarea_blocks.specs.Blocks.{all_rows};
 ghost use Rattle.textarea_map.specs.Layout.{AreRowsOf, ticks_behind, ticks_of};
-ghost use Rattle.textarea_map.specs.Blocks.{all_rows};
-ghost use Rattle.textarea_map.specs.Map.{row_total};
 
-use self::numbers::Numbers;
-use crate::layout::{Wrapping, count_rows, rows_of};
+use crate::layout::{Wrapping, rows_of};
 use std::alloc::{AllocError, Global};
-use std::marker::Model;
-use textarea_size::limit::within_limit;
-use textarea_wrap::wrap::{Rows, WrapCount};
-
-mod change;
-mod look_up;
-mod numbers;
+pub use textarea_blocks::blocks::RowBlocks;
+use textarea_wrap::wrap::WrapCount;
 
 /// How many lines a block has that is cut from lines in one piece, but for a last one.
 pub const BLOCK: usize = 768;
 
-/// The rows of lines, in blocks.
-#[derive(Drop)]
-pub struct RowBlocks {
-    blocks: Vec<Vec<Rows>>,
-    lines: Numbers,
-    rows: Numbers,
-}
-
-impl Model for RowBlocks {
-    ghost use Rattle.std.specs.Prelude.{◌-◌, map, min, vec_len, vec_capacity};
-    ghost use Rattle.textarea_map.specs.Blocks.{BlocksView, rows_of_each, spare_of_each};
-    ghost use Rattle.textarea_map.specs.Numbered.{AreNumbered};
-
-    ghost Value = { BlocksView };
-
-    ghost view = { λ blocks. record {
-      blocks = rows_of_each blocks.blocks.items;
-      spare = spare_of_each blocks.blocks.items;
-      more = min (vec_capacity blocks.blocks - vec_len blocks.blocks)
-          (min blocks.lines.spare blocks.rows.spare);
-    } };
-
-    ghost invariant = { λ blocks.
-        AreNumbered (rows_of_each blocks.blocks.items) blocks.lines.numbers blocks.rows.numbers };
-}
-
-impl Clone for RowBlocks {
-    ghost is_clone = { λ blocks copy. copy.blocks ≡ blocks.blocks };
-
-    /// The same rows in the same blocks, or an error where there is no memory for them.
-    fn clone(&self) -> Result<RowBlocks, AllocError> {
-        Ok(RowBlocks {
-            blocks: self.blocks.clone()?,
-            lines: self.lines.clone()?,
-            rows: self.rows.clone()?,
-        })
+/// Cuts the lines, and puts their rows behind all others, in blocks of 768 lines and a last one. Each line adds one to `count`.
+/// More than 2^48 lines or rows are out of memory.
+pub fn push_lines(
+    alloc: Global,
+    blocks: &mut RowBlocks,
+    lines: &[String],
+    wrapping: Wrapping,
+    count: &mut WrapCount,
+) -> Result<(), AllocError>
+    ensures counted { OnOk result (count.new ≡ count.old + length lines.now) }
+    ensures never_less { count.old ≤ count.new }
+    ensures rows { (before : List (List ℕ)) →
+        AreRowsOf wrapping before (all_rows blocks.old.blocks) →
+        OnOk result (AreRowsOf wrapping (before ++ lines_of lines.now)
+        (all_rows blocks.new.blocks)) }
+    ensures ticks { OnOk result (ticks_of (all_rows blocks.new.blocks)
+        ≡ ticks_of (all_rows blocks.old.blocks) ++ ticks_behind count.old (length lines.now)) }
+{
+    let mut from = 0;
+    'cutting: while from < lines.len() {
+        let to = lines.len().min(from + BLOCK);
+        let rows = rows_of(alloc, &lines[from..to], wrapping, count)?;
+        blocks.push(rows)?;
+        from = to;
     }
-}
-
-impl RowBlocks {
-    /// No block. It takes no memory.
-    pub fn new(alloc: Global) -> RowBlocks
-        ensures { result.blocks ≡ [] }
-    {
-        RowBlocks {
-            blocks: Vec::new(alloc),
-            lines: Numbers::new(alloc),
-            rows: Numbers::new(alloc),
-        }
-    }
-
-    /// Cuts the lines, and puts their rows behind all others, in blocks of 768 lines and a last one. Each line adds one to `count`.
-    /// More than 2^48 lines or rows are out of memory.
-    pub fn push_lines(
-        &mut self,
-        lines: &[String],
-        wrapping: Wrapping,
-        count: &mut WrapCount,
-    ) -> Result<(), AllocError>
-        ensures counted { OnOk result (count.new ≡ count.old + length lines.now) }
-        ensures never_less { count.old ≤ count.new }
-        ensures rows { (before : List (List ℕ)) →
-            AreRowsOf wrapping before (all_rows self.old.blocks) →
-            OnOk result (AreRowsOf wrapping (before ++ lines_of lines.now)
-            (all_rows self.new.blocks)) }
-        ensures ticks { OnOk result (ticks_of (all_rows self.new.blocks)
-            ≡ ticks_of (all_rows self.old.blocks) ++ ticks_behind count.old (length lines.now)) }
-    {
-        let alloc = *self.blocks.allocator();
-        let mut from = 0;
-        'cutting: while from < lines.len() {
-            let to = lines.len().min(from + BLOCK);
-            let rows = rows_of(alloc, &lines[from..to], wrapping, count)?;
-            self.push(rows)?;
-            from = to;
-        }
-        Ok(())
-    }
-
-    // Puts the rows behind all others, as one block. More than 2^48 lines or rows in all are out of memory.
-    pub(crate) fn push(&mut self, rows: Vec<Rows>) -> Result<(), AllocError>
-        ensures { OnOk result (self.new.blocks ≡ self.old.blocks ++ rows.items ∷ []) }
-    {
-        let (lines, count) = (self.line_count(), self.row_count());
-        within_limit(lines.saturating_add(rows.len()))?;
-        within_limit(count.saturating_add(count_rows(rows.as_slice())))?;
-        self.reserve(1)?;
-        let _ = self.blocks.push(rows);
-        self.lines.push(lines);
-        self.rows.push(count);
-        Ok(())
-    }
-
-    // Makes room for so many blocks more.
-    pub(crate) fn reserve(&mut self, more: usize) -> Result<(), AllocError>
-        ensures same { self.new.blocks ≡ self.old.blocks }
-        ensures room { OnOk result (more ≤ self.new.more) }
-    {
-        self.blocks.reserve(more)?;
-        self.lines.reserve(more)?;
-        self.rows.reserve(more)
-    }
-
-    // How many blocks there are.
-    pub(crate) fn block_count(&self) -> usize
-        ensures { result ≡ length self.now.blocks }
-    {
-        self.blocks.len()
-    }
-
-    // How many lines all blocks have.
-    pub(crate) fn line_count(&self) -> usize
-        ensures { result ≡ length (all_rows self.now.blocks) }
-    {
-        self.lines_before(self.blocks.len())
-    }
-
-    // How many visual rows all lines have.
-    pub(crate) fn row_count(&self) -> usize
-        ensures { result ≡ row_total (all_rows self.now.blocks) }
-    {
-        self.rows_before(self.blocks.len())
-    }
+    Ok(())
 }

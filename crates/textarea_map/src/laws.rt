@@ -4,11 +4,12 @@ ghost use Rattle.textarea_text.specs.Place.{IsPlaceOf, Place};
 ghost use Rattle.textarea_text.specs.Size.{weight};
 ghost use Rattle.textarea_text.specs.Text.{following};
 ghost use Rattle.textarea_wrap.specs.Fitting.{HaveFittingClusters};
-ghost use Rattle.textarea_wrap.specs.RowsView.{RowsView};
+ghost use Rattle.textarea_rows.specs.RowsView.{RowsView};
 ghost use Rattle.textarea_wrap.specs.declared.wrap.WrapMode.TheVariants as mode;
 ghost use Rattle.textarea_map.specs.declared.layout.Wrapping.{Wrapping};
 ghost use Rattle.textarea_map.specs.Layout.{AreRowsOf};
-ghost use Rattle.textarea_map.specs.Map.{IsRowCount, row_total, size_total};
+ghost use Rattle.textarea_blocks.specs.Sums.{row_total, size_total};
+ghost use Rattle.textarea_map.specs.Map.{IsRowCount};
 ghost use Rattle.textarea_map.specs.Rows.{greatest_column, row_at};
 ghost use Rattle.textarea_map.specs.Seen.{HasNoZeroWidth, IsAbove, IsBelow, IsPlaceAt, IsPlaceNear, IsSeenUpTo, IsVisualPosition};
 

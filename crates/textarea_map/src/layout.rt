@@ -1,10 +1,10 @@
 //! The rows of several lines.
-ghost use Rattle.std.specs.Prelude.{◌≡◌, ◌+◌, ◌≤◌, ◌++◌, ℕ, List, length, min, IfOk, OnOk};
+ghost use Rattle.std.specs.Prelude.{◌≡◌, ◌+◌, ◌≤◌, ◌++◌, ℕ, List, length, IfOk, OnOk};
 ghost use Rattle.textarea_size.specs.Limit.{size_limit};
 ghost use Rattle.textarea_text.specs.Size.{size_of};
 ghost use Rattle.textarea_text.specs.Text.{lines_of};
 ghost use Rattle.textarea_map.specs.Layout.{AreRowsOf, ticks_behind, ticks_of};
-ghost use Rattle.textarea_map.specs.Map.{IsRowCount, line_bytes, row_total, size_total};
+ghost use Rattle.textarea_map.specs.Map.{IsRowCount};
 
 use std::alloc::{AllocError, Global};
 use textarea_text::rows::size_within_limit;
@@ -64,40 +64,6 @@ pub fn rows_of(
     let mut rows = Vec::with_capacity(alloc, lines.len())?;
     push_rows(alloc, &mut rows, lines, wrapping, count)?;
     Ok(rows)
-}
-
-// How many rows these are in all, or the greatest `usize` where that is less.
-pub(crate) fn count_rows(rows: &[Rows]) -> usize
-    ensures { result ≡ min (row_total rows.now) usize.MAX }
-{
-    let mut total = 0usize;
-    for line in rows {
-        total = total.saturating_add(line.as_slice().len());
-    }
-    total
-}
-
-// The bytes of the lines that have these rows and their number, summed, or the greatest `usize` where that is less.
-pub(crate) fn size_of_rows(rows: &[Rows]) -> usize
-    ensures { result ≡ min (size_total rows.now) usize.MAX }
-{
-    let mut size = 0usize;
-    for line in rows {
-        size = size
-            .saturating_add(line_bytes(line.as_slice()))
-            .saturating_add(1);
-    }
-    size
-}
-
-// The bytes of the line that has these rows.
-fn line_bytes(ranges: &[(usize, usize)]) -> usize
-    ensures { result ≡ line_bytes ranges.now }
-{
-    match ranges.last() {
-        Some(range) => range.1,
-        None => 0,
-    }
 }
 
 /// How many rows the lines have in all. Each is cut once, and no row is kept. Lines of more than 2^48 bytes and lines together

@@ -6,3 +6,4 @@ mod columns;
 pub mod laws;
 pub mod layout;
 pub mod screen_map;
+pub mod view;

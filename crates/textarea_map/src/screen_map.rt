@@ -6,15 +6,17 @@ ghost use Rattle.textarea_text.specs.Size.{size_of};
 ghost use Rattle.textarea_text.specs.Text.{lines_of};
 ghost use Rattle.textarea_wrap.specs.declared.wrap.WrapMode.TheVariants as mode;
 ghost use Rattle.textarea_map.specs.Layout.{AreRowsOf, ticks_behind, ticks_of, with_tab_len};
-ghost use Rattle.textarea_map.specs.Blocks.{IsEdge, all_rows};
-ghost use Rattle.textarea_map.specs.Map.{IsWithinLimit, ranges_at, row_total, size_total};
+ghost use Rattle.textarea_blocks.specs.Blocks.{IsEdge, all_rows};
+ghost use Rattle.textarea_blocks.specs.Sums.{IsWithinLimit, ranges_at, row_total, size_total};
 ghost use Rattle.textarea_map.specs.Prepared.{HasRoom, IsReady, rows_in, rows_with};
 
-use crate::blocks::{BLOCK, RowBlocks};
-use crate::layout::{Wrapping, count_rows, rows_of, size_of_rows};
+use crate::blocks::{BLOCK, push_lines};
+use crate::layout::{Wrapping, rows_of};
 pub use look_up::RowText;
 use std::alloc::{AllocError, Global};
 use std::marker::Model;
+use textarea_blocks::blocks::RowBlocks;
+use textarea_blocks::sums::{count_rows, size_of_rows};
 use textarea_size::limit::within_limit;
 use textarea_wrap::wrap::{Rows, WrapCount};
 
@@ -31,9 +33,8 @@ pub struct ScreenMap {
 }
 
 impl Model for ScreenMap {
-    ghost use Rattle.textarea_map.specs.Blocks.{all_rows};
-    ghost use Rattle.textarea_map.specs.Map.{MapView};
-    ghost use Rattle.textarea_map.specs.Numbered.{IsCounted};
+    ghost use Rattle.textarea_blocks.specs.Blocks.{all_rows};
+    ghost use Rattle.textarea_map.specs.Map.{IsCounted, MapView};
 
     ghost Value = { MapView };
 
@@ -101,7 +102,7 @@ pub fn new_rows(
         return Ok(NewRows::Few(rows));
     }
     let mut blocks = RowBlocks::new(alloc);
-    blocks.push_lines(lines, wrapping, count)?;
+    push_lines(alloc, &mut blocks, lines, wrapping, count)?;
     Ok(NewRows::Many(blocks))
 }
 
@@ -171,7 +172,7 @@ impl ScreenMap {
         ensures limit { OnOk result (size_of lines.now ≤ size_limit) }
     {
         let mut blocks = RowBlocks::new(alloc);
-        blocks.push_lines(lines, wrapping, counter)?;
+        push_lines(alloc, &mut blocks, lines, wrapping, counter)?;
         ScreenMap::of_blocks(blocks, wrapping)
     }
 

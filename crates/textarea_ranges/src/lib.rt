@@ -1,7 +1,6 @@
 //! The rules of atomic ranges, parts of a line that are edited as a whole, over lists of ranges and lines.
 #![tactic(auto)]
 
-pub mod atomic;
 pub mod held;
 pub mod laws;
 pub mod moved;

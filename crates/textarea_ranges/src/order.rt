@@ -2,8 +2,8 @@
 ghost use Rattle.std.specs.Prelude.{◌≡◌, IfOk};
 ghost use Rattle.textarea_ranges.specs.Order.{in_order};
 
-use crate::atomic::AtomicRange;
 use std::alloc::AllocError;
+use textarea_data::atomic::AtomicRange;
 
 /// The ranges by row and start. Those that start at one place keep their order. Only out of memory does it fail.
 pub fn in_order(mut ranges: Vec<AtomicRange>) -> Result<Vec<AtomicRange>, AllocError>

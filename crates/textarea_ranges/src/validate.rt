@@ -4,9 +4,11 @@ ghost use Rattle.textarea_text.specs.Place.{line_of};
 ghost use Rattle.textarea_text.specs.Text.{lines_of};
 ghost use Rattle.textarea_ranges.specs.Rejected.{AreAccepted, AreRefused, free_from, last_valid, reason, rejected_of, with_reason};
 
-use crate::atomic::{AtomicRange, AtomicRangeError, AtomicRangeRejectReason, RejectedAtomicRange};
 use crate::order::in_order;
 use std::alloc::{AllocError, Global};
+use textarea_data::atomic::{
+    AtomicRange, AtomicRangeError, AtomicRangeRejectReason, RejectedAtomicRange,
+};
 use textarea_text::rows::column_count;
 
 /// The ranges by row and start, where they are valid for the lines: each holds a character at least, its row exists, it

@@ -1,10 +1,10 @@
 -- What a refused pattern, and refused atomic ranges, come to.
 use Rattle.std.proofs.Common.{◌≡◌, ◌≢◌, ℕ, List, [], ◌∷◌, Some, Result, Ok, Err, IfErr, IfOk, IsOk, true, false, refl, subst, sym}
-use Rattle.textarea_ranges.specs.declared.atomic.AtomicRange.{AtomicRange}
-use Rattle.textarea_ranges.specs.declared.atomic.RejectedAtomicRange.{RejectedAtomicRange}
-use Rattle.textarea_search.specs.Failures.{IsCarried, IsPatternFailure}
-use Rattle.textarea_search.specs.declared.search.error.SearchError.{SearchError}
-use Rattle.textarea_search.specs.declared.search.error.SearchError.TheVariants.{Memory, Pattern}
+use Rattle.textarea_data.specs.declared.atomic.AtomicRange.{AtomicRange}
+use Rattle.textarea_data.specs.declared.atomic.RejectedAtomicRange.{RejectedAtomicRange}
+use Rattle.textarea_pattern.specs.Failures.{IsCarried, IsPatternFailure}
+use Rattle.textarea_pattern.specs.declared.error.SearchError.{SearchError}
+use Rattle.textarea_pattern.specs.declared.error.SearchError.TheVariants.{Memory, Pattern}
 use Rattle.tui_textarea.specs.State.{State}
 use Rattle.textarea_run.specs.Calls.{with_ranges_if}
 use Rattle.textarea_run.specs.Outcomes.{IsPatternAnswer}

@@ -4,7 +4,7 @@ use Rattle.std.proofs.lemmas.List.{map-append, take_more}
 use Rattle.textarea_keys.specs.declared.action.Action.{Action}
 use Rattle.textarea_data.specs.declared.cursor.CursorMove.{CursorMove}
 use Rattle.std.specs.Option.{option_map}
-use Rattle.textarea_drawing.specs.Cells.{AreLinesOf, frame_change}
+use Rattle.textarea_frame.specs.Cells.{AreLinesOf, frame_change}
 use Rattle.textarea_drawing.specs.Frame.{Parts, frame_of}
 use Rattle.textarea_drawing.specs.Rendered as rendered
 use Rattle.textarea_drawing.specs.Rendered.{IsDrawn}

@@ -1,9 +1,9 @@
 -- Why a call that sets a pattern may not do so.
 use Rattle.std.specs.Prelude.{◌≡◌, ◌≢◌, ℕ, List, [], Some, Result, Ok, Err, IfOk, IsOk, IsErr}
 use Rattle.regex.specs.declared.error.Error.{Error}
-use Rattle.textarea_search.specs.Failures.{IsCarried, IsPatternFailure}
-use Rattle.textarea_search.specs.declared.search.error.SearchError.{SearchError}
-use Rattle.textarea_search.specs.declared.search.error.SearchError.TheVariants.{Memory, Pattern}
+use Rattle.textarea_pattern.specs.Failures.{IsCarried, IsPatternFailure}
+use Rattle.textarea_pattern.specs.declared.error.SearchError.{SearchError}
+use Rattle.textarea_pattern.specs.declared.error.SearchError.TheVariants.{Memory, Pattern}
 use Rattle.textarea_run.specs.Said.{said, Done, PatternRefused}
 use Rattle.textarea_calls.specs.declared.answer.Answer.{Answer}
 use Rattle.tui_textarea.specs.State.{State}

@@ -3,10 +3,10 @@
 use Rattle.std.specs.Prelude.{ℕ, Bool, List, Option, string_bytes}
 use Rattle.std.specs.Option.{option_map}
 use Rattle.std.specs.Str.{chars}
-use Rattle.textarea_drawing.specs.State.{cell_of_position}
+use Rattle.textarea_frame.specs.Placed.{cell_of_position}
 use Rattle.textarea_look.specs.declared.look.CursorRenderMode as modes
-use Rattle.textarea_ranges.specs.declared.atomic.AtomicRange.{AtomicRange}
-use Rattle.textarea_ranges.specs.declared.atomic.RejectedAtomicRange.{RejectedAtomicRange}
+use Rattle.textarea_data.specs.declared.atomic.AtomicRange.{AtomicRange}
+use Rattle.textarea_data.specs.declared.atomic.RejectedAtomicRange.{RejectedAtomicRange}
 use Rattle.textarea_screen.specs.declared.screen.alignment.Alignment as alignments
 use Rattle.textarea_screen.specs.declared.screen.style.Style as styles
 use Rattle.textarea_surround.specs.declared.surround.measure.TextAreaMeasure.{TextAreaMeasure}

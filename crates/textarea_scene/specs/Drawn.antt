@@ -1,7 +1,7 @@
 -- The lines that show visual rows, and what they make of the cells of an area.
 use Rattle.std.specs.Prelude.{◌≡◌, ℕ, ◌+◌, ◌-◌, min, List, [], ◌∷◌, length}
 use Rattle.textarea_highlight.specs.Row.{ShowsRow}
-use Rattle.textarea_map.specs.Map.{row_total}
+use Rattle.textarea_blocks.specs.Sums.{row_total}
 use Rattle.textarea_paint.specs.Clusters.{row_clusters}
 use Rattle.textarea_paint.specs.Row.{row_cell, row_start}
 use Rattle.textarea_paint.specs.declared.paint.row.RowArea.{RowArea}

@@ -7,7 +7,7 @@ use Rattle.textarea_text.specs.Place.{Place, line_of}
 use Rattle.textarea_map.specs.Layout.{AreRowsOf}
 use Rattle.textarea_map.specs.Rows.{VisualRow, row_at}
 use Rattle.textarea_screen.specs.declared.screen.style.Style.{Style}
-use Rattle.textarea_search.specs.Matches.{match_spans}
+use Rattle.textarea_pattern.specs.Matches.{match_spans}
 use Rattle.textarea_highlight.specs.Borders.{search_rank}
 use Rattle.textarea_highlight.specs.Highlights.{Highlights, Range, is_in_range, plain_row, with_base, with_cursor_line, with_highlight, with_number, with_placeholder, with_segment}
 use Rattle.textarea_highlight.specs.declared.highlight.highlighter.CursorCellRender.{CursorCellRender}

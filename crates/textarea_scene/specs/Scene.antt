@@ -2,7 +2,7 @@
 use Rattle.std.specs.Prelude.{ℕ, Bool, List, Option, IfSome}
 use Rattle.textarea_text.specs.Place.{Place, IsPlaceOf}
 use Rattle.textarea_map.specs.Seen.{IsVisualPosition}
-use Rattle.textarea_lines.specs.View.{LentRows}
+use Rattle.textarea_map.specs.Lent.{LentRows}
 use Rattle.textarea_look.specs.declared.look.CustomHighlight.{CustomHighlight}
 use Rattle.textarea_look.specs.declared.look.Look.{Look}
 

@@ -6,7 +6,7 @@ pub mod placeholder;
 
 ghost use Rattle.std.specs.Prelude.{◌≡◌, ◌≢◌, ◌+◌, ◌-◌, ◌^◌, ◌<◌, ◌≤◌, min, List, IfOk, OnErr, OnOk};
 ghost use Rattle.textarea_highlight.specs.Row.{ShowsRow};
-ghost use Rattle.textarea_map.specs.Map.{row_total};
+ghost use Rattle.textarea_blocks.specs.Sums.{row_total};
 ghost use Rattle.textarea_screen.specs.Buffer.{area_of, Changes, KeepsOutside};
 ghost use Rattle.textarea_screen.specs.Rect.{contains, is_in_row};
 ghost use Rattle.textarea_screen.specs.Text.{ShownLine, shown_line};
@@ -20,8 +20,8 @@ use matches::FoundMatches;
 use std::alloc::{AllocError, Global};
 use std::marker::Model;
 use textarea_highlight::highlight::CursorCellRender;
-use textarea_lines::view::LaidOutView;
 use textarea_look::look::{CursorRenderMode, CustomHighlight, Look};
+use textarea_map::view::LaidOutView;
 use textarea_paint::paint::row::{RowArea, draw_row, row_start};
 use textarea_screen::screen::{Alignment, Buffer, Line, Rect};
 use textarea_search::search::{KeptMatches, Search};

@@ -1,4 +1,12 @@
-//! The whole work of the program `tascript` on a script, from the bytes that it reads to the bytes that it prints.
+//! Scripts, and sessions of a modal editor, from the bytes that are read to the bytes that are printed.
 #![tactic(auto)]
 
+pub mod modal;
+pub mod printing;
 pub mod serve;
+pub mod session;
+
+pub use modal::{Modal, ModalEnd, ModalStop};
+pub use printing::{Report, Screen};
+pub use textarea_modal_keys::mode;
+pub use textarea_modal_keys::mode::{Mode, Op};

@@ -1,6 +1,4 @@
 mod ColumnLemmas
-mod FailureLemmas
 mod ListedLemmas
-mod PatternLemmas
 mod PlaceLemmas
 mod StartLemmas

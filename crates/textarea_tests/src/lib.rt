@@ -1,5 +1,5 @@
 //! What worked cases can't hold: streams that fail, words behind the program's name, bytes that are no text, text areas of given
-//! lines and copies of them, each key, the program of README.
+//! lines and copies of them, the program of README.
 #![tactic(auto)]
 
 #[cfg(test)]
@@ -8,8 +8,6 @@ mod broken;
 mod calls;
 #[cfg(test)]
 mod given;
-#[cfg(test)]
-mod inputs;
 #[cfg(test)]
 mod many_lines;
 #[cfg(test)]

@@ -2,7 +2,7 @@
 use crate::texts::{strings, text_of};
 use std::process::Abort;
 use std::test::Fail;
-use textarea_session::serve::serve_words;
+use textarea_script::session::serve_words;
 
 /// How the program ends, what it prints and what it tells of errors, and what it leaves unread.
 #[derive(Clone, Copy, Debug, PartialEq, Eq)]

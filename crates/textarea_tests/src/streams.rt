@@ -4,7 +4,7 @@ use crate::texts::{strings, text_of};
 use std::process::Abort;
 use std::test::Fail;
 use textarea_script::serve::{DONE, LINE_NOT_READ, STREAM_FAILED};
-use textarea_session::serve::{NOT_READ, serve_words};
+use textarea_script::session::{NOT_READ, serve_words};
 
 const SCRIPT: &str = "insert_char a
 insert_newline

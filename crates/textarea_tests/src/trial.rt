@@ -1,18 +1,15 @@
 // What is tried with a text area. One function owns each that is tried, since to own one is dear to prove; all else is lent it.
 use crate::given::copy_stands_alone;
-use crate::inputs::{Held, press_by_both};
 use crate::many_lines::{are_shown_and_scrolled, lines_of_x};
 use crate::quick_start::is_as_told;
 use std::alloc::{AllocError, Global};
-use tui_textarea::{Key, TextArea};
+use tui_textarea::TextArea;
 
 /// A trial.
 #[derive(Clone, Copy)]
 pub enum Trial {
     /// A copy, and changes of its source.
     Copy,
-    /// A key with what is held beside it, with shortcuts and without.
-    Key(Key, Held),
     /// More lines than a height counts.
     ManyLines,
     /// The program of README.
@@ -24,10 +21,6 @@ impl Trial {
     fn area(self, alloc: Global) -> Result<TextArea<'static>, AllocError> {
         match self {
             Trial::Copy | Trial::QuickStart => TextArea::try_default(alloc),
-            Trial::Key(..) => {
-                let lines = ["abc", "def", "ghi", "jkl", "mno", "pqr"];
-                TextArea::from_strs(alloc, lines.into_iter())
-            }
             Trial::ManyLines => TextArea::new(lines_of_x(alloc)?),
         }
     }
@@ -36,10 +29,6 @@ impl Trial {
     fn is_right(self, alloc: Global, area: &mut TextArea<'_>) -> Result<bool, AllocError> {
         match self {
             Trial::Copy => copy_stands_alone(area),
-            Trial::Key(key, held) => {
-                press_by_both(area, key, held)?;
-                Ok(true)
-            }
             Trial::ManyLines => are_shown_and_scrolled(alloc, area),
             Trial::QuickStart => is_as_told(area),
         }

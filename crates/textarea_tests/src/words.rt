@@ -4,7 +4,7 @@ use std::io;
 use std::io::ErrorKind;
 use std::test::Fail;
 use textarea_script::serve::{DONE, LINE_NOT_READ, OUT_OF_MEMORY};
-use textarea_session::serve::{NOT_READ, serve_no_words};
+use textarea_script::session::{NOT_READ, serve_no_words};
 
 // Words, what is read, and how it ends.
 type Row = (&'static [&'static str], &'static str, End<'static>);

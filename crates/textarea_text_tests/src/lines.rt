@@ -14,7 +14,7 @@ use std::test::Fail;
 use textarea_edit::edit::{Edit, EditKind};
 use textarea_lines::laid_out::LaidOutLines;
 use textarea_lines::settings::{LayoutSettings, is_wrapped};
-use textarea_lines::view::LaidOutView;
+use textarea_map::view::LaidOutView;
 use textarea_text::rows::column_count;
 use textarea_wrap::wrap::WrapMode;
 

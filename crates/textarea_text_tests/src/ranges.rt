@@ -1,6 +1,6 @@
 //! A list of ranges that is accepted, and one of which each wrong range is named with its reason.
 use std::test::Fail;
-use textarea_ranges::atomic::{AtomicRange, AtomicRangeRejectReason, RejectedAtomicRange};
+use textarea_data::atomic::{AtomicRange, AtomicRangeRejectReason, RejectedAtomicRange};
 use textarea_ranges::validate::validate;
 
 fn part(row: usize, start_col: usize, end_col: usize) -> AtomicRange {

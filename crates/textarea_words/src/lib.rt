@@ -1,5 +1,10 @@
-//! Calls of a text area that no script makes, as words in lines, for programs that try text areas by lists of lines.
+//! What programs that try text areas by lists of lines share: calls that no script makes, as words; styles by their names; the lines
+//! of worked cases, what they show, and what is told beside them.
 #![tactic(auto)]
 
+pub mod lines;
+pub mod shown;
+pub mod stop;
 pub mod styles;
+pub mod told;
 pub mod words;

@@ -5,9 +5,9 @@ ghost use Rattle.textarea_calls.specs.Made.{CanBeMade};
 use crate::styles::style_named;
 use std::alloc::{AllocError, Global};
 use textarea_calls::Call;
+use textarea_data::atomic::{AtomicCursorBias, AtomicDeleteDirection};
 use textarea_data::input::{Input, Key};
 use textarea_look::look::CursorRenderMode;
-use textarea_ranges::atomic::{AtomicCursorBias, AtomicDeleteDirection};
 use textarea_screen::screen::{Alignment, Block, Borders, Line, Style, Text};
 
 /// What is lent to calls.
@@ -86,7 +86,7 @@ fn call_alone<'a>(name: &str, lent: &'a Lent) -> Option<Call<'a>>
 }
 
 // The call of this name that reads the text, or how it is edited.
-fn reading(name: &str) -> Option<Call<'static>>
+fn reading<'a>(name: &str) -> Option<Call<'a>>
     ensures { IfSome result CanBeMade }
 {
     Some(match name {
@@ -104,7 +104,7 @@ fn reading(name: &str) -> Option<Call<'static>>
 }
 
 // The call of this name that reads how the text area is drawn.
-fn reading_look(name: &str) -> Option<Call<'static>>
+fn reading_look<'a>(name: &str) -> Option<Call<'a>>
     ensures { IfSome result CanBeMade }
 {
     Some(match name {
@@ -137,7 +137,7 @@ fn call_with<'a>(name: &str, arguments: &'a str) -> Option<Call<'a>>
 }
 
 // The same, where the arguments aren't lent.
-fn call_of_parts(name: &str, arguments: &str) -> Option<Call<'static>>
+fn call_of_parts<'a>(name: &str, arguments: &str) -> Option<Call<'a>>
     ensures { IfSome result CanBeMade }
 {
     match name {
@@ -153,50 +153,50 @@ fn call_of_parts(name: &str, arguments: &str) -> Option<Call<'static>>
     }
 }
 
-fn setting_least(rows: &str) -> Option<Call<'static>>
+fn setting_least<'a>(rows: &str) -> Option<Call<'a>>
     ensures { IfSome result CanBeMade }
 {
     Some(Call::SetMinRows(rows.parse().ok()?))
 }
 
-fn setting_greatest(rows: &str) -> Option<Call<'static>>
+fn setting_greatest<'a>(rows: &str) -> Option<Call<'a>>
     ensures { IfSome result CanBeMade }
 {
     Some(Call::SetMaxRows(rows.parse().ok()?))
 }
 
-fn setting_render_mode(mode: &str) -> Option<Call<'static>>
+fn setting_render_mode<'a>(mode: &str) -> Option<Call<'a>>
     ensures { IfSome result CanBeMade }
 {
     Some(Call::SetCursorRenderMode(render_mode(mode)?))
 }
 
-fn setting_alignment(name: &str) -> Option<Call<'static>>
+fn setting_alignment<'a>(name: &str) -> Option<Call<'a>>
     ensures { IfSome result CanBeMade }
 {
     Some(Call::SetAlignment(alignment(name)?))
 }
 
-fn going_out_of_range(side: &str) -> Option<Call<'static>>
+fn going_out_of_range<'a>(side: &str) -> Option<Call<'a>>
     ensures { IfSome result CanBeMade }
 {
     Some(Call::NormalizeCursorAroundAtomicRanges(bias(side)?))
 }
 
-fn finding_range(side: &str) -> Option<Call<'static>>
+fn finding_range<'a>(side: &str) -> Option<Call<'a>>
     ensures { IfSome result CanBeMade }
 {
     Some(Call::AtomicRangeAtCursor(direction(side)?))
 }
 
-fn deleting_range(side: &str) -> Option<Call<'static>>
+fn deleting_range<'a>(side: &str) -> Option<Call<'a>>
     ensures { IfSome result CanBeMade }
 {
     Some(Call::DeleteAtomicRangeAtCursor(direction(side)?))
 }
 
 // The call of this name that sets a style.
-fn setting_style(name: &str, style: &str) -> Option<Call<'static>>
+fn setting_style<'a>(name: &str, style: &str) -> Option<Call<'a>>
     ensures { IfSome result CanBeMade }
 {
     let style = style_named(style)?;
@@ -213,7 +213,7 @@ fn setting_style(name: &str, style: &str) -> Option<Call<'static>>
 }
 
 // The highlight from one row and byte to another, of a style and a priority.
-fn highlight(arguments: &str) -> Option<Call<'static>>
+fn highlight<'a>(arguments: &str) -> Option<Call<'a>>
     ensures { IfSome result CanBeMade }
 {
     let mut parts = arguments.split(' ');

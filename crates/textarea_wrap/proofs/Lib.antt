@@ -11,5 +11,4 @@ pub mod OneCuttingLemmas
 pub mod OneRowLemmas
 pub mod RestLemmas
 pub mod RowLemmas
-pub mod TallyWalks
 pub mod WordLemmas

@@ -1,5 +1,4 @@
-//! Wrapping of one line: columns, cuttings at a width and laws of them, a counter of the calls that wrap, and the numbers of a
-//! layout.
+//! Wrapping of one line: columns, cuttings at a width and laws of them, and the numbers of a layout.
 #![tactic(auto)]
 
 pub mod laws;

@@ -4,20 +4,18 @@ ghost use Rattle.textarea_size.specs.Limit.{size_limit};
 ghost use Rattle.textarea_wrap.specs.Wrapped.{HasFewestRows, IsWrapped, TakesOneRow};
 
 use self::columns::fits_width;
-pub use self::count::WrapCount;
 use self::glyphs::push_glyph_rows;
 use self::units::collect_units;
 use self::words::push_word_rows;
 use serde::{Deserialize, Serialize};
-use smallvec::SmallVec;
 use std::alloc::{AllocError, Global};
-use std::marker::Model;
+pub use textarea_rows::count::WrapCount;
+use textarea_rows::rows::Ranges;
+pub use textarea_rows::rows::Rows;
 use textarea_size::limit::MAX_SIZE;
 
 pub mod columns;
-mod count;
 mod glyphs;
-mod tally;
 mod units;
 mod words;
 
@@ -32,48 +30,6 @@ pub enum WrapMode {
     Glyph,
     /// As `Word`.
     WordOrGlyph,
-}
-
-/// Byte ranges of rows. One row lies in the value itself, and only more take an allocation.
-type Ranges = SmallVec<(usize, usize), 1>;
-
-/// The byte ranges of a line's rows, and the number that the call which cut them counted to. Only `line_ranges` and `clone`
-/// make one.
-#[derive(Drop)]
-pub struct Rows {
-    ranges: Ranges,
-    tick: WrapCount,
-}
-
-impl Model for Rows {
-    ghost use Rattle.textarea_wrap.specs.RowsView.{RowsView};
-
-    ghost Value = { RowsView };
-
-    ghost view = { λ rows. record { ranges = rows.ranges.items; tick = rows.tick } };
-}
-
-impl Rows {
-    /// For each row the offset of its first byte, and the offset behind its last one.
-    pub fn as_slice(&self) -> &[(usize, usize)]
-        ensures { result.now ≡ self.now.ranges }
-    {
-        self.ranges.as_slice()
-    }
-}
-
-impl Clone for Rows {
-    ghost is_clone = { λ rows copy. copy ≡ rows };
-
-    ghost is_infallible = { λ rows. length rows.ranges ≤ 1 };
-
-    /// The same rows with the same tick. A single row takes no memory.
-    fn clone(&self) -> Result<Rows, AllocError> {
-        Ok(Rows {
-            ranges: self.ranges.clone()?,
-            tick: self.tick.clone()?,
-        })
-    }
 }
 
 /// Whether a line is short enough to be cut into rows and to be drawn.
@@ -106,12 +62,8 @@ pub fn line_ranges(
     ensures one_row { length line.now < size_limit → TakesOneRow mode tab_len (max width 1) line.now
         → IsOk result }
 {
-    count.tick();
-    let ranges = cut_line(alloc, line, mode, width.max(1), tab_len)?;
-    Ok(Rows {
-        ranges,
-        tick: count.clone()?,
-    })
+    let cut = cut_line(alloc, line, mode, width.max(1), tab_len);
+    Rows::counted(cut, count)
 }
 
 fn cut_line(

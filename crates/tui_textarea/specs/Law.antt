@@ -5,7 +5,7 @@ use Rattle.textarea_document.specs.Edits.{insertion_place, is_filled}
 use Rattle.textarea_document.specs.Rows.{laid_out_of}
 use Rattle.textarea_document.specs.Selection.{selected}
 use Rattle.textarea_lines.specs.Rows.{IsLaidOutAs}
-use Rattle.textarea_wrap.specs.RowsView.{RowsView}
+use Rattle.textarea_rows.specs.RowsView.{RowsView}
 use Rattle.tui_textarea.specs.State.{State}
 use Rattle.tui_textarea.specs.Edits.{str_inserted}
 use Rattle.tui_textarea.specs.Selection.{selection_copied}

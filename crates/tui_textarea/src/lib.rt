@@ -8,6 +8,10 @@ pub mod util;
 pub mod worked;
 
 pub use textarea::TextArea;
+pub use textarea_data::atomic::{
+    AtomicCursorBias, AtomicDeleteDirection, AtomicRange, AtomicRangeError,
+    AtomicRangeRejectReason, RejectedAtomicRange,
+};
 pub use textarea_data::cursor::{CursorMove, DataCursor};
 pub use textarea_data::input::{Input, Key};
 pub use textarea_data::scroll::Scrolling;
@@ -16,10 +20,6 @@ pub use textarea_history::history;
 pub use textarea_look::look::CursorRenderMode;
 pub use textarea_map::layout::Wrapping;
 pub use textarea_map::screen_map;
-pub use textarea_ranges::atomic::{
-    AtomicCursorBias, AtomicDeleteDirection, AtomicRange, AtomicRangeError,
-    AtomicRangeRejectReason, RejectedAtomicRange,
-};
 pub use textarea_screen::screen::{
     Alignment, Block, Borders, Buffer, Cell, Color, Line, Modifier, Padding, Position, Rect, Span,
     SpanText, Style, Text,

@@ -12,17 +12,16 @@
 //! 1 where a stream failed, 3 where memory was refused, and 4 where a case isn't as it is written or can't be read.
 #![tactic(auto)]
 
-mod end;
-mod lines;
 mod runs;
 mod sessions;
 mod told;
 mod transcript;
 
-use end::Stop;
 use std::alloc::Global;
 use std::io::Read;
 use std::process::ExitCode;
+use textarea_words::lines;
+use textarea_words::stop::Stop;
 
 const STREAM_FAILED: u8 = 1;
 

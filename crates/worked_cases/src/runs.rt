@@ -3,12 +3,12 @@
 //! The keys of runs stand one behind another, each but the last followed by `%`, behind which the text area is drawn into 20
 //! columns and 4 rows. `^` holds Ctrl for the key behind it, and `~` Alt. The pattern is a small o. At the end is told the mode, how
 //! the last run ended, the text area, and what was yanked.
-use crate::end::{Stop, compare};
-use crate::lines::keys_and_rest;
 use std::alloc::{AllocError, Global};
 use textarea_data::input::{Input, Key};
-use textarea_modal::{Modal, ModalEnd};
-use textarea_printing::Report;
+use textarea_script::modal::{Modal, ModalEnd};
+use textarea_script::printing::Report;
+use textarea_words::lines::keys_and_rest;
+use textarea_words::stop::{Stop, compare};
 use tui_textarea::{Buffer, Rect, TextArea};
 
 /// Runs keys, at whose end this must be told.

@@ -10,17 +10,18 @@
 ghost use Rattle.std.specs.Prelude.{IfSome};
 ghost use Rattle.textarea_calls.specs.Made.{CanBeMade};
 
-use crate::end::{Stop, compare};
-use crate::lines::unescaped;
 use crate::sessions::check_script;
-use crate::told::{told_answer, told_of};
+use crate::told::told_of;
 use std::alloc::{AllocError, Global};
 use textarea_calls::Call;
-use textarea_calls::printing::Escaped;
 use textarea_commands::commands::{Command, read};
-use textarea_printing::{Report, Screen};
 use textarea_run::perform::perform;
+use textarea_script::printing::{Report, Screen};
 use textarea_script::serve::{COLUMNS, ROWS};
+use textarea_words::lines::unescaped;
+use textarea_words::shown::{Script, Shown};
+use textarea_words::stop::{Stop, compare};
+use textarea_words::told::told_answer;
 use textarea_words::words::{Lent, call_of, character, lines_in, titled};
 use tui_textarea::{Borders, Buffer, Color, Rect, Style, TextArea};
 
@@ -279,107 +280,4 @@ fn call_in(commands: &[Command]) -> Option<Call<'_>>
     ensures { IfSome result CanBeMade }
 {
     Some(commands.first()?.call())
-}
-
-// The lines of a script, and what they answered.
-#[derive(Drop)]
-struct Script {
-    lines: String,
-    answers: String,
-    count: usize,
-    // Whether there were calls that no script makes.
-    has_words: bool,
-}
-
-impl Script {
-    fn new(alloc: Global) -> Script {
-        Script {
-            lines: String::new(alloc),
-            answers: String::new(alloc),
-            count: 0,
-            has_words: false,
-        }
-    }
-
-    fn push(&mut self, line: &str, answer: &str) -> Result<(), AllocError> {
-        self.count = self.count.saturating_add(1);
-        writeln!(self.lines, "{line}")?;
-        writeln!(self.answers, "{} {answer}", self.count)
-    }
-}
-
-// What was shown last of the text area.
-#[derive(Drop)]
-struct Shown {
-    lines: String,
-    cursor: String,
-    selection: String,
-    screen: String,
-    // Whether a row that is shown next is one of the screen, and not a line.
-    is_screen: bool,
-    // Whether something was shown since it was compared, and whether anything was.
-    is_new: bool,
-    is_known: bool,
-}
-
-impl Shown {
-    // An empty text area.
-    fn new(alloc: Global) -> Result<Shown, AllocError> {
-        Ok(Shown {
-            lines: String::from_str(alloc, "lines 1\n|\n")?,
-            cursor: String::from_str(alloc, "cursor 0 0\n")?,
-            selection: String::from_str(alloc, "selection none\n")?,
-            screen: String::new(alloc),
-            is_screen: false,
-            is_new: false,
-            is_known: false,
-        })
-    }
-
-    // A row may have any escape of scripts for a character.
-    fn show(&mut self, alloc: Global, line: &str) -> Result<(), Stop> {
-        self.is_new = true;
-        self.is_known = true;
-        if line.starts_with("cursor ") {
-            self.cursor.clear();
-            writeln!(self.cursor, "{line}")?;
-        } else if line.starts_with("selection ") {
-            self.selection.clear();
-            writeln!(self.selection, "{line}")?;
-        } else {
-            let row = unescaped(alloc, line)?;
-            self.show_row(row.as_str())?;
-        }
-        Ok(())
-    }
-
-    // Shows the head of the lines or of the screen, or a row of these.
-    fn show_row(&mut self, line: &str) -> Result<(), Stop> {
-        if line.starts_with("lines ") {
-            self.is_screen = false;
-            self.lines.clear();
-        } else if line.starts_with("screen ") {
-            self.is_screen = true;
-            self.screen.clear();
-        } else if !line.starts_with('|') {
-            return Err(Stop::Unread);
-        }
-        if self.is_screen {
-            writeln!(self.screen, "{}", Escaped(line))?;
-        } else {
-            writeln!(self.lines, "{}", Escaped(line))?;
-        }
-        Ok(())
-    }
-
-    fn printed(&self, alloc: Global) -> Result<String, AllocError> {
-        let Shown {
-            lines,
-            cursor,
-            selection,
-            screen,
-            ..
-        } = self;
-        format!(in alloc; "{lines}{cursor}{selection}{screen}")
-    }
 }

@@ -12,9 +12,9 @@ use crate::document::Document;
 use crate::document::edits::edit_of;
 use std::alloc::AllocError;
 use std::time::Duration;
+use textarea_data::atomic::AtomicCursorBias;
 use textarea_edit::edit::{Edit, EditKind};
 use textarea_pieces::places::end_of;
-use textarea_ranges::atomic::AtomicCursorBias;
 use textarea_ranges::held::move_out;
 use textarea_text::rows;
 

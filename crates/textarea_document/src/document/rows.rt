@@ -1,7 +1,7 @@
 //! The visual rows of a document.
 ghost use Rattle.std.specs.Prelude.{◌≡◌, true, IfOk, IfSome, IsOk, OnErr, OnOk};
 ghost use Rattle.textarea_text.specs.Place.{IsPlace};
-ghost use Rattle.textarea_map.specs.Map.{row_total};
+ghost use Rattle.textarea_blocks.specs.Sums.{row_total};
 ghost use Rattle.textarea_lines.specs.Layout.{at_width, is_cut_at, stays_cut};
 ghost use Rattle.textarea_lines.specs.Rows.{OfRows};
 ghost use Rattle.textarea_lines.specs.View.{IsPrepared, IsViewOf};
@@ -11,7 +11,7 @@ use crate::document::Document;
 use std::alloc::AllocError;
 use textarea_lines::laid_out::PreparedWidth;
 use textarea_lines::settings::LayoutSettings;
-use textarea_lines::view::LaidOutView;
+use textarea_map::view::LaidOutView;
 
 impl Document {
     /// What decides how the lines are cut and seen.

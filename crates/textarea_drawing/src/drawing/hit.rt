@@ -1,24 +1,17 @@
 //! Which place a cell of the screen shows, and which place is the nearest one that is shown.
-ghost use Rattle.std.specs.Prelude.{◌≡◌, ◌-◌, ◌<◌, IfOk, IfSome, IsOk, Some};
+ghost use Rattle.std.specs.Prelude.{◌≡◌, IfOk, IfSome, IsOk};
 ghost use Rattle.textarea_drawing.specs.Back.{IsCursorAtCaret};
-ghost use Rattle.textarea_drawing.specs.Hit.{IsHit, IsHitInRows, IsHitOf, IsInside, IsLastArea};
-ghost use Rattle.textarea_map.specs.Map.{row_total};
-ghost use Rattle.textarea_scene.specs.Scene.{HasPlaces};
+ghost use Rattle.textarea_drawing.specs.Hit.{IsHit, IsInside, IsLastArea};
 ghost use Rattle.textarea_screen.specs.declared.screen.alignment.Alignment.TheVariants.{Left};
-ghost use Rattle.textarea_text.specs.Place.{IsPlace, IsPlaceOf};
-ghost use Rattle.textarea_viewport.specs.Caret.{hit_row};
+ghost use Rattle.textarea_text.specs.Place.{IsPlace};
 
 use super::Drawing;
 use super::caret::caret_leads_back;
-use super::frame::Frame;
-use super::placing::row_view;
-use std::alloc::{AllocError, Global};
+use std::alloc::AllocError;
 use textarea_document::Document;
-use textarea_scene::scene::Scene;
 use textarea_screen::screen::{Position, Rect};
 use textarea_search::search::Search;
 use textarea_surround::Surround;
-use textarea_viewport::Viewport;
 
 impl Drawing {
     /// The place of the text that a cell of the screen shows, in the inner area of the last drawing: of the text as it stands, in
@@ -80,32 +73,6 @@ impl Drawing {
     }
 }
 
-impl Frame<'_, '_> {
-    // The place that a cell shows, if it is one of the inner area.
-    fn hit(
-        &self,
-        alloc: Global,
-        viewport: Viewport,
-        inner: Rect,
-        position: Position,
-    ) -> Result<Option<(usize, usize)>, AllocError>
-        requires { HasPlaces self.now.scene }
-        ensures hit { IfOk result (IsHitOf self.now viewport inner position.x position.y) }
-        ensures place { IfOk result (λ found.
-            IfSome found (IsPlaceOf self.now.scene.rows.lines)) }
-        ensures left { self.now.scene.look.alignment ≡ Left → IsOk result }
-    {
-        let last_row = self.scene.rows.row_count() - 1;
-        let Some(row) = viewport.hit_row(inner, last_row, position) else {
-            return Ok(None);
-        };
-        if self.shows_placeholder() {
-            return Ok(Some((0, 0)));
-        }
-        Ok(Some(hit_in_row(alloc, &self.scene, viewport, inner, row, position)?))
-    }
-}
-
 // The place that a cell of the screen shows, without what the law says of the caret's.
 fn hit_place(
     drawing: &Drawing,
@@ -126,26 +93,4 @@ fn hit_place(
     let frame = drawing.frame(document, document.view(), surround, search);
     let inner = drawing.last_area(document);
     frame.hit(document.allocator(), drawing.viewport, inner, position)
-}
-
-// The place that a cell of the inner area shows, in the visual row that it shows.
-fn hit_in_row(
-    alloc: Global,
-    scene: &Scene<'_>,
-    viewport: Viewport,
-    inner: Rect,
-    row: usize,
-    position: Position,
-) -> Result<(usize, usize), AllocError>
-    requires places { HasPlaces scene.now }
-    requires row { row < row_total scene.now.rows.rows }
-    requires hit { hit_row viewport.row inner (row_total scene.now.rows.rows - 1)
-        position.x position.y ≡ Some row }
-    ensures hit { IfOk result (IsHitInRows scene.now viewport inner position.x position.y) }
-    ensures place { IfOk result (IsPlaceOf scene.now.rows.lines) }
-    ensures left { scene.now.look.alignment ≡ Left → IsOk result }
-{
-    let view = row_view(alloc, scene, viewport, inner, row)?;
-    let column = view.hit_column(position, scene.rows.greatest_column(row));
-    Ok(scene.rows.place_near((row, column)))
 }

@@ -4,19 +4,18 @@ ghost use Rattle.textarea_document.specs.Rows.{laid_out_of, with_inner_width};
 ghost use Rattle.textarea_drawing.specs.Back.{IsHitBack};
 ghost use Rattle.textarea_drawing.specs.Rendered.{IsDrawn, IsRendered, drawn_into};
 ghost use Rattle.textarea_drawing.specs.Shown.{IsCaretShown};
-ghost use Rattle.textarea_drawing.specs.Steps.{IsDrawnAt, IsFrameDrawn};
+ghost use Rattle.textarea_drawing.specs.Steps.{IsDrawnAt};
 ghost use Rattle.textarea_lines.specs.View.{IsPrepared};
-ghost use Rattle.textarea_scene.specs.Scene.{HasPlaces};
 ghost use Rattle.textarea_screen.specs.Buffer.{KeepsOutside};
 ghost use Rattle.textarea_screen.specs.Rect.{contains};
 
 use super::Drawing;
 use super::caret::{caret_has_room, caret_leads_back};
-use super::frame::Frame;
-use super::placing::Placing;
 use std::alloc::{AllocError, Global};
 use std::mem::replace;
 use textarea_document::Document;
+use textarea_frame::frame::draw_frame;
+use textarea_frame::placing::Placing;
 use textarea_lines::laid_out::PreparedWidth;
 use textarea_screen::screen::{Buffer, Position, Rect};
 use textarea_search::search::{KeptMatches, Search};
@@ -180,26 +179,6 @@ fn draw_at_width(
         drawing.viewport,
         inner,
     )
-}
-
-// Draws the frame, where this part was shown before, and gives what is shown then.
-fn draw_frame(
-    frame: &Frame<'_, '_>,
-    alloc: Global,
-    kept: &mut KeptMatches,
-    buffer: &mut Buffer,
-    area: Rect,
-    viewport: Viewport,
-    inner: Rect,
-) -> Result<Placing, AllocError>
-    requires places { HasPlaces frame.now.scene }
-    requires within { (x y : ℕ) → IsTrue (contains inner x y) → IsTrue (contains area x y) }
-    ensures ok { IfOk result (IsFrameDrawn frame.now viewport area inner buffer.old buffer.new) }
-    ensures outside { KeepsOutside (contains area) buffer.old buffer.new }
-{
-    let placing = frame.placing(alloc, viewport, inner)?;
-    frame.draw(alloc, kept, buffer, area, placing.viewport, inner)?;
-    Ok(placing)
 }
 
 // Keeps the width that was drawn at, and what was drawn. That takes no memory.

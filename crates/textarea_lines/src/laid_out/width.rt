@@ -6,11 +6,11 @@ ghost use Rattle.textarea_lines.specs.View.{IsCutWhereOther, IsPrepared, IsViewO
 use super::LaidOutLines;
 use crate::cut::{CutAnew, let_go, take_if_cut};
 use crate::settings::{LayoutSettings, is_same, is_wrapped, wrapping_for};
-use crate::view::LaidOutView;
 use std::alloc::AllocError;
 use std::marker::Model;
 use textarea_map::layout::Wrapping;
 use textarea_map::screen_map::ScreenMap;
+use textarea_map::view::LaidOutView;
 
 /// An inner width for which lines are ready. It fits the lines only as they stand where it was made.
 #[derive(Drop)]

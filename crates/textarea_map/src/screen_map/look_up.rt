@@ -6,7 +6,7 @@ ghost use Rattle.textarea_size.specs.Limit.{size_limit};
 ghost use Rattle.textarea_text.specs.Text.{lines_of};
 ghost use Rattle.textarea_text.specs.Place.{IsPlaceOf};
 ghost use Rattle.textarea_map.specs.Layout.{AreRowsOf};
-ghost use Rattle.textarea_map.specs.Map.{range_at, row_total};
+ghost use Rattle.textarea_blocks.specs.Sums.{range_at, row_total};
 ghost use Rattle.textarea_map.specs.Rows.{greatest_column, row_at, row_width};
 ghost use Rattle.textarea_map.specs.Shown.{shown_row};
 ghost use Rattle.textarea_map.specs.Seen.{IsAbove, IsBelow, IsInFirstRow, IsInLastRow, IsPlaceAt, IsPlaceNear, IsVisualPosition};

@@ -2,7 +2,7 @@
 ghost use Rattle.std.specs.Prelude.{◌≡◌, ◌<◌, chars, encode_utf8_all, length, IfOk, OnOk};
 ghost use Rattle.textarea_highlight.specs.Highlights.{plain_row};
 ghost use Rattle.textarea_highlight.specs.Row.{ShowsRow};
-ghost use Rattle.textarea_map.specs.Map.{row_total};
+ghost use Rattle.textarea_blocks.specs.Sums.{row_total};
 ghost use Rattle.textarea_map.specs.Rows.{row_at};
 ghost use Rattle.textarea_map.specs.Shown.{shown_row};
 ghost use Rattle.textarea_screen.specs.Text.{shown_line};

@@ -1,6 +1,6 @@
 //! What a row's highlighter is told, one thing after another.
 ghost use Rattle.std.specs.Prelude.{◌≡◌, ◌<◌, chars, encode_utf8_all, length, OnOk};
-ghost use Rattle.textarea_map.specs.Map.{row_total};
+ghost use Rattle.textarea_blocks.specs.Sums.{row_total};
 ghost use Rattle.textarea_map.specs.Rows.{row_at};
 ghost use Rattle.textarea_map.specs.Shown.{shown_row};
 ghost use Rattle.textarea_text.specs.Place.{IsPlaceOf};

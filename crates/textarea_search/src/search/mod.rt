@@ -1,6 +1,4 @@
 //! A pattern to search for, the matches that `regex` lists for a line, and the way from a cursor to the next of them.
-mod compiled;
-mod error;
 mod keeping_matcher;
 mod kept_matches;
 mod line_matcher;
@@ -9,9 +7,9 @@ mod listed;
 mod matches;
 mod state;
 
-pub use error::SearchError;
 pub use keeping_matcher::KeepingMatcher;
 pub use kept_matches::KeptMatches;
 pub use line_matcher::LineMatcher;
 pub use matches::Matches;
 pub use state::Search;
+pub use textarea_pattern::error::SearchError;

@@ -1,11 +1,9 @@
 ghost use Rattle.std.specs.Prelude.{◌≡◌, ◌≢◌, ◌<◌, [], length, option_map, IsNone, IsOk, IfOk, IfErr, IfSome, OnOk, OnErr};
 ghost use Rattle.std.specs.Option.{option_copied};
-ghost use Rattle.textarea_search.specs.Failures.{IsPatternFailure, IsCarried};
-ghost use Rattle.textarea_search.specs.Matches.{match_spans};
-ghost use Rattle.textarea_search.specs.Starts.{starts_of, next_start, previous_start, IsPlaceIn};
+ghost use Rattle.textarea_pattern.specs.Failures.{IsPatternFailure, IsCarried};
+ghost use Rattle.textarea_pattern.specs.Matches.{match_spans};
+ghost use Rattle.textarea_pattern.specs.Starts.{starts_of, next_start, previous_start, IsPlaceIn};
 
-use crate::search::compiled::Compiled;
-use crate::search::error::SearchError;
 use crate::search::keeping_matcher::KeepingMatcher;
 use crate::search::kept_matches::KeptMatches;
 use crate::search::line_matcher::LineMatcher;
@@ -13,21 +11,21 @@ use crate::search::lines::{next_start, previous_start};
 use crate::search::matches::Matches;
 use std::alloc::{AllocError, Global};
 use std::marker::Model;
+use textarea_pattern::error::SearchError;
+use textarea_pattern::pattern::Pattern;
 
 /// The pattern that is searched for, if there is one. Contracts see its text. Clones share what was built of it.
 #[derive(Drop)]
 pub struct Search {
-    compiled: Option<Compiled>,
+    pattern: Option<Pattern>,
 }
 
 impl Model for Search {
-    ghost use Rattle.std.specs.Prelude.{ℕ, List, Option, option_map};
-    ghost use Rattle.regex.specs.Strings.{regex_source};
+    ghost use Rattle.std.specs.Prelude.{ℕ, List, Option};
 
     ghost Value = { Option (List ℕ) };
 
-    ghost view = { λ search.
-        option_map (λ compiled. regex_source compiled.regex.value) search.compiled };
+    ghost view = { λ search. search.pattern };
 }
 
 impl Search {
@@ -41,13 +39,13 @@ impl Search {
         ensures err { OnErr result (self.new ≡ self.old) }
     {
         if pattern.is_empty() {
-            self.compiled = None;
+            self.pattern = None;
             return Ok(());
         }
         if self.pattern() == Some(pattern) {
             return Ok(());
         }
-        self.compiled = Some(Compiled::new(alloc, pattern)?);
+        self.pattern = Some(Pattern::new(alloc, pattern)?);
         Ok(())
     }
 
@@ -55,8 +53,8 @@ impl Search {
     pub fn pattern(&self) -> Option<&str>
         ensures { option_copied result ≡ self.now }
     {
-        match &self.compiled {
-            Some(compiled) => Some(compiled.text()),
+        match &self.pattern {
+            Some(pattern) => Some(pattern.text()),
             None => None,
         }
     }
@@ -79,10 +77,11 @@ impl Search {
         ensures pattern { IfOk result (λ matcher. matcher ≡ self.now) }
         ensures no_pattern { IsNone self.now → IsOk result }
     {
-        match &self.compiled {
-            Some(compiled) => Ok(Some(compiled.line_matcher()?)),
-            None => Ok(None),
-        }
+        let Some(pattern) = &self.pattern else {
+            return Ok(None);
+        };
+        let matcher = pattern.matcher()?;
+        Ok(Some(LineMatcher::new(pattern.allocator(), matcher, pattern.text())))
     }
 
     /// What lists the matches of line after line, as `matches` does, and looks only for those that aren't kept. It keeps those of
@@ -95,7 +94,7 @@ impl Search {
         ensures pattern { IfOk result (λ matcher. matcher ≡ self.now) }
         ensures no_pattern { IsNone self.now → IsOk result }
     {
-        if self.compiled.is_some() {
+        if self.pattern.is_some() {
             kept.reserve(count)?;
         }
         Ok(KeepingMatcher::new(self, kept))
@@ -116,10 +115,10 @@ impl Search {
         ensures within { IfOk result (λ place. IfSome place (IsPlaceIn lines.now)) }
         ensures no_pattern { IsNone self.now → IsOk result }
     {
-        let Some(compiled) = &self.compiled else {
+        let Some(pattern) = &self.pattern else {
             return Ok(None);
         };
-        let mut matcher = compiled.matcher()?;
+        let mut matcher = pattern.matcher()?;
         Ok(next_start(&mut matcher, lines, cursor, match_cursor))
     }
 
@@ -138,10 +137,10 @@ impl Search {
         ensures within { IfOk result (λ place. IfSome place (IsPlaceIn lines.now)) }
         ensures no_pattern { IsNone self.now → IsOk result }
     {
-        let Some(compiled) = &self.compiled else {
+        let Some(pattern) = &self.pattern else {
             return Ok(None);
         };
-        let mut matcher = compiled.matcher()?;
+        let mut matcher = pattern.matcher()?;
         Ok(previous_start(&mut matcher, lines, cursor, match_cursor))
     }
 
@@ -150,11 +149,11 @@ impl Search {
         ensures same { IfOk result (λ copy. copy ≡ self.now) }
         ensures no_pattern { IsNone self.now → IsOk result }
     {
-        match &self.compiled {
-            Some(compiled) => Ok(Search {
-                compiled: Some(compiled.share()?),
+        match &self.pattern {
+            Some(pattern) => Ok(Search {
+                pattern: Some(pattern.share()?),
             }),
-            None => Ok(Search { compiled: None }),
+            None => Ok(Search { pattern: None }),
         }
     }
 }
@@ -165,6 +164,6 @@ impl Default for Search {
     fn default() -> Search
         ensures { IsNone result }
     {
-        Search { compiled: None }
+        Search { pattern: None }
     }
 }

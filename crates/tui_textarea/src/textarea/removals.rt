@@ -7,8 +7,8 @@ ghost use Rattle.tui_textarea.specs.Removals.{break_before_removed, text_cleared
 
 use crate::textarea::TextArea;
 use std::alloc::AllocError;
+use textarea_data::atomic::AtomicDeleteDirection;
 use textarea_pieces::places::{ahead, line_end, text_end};
-use textarea_ranges::atomic::AtomicDeleteDirection;
 use textarea_target::ends::{word_end_after, word_start_before};
 
 impl TextArea<'_> {

@@ -5,7 +5,7 @@ ghost use Rattle.textarea_drawing.specs.Back.{IsCursorAtCaret, IsHitBack};
 ghost use Rattle.textarea_drawing.specs.Hit.{IsHit};
 ghost use Rattle.textarea_drawing.specs.Rendered.{IsDrawn};
 ghost use Rattle.textarea_drawing.specs.Shown.{IsCaretShown};
-ghost use Rattle.textarea_drawing.specs.State.{cell_of_position};
+ghost use Rattle.textarea_frame.specs.Placed.{cell_of_position};
 ghost use Rattle.textarea_screen.specs.Buffer.{KeepsOutside};
 ghost use Rattle.textarea_screen.specs.Rect.{contains};
 ghost use Rattle.textarea_screen.specs.declared.screen.alignment.Alignment.TheVariants.{Left};

@@ -2,7 +2,7 @@
 ghost use Rattle.std.specs.Prelude.{◌≡◌, [], Some, None, OnOk, OnErr, IsOk, IfOk, IfErr, IfSome, is_some};
 ghost use Rattle.std.specs.Option.{option_copied};
 ghost use Rattle.textarea_text.specs.Place.{IsPlace};
-ghost use Rattle.textarea_search.specs.Failures.{IsCarried, IsPatternFailure};
+ghost use Rattle.textarea_pattern.specs.Failures.{IsCarried, IsPatternFailure};
 ghost use Rattle.tui_textarea.specs.Search.{next_match, previous_match, searched, with_pattern};
 
 use crate::textarea::TextArea;

@@ -1,6 +1,6 @@
 use Rattle.std.proofs.Common.{◌∙◌, ap, length, max, sum_by, sym}
 use Rattle.textarea_map.proofs.Layouts.{ranges_same}
-use Rattle.textarea_map.proofs.Numbers.{row_total-sum}
+use Rattle.textarea_blocks.proofs.Numbers.{row_total-sum}
 use Rattle.textarea_map.proofs.laws.one_row_count.Goals as goal
 
 pub returns : goal.returns

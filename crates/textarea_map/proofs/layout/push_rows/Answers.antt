@@ -1,5 +1,5 @@
 use Rattle.std.proofs.Common.{◌+◌, ◌++◌, List, sym, subst, arith, take}
-use Rattle.textarea_wrap.specs.RowsView.{RowsView}
+use Rattle.textarea_rows.specs.RowsView.{RowsView}
 use Rattle.textarea_text.specs.Text.{lines_of}
 use Rattle.textarea_map.specs.Layout.{AreRowsOf, ticks_of}
 use Rattle.textarea_map.proofs.Layouts.{AreRowsOf-more, ticks_more}

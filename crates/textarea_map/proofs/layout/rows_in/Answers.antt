@@ -2,10 +2,11 @@ use Rattle.std.proofs.Common.{◌≡◌, ℕ, ◌+◌, ◌++◌, ◌∷◌, List
 use Rattle.std.proofs.lemmas.List.{length-map, take_all}
 use Rattle.textarea_text.specs.Text.{characters_of, lines_of}
 use Rattle.textarea_text.proofs.Sizes.{size_of_more}
-use Rattle.textarea_wrap.specs.RowsView.{RowsView}
-use Rattle.textarea_map.specs.Map.{IsRowCount, row_total}
+use Rattle.textarea_rows.specs.RowsView.{RowsView}
+use Rattle.textarea_blocks.specs.Sums.{row_total}
+use Rattle.textarea_map.specs.Map.{IsRowCount}
 use Rattle.textarea_map.proofs.Layouts.{AreRowsOf-more}
-use Rattle.textarea_map.proofs.Numbers.{row_total-append}
+use Rattle.textarea_blocks.proofs.Numbers.{row_total-append}
 use Rattle.textarea_map.proofs.RowSizes.{size_of_line, size_of_take}
 use Rattle.textarea_map.proofs.layout.rows_in.Goals as goal
 

@@ -1,5 +1,5 @@
 use Rattle.std.proofs.Common.{List, [], sym, subst, ap, length, ◌++◌, ◌∙◌}
-use Rattle.textarea_wrap.specs.RowsView.{RowsView}
+use Rattle.textarea_rows.specs.RowsView.{RowsView}
 use Rattle.textarea_map.specs.Layout.{AreRowsOf, ticks_behind, ticks_of}
 use Rattle.textarea_map.proofs.layout.rows_of.Goals as goal
 

@@ -1,5 +1,5 @@
 use Rattle.std.proofs.Common.{List, [], ap, ◌++◌, ◌∙◌, ◌∷◌}
-use Rattle.textarea_wrap.specs.RowsView.{RowsView}
+use Rattle.textarea_rows.specs.RowsView.{RowsView}
 use Rattle.textarea_map.proofs.screen_map.block_of.Goals as goal
 
 pub returns : goal.returns

@@ -1,6 +1,6 @@
 use Rattle.std.proofs.Common.{List, [], subst, sym, ap, length, ◌++◌, ◌∙◌}
-use Rattle.textarea_wrap.specs.RowsView.{RowsView}
-use Rattle.textarea_map.specs.Blocks.{all_rows}
+use Rattle.textarea_rows.specs.RowsView.{RowsView}
+use Rattle.textarea_blocks.specs.Blocks.{all_rows}
 use Rattle.textarea_map.specs.Layout.{AreRowsOf, ticks_behind, ticks_of}
 use Rattle.textarea_map.proofs.screen_map.new_rows.Goals as goal
 

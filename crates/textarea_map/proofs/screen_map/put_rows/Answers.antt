@@ -1,8 +1,8 @@
 use Rattle.std.proofs.Common.{ap, arith, length, subst, sym, ◌∙◌}
-use Rattle.textarea_map.specs.Map.{row_total}
+use Rattle.textarea_blocks.specs.Sums.{row_total}
 use Rattle.textarea_map.specs.Prepared.{HasRoom, rows_in}
 use Rattle.textarea_map.specs.declared.screen_map.NewRows.{NewRows}
-use Rattle.textarea_map.specs.Blocks.{all_rows}
+use Rattle.textarea_blocks.specs.Blocks.{all_rows}
 use Rattle.textarea_text.specs.Replaced.{replaced}
 use Rattle.textarea_map.proofs.screen_map.put_rows.Goals as goal
 

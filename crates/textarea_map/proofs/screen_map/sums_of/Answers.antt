@@ -1,7 +1,7 @@
-use Rattle.textarea_map.specs.Map.{row_total, size_total}
+use Rattle.textarea_blocks.specs.Sums.{row_total, size_total}
 use Rattle.std.proofs.Common.{ap, arith}
 use Rattle.std.proofs.lemmas.List.{take_all}
-use Rattle.textarea_map.specs.Blocks.{all_rows}
+use Rattle.textarea_blocks.specs.Blocks.{all_rows}
 use Rattle.textarea_map.specs.Prepared.{rows_in}
 use Rattle.textarea_map.specs.declared.screen_map.NewRows.{NewRows}
 use Rattle.textarea_map.proofs.screen_map.sums_of.Goals as goal

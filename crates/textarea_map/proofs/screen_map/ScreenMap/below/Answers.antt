@@ -1,6 +1,7 @@
 use Rattle.std.proofs.Common.{ap, arith}
 use Rattle.textarea_text.specs.Text.{lines_of}
-use Rattle.textarea_map.specs.Map.{MapView, row_total}
+use Rattle.textarea_blocks.specs.Sums.{row_total}
+use Rattle.textarea_map.specs.Map.{MapView}
 use Rattle.textarea_map.proofs.VisualRows.{row_count}
 use Rattle.textarea_map.proofs.screen_map.ScreenMap.below.Goals as goal
 

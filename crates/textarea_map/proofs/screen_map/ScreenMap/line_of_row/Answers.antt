@@ -1,5 +1,6 @@
 use Rattle.std.proofs.Common.{subst, take, ◌+◌, ◌<◌}
-use Rattle.textarea_map.specs.Map.{MapView, row_total}
+use Rattle.textarea_blocks.specs.Sums.{row_total}
+use Rattle.textarea_map.specs.Map.{MapView}
 use Rattle.textarea_map.proofs.screen_map.ScreenMap.line_of_row.Goals as goal
 
 pub returns-clause-inside : goal.returns-clause-inside

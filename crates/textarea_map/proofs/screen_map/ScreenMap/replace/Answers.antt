@@ -1,11 +1,12 @@
 use Rattle.std.proofs.Common.{◌≡◌, ◌+◌, ◌-◌, ◌≤◌, List, ap, arith, drop, length, refl, subst, sym, take, ℕ}
 use Rattle.textarea_text.specs.Replaced.{replaced}
-use Rattle.textarea_wrap.specs.RowsView.{RowsView}
-use Rattle.textarea_map.specs.Blocks.{all_rows}
-use Rattle.textarea_map.specs.Map.{MapView, row_total, size_total}
+use Rattle.textarea_rows.specs.RowsView.{RowsView}
+use Rattle.textarea_blocks.specs.Blocks.{all_rows}
+use Rattle.textarea_blocks.specs.Sums.{row_total, size_total}
+use Rattle.textarea_map.specs.Map.{MapView}
 use Rattle.textarea_map.specs.Prepared.{HasRoom, rows_in}
-use Rattle.textarea_map.proofs.InBlocks.{rows_sum}
-use Rattle.textarea_map.proofs.RowSizes.{exchange, lines_few, size_total-append}
+use Rattle.textarea_blocks.proofs.InBlocks.{rows_sum}
+use Rattle.textarea_blocks.proofs.LineSums.{exchange, lines_few, size_total-append}
 use Rattle.textarea_map.proofs.screen_map.ScreenMap.replace.Goals as goal
 use Rattle.textarea_map.proofs.screen_map.ScreenMap.replace.Goals.{After-sums_of-old}
 

@@ -1,5 +1,5 @@
-use Rattle.textarea_wrap.specs.RowsView.{RowsView}
-use Rattle.textarea_map.specs.Blocks.{IsEdge}
+use Rattle.textarea_rows.specs.RowsView.{RowsView}
+use Rattle.textarea_blocks.specs.Blocks.{IsEdge}
 use Rattle.std.proofs.Common.{List, subst, sym, ◌≤◌}
 use Rattle.std.proofs.lemmas.Result.{on_ok_weaker}
 use Rattle.textarea_map.proofs.screen_map.ScreenMap.reserve_edge.Goals as goal

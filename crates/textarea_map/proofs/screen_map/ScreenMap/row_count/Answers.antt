@@ -1,4 +1,5 @@
-use Rattle.textarea_map.specs.Map.{MapView, row_total}
+use Rattle.textarea_blocks.specs.Sums.{row_total}
+use Rattle.textarea_map.specs.Map.{MapView}
 use Rattle.std.proofs.Common.{ap, ◌∙◌}
 use Rattle.textarea_map.proofs.screen_map.ScreenMap.row_count.Goals as goal
 

@@ -1,4 +1,5 @@
-use Rattle.textarea_map.specs.Map.{MapView, ranges_at}
+use Rattle.textarea_blocks.specs.Sums.{ranges_at}
+use Rattle.textarea_map.specs.Map.{MapView}
 use Rattle.std.proofs.Common.{ap, ◌∙◌}
 use Rattle.textarea_map.proofs.screen_map.ScreenMap.rows_of.Goals as goal
 

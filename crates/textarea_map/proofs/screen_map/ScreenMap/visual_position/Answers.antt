@@ -6,8 +6,9 @@ use Rattle.textarea_text.proofs.Columns.{offset_in}
 use Rattle.textarea_text.proofs.StringRows.{boundary_at, line_at, offset_of_line}
 use Rattle.textarea_wrap.specs.Columns.{display_end_column}
 use Rattle.textarea_wrap.specs.Wrapped.{IsWrapped}
-use Rattle.textarea_map.specs.Blocks.{all_rows}
-use Rattle.textarea_map.specs.Map.{MapView, range_at, ranges_at, row_total}
+use Rattle.textarea_blocks.specs.Blocks.{all_rows}
+use Rattle.textarea_blocks.specs.Sums.{range_at, ranges_at, row_total}
+use Rattle.textarea_map.specs.Map.{MapView}
 use Rattle.textarea_map.proofs.Holding.{bytes_of_line, cut_of, first_begins, offset_within, range_is, rows_at, some_rows}
 use Rattle.textarea_map.proofs.Layouts.{length-AreRowsOf}
 use Rattle.textarea_map.proofs.VisualRows.{rows_below, seen_in}

@@ -1,11 +1,12 @@
 use Rattle.std.proofs.Common.{◌≡◌, ◌+◌, ◌-◌, ◌≤◌, List, ap, arith, drop, min, refl, take, ℕ, Result, Ok, Err}
 use Rattle.std.specs.Result.{IsErr, IsOk}
 use Rattle.textarea_text.specs.Replaced.{replaced}
-use Rattle.textarea_wrap.specs.RowsView.{RowsView}
-use Rattle.textarea_map.specs.Map.{MapView, row_total, size_total}
+use Rattle.textarea_rows.specs.RowsView.{RowsView}
+use Rattle.textarea_blocks.specs.Sums.{row_total, size_total}
+use Rattle.textarea_map.specs.Map.{MapView}
 use Rattle.textarea_map.specs.Prepared.{rows_in}
-use Rattle.textarea_map.proofs.InBlocks.{rows_sum}
-use Rattle.textarea_map.proofs.RowSizes.{exchange, size_total-append}
+use Rattle.textarea_blocks.proofs.InBlocks.{rows_sum}
+use Rattle.textarea_blocks.proofs.LineSums.{exchange, size_total-append}
 use Rattle.textarea_map.proofs.screen_map.ScreenMap.within_limit_with.Goals as goal
 use Rattle.textarea_map.proofs.screen_map.ScreenMap.within_limit_with.Goals.{After-sums_of-total}
 

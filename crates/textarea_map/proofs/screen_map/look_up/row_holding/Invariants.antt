@@ -1,5 +1,5 @@
 use Rattle.std.proofs.Common.{◌-◌, ◌<◌, ◌≤◌, length}
-use Rattle.textarea_map.specs.Map.{range_at}
+use Rattle.textarea_blocks.specs.Sums.{range_at}
 use Rattle.textarea_map.proofs.screen_map.look_up.row_holding.Given as goal
 
 -- the row is one of those from `low` up to `high`

@@ -1,6 +1,6 @@
 use Rattle.std.proofs.Common.{◌≡◌, ◌-◌, min, ap, subst, ◌∙◌, arith}
 use Rattle.std.proofs.lemmas.Result.{on_ok_weaker}
-use Rattle.textarea_map.specs.Map.{row_total}
+use Rattle.textarea_blocks.specs.Sums.{row_total}
 use Rattle.textarea_screen.specs.Buffer.{area_of}
 use Rattle.textarea_scene.specs.Drawn.{DrawnTo, rows_above_end}
 use Rattle.textarea_scene.specs.Scene.{SceneState}

@@ -1,5 +1,5 @@
 use Rattle.std.proofs.Common.{◌≡◌, ◌<◌, ◌==◌, length, sym, subst, arith}
-use Rattle.textarea_map.specs.Map.{row_total}
+use Rattle.textarea_blocks.specs.Sums.{row_total}
 use Rattle.textarea_map.specs.Rows.{row_at, visual_rows}
 use Rattle.textarea_map.proofs.VisualRows.{row_count}
 use Rattle.textarea_scene.specs.Rows.{holds}

@@ -1,0 +1,302 @@
+-- Rows in blocks: what stands before a block, which block a line is in, and the rows of all blocks where those of one change.
+use Rattle.std.proofs.Common.{◌≡◌, ℕ, zero, suc, ◌+◌, ◌-◌, ◌<◌, ◌≤◌, inl, inr, List, Result, Ok, Err, cond, [], ◌∷◌, ◌++◌, Vec, length, take, drop, get_or, set, vec_len, vec_capacity, sym, ap, refl, ◌∙◌, arith}
+use Rattle.std.specs.Result.{IsOk, is_ok}
+use Rattle.std.proofs.lemmas.Bool.{cases_lt}
+use Rattle.std.proofs.lemmas.List.{append-nil, append_assoc, drop-append-le, drop_all, drop_at, drop-drop, drop_more, get_or-append-add, get_or_append_left, get_or-map, get_or-set_same, length-append, length-drop, length-map, map-append, length-set, map-set, set_split, take_all, take-append-drop, take-append-le, take-map, take_more, take_more_set, take-set-le, drop-map, drop-set-lt}
+use Rattle.std.proofs.Math.Seq.{take-add, take-append-add}
+use Rattle.textarea_rows.specs.RowsView.{RowsView}
+use Rattle.textarea_text.specs.Replaced.{replaced}
+use Rattle.textarea_blocks.specs.Blocks.{IsBlockOf, IsEdge, all_rows, lines_before, rows_of_each, spare_of_each}
+use Rattle.textarea_blocks.specs.Sums.{ranges_at, row_total}
+use Rattle.textarea_blocks.proofs.Numbers.{row_total-append}
+use Rattle.textarea_blocks.proofs.LineSums.{IsSum, Sum}
+
+pub all_rows-append : (blocks more : List (List RowsView)) → all_rows (blocks ++ more) ≡ all_rows blocks ++ all_rows more
+all_rows-append [] more = refl
+all_rows-append (rows ∷ blocks) more =
+    ap (λ t. rows ++ t) (all_rows-append blocks more) ∙ sym (append_assoc rows (all_rows blocks) (all_rows more))
+
+-- the lines of blocks are such a sum, and so are their rows
+pub lines_sum : IsSum length
+lines_sum rows more = length-append rows more
+
+pub rows_sum : IsSum row_total
+rows_sum rows more = row_total-append rows more
+
+-- ---- what stands before a block
+
+-- the total of the blocks before one
+abbrev pub total_before : Sum → List (List RowsView) → ℕ → ℕ
+total_before total blocks block = total (all_rows (take block blocks))
+
+pub before_none : (total : Sum) → IsSum total → (blocks : List (List RowsView)) → total_before total blocks 0 ≡ 0
+before_none total sum blocks = omega (arith, sum [] [])
+
+pub before_all : (total : Sum) (blocks : List (List RowsView)) (n : ℕ) → length blocks ≤ n → total_before total blocks n ≡ total (all_rows blocks)
+before_all total blocks n all = ap (λ t. total (all_rows t)) (take_all n blocks all)
+
+pub before_more : (total : Sum) → IsSum total → (blocks : List (List RowsView)) (block : ℕ) → block < length blocks → total_before total blocks (block + 1) ≡ total_before total blocks block + total (get_or blocks block [])
+before_more total sum blocks block within =
+    let rows = get_or blocks block [] in
+    ap (λ t. total (all_rows t)) (take_more blocks block [] within)
+    ∙ ap total (all_rows-append (take block blocks) (rows ∷ []))
+    ∙ ap (λ t. total (all_rows (take block blocks) ++ t)) (append-nil rows)
+    ∙ sum (all_rows (take block blocks)) rows
+
+-- and those between it and another
+pub before_further : (total : Sum) → IsSum total → (blocks : List (List RowsView)) (block more : ℕ) → total_before total blocks (block + more) ≡ total_before total blocks block + total (all_rows (take more (drop block blocks)))
+before_further total sum blocks block more =
+    ap (λ t. total (all_rows t)) (take-add block more blocks)
+    ∙ ap total (all_rows-append (take block blocks) (take more (drop block blocks)))
+    ∙ sum (all_rows (take block blocks)) (all_rows (take more (drop block blocks)))
+
+pub before_ordered : (total : Sum) → IsSum total → (blocks : List (List RowsView)) (block other : ℕ) → block ≤ other → total_before total blocks block ≤ total_before total blocks other
+before_ordered total sum blocks block other ordered =
+    let size : block + (other - block) ≡ other = omega arith in
+    omega (arith, before_further total sum blocks block (other - block), ap (total_before total blocks) size)
+
+pub before_within : (total : Sum) → IsSum total → (blocks : List (List RowsView)) (block : ℕ) → total_before total blocks block ≤ total (all_rows blocks)
+before_within total sum blocks block =
+    elim (cases_lt block (length blocks)) [
+      | inl less ↦
+          omega (arith, before_ordered total sum blocks block (length blocks) (omega arith), before_all total blocks (length blocks) (omega arith))
+      | inr most ↦ omega (arith, before_all total blocks block most)
+    ]
+
+-- a line is one of one block
+pub one_block : (blocks : List (List RowsView)) (line block other : ℕ) → IsBlockOf blocks line block → IsBlockOf blocks line other → block ≡ other
+one_block blocks line block other h more =
+    elim (cases_lt block other) [
+      | inl less ↦
+          absurd (omega (arith, h.to, more.from, before_ordered length lines_sum blocks (block + 1) other (omega arith)))
+      | inr most ↦
+          elim (cases_lt other block) [
+            | inl less ↦
+                absurd (omega (arith, more.to, h.from, before_ordered length lines_sum blocks (other + 1) block (omega arith)))
+            | inr least ↦ omega arith
+          ]
+    ]
+
+-- and one behind the first line of a block is in that block or behind it
+pub block_ordered : (blocks : List (List RowsView)) (line block other : ℕ) → lines_before blocks block ≤ line → IsBlockOf blocks line other → block ≤ other
+block_ordered blocks line block other from h =
+    elim (cases_lt other block) [
+      | inl less ↦
+          absurd (omega (arith, from, h.to, before_ordered length lines_sum blocks (other + 1) block (omega arith)))
+      | inr most ↦ most
+    ]
+
+-- ---- the rows of one block among those of all
+
+pub block_parts : (blocks : List (List RowsView)) (block : ℕ) → block < length blocks → all_rows blocks ≡ all_rows (take block blocks) ++ (get_or blocks block [] ++ all_rows (drop (block + 1) blocks))
+block_parts blocks block within =
+    ap all_rows (sym (take-append-drop block blocks))
+    ∙ all_rows-append (take block blocks) (drop block blocks)
+    ∙ ap (λ t. all_rows (take block blocks) ++ all_rows t) (drop_more blocks block [] within)
+
+-- the lines up to one of the block
+pub take_in_block : (blocks : List (List RowsView)) (block index : ℕ) → block < length blocks → index ≤ length (get_or blocks block []) → take (lines_before blocks block + index) (all_rows blocks) ≡ all_rows (take block blocks) ++ take index (get_or blocks block [])
+take_in_block blocks block index within inside =
+    let above = all_rows (take block blocks) in
+    let rows = get_or blocks block [] in
+    let below = all_rows (drop (block + 1) blocks) in
+    ap (take (length above + index)) (block_parts blocks block within)
+    ∙ take-append-add above (rows ++ below) index
+    ∙ ap (λ t. above ++ t) (take-append-le index rows below inside)
+
+-- and from one of it on
+pub drop_in_block : (blocks : List (List RowsView)) (block index : ℕ) → block < length blocks → index ≤ length (get_or blocks block []) → drop (lines_before blocks block + index) (all_rows blocks) ≡ drop index (get_or blocks block []) ++ all_rows (drop (block + 1) blocks)
+drop_in_block blocks block index within inside =
+    let above = all_rows (take block blocks) in
+    let rows = get_or blocks block [] in
+    let below = all_rows (drop (block + 1) blocks) in
+    ap (drop (length above + index)) (block_parts blocks block within)
+    ∙ sym (drop-drop index (length above) (above ++ (rows ++ below)))
+    ∙ ap (drop index) (drop_at above (rows ++ below) (length above) refl)
+    ∙ drop-append-le index rows below inside
+
+pub part_of_block : (blocks : List (List RowsView)) (block index count : ℕ) → block < length blocks → index + count ≤ length (get_or blocks block []) → take count (drop (lines_before blocks block + index) (all_rows blocks)) ≡ take count (drop index (get_or blocks block []))
+part_of_block blocks block index count within inside =
+    let rows = get_or blocks block [] in
+    ap (take count) (drop_in_block blocks block index within (omega arith))
+    ∙ take-append-le count (drop index rows) (all_rows (drop (block + 1) blocks)) (omega (arith, length-drop index rows))
+
+pub line_in_block : (blocks : List (List RowsView)) (block index : ℕ) (d : RowsView) → block < length blocks → index < length (get_or blocks block []) → get_or (all_rows blocks) (lines_before blocks block + index) d ≡ get_or (get_or blocks block []) index d
+line_in_block blocks block index d within inside =
+    let above = all_rows (take block blocks) in
+    let rows = get_or blocks block [] in
+    let below = all_rows (drop (block + 1) blocks) in
+    ap (λ t. get_or t (length above + index) d) (block_parts blocks block within)
+    ∙ get_or-append-add above (rows ++ below) index d
+    ∙ get_or_append_left rows below d index inside
+
+-- a line before which a block ends is the first one of its block
+pub edge_there : (blocks : List (List RowsView)) (line block : ℕ) → IsEdge blocks line → IsBlockOf blocks line block → lines_before blocks block ≡ line
+edge_there blocks line block edge h =
+    elim (cases_lt block edge.0) [
+      | inl less ↦
+          absurd (omega (arith, h.to, edge.2, before_ordered length lines_sum blocks (block + 1) edge.0 (omega arith)))
+      | inr most ↦
+          omega (arith, h.from, edge.2, before_ordered length lines_sum blocks edge.0 block most)
+    ]
+
+-- a line of a block is one of all
+pub line_there : (blocks : List (List RowsView)) (block index : ℕ) → block < length blocks → index < length (get_or blocks block []) → lines_before blocks block + index < length (all_rows blocks)
+line_there blocks block index within inside =
+    omega (arith, before_more length lines_sum blocks block within, before_within length lines_sum blocks (block + 1))
+
+-- the ranges of a line, and the total up to it
+pub ranges_found : (blocks : List (List RowsView)) (block index line : ℕ) (rows : RowsView) → block < length blocks → index < length (get_or blocks block []) → lines_before blocks block + index ≡ line → rows ≡ get_or (get_or blocks block []) index rows → rows.ranges ≡ ranges_at (all_rows blocks) line
+ranges_found blocks block index line rows within inside at is =
+    let there : line < length (all_rows blocks) = omega (arith, line_there blocks block index within inside) in
+    ap (λ (r : RowsView). r.ranges) (is ∙ sym (line_in_block blocks block index rows within inside) ∙ ap (λ n. get_or (all_rows blocks) n rows) at)
+    ∙ sym (get_or-map (λ (r : RowsView). r.ranges) (all_rows blocks) line rows [] there)
+
+pub total_in_block : (total : Sum) → IsSum total → (blocks : List (List RowsView)) (block index line : ℕ) → block < length blocks → index ≤ length (get_or blocks block []) → lines_before blocks block + index ≡ line → total (take line (all_rows blocks)) ≡ total_before total blocks block + total (take index (get_or blocks block []))
+total_in_block total sum blocks block index line within inside at =
+    ap (λ n. total (take n (all_rows blocks))) (sym at) ∙ ap total (take_in_block blocks block index within inside)
+    ∙ sum (all_rows (take block blocks)) (take index (get_or blocks block []))
+
+-- the totals of lines one behind the other, of which the last ones are some of one block
+pub total_further : (total : Sum) → IsSum total → (blocks : List (List RowsView)) (here : List RowsView) (block index count line done : ℕ) → block < length blocks → here ≡ get_or blocks block [] → index + count ≤ length here → lines_before blocks block + index ≡ line + done → total (take (done + count) (drop line (all_rows blocks))) ≡ total (take done (drop line (all_rows blocks))) + total (take (index + count - index) (drop index here))
+total_further total sum blocks here block index count line done within is inside at =
+    let rows = all_rows blocks in
+    let size : index + count - index ≡ count = omega arith in
+    ap total (take-add done count (drop line rows))
+    ∙ sum (take done (drop line rows)) (take count (drop done (drop line rows)))
+    ∙ ap (λ t. total (take done (drop line rows)) + total (take count t)) (drop-drop done line rows ∙ ap (λ n. drop n rows) (sym at))
+    ∙ ap (λ t. total (take done (drop line rows)) + total t) (part_of_block blocks block index count within (omega (arith, ap length is)) ∙ ap (λ t. take count (drop index t)) (sym is) ∙ ap (λ n. take n (drop index here)) (sym size))
+
+-- ---- blocks that change
+
+-- lines of a list in the middle give place to others
+replaced_between : (above rows below new : List RowsView) (start count : ℕ) → start + count ≤ length rows → replaced (above ++ (rows ++ below)) (length above + start) count new ≡ above ++ (replaced rows start count new ++ below)
+replaced_between above rows below new start count within =
+    let whole = above ++ (rows ++ below) in
+    let end : length above + (start + count) ≡ length above + start + count = omega arith in
+    let first = take-append-add above (rows ++ below) start ∙ ap (λ t. above ++ t) (take-append-le start rows below (omega arith)) in
+    let last : drop (length above + start + count) whole ≡ drop (start + count) rows ++ below =
+    ap (λ n. drop n whole) (sym end)
+    ∙ sym (drop-drop (start + count) (length above) whole)
+    ∙ ap (drop (start + count)) (drop_at above (rows ++ below) (length above) refl)
+    ∙ drop-append-le (start + count) rows below within in
+    ap (λ t. t ++ (new ++ drop (length above + start + count) whole)) first
+    ∙ ap (λ t. (above ++ take start rows) ++ (new ++ t)) last
+    ∙ append_assoc above (take start rows) (new ++ (drop (start + count) rows ++ below))
+    ∙ ap (λ t. above ++ (take start rows ++ t)) (sym (append_assoc new (drop (start + count) rows) below))
+    ∙ ap (λ t. above ++ t) (sym (append_assoc (take start rows) (new ++ drop (start + count) rows) below))
+
+-- another block in the place of one
+pub block_set : (blocks : List (List RowsView)) (block : ℕ) (rows : List RowsView) → block < length blocks → all_rows (set blocks block rows) ≡ all_rows (take block blocks) ++ (rows ++ all_rows (drop (block + 1) blocks))
+block_set blocks block rows within =
+    let next : suc block ≡ block + 1 = omega arith in
+    ap all_rows (set_split blocks block rows within)
+    ∙ ap (λ n. all_rows (take block blocks ++ rows ∷ drop n blocks)) next
+    ∙ all_rows-append (take block blocks) (rows ∷ drop (block + 1) blocks)
+
+-- what stands before a block, where one behind it or it itself is another
+pub before_set : (total : Sum) (blocks : List (List RowsView)) (block k : ℕ) (rows : List RowsView) → k ≤ block → total_before total (set blocks block rows) k ≡ total_before total blocks k
+before_set total blocks block k rows above = ap (λ t. total (all_rows t)) (take-set-le k blocks block rows above)
+
+pub behind_set : (total : Sum) → IsSum total → (blocks : List (List RowsView)) (block : ℕ) (rows : List RowsView) → block < length blocks → total_before total (set blocks block rows) (block + 1) ≡ total_before total blocks block + total rows
+behind_set total sum blocks block rows within =
+    before_more total sum (set blocks block rows) block (omega (arith, length-set blocks block rows))
+    ∙ ap (λ n. n + total (get_or (set blocks block rows) block [])) (before_set total blocks block block rows (omega arith))
+    ∙ ap (λ t. total_before total blocks block + total t) (get_or-set_same blocks block rows [] within)
+
+-- lines of one block give place to others
+pub block_replaced : (blocks : List (List RowsView)) (block start count : ℕ) (new : List RowsView) → block < length blocks → start + count ≤ length (get_or blocks block []) → all_rows (set blocks block (replaced (get_or blocks block []) start count new)) ≡ replaced (all_rows blocks) (lines_before blocks block + start) count new
+block_replaced blocks block start count new within inside =
+    let above = all_rows (take block blocks) in
+    let rows = get_or blocks block [] in
+    let below = all_rows (drop (block + 1) blocks) in
+    block_set blocks block (replaced rows start count new) within
+    ∙ sym (replaced_between above rows below new start count inside)
+    ∙ ap (λ t. replaced t (length above + start) count new) (sym (block_parts blocks block within))
+
+drop_all_of : (rows : List RowsView) → drop (0 + length rows) rows ≡ []
+drop_all_of rows = drop_all (0 + length rows) rows (omega arith)
+
+-- whole blocks give place to others
+pub blocks_replaced : (blocks new : List (List RowsView)) (from to : ℕ) → from ≤ to → to ≤ length blocks → all_rows (replaced blocks from (to - from) new) ≡ replaced (all_rows blocks) (lines_before blocks from) (lines_before blocks to - lines_before blocks from) (all_rows new)
+blocks_replaced blocks new from to ordered within =
+    let above = all_rows (take from blocks) in
+    let between = all_rows (take (to - from) (drop from blocks)) in
+    let below = all_rows (drop (from + (to - from)) blocks) in
+    let parts : all_rows blocks ≡ above ++ (between ++ below) =
+    ap all_rows (sym (take-append-drop from blocks)) ∙ all_rows-append (take from blocks) (drop from blocks)
+    ∙ ap (λ t. above ++ t) (ap all_rows (sym (take-append-drop (to - from) (drop from blocks))) ∙ all_rows-append (take (to - from) (drop from blocks)) (drop (to - from) (drop from blocks)) ∙ ap (λ t. between ++ all_rows t) (drop-drop (to - from) from blocks)) in
+    let size : from + (to - from) ≡ to = omega arith in
+    let lines : lines_before blocks to - lines_before blocks from ≡ length between =
+    omega (arith, before_further length lines_sum blocks from (to - from), ap (lines_before blocks) size) in
+    let zero_more : length above + 0 ≡ length above = omega arith in
+    let whole : replaced between 0 (length between) (all_rows new) ≡ all_rows new =
+    ap (λ t. all_rows new ++ t) (drop_all_of between) ∙ append-nil (all_rows new) in
+    all_rows-append (take from blocks) (new ++ drop (from + (to - from)) blocks)
+    ∙ ap (λ t. above ++ t) (all_rows-append new (drop (from + (to - from)) blocks))
+    ∙ ap (λ t. above ++ (t ++ below)) (sym whole)
+    ∙ sym (replaced_between above between below (all_rows new) 0 (length between) (omega arith))
+    ∙ ap (λ n. replaced (above ++ (between ++ below)) n (length between) (all_rows new)) zero_more
+    ∙ ap (λ n. replaced (above ++ (between ++ below)) (length above) n (all_rows new)) (sym lines)
+    ∙ ap (λ t. replaced t (length above) (lines_before blocks to - lines_before blocks from) (all_rows new)) (sym parts)
+
+-- a block more behind all others
+pub block_pushed : (blocks : List (List RowsView)) (rows : List RowsView) → all_rows (blocks ++ rows ∷ []) ≡ all_rows blocks ++ rows
+block_pushed blocks rows =
+    all_rows-append blocks (rows ∷ []) ∙ ap (λ t. all_rows blocks ++ t) (append-nil rows)
+
+-- a block is cut in two
+pub block_split : (blocks : List (List RowsView)) (block at : ℕ) → block < length blocks → all_rows (replaced (set blocks block (take at (get_or blocks block []))) (block + 1) 0 (drop at (get_or blocks block []) ∷ [])) ≡ all_rows blocks
+block_split blocks block at within =
+    let rows = get_or blocks block [] in
+    let above = take block blocks in
+    let below = drop (block + 1) blocks in
+    let now = set blocks block (take at rows) in
+    let same : block + 1 + 0 ≡ block + 1 = omega arith in
+    ap (λ t. all_rows (t ++ (drop at rows ∷ drop (block + 1 + 0) now))) (take_more_set blocks block (take at rows) within)
+    ∙ ap (λ n. all_rows ((above ++ take at rows ∷ []) ++ (drop at rows ∷ drop n now))) same
+    ∙ ap (λ t. all_rows ((above ++ take at rows ∷ []) ++ (drop at rows ∷ t))) (drop-set-lt (block + 1) blocks block (take at rows) (omega arith))
+    ∙ all_rows-append (above ++ take at rows ∷ []) (drop at rows ∷ below)
+    ∙ ap (λ t. t ++ (drop at rows ++ all_rows below)) (block_pushed above (take at rows))
+    ∙ append_assoc (all_rows above) (take at rows) (drop at rows ++ all_rows below)
+    ∙ ap (λ t. all_rows above ++ t) (sym (append_assoc (take at rows) (drop at rows) (all_rows below)) ∙ ap (λ t. t ++ all_rows below) (take-append-drop at rows))
+    ∙ sym (block_parts blocks block within)
+
+-- ---- what is read from vectors
+
+-- an element that is there is the same, whatever stands for one that isn't
+pub item_is : {X : Type 0} (items : List X) (i : ℕ) (item d : X) → i < length items → item ≡ get_or items i item → item ≡ get_or items i d
+item_is [] i item d within is = absurd (omega arith)
+item_is (x ∷ items) zero item d within is = is
+item_is (x ∷ items) (suc i) item d within is = item_is items i item d (omega arith) is
+
+-- a push for which there is room
+pub pushed : {T E X : Type 0} (r : Result T E) (old new : List X) (x : X) → new ≡ cond (is_ok r) (old ++ x ∷ []) old → IsOk r → new ≡ old ++ x ∷ []
+pushed (Ok v) old new x e h = e
+pushed (Err v) old new x e h = absurd cc
+
+-- the rows of a block
+pub rows_are : {A : Type 0} (items : List (Vec RowsView A)) (block : ℕ) (rows : Vec RowsView A) → block < length items → rows ≡ get_or items block rows → rows.items ≡ get_or (rows_of_each items) block []
+rows_are {A} items block rows within is =
+    ap (λ (b : Vec RowsView A). b.items) is ∙ sym (get_or-map (λ (b : Vec RowsView A). b.items) items block rows [] within)
+
+pub spare_is : {A : Type 0} (items : List (Vec RowsView A)) (block : ℕ) (rows : Vec RowsView A) → block < length items → rows ≡ get_or items block rows → vec_capacity rows - vec_len rows ≡ get_or (spare_of_each items) block 0
+spare_is {A} items block rows within is =
+    ap (λ (b : Vec RowsView A). vec_capacity b - vec_len b) is ∙ sym (get_or-map (λ (b : Vec RowsView A). vec_capacity b - vec_len b) items block rows 0 within)
+
+pub block_count : {A : Type 0} (items : List (Vec RowsView A)) → length (rows_of_each items) ≡ length items
+block_count {A} items = length-map items (λ (b : Vec RowsView A). b.items)
+
+pub blocks_set : {A : Type 0} (items : List (Vec RowsView A)) (block : ℕ) (rows : Vec RowsView A) → rows_of_each (set items block rows) ≡ set (rows_of_each items) block rows.items
+blocks_set {A} items block rows = map-set (λ (b : Vec RowsView A). b.items) items block rows
+
+pub blocks_pushed : {A : Type 0} (items now : List (Vec RowsView A)) (rows : Vec RowsView A) → now ≡ items ++ rows ∷ [] → rows_of_each now ≡ rows_of_each items ++ rows.items ∷ []
+blocks_pushed {A} items now rows is =
+    ap rows_of_each is ∙ map-append (λ (b : Vec RowsView A). b.items) items (rows ∷ [])
+
+pub blocks_exchanged : {A : Type 0} (items new : List (Vec RowsView A)) (start count : ℕ) → rows_of_each (replaced items start count new) ≡ replaced (rows_of_each items) start count (rows_of_each new)
+blocks_exchanged {A} items new start count =
+    let rows = λ (b : Vec RowsView A). b.items in
+    map-append rows (take start items) (new ++ drop (start + count) items)
+    ∙ ap (λ t. t ++ rows_of_each (new ++ drop (start + count) items)) (sym (take-map rows start items))
+    ∙ ap (λ t. take start (rows_of_each items) ++ t) (map-append rows new (drop (start + count) items) ∙ ap (λ t. rows_of_each new ++ t) (sym (drop-map rows (start + count) items)))

@@ -1,0 +1,6 @@
+mod Exchanging
+pub mod InBlocks
+pub mod LineSums
+pub mod Numbers
+mod Totals
+mod Turning

@@ -1,0 +1,56 @@
+-- Sums over lines, of their rows and of their sizes, as lines give place to others.
+use Rattle.std.proofs.Common.{◌≡◌, ℕ, ◌+◌, ◌-◌, ◌<◌, ◌≤◌, List, [], ◌∷◌, ◌++◌, length, take, drop, get_or, sym, ap, ◌∙◌, arith}
+use Rattle.std.proofs.lemmas.List.{take_more, take-append-drop, drop-drop}
+use Rattle.textarea_rows.specs.RowsView.{RowsView}
+use Rattle.textarea_text.specs.Replaced.{replaced}
+use Rattle.textarea_blocks.specs.Sums.{line_bytes, row_total, size_total}
+use Rattle.textarea_blocks.proofs.Numbers.{row_total-append}
+
+pub size_total-append : (rows more : List RowsView) → size_total (rows ++ more) ≡ size_total rows + size_total more
+size_total-append [] more = omega arith
+size_total-append (r ∷ rows) more = omega (arith, size_total-append rows more)
+
+-- one line more
+pub size_total-more : (rows : List RowsView) (i : ℕ) (r : RowsView) → i < length rows → r ≡ get_or rows i r → size_total (take (i + 1) rows) ≡ size_total (take i rows) + line_bytes r.ranges + 1
+size_total-more rows i r within e =
+    rw (take_more rows i r within, ← e) (omega (arith, size_total-append (take i rows) (r ∷ [])))
+
+-- A sum over lines: of their rows, or of their sizes.
+abbrev pub Sum : Type 0
+Sum = List RowsView → ℕ
+
+abbrev pub IsSum : Sum → Type 0
+IsSum total = (rows more : List RowsView) → total (rows ++ more) ≡ total rows + total more
+
+-- what the lines that go have is part of the whole, and with what comes in its place it is what all have afterwards
+pub record Exchange (total : Sum) (rows going new : List RowsView) (row count : ℕ) : Type 0 where
+  pub part : total going ≤ total rows
+  pub after : total rows - total going + total new ≡ total (replaced rows row count new)
+
+pub exchange : (total : Sum) (rows going new : List RowsView) (row count : ℕ) → IsSum total → going ≡ take count (drop row rows) → Exchange total rows going new row count
+exchange total rows going new row count sum is =
+    let below = drop (row + count) rows in
+    let whole : total rows ≡ total (take row rows) + (total going + total below) =
+    sym (ap total (take-append-drop row rows)) ∙ sum (take row rows) (drop row rows)
+    ∙ ap (λ n. total (take row rows) + n) (sym (ap total (take-append-drop count (drop row rows))) ∙ sum (take count (drop row rows)) (drop count (drop row rows)) ∙ omega (arith, ap total is, ap total (drop-drop count row rows))) in
+    record {
+      part = omega (arith, whole);
+      after = omega (arith, whole, sum (take row rows) (new ++ below), sum new below);
+    }
+
+-- the lines that go, as the code cuts them out of those that are kept
+abbrev pub going : List RowsView → ℕ → ℕ → List RowsView
+going kept row count = take (row + count - row) (drop row kept)
+
+pub going_are : (rows kept : List RowsView) (row count : ℕ) → kept ≡ rows → going kept row count ≡ take count (drop row rows)
+going_are rows kept row count is =
+    let size : row + count - row ≡ count = omega arith in rw (size, is)
+
+pub rows_exchanged : (rows kept new : List RowsView) (row count : ℕ) → kept ≡ rows → Exchange row_total rows (going kept row count) new row count
+rows_exchanged rows kept new row count is =
+    exchange row_total rows (going kept row count) new row count row_total-append (going_are rows kept row count is)
+
+-- a line is one of its size at least
+pub lines_few : (rows : List RowsView) → length rows ≤ size_total rows
+lines_few [] = omega arith
+lines_few (r ∷ rows) = omega (arith, lines_few rows)

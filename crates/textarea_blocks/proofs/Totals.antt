@@ -1,0 +1,216 @@
+-- The numbers beside blocks of rows, as blocks change.
+use Rattle.std.proofs.Common.{◌≡◌, ℕ, ◌+◌, ◌-◌, ◌<◌, ◌≤◌, inl, inr, List, [], ◌∷◌, ◌++◌, length, take, drop, get_or, set, sym, ap, refl, ◌∙◌, arith}
+use Rattle.std.proofs.lemmas.Bool.{cases_lt}
+use Rattle.std.proofs.lemmas.List.{drop-set-lt, get_or-append-add, get_or-append_right, get_or_append_left, get_or-drop, get_or-set_same, get_or-take, length-append, length-set, length-take-le, take-append-le, take-set-le, take-take}
+use Rattle.std.proofs.Math.Seq.{take-append-add}
+use Rattle.textarea_rows.specs.RowsView.{RowsView}
+use Rattle.textarea_text.specs.Replaced.{replaced}
+use Rattle.textarea_text.proofs.Replacing.{length-replaced}
+use Rattle.textarea_blocks.specs.declared.blocks.numbers.Exchanged.{Exchanged}
+use Rattle.textarea_blocks.specs.Blocks.{all_rows}
+use Rattle.textarea_blocks.specs.Numbered.{AreExchanged, AreTotals}
+use Rattle.textarea_blocks.proofs.InBlocks.{all_rows-append, before_all, before_further, before_more, total_before}
+use Rattle.textarea_blocks.proofs.LineSums.{IsSum, Sum}
+
+-- the block in which a number falls, by a search
+pub found_at : (total : Sum) → IsSum total → (blocks : List (List RowsView)) (numbers : List ℕ) (number block : ℕ) → AreTotals total blocks numbers → block < length numbers → get_or numbers block 0 ≤ number → (block + 1 < length numbers → number < get_or numbers (block + 1) 0) → number < total (all_rows blocks) → (total_before total blocks block ≤ number) × (number < total_before total blocks (block + 1))
+found_at total sum blocks numbers number block h within from next there = (
+  omega (arith, h.right block (omega (arith, h.len)), from),
+  elim (cases_lt (block + 1) (length numbers)) [
+    | inl more ↦ omega (arith, h.right (block + 1) (omega (arith, h.len)), next more)
+    | inr most ↦ omega (arith, before_all total blocks (block + 1) (omega (arith, h.len)), there)
+  ],
+)
+
+-- the total before the block behind one
+pub number_behind : (total : Sum) → IsSum total → (blocks : List (List RowsView)) (numbers : List ℕ) (block number : ℕ) (rows : List RowsView) → AreTotals total blocks numbers → block < length blocks → number ≡ get_or numbers block 0 → rows ≡ get_or blocks block [] → number + total rows ≡ total_before total blocks (block + 1)
+number_behind total sum blocks numbers block number rows h within is rows_are =
+    omega (arith, before_more total sum blocks block within, h.right block within, is, ap total rows_are)
+
+-- ---- another block in the place of one
+
+pub total_set : (total : Sum) → IsSum total → (blocks : List (List RowsView)) (block k : ℕ) (rows : List RowsView) → block < length blocks → block < k → total_before total (set blocks block rows) k + total (get_or blocks block []) ≡ total_before total blocks k + total rows
+total_set total sum blocks block k rows within behind =
+    let now = set blocks block rows in
+    let size : block + 1 + (k - (block + 1)) ≡ k = omega arith in
+    omega (
+      arith,
+      ap (total_before total now) size,
+      ap (total_before total blocks) size,
+      before_further total sum now (block + 1) (k - (block + 1)),
+      before_further total sum blocks (block + 1) (k - (block + 1)),
+      ap (λ t. total (all_rows (take (k - (block + 1)) t))) (drop-set-lt (block + 1) blocks block rows (omega arith)),
+      before_more total sum now block (omega (arith, length-set blocks block rows)),
+      before_more total sum blocks block within,
+      ap (λ t. total (all_rows t)) (take-set-le block blocks block rows (omega arith)),
+      ap total (get_or-set_same blocks block rows [] within),
+    )
+
+-- and of all blocks
+pub all_set : (total : Sum) → IsSum total → (blocks : List (List RowsView)) (block : ℕ) (rows : List RowsView) → block < length blocks → total (all_rows (set blocks block rows)) + total (get_or blocks block []) ≡ total (all_rows blocks) + total rows
+all_set total sum blocks block rows within =
+    omega (
+      arith,
+      total_set total sum blocks block (length blocks) rows within within,
+      before_all total blocks (length blocks) (omega arith),
+      before_all total (set blocks block rows) (length blocks) (omega (arith, length-set blocks block rows)),
+    )
+
+pub totals_set : (total : Sum) → IsSum total → (blocks : List (List RowsView)) (numbers now : List ℕ) (block gone come : ℕ) (rows : List RowsView) → AreTotals total blocks numbers → block < length blocks → total rows + gone ≡ total (get_or blocks block []) + come → length now ≡ length numbers → ((k : ℕ) → k < block + 1 → get_or now k 0 ≡ get_or numbers k 0) → ((k : ℕ) → block + 1 ≤ k → k < length numbers → get_or now k 0 + gone ≡ get_or numbers k 0 + come) → AreTotals total (set blocks block rows) now
+totals_set total sum blocks numbers now block gone come rows h within turned size above moved =
+    let same = length-set blocks block rows in
+    record {
+      len = omega (arith, same, h.len);
+      right = λ k there. elim (cases_lt block k) [
+        | inl behind ↦
+            omega (arith, moved k (omega arith) (omega (arith, same, h.len)), h.right k (omega (arith, same)), total_set total sum blocks block k rows within behind)
+        | inr before ↦
+            above k (omega arith) ∙ h.right k (omega (arith, same)) ∙ ap (λ t. total (all_rows t)) (sym (take-set-le k blocks block rows before))
+      ];
+    }
+
+-- ---- a block more behind all others
+
+pub totals_pushed : (total : Sum) (blocks : List (List RowsView)) (numbers : List ℕ) (number : ℕ) (rows : List RowsView) → AreTotals total blocks numbers → number ≡ total (all_rows blocks) → AreTotals total (blocks ++ rows ∷ []) (numbers ++ number ∷ [])
+totals_pushed total blocks numbers number rows h is =
+    record {
+      len = omega (arith, h.len, length-append blocks (rows ∷ []), length-append numbers (number ∷ []));
+      right = λ k there.
+          let first = ap (λ t. total (all_rows t)) (sym (take-append-le k blocks (rows ∷ []) (omega (arith, there, length-append blocks (rows ∷ []))))) in
+          elim (cases_lt k (length blocks)) [
+            | inl less ↦
+                get_or_append_left numbers (number ∷ []) 0 k (omega (arith, h.len)) ∙ h.right k less ∙ first
+            | inr most ↦
+                let last : length numbers + 0 ≡ k = omega (arith, h.len, there, length-append blocks (rows ∷ [])) in
+                ap (λ n. get_or (numbers ++ number ∷ []) n 0) (sym last) ∙ get_or-append-add numbers (number ∷ []) 0 0 ∙ is ∙ sym (before_all total blocks k most) ∙ first
+          ];
+    }
+
+-- ---- whole blocks in the place of others
+
+pub take_above : (blocks new : List (List RowsView)) (from count k : ℕ) → k ≤ from → from ≤ length blocks → take k (replaced blocks from count new) ≡ take k blocks
+take_above blocks new from count k above within =
+    let size : k ≤ length (take from blocks) = omega (arith, length-take-le from blocks within) in
+    take-append-le k (take from blocks) (new ++ drop (from + count) blocks) size
+    ∙ take-take k from blocks above
+
+pub take_between : (blocks new : List (List RowsView)) (from count k : ℕ) → k ≤ length new → from ≤ length blocks → take (from + k) (replaced blocks from count new) ≡ take from blocks ++ take k new
+take_between blocks new from count k inside within =
+    let rest = drop (from + count) blocks in
+    let size : from ≡ length (take from blocks) = sym (length-take-le from blocks within) in
+    ap (λ n. take (n + k) (replaced blocks from count new)) size
+    ∙ take-append-add (take from blocks) (new ++ rest) k
+    ∙ ap (λ t. take from blocks ++ t) (take-append-le k new rest inside)
+
+take_behind : (blocks new : List (List RowsView)) (from count k : ℕ) → from ≤ length blocks → take (from + (length new + k)) (replaced blocks from count new) ≡ take from blocks ++ (new ++ take k (drop (from + count) blocks))
+take_behind blocks new from count k within =
+    let rest = drop (from + count) blocks in
+    let size : from ≡ length (take from blocks) = sym (length-take-le from blocks within) in
+    ap (λ n. take (n + (length new + k)) (replaced blocks from count new)) size
+    ∙ take-append-add (take from blocks) (new ++ rest) (length new + k)
+    ∙ ap (λ t. take from blocks ++ t) (take-append-add new rest k)
+
+-- the total before a block behind those that came
+pub total_behind : (total : Sum) → IsSum total → (blocks new : List (List RowsView)) (from to k : ℕ) → from ≤ to → to ≤ length blocks → total_before total (replaced blocks from (to - from) new) (from + (length new + k)) + total_before total blocks to ≡ total_before total blocks (to + k) + total_before total blocks from + total (all_rows new)
+total_behind total sum blocks new from to k ordered within =
+    let end : from + (to - from) ≡ to = omega arith in
+    let above = take from blocks in
+    let below = take k (drop (from + (to - from)) blocks) in
+    omega (
+      arith,
+      ap (λ t. total (all_rows t)) (take_behind blocks new from (to - from) k (omega arith)),
+      ap total (all_rows-append above (new ++ below)),
+      sum (all_rows above) (all_rows (new ++ below)),
+      ap total (all_rows-append new below),
+      sum (all_rows new) (all_rows below),
+      ap (λ n. total (all_rows (take k (drop n blocks)))) end,
+      before_further total sum blocks to k,
+    )
+
+-- and of all blocks
+pub all_exchanged : (total : Sum) → IsSum total → (blocks new : List (List RowsView)) (from to : ℕ) → from ≤ to → to ≤ length blocks → total (all_rows (replaced blocks from (to - from) new)) + total_before total blocks to ≡ total (all_rows blocks) + total_before total blocks from + total (all_rows new)
+all_exchanged total sum blocks new from to ordered within =
+    let more = length blocks - to in
+    let end : to + more ≡ length blocks = omega arith in
+    omega (
+      arith,
+      total_behind total sum blocks new from to more ordered within,
+      before_all total (replaced blocks from (to - from) new) (from + (length new + more)) (omega (arith, length-replaced blocks from (to - from) new (omega arith))),
+      before_all total blocks (to + more) (omega (arith, end)),
+    )
+
+pub totals_exchanged : (total : Sum) → IsSum total → (blocks new : List (List RowsView)) (numbers news now : List ℕ) (exchanged : Exchanged) → AreTotals total blocks numbers → AreTotals total new news → exchanged.from ≤ exchanged.to → exchanged.to ≤ length blocks → exchanged.before ≡ total_before total blocks exchanged.from → exchanged.before + exchanged.gone ≡ total_before total blocks exchanged.to → exchanged.come ≡ total (all_rows new) → AreExchanged numbers news exchanged now → AreTotals total (replaced blocks exchanged.from (exchanged.to - exchanged.from) new) now
+totals_exchanged total sum blocks new numbers news now exchanged h more ordered within before gone come turned =
+    let from = exchanged.from in
+    let to = exchanged.to in
+    let size = length-replaced blocks from (to - from) new (omega arith) in
+    record {
+      len = omega (arith, turned.len, size, h.len, more.len);
+      right = λ k there. elim (cases_lt k from) [
+        | inl above ↦
+            turned.above k above ∙ h.right k (omega arith)
+            ∙ ap (λ t. total (all_rows t)) (sym (take_above blocks new from (to - from) k (omega arith) (omega arith)))
+        | inr behind ↦
+            elim (cases_lt (k - from) (length new)) [
+              | inl less ↦
+                  let at : from + (k - from) ≡ k = omega arith in
+                  omega (
+                    arith,
+                    ap (λ n. get_or now n 0) at,
+                    turned.between (k - from) (omega (arith, more.len)),
+                    more.right (k - from) less,
+                    before,
+                    ap (total_before total (replaced blocks from (to - from) new)) at,
+                    ap (λ t. total (all_rows t)) (take_between blocks new from (to - from) (k - from) (omega arith) (omega arith)),
+                    ap total (all_rows-append (take from blocks) (take (k - from) new)),
+                    sum (all_rows (take from blocks)) (all_rows (take (k - from) new)),
+                  )
+              | inr most ↦
+                  let last = k - from - length new in
+                  let at : to + last - to + (from + length news) ≡ k = omega (arith, more.len) in
+                  let here : from + (length new + last) ≡ k = omega arith in
+                  let inside : to + last < length blocks = omega (arith, there, size) in
+                  omega (
+                    arith,
+                    ap (λ n. get_or now n 0) at,
+                    turned.behind (to + last) (omega arith) (omega (arith, h.len, inside)),
+                    h.right (to + last) inside,
+                    before,
+                    gone,
+                    come,
+                    ap (total_before total (replaced blocks from (to - from) new)) here,
+                    total_behind total sum blocks new from to last ordered within,
+                  )
+            ]
+      ];
+    }
+
+-- numbers that were turned and then exchanged
+pub numbers_exchanged : (old new turned counted now : List ℕ) (exchanged : Exchanged) → exchanged.from ≤ exchanged.to → exchanged.to ≤ length old → length turned ≡ length old → length counted ≡ length new → ((k : ℕ) → k < exchanged.to → get_or turned k 0 ≡ get_or old k 0) → ((k : ℕ) → exchanged.to ≤ k → k < length old → get_or turned k 0 + exchanged.gone ≡ get_or old k 0 + exchanged.come) → ((k : ℕ) → 0 ≤ k → k < length new → get_or counted k 0 + 0 ≡ get_or new k 0 + exchanged.before) → now ≡ replaced turned exchanged.from (exchanged.to - exchanged.from) counted → AreExchanged old new exchanged now
+numbers_exchanged old new turned counted now exchanged ordered within size size_new above moved moved_new is =
+    let from = exchanged.from in
+    let to = exchanged.to in
+    let front = take from turned in
+    let rest = drop (from + (to - from)) turned in
+    let first : length front ≡ from = length-take-le from turned (omega arith) in
+    record {
+      len = omega (arith, ap length is, length-replaced turned from (to - from) counted (omega arith));
+      above = λ k before.
+          ap (λ (t : List ℕ). get_or t k 0) is ∙ get_or_append_left front (counted ++ rest) 0 k (omega (arith, first)) ∙ get_or-take from turned k 0 before ∙ above k (omega arith);
+      between = λ k there.
+          let at : from + k - from ≡ k = omega arith in
+          let here = ap (λ (t : List ℕ). get_or t (from + k) 0) is
+          ∙ get_or-append_right front (counted ++ rest) from (from + k) 0 first (omega arith)
+          ∙ ap (λ n. get_or (counted ++ rest) n 0) at
+          ∙ get_or_append_left counted rest 0 k (omega arith) in
+          omega (arith, here, moved_new k (omega arith) there);
+      behind = λ k last there.
+          let n = k - to + (from + length new) in
+          let at : from + (to - from) + (n - from - length counted) ≡ k = omega arith in
+          let here = ap (λ (t : List ℕ). get_or t n 0) is
+          ∙ get_or-append_right front (counted ++ rest) from n 0 first (omega arith)
+          ∙ get_or-append_right counted rest (length counted) (n - from) 0 refl (omega arith)
+          ∙ get_or-drop (from + (to - from)) turned (n - from - length counted) 0
+          ∙ ap (λ m. get_or turned m 0) at in
+          omega (arith, here, moved k last there);
+    }

@@ -1,0 +1,17 @@
+use Rattle.std.proofs.Common.{arith, length, sym, ◌∙◌}
+use Rattle.textarea_blocks.proofs.InBlocks.{before_within, edge_there, lines_sum, before_all}
+use Rattle.textarea_blocks.proofs.blocks.RowBlocks.edge_of.Goals as goal
+
+pub place_of-requires : goal.place_of-requires
+place_of-requires c =
+    omega (arith, c.requires.2, before_within length lines_sum c.args.self.now.blocks c.requires.0, c.line_count.ensures, c.if-line-line_count.false)
+
+pub returns-clause-edge : goal.returns-clause-edge
+returns-clause-edge c =
+    edge_there c.args.self.now.blocks c.args.line c.place_of.result.0 c.requires c.place_of.ensures.block
+
+pub returns-then-line-line_count-clause-edge : goal.returns-then-line-line_count-clause-edge
+returns-then-line-line_count-clause-edge c =
+    before_all length c.args.self.now.blocks c.block_count.result (omega (arith, c.block_count.ensures))
+    ∙ sym c.line_count.ensures
+    ∙ sym c.if-line-line_count.true

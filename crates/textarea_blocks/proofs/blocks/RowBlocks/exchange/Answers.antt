@@ -1,0 +1,118 @@
+use Rattle.std.proofs.Common.{◌≡◌, ◌+◌, ◌<◌, ◌≤◌, ◌∙◌, List, [], ap, arith, get_or, length, set, ℕ}
+use Rattle.textarea_text.specs.Replaced.{replaced}
+use Rattle.textarea_text.proofs.Replacing.{length-replaced}
+use Rattle.textarea_rows.specs.RowsView.{RowsView}
+use Rattle.textarea_blocks.specs.Blocks.{BlocksView, all_rows, rows_of_each}
+use Rattle.textarea_blocks.specs.Sums.{row_total}
+use Rattle.textarea_blocks.proofs.InBlocks.{before_more, before_ordered, before_within, block_count, blocks_set, lines_sum, rows_are, rows_sum}
+use Rattle.textarea_blocks.proofs.LineSums.{rows_exchanged}
+use Rattle.textarea_blocks.proofs.Totals.{all_set, totals_set}
+use Rattle.textarea_blocks.proofs.blocks.RowBlocks.exchange.Goals as goal
+use Rattle.textarea_blocks.proofs.blocks.RowBlocks.exchange.Goals.{After-replace_items}
+
+-- the block and its rows before and afterwards, and how many rows went and came
+record Exchanged (blocks : List (List RowsView)) (block start count gone come : ℕ) (now new : List RowsView) : Type 0 where
+  within : block < length blocks
+  inside : start + count ≤ length (get_or blocks block [])
+  now_is : now ≡ replaced (get_or blocks block []) start count new
+  part : gone ≤ row_total (get_or blocks block [])
+  turned : row_total now + gone ≡ row_total (get_or blocks block []) + come
+  come_is : come ≡ row_total new
+
+exchanged : (c : After-replace_items) → Exchanged (rows_of_each c.self.inside.blocks.items) c.args.block c.args.start c.args.count c.count_rows-rows_gone.result c.count_rows-rows_come.result c.replace_items.new.items.items c.args.rows.items
+exchanged c =
+    let items = c.self.inside.blocks.items in
+    let blocks = rows_of_each items in
+    let block = c.args.block in
+    let here = get_or blocks block [] in
+    let within : block < length blocks = omega (arith, c.requires.block, ap (λ (v : BlocksView). length v.blocks) c.self.view_is) in
+    let inside : c.args.start + c.args.count ≤ length here = omega (arith, c.requires.within, ap (λ (v : BlocksView). length (get_or v.blocks block [])) c.self.view_is) in
+    let before = c.as_slice.ensures.value ∙ rows_are items block c.index.result.now (omega (arith, within, block_count items)) c.index.ensures in
+    let there = rows_are items block c.index_mut.result.now (omega (arith, within, block_count items)) c.index_mut.ensures.value in
+    let now : c.replace_items.new.items.items ≡ replaced here c.args.start c.args.count c.args.rows.items = c.replace_items.ensures.items ∙ ap (λ (t : List RowsView). replaced t c.args.start c.args.count c.args.rows.items) there in
+    let sums = rows_exchanged here c.as_slice.result.now c.args.rows.items c.args.start c.args.count before in
+    let whole = before_more row_total rows_sum blocks block within in
+    let all = before_within row_total rows_sum blocks (block + 1) in
+    let few = ap (λ (v : BlocksView). row_total (all_rows v.blocks)) c.self.view_is in
+    let come : c.count_rows-rows_come.result ≡ row_total c.args.rows.items = omega (arith, c.count_rows-rows_come.ensures, ap row_total c.as_slice-2.ensures.value, c.requires.rows) in
+    record {
+      within = within;
+      inside = inside;
+      now_is = now;
+      part = omega (arith, c.count_rows-rows_gone.ensures, sums.part);
+      turned = omega (arith, c.count_rows-rows_gone.ensures, sums.part, sums.after, ap row_total now, come, whole, all, c.self.invariant.few_rows);
+      come_is = come;
+    }
+
+pub turn_from-requires-clause-enough : goal.turn_from-requires-clause-enough
+turn_from-requires-clause-enough c = λ k behind there.
+    let known = exchanged (goal.at.turn_from-requires-clause-enough c).After-replace_items in
+    let blocks = rows_of_each c.self.inside.blocks.items in
+    omega (arith, known.inside, c.self.invariant.lines_are.right k (omega (arith, there, c.self.invariant.lines_are.len)), before_ordered length lines_sum blocks (c.args.block + 1) k behind, before_more length lines_sum blocks c.args.block known.within)
+
+pub turn_from-requires-clause-small : goal.turn_from-requires-clause-small
+turn_from-requires-clause-small c = λ k behind there.
+    let blocks = rows_of_each c.self.inside.blocks.items in
+    omega (arith, c.self.invariant.lines_are.right k (omega (arith, there, c.self.invariant.lines_are.len)), before_within length lines_sum blocks k, c.self.invariant.few_lines, c.requires.lines, c.len-come.ensures)
+
+pub turn_from-requires-2-clause-enough : goal.turn_from-requires-2-clause-enough
+turn_from-requires-2-clause-enough c = λ k behind there.
+    let known = exchanged (goal.at.turn_from-requires-2-clause-enough c).After-replace_items in
+    let blocks = rows_of_each c.self.inside.blocks.items in
+    omega (arith, known.part, c.self.invariant.rows_are.right k (omega (arith, there, c.self.invariant.rows_are.len)), before_ordered row_total rows_sum blocks (c.args.block + 1) k behind, before_more row_total rows_sum blocks c.args.block known.within)
+
+pub turn_from-requires-2-clause-small : goal.turn_from-requires-2-clause-small
+turn_from-requires-2-clause-small c = λ k behind there.
+    let known = exchanged (goal.at.turn_from-requires-2-clause-small c).After-replace_items in
+    let blocks = rows_of_each c.self.inside.blocks.items in
+    omega (arith, c.self.invariant.rows_are.right k (omega (arith, there, c.self.invariant.rows_are.len)), before_within row_total rows_sum blocks k, c.self.invariant.few_rows, c.requires.rows, known.come_is)
+
+pub invariant_of-self : goal.invariant_of-self
+invariant_of-self c =
+    let known = exchanged (goal.at.invariant_of-self c).After-replace_items in
+    let inside = c.self.inside in
+    let blocks = rows_of_each inside.blocks.items in
+    let block = c.args.block in
+    let here = get_or blocks block [] in
+    let now = c.replace_items.new.items.items in
+    let size : length now + c.args.count ≡ length here + c.len-come.result = omega (arith, ap length known.now_is, length-replaced here c.args.start c.args.count c.args.rows.items known.inside, c.len-come.ensures, c.args.rows.ok.0) in
+    let lines = c.self.invariant.lines_are in
+    let rows = c.self.invariant.rows_are in
+    rw (blocks_set inside.blocks.items block c.replace_items.new.items)
+    (record {
+      lines_are = totals_set length lines_sum blocks inside.lines.numbers c.turn_from.new.self.numbers block c.args.count c.len-come.result now lines known.within size c.turn_from.ensures.len c.turn_from.ensures.above c.turn_from.ensures.moved;
+      rows_are = totals_set row_total rows_sum blocks inside.rows.numbers c.turn_from-2.new.self.numbers block c.count_rows-rows_gone.result c.count_rows-rows_come.result now rows known.within known.turned c.turn_from-2.ensures.len c.turn_from-2.ensures.above c.turn_from-2.ensures.moved;
+      few_lines = omega (arith, all_set length lines_sum blocks block now known.within, size, c.requires.lines, c.len-come.ensures, ap (λ (v : BlocksView). length (all_rows v.blocks)) c.self.view_is);
+      few_rows = omega (arith, all_set row_total rows_sum blocks block now known.within, known.turned, known.come_is, c.requires.rows, ap (λ (v : BlocksView). row_total (all_rows v.blocks)) c.self.view_is);
+    })
+
+pub returns : goal.returns
+returns c =
+    let known = exchanged (goal.at.returns c).After-replace_items in
+    let blocks = rows_of_each c.self.inside.blocks.items in
+    blocks_set c.self.inside.blocks.items c.args.block c.replace_items.new.items
+    ∙ ap (set blocks c.args.block) known.now_is
+    ∙ ap (λ (v : BlocksView). set v.blocks c.args.block (replaced (get_or v.blocks c.args.block []) c.args.start c.args.count c.args.rows.items)) c.self.view_is
+
+pub index-requires : goal.index-requires
+index-requires c =
+    omega (arith, c.requires.block, ap (λ (v : BlocksView). length v.blocks) c.self.view_is, block_count c.self.inside.blocks.items, c.self.inside.blocks.ok.0)
+
+pub index_mut-requires : goal.index_mut-requires
+index_mut-requires c =
+    omega (arith, c.requires.block, ap (λ (v : BlocksView). length v.blocks) c.self.view_is, block_count c.self.inside.blocks.items, c.self.inside.blocks.ok.0)
+
+pub overflow_add-block : goal.overflow_add-block
+overflow_add-block c =
+    omega (arith, c.requires.block, ap (λ (v : BlocksView). length v.blocks) c.self.view_is, block_count c.self.inside.blocks.items, c.self.inside.blocks.ok.0, c.self.inside.blocks.small)
+
+pub overflow_add-block-2 : goal.overflow_add-block-2
+overflow_add-block-2 c =
+    omega (arith, c.requires.block, ap (λ (v : BlocksView). length v.blocks) c.self.view_is, block_count c.self.inside.blocks.items, c.self.inside.blocks.ok.0, c.self.inside.blocks.small)
+
+pub replace_items-requires-clause-within : goal.replace_items-requires-clause-within
+replace_items-requires-clause-within c =
+    let items = c.self.inside.blocks.items in
+    let block = c.args.block in
+    let here : block < length items = omega (arith, c.requires.block, ap (λ (v : BlocksView). length v.blocks) c.self.view_is, block_count items) in
+    omega (arith, c.requires.within, ap (λ (v : BlocksView). length (get_or v.blocks block [])) c.self.view_is, ap length (rows_are items block c.index_mut.result.now here c.index_mut.ensures.value), c.index_mut.result.now.ok.0)

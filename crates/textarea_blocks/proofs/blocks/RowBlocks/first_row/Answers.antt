@@ -1,0 +1,36 @@
+use Rattle.std.proofs.Common.{◌≡◌, ◌+◌, ◌<◌, ◌∙◌, [], ap, arith, get_or, length, take}
+use Rattle.textarea_blocks.specs.Blocks.{BlocksView, all_rows, lines_before, rows_of_each}
+use Rattle.textarea_blocks.specs.Sums.{row_total}
+use Rattle.textarea_blocks.proofs.InBlocks.{block_count, rows_are, rows_sum, total_in_block}
+use Rattle.textarea_blocks.proofs.Numbers.{row_total-take_le}
+use Rattle.textarea_blocks.proofs.blocks.RowBlocks.first_row.Goals as goal
+use Rattle.textarea_blocks.proofs.blocks.RowBlocks.first_row.Goals.{After-count_rows}
+
+counted : (c : After-count_rows) → c.at.result + c.count_rows.result ≡ row_total (take c.args.line (all_rows (rows_of_each c.self.inside.blocks.items)))
+counted c =
+    let items = c.self.inside.blocks.items in
+    let blocks = rows_of_each items in
+    let block = c.place_of-block.result.0 in
+    let index = c.place_of-block.result.1 in
+    let within : block < length blocks = omega (arith, c.place_of-block.ensures.block.within, ap (λ (v : BlocksView). length v.blocks) c.self.view_is) in
+    let inside : index < length (get_or blocks block []) = omega (arith, c.place_of-block.ensures.within, ap (λ (v : BlocksView). length (get_or v.blocks block [])) c.self.view_is) in
+    let at : lines_before blocks block + index ≡ c.args.line = omega (arith, c.place_of-block.ensures.line, ap (λ (v : BlocksView). lines_before v.blocks block) c.self.view_is) in
+    let rows = c.as_slice.ensures.value ∙ rows_are items block c.index.result.now (omega (arith, within, block_count items)) c.index.ensures in
+    omega (
+      arith,
+      total_in_block row_total rows_sum blocks block index c.args.line within (omega arith) at,
+      c.self.invariant.rows_are.right block within,
+      c.at.ensures,
+      c.count_rows.ensures,
+      ap (λ t. row_total (take index t)) rows,
+      row_total-take_le c.args.line (all_rows blocks),
+      c.self.invariant.few_rows,
+    )
+
+pub overflow_add-result : goal.overflow_add-result
+overflow_add-result c =
+    omega (arith, counted c, row_total-take_le c.args.line (all_rows (rows_of_each c.self.inside.blocks.items)), c.self.invariant.few_rows)
+
+pub returns : goal.returns
+returns c =
+    counted c ∙ ap (λ (v : BlocksView). row_total (take c.args.line (all_rows v.blocks))) c.self.view_is

@@ -1,0 +1,127 @@
+use Rattle.std.proofs.Common.{◌≡◌, ◌+◌, ◌-◌, ◌<◌, ◌≤◌, ◌∙◌, List, [], ap, arith, get_or, length, set, ℕ}
+use Rattle.std.proofs.lemmas.List.{length-set}
+use Rattle.textarea_text.specs.Replaced.{replaced}
+use Rattle.textarea_text.proofs.Replacing.{length-replaced}
+use Rattle.textarea_rows.specs.RowsView.{RowsView}
+use Rattle.textarea_blocks.specs.Blocks.{BlocksView, all_rows, lines_before}
+use Rattle.textarea_blocks.specs.Sums.{row_total}
+use Rattle.textarea_blocks.proofs.Exchanging.{first_removed}
+use Rattle.textarea_blocks.proofs.InBlocks.{before_more, before_ordered, before_set, before_within, block_count, block_ordered, block_replaced, blocks_replaced, lines_sum, rows_are, rows_sum}
+use Rattle.textarea_blocks.proofs.Numbers.{row_total-replaced, row_total-span}
+use Rattle.textarea_blocks.proofs.Totals.{all_set}
+use Rattle.textarea_blocks.proofs.blocks.RowBlocks.remove_first.Goals as goal
+use Rattle.textarea_blocks.proofs.blocks.RowBlocks.remove_first.Goals.{After-len, After-exchange}
+
+-- where the last line that goes stands
+record Last (blocks : List (List RowsView)) (block count last index size : ℕ) : Type 0 where
+  within : last < length blocks
+  ordered : block ≤ last
+  at : lines_before blocks last + (index + 1) ≡ lines_before blocks block + count
+  inside : index + 1 ≤ length (get_or blocks last [])
+  size_is : size ≡ length (get_or blocks last [])
+  few_lines : length (all_rows blocks) ≤ 562949953421312
+  few_rows : row_total (all_rows blocks) ≤ 562949953421312
+
+found : (c : After-len) → Last c.args.self.now.blocks c.args.block c.args.count c.place_of-last.result.0 c.place_of-last.result.1 c.len.result
+found c =
+    let blocks = c.args.self.now.blocks in
+    let items = c.self.inside.blocks.items in
+    let last = c.place_of-last.result.0 in
+    let within : last < length items = omega (arith, c.place_of-last.ensures.block.within, ap (λ (v : BlocksView). length v.blocks) c.self.view_is, block_count items) in
+    record {
+      within = c.place_of-last.ensures.block.within;
+      ordered = block_ordered blocks (c.lines_before.result + c.args.count - 1) c.args.block last (omega (arith, c.lines_before.ensures, c.if-count-eq0.false)) c.place_of-last.ensures.block;
+      at = omega (arith, c.place_of-last.ensures.line, c.lines_before.ensures, c.if-count-eq0.false);
+      inside = omega (arith, c.place_of-last.ensures.within);
+      size_is = omega (arith, c.len.ensures, c.index.result.now.ok.0, ap length (rows_are items last c.index.result.now within c.index.ensures), ap (λ (v : BlocksView). length (get_or v.blocks last [])) c.self.view_is);
+      few_lines = omega (arith, c.self.invariant.few_lines, ap (λ (v : BlocksView). length (all_rows v.blocks)) c.self.view_is);
+      few_rows = omega (arith, c.self.invariant.few_rows, ap (λ (v : BlocksView). row_total (all_rows v.blocks)) c.self.view_is);
+    }
+
+pub exchange_blocks-requires-clause-ordered : goal.exchange_blocks-requires-clause-ordered
+exchange_blocks-requires-clause-ordered c =
+    omega (arith, (found (goal.at.exchange_blocks-requires-clause-ordered c).After-len).ordered)
+
+pub returns-then-index-len : goal.returns-then-index-len
+returns-then-index-len c =
+    let known = found (goal.at.returns-then-index-len c).After-len in
+    let blocks = c.args.self.now.blocks in
+    let block = c.args.block in
+    let next = c.place_of-last.result.0 + 1 in
+    let rows = all_rows blocks in
+    let first = lines_before blocks block in
+    let size : lines_before blocks next - first ≡ c.args.count = omega (arith, before_more length lines_sum blocks c.place_of-last.result.0 known.within, known.at, known.size_is, c.if-index-len.true) in
+    ap all_rows (c.exchange_blocks.ensures ∙ ap (replaced blocks block (next - block)) c.new.ensures)
+    ∙ blocks_replaced blocks [] block next (omega (arith, known.ordered)) (omega (arith, known.within))
+    ∙ ap (λ n. replaced rows first n []) size
+
+-- the block without its first lines
+cut : (c : After-exchange) → c.exchange.new.self.blocks ≡ set c.args.self.now.blocks c.place_of-last.result.0 (replaced (get_or c.args.self.now.blocks c.place_of-last.result.0 []) 0 (c.place_of-last.result.1 + 1) [])
+cut c =
+    let blocks = c.args.self.now.blocks in
+    let last = c.place_of-last.result.0 in
+    c.exchange.ensures ∙ ap (λ (t : List RowsView). set blocks last (replaced (get_or blocks last []) 0 (c.place_of-last.result.1 + 1) t)) c.new-2.ensures.items
+
+pub exchange_blocks-requires-2-clause-ordered : goal.exchange_blocks-requires-2-clause-ordered
+exchange_blocks-requires-2-clause-ordered c = (found (goal.at.exchange_blocks-requires-2-clause-ordered c).After-len).ordered
+
+pub exchange_blocks-requires-2-clause-lines : goal.exchange_blocks-requires-2-clause-lines
+exchange_blocks-requires-2-clause-lines c =
+    let at = goal.at.exchange_blocks-requires-2-clause-lines c in
+    let known = found at.After-len in
+    let blocks = c.args.self.now.blocks in
+    let last = c.place_of-last.result.0 in
+    let here = get_or blocks last [] in
+    omega (
+      arith,
+      known.few_lines,
+      ap (λ t. length (all_rows t)) (cut at.After-exchange),
+      all_set length lines_sum blocks last (replaced here 0 (c.place_of-last.result.1 + 1) []) known.within,
+      length-replaced here 0 (c.place_of-last.result.1 + 1) [] (omega (arith, known.inside)),
+      ap (λ t. length (all_rows t)) c.new-3.ensures,
+    )
+
+pub exchange_blocks-requires-2-clause-rows : goal.exchange_blocks-requires-2-clause-rows
+exchange_blocks-requires-2-clause-rows c =
+    let at = goal.at.exchange_blocks-requires-2-clause-rows c in
+    let known = found at.After-len in
+    let blocks = c.args.self.now.blocks in
+    let last = c.place_of-last.result.0 in
+    let here = get_or blocks last [] in
+    omega (
+      arith,
+      known.few_rows,
+      ap (λ t. row_total (all_rows t)) (cut at.After-exchange),
+      all_set row_total rows_sum blocks last (replaced here 0 (c.place_of-last.result.1 + 1) []) known.within,
+      row_total-replaced here [] 0 (c.place_of-last.result.1 + 1),
+      row_total-span here 0 (c.place_of-last.result.1 + 1),
+      ap (λ t. row_total (all_rows t)) c.new-3.ensures,
+    )
+
+pub returns : goal.returns
+returns c =
+    let at = goal.at.returns c in
+    let known = found at.After-len in
+    let blocks = c.args.self.now.blocks in
+    let block = c.args.block in
+    let last = c.place_of-last.result.0 in
+    let taken = c.place_of-last.result.1 + 1 in
+    let here = get_or blocks last [] in
+    let now = set blocks last (replaced here 0 taken []) in
+    let rows = all_rows blocks in
+    let first = lines_before blocks block in
+    let between = lines_before blocks last - first in
+    let same = cut at.After-exchange in
+    let seam : lines_before blocks last + 0 ≡ first + between = omega (arith, before_ordered length lines_sum blocks block last known.ordered) in
+    let sum : between + taken ≡ c.args.count = omega (arith, known.at, before_ordered length lines_sum blocks block last known.ordered) in
+    let above = before_set length blocks last block (replaced here 0 taken []) known.ordered in
+    let below = before_set length blocks last last (replaced here 0 taken []) (omega arith) in
+    let size : lines_before now last - lines_before now block ≡ between = omega (arith, above, below) in
+    let inside : first + between ≤ length rows = omega (arith, before_within length lines_sum blocks last, before_ordered length lines_sum blocks block last known.ordered) in
+    ap all_rows (c.exchange_blocks-2.ensures ∙ ap (replaced c.exchange.new.self.blocks block (last - block)) c.new-3.ensures ∙ ap (λ t. replaced t block (last - block) []) same)
+    ∙ blocks_replaced now [] block last known.ordered (omega (arith, known.within, length-set blocks last (replaced here 0 taken [])))
+    ∙ ap (λ n. replaced (all_rows now) n (lines_before now last - lines_before now block) []) above
+    ∙ ap (λ n. replaced (all_rows now) first n []) size
+    ∙ ap (λ t. replaced t first between []) (block_replaced blocks last 0 taken [] known.within (omega (arith, known.inside)) ∙ ap (λ n. replaced rows n taken []) seam)
+    ∙ first_removed rows first between taken inside
+    ∙ ap (λ n. replaced rows first n []) sum

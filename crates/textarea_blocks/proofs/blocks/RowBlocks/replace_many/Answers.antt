@@ -1,0 +1,52 @@
+use Rattle.std.proofs.Common.{◌≡◌, ◌+◌, ◌-◌, ◌∙◌, [], ap, arith, length}
+use Rattle.textarea_text.specs.Replaced.{replaced}
+use Rattle.textarea_text.proofs.Replacing.{length-replaced}
+use Rattle.textarea_blocks.specs.Blocks.{all_rows, lines_before}
+use Rattle.textarea_blocks.proofs.Exchanging.{rest_removed}
+use Rattle.textarea_blocks.proofs.InBlocks.{blocks_replaced, lines_sum}
+use Rattle.textarea_blocks.proofs.Totals.{all_exchanged, total_behind}
+use Rattle.textarea_blocks.proofs.blocks.RowBlocks.replace_many.Goals as goal
+use Rattle.textarea_blocks.proofs.blocks.RowBlocks.replace_many.Goals.{After-block_count-2}
+
+-- the block behind those that came, and the lines before it
+next : (c : After-block_count-2) → (c.block_count-2.result - (c.block_count.result - c.edge_of-block.result) ≡ c.edge_of-block.result + (length c.args.rows.blocks + 0)) × (lines_before c.exchange_blocks.new.self.blocks (c.edge_of-block.result + (length c.args.rows.blocks + 0)) ≡ c.args.row + length (all_rows c.args.rows.blocks)) × (length (all_rows c.exchange_blocks.new.self.blocks) ≡ length (all_rows c.args.self.now.blocks) + length (all_rows c.args.rows.blocks))
+next c =
+    let blocks = c.args.self.now.blocks in
+    let new = c.args.rows.blocks in
+    let block = c.edge_of-block.result in
+    let within = c.edge_of-block.ensures.within in
+    let same = c.exchange_blocks.ensures in
+    let zero_more : block + 0 ≡ block = omega arith in (
+      omega (arith, c.block_count.ensures, c.block_count-2.ensures, ap length same, length-replaced blocks block (block - block) new (omega (arith, within)), within),
+      omega (arith, ap (λ t. lines_before t (block + (length new + 0))) same, total_behind length lines_sum blocks new block block 0 (omega arith) within, c.edge_of-block.ensures.edge, ap (lines_before blocks) zero_more),
+      omega (arith, ap (λ t. length (all_rows t)) same, all_exchanged length lines_sum blocks new block block (omega arith) within),
+    )
+
+pub remove_first-requires-clause-count : goal.remove_first-requires-clause-count
+remove_first-requires-clause-count c =
+    let known = next (goal.at.remove_first-requires-clause-count c).After-block_count-2 in
+    omega (arith, known.1, known.2, c.requires.within, ap (lines_before c.exchange_blocks.new.self.blocks) known.0)
+
+pub returns : goal.returns
+returns c =
+    let known = next (goal.at.returns c).After-block_count-2 in
+    let blocks = c.args.self.now.blocks in
+    let new = c.args.rows.blocks in
+    let rows = all_rows blocks in
+    let coming = all_rows new in
+    let row = c.args.row in
+    let count = c.args.count in
+    let block = c.edge_of-block.result in
+    let now = c.exchange_blocks.new.self.blocks in
+    let at = c.edge_of-block.ensures.edge in
+    let none : lines_before blocks block - lines_before blocks block ≡ 0 = omega arith in
+    let turned : all_rows now ≡ replaced rows row 0 coming =
+    ap all_rows c.exchange_blocks.ensures ∙ blocks_replaced blocks new block block (omega arith) c.edge_of-block.ensures.within
+    ∙ ap (λ n. replaced rows (lines_before blocks block) n coming) none
+    ∙ ap (λ n. replaced rows n 0 coming) at in
+    let sum : 0 + count ≡ count = omega arith in
+    c.remove_first.ensures
+    ∙ ap (λ n. replaced (all_rows now) n count []) (ap (lines_before now) known.0 ∙ known.1)
+    ∙ ap (λ t. replaced t (row + length coming) count []) turned
+    ∙ rest_removed rows coming row 0 count (omega (arith, c.requires.within))
+    ∙ ap (λ n. replaced rows row n coming) sum

@@ -1,0 +1,63 @@
+use Rattle.std.proofs.Common.{◌≡◌, ◌+◌, ◌<◌, ◌≤◌, ◌∙◌, [], ap, arith, get_or, length, set, sym, vec_capacity, vec_len}
+use Rattle.std.proofs.lemmas.List.{get_or-set_same, length-set, set-get_or}
+use Rattle.std.proofs.lemmas.Result.{on_ok_weaker}
+use Rattle.textarea_blocks.specs.Blocks.{BlocksView, IsBlockOf, all_rows, lines_before, rows_of_each, spare_of_each}
+use Rattle.textarea_blocks.proofs.InBlocks.{before_more, block_count, blocks_set, lines_sum, one_block, rows_are, spare_is}
+use Rattle.textarea_blocks.proofs.blocks.RowBlocks.reserve_lines.Goals as goal
+use Rattle.textarea_blocks.proofs.blocks.RowBlocks.reserve_lines.Goals.{After-reserve}
+
+within : (c : After-reserve) → c.place_of-block.result.0 < length c.self.inside.blocks.items
+within c =
+    omega (arith, c.place_of-block.ensures.block.within, ap (λ (v : BlocksView). length v.blocks) c.self.view_is, block_count c.self.inside.blocks.items)
+
+-- the rows of the blocks stay
+kept : (c : After-reserve) → rows_of_each (set c.self.inside.blocks.items c.place_of-block.result.0 c.reserve.new.self) ≡ rows_of_each c.self.inside.blocks.items
+kept c =
+    let items = c.self.inside.blocks.items in
+    let block = c.place_of-block.result.0 in
+    blocks_set items block c.reserve.new.self
+    ∙ ap (set (rows_of_each items) block) (c.reserve.ensures.items ∙ rows_are items block c.index_mut.result.now (within c) c.index_mut.ensures.value)
+    ∙ set-get_or (rows_of_each items) block []
+
+pub invariant_of-self : goal.invariant_of-self
+invariant_of-self c = rw (kept (goal.at.invariant_of-self c).After-reserve) c.self.invariant
+
+pub returns-clause-same : goal.returns-clause-same
+returns-clause-same c =
+    ap all_rows (kept (goal.at.returns-clause-same c).After-reserve) ∙ ap (λ (v : BlocksView). all_rows v.blocks) c.self.view_is ∙ c.in_ok-halve_full.ensures
+
+pub returns-clause-room : goal.returns-clause-room
+returns-clause-room c =
+    let known = (goal.at.returns-clause-room c).After-reserve in
+    let items = c.self.inside.blocks.items in
+    let blocks = rows_of_each items in
+    let block = c.place_of-block.result.0 in
+    let now = set items block c.reserve.new.self in
+    let same = kept known in
+    let there = within known in
+    let seen = ap (λ (v : BlocksView). v.blocks) c.self.view_is in
+    let inside : IsBlockOf (rows_of_each now) c.args.row block = rw (same, seen) c.place_of-block.ensures.block in
+    let spare = spare_is now block c.reserve.new.self (omega (arith, there, length-set items block c.reserve.new.self)) (sym (get_or-set_same items block c.reserve.new.self c.reserve.new.self there)) in
+    let at = c.place_of-block.ensures.line in
+    let size : c.len.result ≡ length (get_or blocks block []) = omega (arith, c.len.ensures, c.index.result.now.ok.0, ap length (rows_are items block c.index.result.now there c.index.ensures)) in
+    on_ok_weaker c.reserve.result
+    (λ (room : vec_len c.reserve.new.self + c.saturating_sub.result ≤ vec_capacity c.reserve.new.self).
+    λ k h.
+    let one : k ≡ block = one_block (rows_of_each now) c.args.row k block h inside in
+    omega (
+      arith,
+      room,
+      c.saturating_sub.ensures,
+      c.min-shared.ensures,
+      size,
+      spare,
+      ap (λ n. get_or (spare_of_each now) n 0) one,
+      ap (λ n. lines_before (rows_of_each now) (n + 1)) one,
+      ap (λ t. lines_before t (block + 1)) same,
+      before_more length lines_sum blocks block (omega (arith, there, block_count items)),
+      at,
+      ap (λ t. lines_before t block) seen,
+      c.place_of-block.ensures.within,
+      ap (λ t. length (get_or t block [])) seen,
+    ))
+    c.reserve.ensures.ok

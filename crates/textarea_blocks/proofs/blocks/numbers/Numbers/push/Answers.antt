@@ -1,0 +1,23 @@
+use Rattle.std.proofs.Common.{◌++◌, ◌∷◌, ◌∙◌, [], ap, arith}
+use Rattle.textarea_blocks.specs.Turned.{NumbersView}
+use Rattle.textarea_blocks.proofs.InBlocks.{pushed}
+use Rattle.textarea_blocks.proofs.Turning.{not_turned, settled}
+use Rattle.textarea_blocks.proofs.blocks.numbers.Numbers.push.Goals as goal
+
+pub returns : goal.returns
+returns c =
+    let inside = c.self.inside in
+    let number = c.args.number in
+    let turned = c.move_numbers.ensures in
+    let items = c.move_numbers.new.numbers.items in
+    let now = c.push.new.self.items in
+    let room = ap (λ (v : NumbersView). v.spare) c.self.view_is in
+    not_turned c.len-self-inside.result now
+    ∙ pushed c.push.result items now number c.push.ensures.items (c.push.ensures.succeeds (omega (arith, c.requires, room, turned.len, turned.capacity)))
+    ∙ ap (λ t. t ++ number ∷ []) (settled inside.items c.move_numbers.new.numbers inside.from inside.less inside.more turned.len turned.above turned.moved ∙ ap (λ (v : NumbersView). v.numbers) c.self.view_is)
+
+pub invariant_of-self : goal.invariant_of-self
+invariant_of-self c = record {
+  enough = λ k behind there. absurd (omega (arith, behind, there, c.len-self-inside.ensures, c.push.new.self.ok.0));
+  small = λ k behind there. absurd (omega (arith, behind, there, c.len-self-inside.ensures, c.push.new.self.ok.0));
+}

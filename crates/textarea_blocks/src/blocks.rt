@@ -1,0 +1,115 @@
+//! The rows of lines in blocks of lines, one behind the other, with the number of lines and of visual rows before each block. So
+//! rows take the place of others by a move of those that stand behind them in one block, or of whole blocks; of all that lies
+//! behind, only those two numbers of each block change, and where changes of one block follow one another, not even these are
+//! touched.
+ghost use Rattle.std.specs.Prelude.{◌≡◌, ◌+◌, ◌≤◌, ◌++◌, ◌∷◌, ℕ, List, [], length, OnOk};
+ghost use Rattle.textarea_blocks.specs.Blocks.{all_rows};
+ghost use Rattle.textarea_blocks.specs.Sums.{row_total};
+
+use self::numbers::Numbers;
+use crate::sums::count_rows;
+use std::alloc::{AllocError, Global};
+use std::marker::Model;
+use textarea_rows::rows::Rows;
+use textarea_size::limit::within_limit;
+
+mod change;
+mod look_up;
+mod numbers;
+
+/// The rows of lines, in blocks.
+#[derive(Drop)]
+pub struct RowBlocks {
+    blocks: Vec<Vec<Rows>>,
+    lines: Numbers,
+    rows: Numbers,
+}
+
+impl Model for RowBlocks {
+    ghost use Rattle.std.specs.Prelude.{◌-◌, map, min, vec_len, vec_capacity};
+    ghost use Rattle.textarea_blocks.specs.Blocks.{BlocksView, rows_of_each, spare_of_each};
+    ghost use Rattle.textarea_blocks.specs.Numbered.{AreNumbered};
+
+    ghost Value = { BlocksView };
+
+    ghost view = { λ blocks. record {
+      blocks = rows_of_each blocks.blocks.items;
+      spare = spare_of_each blocks.blocks.items;
+      more = min (vec_capacity blocks.blocks - vec_len blocks.blocks)
+          (min blocks.lines.spare blocks.rows.spare);
+    } };
+
+    ghost invariant = { λ blocks.
+        AreNumbered (rows_of_each blocks.blocks.items) blocks.lines.numbers blocks.rows.numbers };
+}
+
+impl Clone for RowBlocks {
+    ghost is_clone = { λ blocks copy. copy.blocks ≡ blocks.blocks };
+
+    /// The same rows in the same blocks, or an error where there is no memory for them.
+    fn clone(&self) -> Result<RowBlocks, AllocError> {
+        Ok(RowBlocks {
+            blocks: self.blocks.clone()?,
+            lines: self.lines.clone()?,
+            rows: self.rows.clone()?,
+        })
+    }
+}
+
+impl RowBlocks {
+    /// No block. It takes no memory.
+    pub fn new(alloc: Global) -> RowBlocks
+        ensures { result.blocks ≡ [] }
+    {
+        RowBlocks {
+            blocks: Vec::new(alloc),
+            lines: Numbers::new(alloc),
+            rows: Numbers::new(alloc),
+        }
+    }
+
+    /// Puts the rows behind all others, as one block. More than 2^48 lines or rows in all are out of memory.
+    pub fn push(&mut self, rows: Vec<Rows>) -> Result<(), AllocError>
+        ensures { OnOk result (self.new.blocks ≡ self.old.blocks ++ rows.items ∷ []) }
+    {
+        let (lines, count) = (self.line_count(), self.row_count());
+        within_limit(lines.saturating_add(rows.len()))?;
+        within_limit(count.saturating_add(count_rows(rows.as_slice())))?;
+        self.reserve(1)?;
+        let _ = self.blocks.push(rows);
+        self.lines.push(lines);
+        self.rows.push(count);
+        Ok(())
+    }
+
+    /// Makes room for so many blocks more.
+    pub fn reserve(&mut self, more: usize) -> Result<(), AllocError>
+        ensures same { self.new.blocks ≡ self.old.blocks }
+        ensures room { OnOk result (more ≤ self.new.more) }
+    {
+        self.blocks.reserve(more)?;
+        self.lines.reserve(more)?;
+        self.rows.reserve(more)
+    }
+
+    /// How many blocks there are.
+    pub fn block_count(&self) -> usize
+        ensures { result ≡ length self.now.blocks }
+    {
+        self.blocks.len()
+    }
+
+    /// How many lines all blocks have.
+    pub fn line_count(&self) -> usize
+        ensures { result ≡ length (all_rows self.now.blocks) }
+    {
+        self.lines_before(self.blocks.len())
+    }
+
+    // How many visual rows all lines have.
+    pub(crate) fn row_count(&self) -> usize
+        ensures { result ≡ row_total (all_rows self.now.blocks) }
+    {
+        self.rows_before(self.blocks.len())
+    }
+}

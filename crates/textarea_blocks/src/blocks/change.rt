@@ -1,0 +1,221 @@
+//! Changes of blocks: rows that take the place of others, in one block or by whole blocks, without memory, and what has to be made
+//! ready for them before.
+ghost use Rattle.std.specs.Prelude.{◌≡◌, ◌+◌, ◌-◌, ◌*◌, ◌<◌, ◌≤◌, ◌++◌, ◌∷◌, [], length, take, drop, get_or, set, vec_len, IfOk, OnErr, OnOk};
+ghost use Rattle.textarea_size.specs.Limit.{size_limit};
+ghost use Rattle.textarea_text.specs.Replaced.{replaced};
+ghost use Rattle.textarea_blocks.specs.Blocks.{FitsInBlock, IsEdge, all_rows, lines_before};
+ghost use Rattle.textarea_blocks.specs.Sums.{row_total};
+
+use super::RowBlocks;
+use super::numbers::Exchanged;
+use crate::sums::count_rows;
+use std::alloc::AllocError;
+use textarea_rows::rows::Rows;
+use textarea_text::replace::replace_items;
+
+/// How many lines a block gets at most where lines come into it, as long as it can be halved for them.
+const FULL: usize = 1024;
+
+impl RowBlocks {
+    // Rows of some lines take the place of those of other lines of one block, without memory.
+    pub(super) fn exchange(&mut self, block: usize, start: usize, count: usize, rows: Vec<Rows>)
+        requires block { block < length self.old.blocks }
+        requires within { start + count ≤ length (get_or self.old.blocks block []) }
+        requires room { vec_len rows ≤ count + get_or self.old.spare block 0 }
+        requires lines { length (all_rows self.old.blocks) + vec_len rows ≤ 2 * size_limit }
+        requires rows { row_total (all_rows self.old.blocks) + row_total rows.items
+            ≤ 2 * size_limit }
+        ensures { self.new.blocks ≡ set self.old.blocks block
+            (replaced (get_or self.old.blocks block []) start count rows.items) }
+    {
+        let come = rows.len();
+        let going = &self.blocks[block].as_slice()[start..start + count];
+        let (rows_gone, rows_come) = (count_rows(going), count_rows(rows.as_slice()));
+        replace_items(&mut self.blocks[block], start, count, rows);
+        self.lines.turn_from(block + 1, count, come);
+        self.rows.turn_from(block + 1, rows_gone, rows_come);
+    }
+
+    // Whole blocks take the place of the blocks from one on up to another, without memory.
+    pub(super) fn exchange_blocks(&mut self, from: usize, to: usize, new: RowBlocks)
+        requires ordered { from ≤ to }
+        requires within { to ≤ length self.old.blocks }
+        requires room { length new.blocks ≤ self.old.more + (to - from) }
+        requires lines { length (all_rows self.old.blocks) + length (all_rows new.blocks)
+            ≤ 2 * size_limit }
+        requires rows { row_total (all_rows self.old.blocks) + row_total (all_rows new.blocks)
+            ≤ 2 * size_limit }
+        ensures { self.new.blocks ≡ replaced self.old.blocks from (to - from) new.blocks }
+    {
+        let (line, row) = (self.lines_before(from), self.rows_before(from));
+        let lines_exchanged = Exchanged {
+            from,
+            to,
+            before: line,
+            gone: self.lines_before(to) - line,
+            come: new.line_count(),
+        };
+        let rows_exchanged = Exchanged {
+            from,
+            to,
+            before: row,
+            gone: self.rows_before(to) - row,
+            come: new.row_count(),
+        };
+        let RowBlocks {
+            blocks,
+            lines,
+            rows,
+        } = new;
+        replace_items(&mut self.blocks, from, to - from, blocks);
+        self.lines.exchange(lines, lines_exchanged);
+        self.rows.exchange(rows, rows_exchanged);
+    }
+
+    // Removes the first `count` lines from this block on, without memory. A block that has no line any more goes with them.
+    fn remove_first(&mut self, block: usize, count: usize)
+        requires block { block ≤ length self.old.blocks }
+        requires count { lines_before self.old.blocks block + count
+            ≤ length (all_rows self.old.blocks) }
+        ensures { all_rows self.new.blocks
+            ≡ replaced (all_rows self.old.blocks) (lines_before self.old.blocks block) count [] }
+    {
+        if count == 0 {
+            return;
+        }
+        let alloc = *self.blocks.allocator();
+        let (last, index) = self.place_of(self.lines_before(block) + count - 1);
+        if index + 1 == self.blocks[last].len() {
+            self.exchange_blocks(block, last + 1, RowBlocks::new(alloc));
+            return;
+        }
+        self.exchange(last, 0, index + 1, Vec::new(alloc));
+        self.exchange_blocks(block, last, RowBlocks::new(alloc));
+    }
+
+    /// Rows of a few lines take the place of those of the `count` lines from `row` on, in the block where these begin, without
+    /// memory.
+    pub fn replace_few(&mut self, row: usize, count: usize, rows: Vec<Rows>)
+        requires within { row + count ≤ length (all_rows self.old.blocks) }
+        requires there { row < length (all_rows self.old.blocks) }
+        requires room { FitsInBlock self.old row count (vec_len rows) }
+        requires lines { length (all_rows self.old.blocks) + vec_len rows ≤ 2 * size_limit }
+        requires rows { row_total (all_rows self.old.blocks) + row_total rows.items
+            ≤ 2 * size_limit }
+        ensures { all_rows self.new.blocks
+            ≡ replaced (all_rows self.old.blocks) row count rows.items }
+    {
+        let (block, index) = self.place_of(row);
+        let shared = count.min(self.blocks[block].len() - index);
+        self.exchange(block, index, shared, rows);
+        self.remove_first(block + 1, count - shared);
+    }
+
+    /// Rows in blocks take the place of those of the `count` lines from `row` on, without memory.
+    pub fn replace_many(&mut self, row: usize, count: usize, rows: RowBlocks)
+        requires within { row + count ≤ length (all_rows self.old.blocks) }
+        requires edge { IsEdge self.old.blocks row }
+        requires room { length rows.blocks ≤ self.old.more }
+        requires lines { length (all_rows self.old.blocks) + length (all_rows rows.blocks)
+            ≤ 2 * size_limit }
+        requires rows { row_total (all_rows self.old.blocks) + row_total (all_rows rows.blocks)
+            ≤ 2 * size_limit }
+        ensures { all_rows self.new.blocks
+            ≡ replaced (all_rows self.old.blocks) row count (all_rows rows.blocks) }
+    {
+        let block = self.edge_of(row);
+        let behind = self.block_count() - block;
+        self.exchange_blocks(block, block, rows);
+        self.remove_first(self.block_count() - behind, count);
+    }
+
+    /// Makes room for the rows of `come` lines that are to take the place of those of the `count` lines from `row` on, in the block
+    /// where these begin. A block that would get more than 1,024 lines is halved before.
+    pub fn reserve_lines(&mut self, row: usize, count: usize, come: usize) -> Result<(), AllocError>
+        requires { row < length (all_rows self.old.blocks) }
+        ensures same { all_rows self.new.blocks ≡ all_rows self.old.blocks }
+        ensures room { OnOk result (FitsInBlock self.new row count come) }
+    {
+        self.halve_full(row, come)?;
+        let (block, index) = self.place_of(row);
+        let shared = count.min(self.blocks[block].len() - index);
+        self.blocks[block].reserve(come.saturating_sub(shared))
+    }
+
+    // Halves the block of a line where it would get more than 1,024 lines with so many more.
+    fn halve_full(&mut self, line: usize, come: usize) -> Result<(), AllocError>
+        requires { line < length (all_rows self.old.blocks) }
+        ensures { all_rows self.new.blocks ≡ all_rows self.old.blocks }
+    {
+        let (block, _) = self.place_of(line);
+        let len = self.blocks[block].len();
+        if len.saturating_add(come) <= FULL {
+            return Ok(());
+        }
+        self.split(block, len / 2)
+    }
+
+    /// Has a block begin with this line, or end before it where the line is behind all others.
+    pub fn make_edge(&mut self, line: usize) -> Result<(), AllocError>
+        requires { line ≤ length (all_rows self.old.blocks) }
+        ensures same { all_rows self.new.blocks ≡ all_rows self.old.blocks }
+        ensures edge { OnOk result (IsEdge self.new.blocks line) }
+    {
+        if line == self.line_count() {
+            return Ok(());
+        }
+        let (block, index) = self.place_of(line);
+        if index == 0 {
+            return Ok(());
+        }
+        self.split(block, index)
+    }
+
+    // Makes two blocks of one, of which the first has so many lines.
+    fn split(&mut self, block: usize, at: usize) -> Result<(), AllocError>
+        requires block { block < length self.old.blocks }
+        requires at { at ≤ length (get_or self.old.blocks block []) }
+        ensures same { all_rows self.new.blocks ≡ all_rows self.old.blocks }
+        ensures edge { OnOk result (IsEdge self.new.blocks
+            (lines_before self.old.blocks block + at)) }
+    {
+        let mut behind = RowBlocks::new(*self.blocks.allocator());
+        behind.reserve(1)?;
+        self.reserve(1)?;
+        let rows = self.take_behind(block, at)?;
+        behind.put_first(rows);
+        self.exchange_blocks(block + 1, block + 1, behind);
+        Ok(())
+    }
+
+    // Takes the rows of all lines of a block but for the first `at`.
+    fn take_behind(&mut self, block: usize, at: usize) -> Result<Vec<Rows>, AllocError>
+        requires block { block < length self.old.blocks }
+        requires at { at ≤ length (get_or self.old.blocks block []) }
+        ensures err { OnErr result (self.new.blocks ≡ self.old.blocks) }
+        ensures kept { OnOk result (self.new.blocks
+            ≡ set self.old.blocks block (take at (get_or self.old.blocks block []))) }
+        ensures taken { IfOk result (λ rows.
+            rows.items ≡ drop at (get_or self.old.blocks block [])) }
+        ensures room { self.new.more ≡ self.old.more }
+    {
+        let rows = self.blocks[block].split_off(at)?;
+        self.lines.turn_from(block + 1, rows.len(), 0);
+        let rows_gone = count_rows(rows.as_slice());
+        self.rows.turn_from(block + 1, rows_gone, 0);
+        Ok(rows)
+    }
+
+    // Puts rows as the one block where there is none; there is room for it.
+    fn put_first(&mut self, rows: Vec<Rows>)
+        requires none { self.old.blocks ≡ [] }
+        requires room { 1 ≤ self.old.more }
+        requires lines { vec_len rows ≤ 2 * size_limit }
+        requires rows { row_total rows.items ≤ 2 * size_limit }
+        ensures { self.new.blocks ≡ rows.items ∷ [] }
+    {
+        let _ = self.blocks.push(rows);
+        self.lines.push(0);
+        self.rows.push(0);
+    }
+}

@@ -1,0 +1,128 @@
+//! Look-ups in blocks: the line of a number, its rows, and what stands before it.
+ghost use Rattle.std.specs.Prelude.{◌≡◌, ◌+◌, ◌<◌, ◌≤◌, [], length, take, drop, get_or, min};
+ghost use Rattle.textarea_blocks.specs.Blocks.{IsBlockOf, IsEdge, all_rows, lines_before};
+ghost use Rattle.textarea_blocks.specs.Sums.{ranges_at, row_total, size_total};
+
+use super::RowBlocks;
+use crate::sums::{count_rows, size_of_rows};
+use textarea_rows::rows::Rows;
+
+impl RowBlocks {
+    // How many lines the blocks before this one have.
+    pub(super) fn lines_before(&self, block: usize) -> usize
+        requires { block ≤ length self.now.blocks }
+        ensures { result ≡ lines_before self.now.blocks block }
+    {
+        if block == 0 {
+            return 0;
+        }
+        self.lines.at(block - 1) + self.blocks[block - 1].len()
+    }
+
+    // How many visual rows the blocks before this one have.
+    pub(super) fn rows_before(&self, block: usize) -> usize
+        requires { block ≤ length self.now.blocks }
+        ensures { result ≡ row_total (all_rows (take block self.now.blocks)) }
+    {
+        if block == 0 {
+            return 0;
+        }
+        self.rows.at(block - 1) + count_rows(self.blocks[block - 1].as_slice())
+    }
+
+    // The block of a line, and the line's number among those of its block.
+    pub(super) fn place_of(&self, line: usize) -> (usize, usize)
+        requires { line < length (all_rows self.now.blocks) }
+        ensures block { IsBlockOf self.now.blocks line result.0 }
+        ensures line { lines_before self.now.blocks result.0 + result.1 ≡ line }
+        ensures within { result.1 < length (get_or self.now.blocks result.0 []) }
+    {
+        let block = self.lines.last_at_most(line);
+        (block, line - self.lines.at(block))
+    }
+
+    // The block that begins with the line, or the number of blocks where the line is behind all others.
+    pub(super) fn edge_of(&self, line: usize) -> usize
+        requires { IsEdge self.now.blocks line }
+        ensures within { result ≤ length self.now.blocks }
+        ensures edge { lines_before self.now.blocks result ≡ line }
+    {
+        if line == self.line_count() {
+            return self.block_count();
+        }
+        self.place_of(line).0
+    }
+
+    /// For each row of the line the offset in bytes of its first byte, and the offset behind its last one.
+    pub fn rows_of(&self, line: usize) -> &[(usize, usize)]
+        requires { line < length (all_rows self.now.blocks) }
+        ensures { result.now ≡ ranges_at (all_rows self.now.blocks) line }
+    {
+        let (block, index) = self.place_of(line);
+        self.blocks[block][index].as_slice()
+    }
+
+    /// The first visual row of the line.
+    pub fn first_row(&self, line: usize) -> usize
+        requires { line < length (all_rows self.now.blocks) }
+        ensures { result ≡ row_total (take line (all_rows self.now.blocks)) }
+    {
+        let (block, index) = self.place_of(line);
+        self.rows.at(block) + count_rows(&self.blocks[block].as_slice()[..index])
+    }
+
+    /// The line of the visual row, and the row's number among the rows of that line.
+    pub fn line_of_row(&self, row: usize) -> (usize, usize)
+        requires { row < row_total (all_rows self.now.blocks) }
+        ensures line { result.0 < length (all_rows self.now.blocks) }
+        ensures row { row_total (take result.0 (all_rows self.now.blocks)) + result.1 ≡ row }
+        ensures inside { row < row_total (take (result.0 + 1) (all_rows self.now.blocks)) }
+    {
+        let block = self.rows.last_at_most(row);
+        let (index, left) = row_in(self.blocks[block].as_slice(), row - self.rows.at(block));
+        (self.lines.at(block) + index, left)
+    }
+
+    /// How many rows the `count` lines from this one on have, and the bytes and the number of these lines, summed, or the greatest
+    /// `usize` where that is less.
+    pub fn sums_of(&self, line: usize, count: usize) -> (usize, usize)
+        requires { line + count ≤ length (all_rows self.now.blocks) }
+        ensures rows { result.0 ≡ row_total (take count (drop line (all_rows self.now.blocks))) }
+        ensures size { result.1
+            ≡ min (size_total (take count (drop line (all_rows self.now.blocks)))) usize.MAX }
+    {
+        let (mut rows, mut size) = (0, 0usize);
+        if count == 0 {
+            return (rows, size);
+        }
+        let (mut block, mut index) = self.place_of(line);
+        let mut left = count;
+        'walking: while 0 < left {
+            let here = self.blocks[block].as_slice();
+            let taken = left.min(here.len() - index);
+            let part = &here[index..index + taken];
+            rows += count_rows(part);
+            size = size.saturating_add(size_of_rows(part));
+            left -= taken;
+            block += 1;
+            index = 0;
+        }
+        (rows, size)
+    }
+}
+
+// The line of a row among the rows of these lines, and the row's number among the rows of that line.
+fn row_in(rows: &[Rows], row: usize) -> (usize, usize)
+    requires { row < row_total rows.now }
+    ensures line { result.0 < length rows.now }
+    ensures row { row_total (take result.0 rows.now) + result.1 ≡ row }
+    ensures inside { row < row_total (take (result.0 + 1) rows.now) }
+{
+    let mut line = 0;
+    let mut left = row;
+    'walking: while rows[line].as_slice().len() <= left {
+        left -= rows[line].as_slice().len();
+        line += 1;
+    }
+    (line, left)
+}

@@ -1,0 +1,243 @@
+//! Numbers that stand beside blocks: for each block how many items stand before it.
+ghost use Rattle.std.specs.Prelude.{◌≡◌, ℕ, ◌+◌, ◌-◌, ◌<◌, ◌≤◌, ◌++◌, ◌∷◌, [], length, get_or, vec_len, vec_capacity, OnOk};
+ghost use Rattle.textarea_blocks.specs.Numbered.{AreExchanged};
+
+use std::alloc::{AllocError, Global};
+use std::marker::Model;
+use textarea_text::replace::replace_items;
+
+/// For each block how many items stand before it. The numbers of all blocks from one on may have a difference that isn't added to
+/// them yet: such a number is its item with `more` added and `less` taken away. So where changes of one block follow one another, no
+/// item of the blocks behind it is touched.
+#[derive(Drop)]
+pub(super) struct Numbers {
+    items: Vec<usize>,
+    from: usize,
+    less: usize,
+    more: usize,
+}
+
+impl Model for Numbers {
+    ghost use Rattle.std.specs.Prelude.{◌-◌, vec_len, vec_capacity};
+    ghost use Rattle.textarea_blocks.specs.Turned.{CanTurn, NumbersView, turned};
+
+    ghost Value = { NumbersView };
+
+    ghost view = { λ kept. record {
+      numbers = turned kept.from kept.less kept.more kept.items.items;
+      spare = vec_capacity kept.items - vec_len kept.items;
+    } };
+
+    ghost invariant = { λ kept. CanTurn kept.items.items kept.from kept.less kept.more };
+}
+
+impl Clone for Numbers {
+    ghost is_clone = { λ kept copy. copy.numbers ≡ kept.numbers };
+
+    /// The same numbers, or an error where there is no memory for them.
+    fn clone(&self) -> Result<Numbers, AllocError> {
+        Ok(Numbers {
+            items: self.items.clone()?,
+            from: self.from,
+            less: self.less,
+            more: self.more,
+        })
+    }
+}
+
+/// Blocks that take the place of others, from one block on up to another: how many items stand before them, and how many of them
+/// went and came.
+#[derive(Clone, Copy)]
+pub(super) struct Exchanged {
+    pub from: usize,
+    pub to: usize,
+    pub before: usize,
+    pub gone: usize,
+    pub come: usize,
+}
+
+impl Numbers {
+    /// No number. It takes no memory.
+    pub(super) fn new(alloc: Global) -> Numbers
+        ensures { result.numbers ≡ [] }
+    {
+        Numbers {
+            items: Vec::new(alloc),
+            from: 0,
+            less: 0,
+            more: 0,
+        }
+    }
+
+    /// Makes room for so many numbers more.
+    pub(super) fn reserve(&mut self, more: usize) -> Result<(), AllocError>
+        ensures same { self.new.numbers ≡ self.old.numbers }
+        ensures room { OnOk result (more ≤ self.new.spare) }
+    {
+        self.items.reserve(more)
+    }
+
+    /// Puts a number behind all others, without memory.
+    pub(super) fn push(&mut self, number: usize)
+        requires { 1 ≤ self.old.spare }
+        ensures { self.new.numbers ≡ self.old.numbers ++ number ∷ [] }
+    {
+        move_numbers(&mut self.items, self.from, self.less, self.more);
+        let _ = self.items.push(number);
+        self.from = self.items.len();
+        self.less = 0;
+        self.more = 0;
+    }
+
+    /// The number of this block.
+    pub(super) fn at(&self, block: usize) -> usize
+        requires { block < length self.now.numbers }
+        ensures { result ≡ get_or self.now.numbers block 0 }
+    {
+        let item = self.items[block];
+        if block < self.from {
+            return item;
+        }
+        item + self.more - self.less
+    }
+
+    /// The last block whose number is at most this one.
+    pub(super) fn last_at_most(&self, number: usize) -> usize
+        requires some { 0 < length self.now.numbers }
+        requires first { get_or self.now.numbers 0 0 ≤ number }
+        ensures within { result < length self.now.numbers }
+        ensures from { get_or self.now.numbers result 0 ≤ number }
+        ensures next { result + 1 < length self.now.numbers
+            → number < get_or self.now.numbers (result + 1) 0 }
+    {
+        let mut low = 0;
+        let mut high = self.items.len();
+        'halving: while 1 < high - low {
+            let middle = low + (high - low) / 2;
+            if self.at(middle) <= number {
+                low = middle;
+            } else {
+                high = middle;
+            }
+        }
+        low
+    }
+
+    /// Has each number from one on say so many less and so many more, without memory. Where the difference that isn't added yet is of
+    /// the numbers from the same one on, it becomes one with this. Otherwise it is added, and this one isn't yet.
+    pub(super) fn turn_from(&mut self, from: usize, gone: usize, come: usize)
+        requires enough { (k : ℕ) → from ≤ k → k < length self.old.numbers
+            → gone ≤ get_or self.old.numbers k 0 + come }
+        requires small { (k : ℕ) → from ≤ k → k < length self.old.numbers
+            → get_or self.old.numbers k 0 + come ≤ usize.MAX }
+        ensures above { (k : ℕ) → k < from
+            → get_or self.new.numbers k 0 ≡ get_or self.old.numbers k 0 }
+        ensures moved { (k : ℕ) → from ≤ k → k < length self.old.numbers
+            → get_or self.new.numbers k 0 + gone ≡ get_or self.old.numbers k 0 + come }
+        ensures len { length self.new.numbers ≡ length self.old.numbers }
+        ensures room { self.new.spare ≡ self.old.spare }
+    {
+        if gone == come {
+            return;
+        }
+        if from == self.from {
+            let sums = (self.less.checked_add(gone), self.more.checked_add(come));
+            if let (Some(less), Some(more)) = sums {
+                self.less = less.saturating_sub(more);
+                self.more = more.saturating_sub(less);
+                return;
+            }
+        }
+        move_numbers(&mut self.items, self.from, self.less, self.more);
+        self.from = from;
+        self.less = gone.saturating_sub(come);
+        self.more = come.saturating_sub(gone);
+    }
+
+    /// Puts the numbers of blocks that came, counted from 0, in the place of those of blocks that went, and turns those behind,
+    /// without memory.
+    pub(super) fn exchange(&mut self, new: Numbers, exchanged: Exchanged)
+        requires ordered { exchanged.from ≤ exchanged.to }
+        requires within { exchanged.to ≤ length self.old.numbers }
+        requires room { length new.numbers ≤ self.old.spare + (exchanged.to - exchanged.from) }
+        requires enough { (k : ℕ) → exchanged.to ≤ k → k < length self.old.numbers
+            → exchanged.gone ≤ get_or self.old.numbers k 0 + exchanged.come }
+        requires small { (k : ℕ) → exchanged.to ≤ k → k < length self.old.numbers
+            → get_or self.old.numbers k 0 + exchanged.come ≤ usize.MAX }
+        requires small_new { (k : ℕ) → k < length new.numbers
+            → get_or new.numbers k 0 + exchanged.before ≤ usize.MAX }
+        ensures { AreExchanged self.old.numbers new.numbers exchanged self.new.numbers }
+    {
+        let Numbers {
+            mut items,
+            from,
+            less,
+            more,
+        } = new;
+        move_numbers(&mut items, from, less, more);
+        move_numbers(&mut self.items, self.from, self.less, self.more);
+        exchange_numbers(&mut self.items, items, exchanged);
+        self.from = self.items.len();
+        self.less = 0;
+        self.more = 0;
+    }
+}
+
+// Has each number from one on say so many less and so many more.
+fn move_numbers(numbers: &mut Vec<usize>, from: usize, gone: usize, come: usize)
+    requires enough { (k : ℕ) → from ≤ k → k < vec_len numbers.old
+        → gone ≤ get_or numbers.old.items k 0 + come }
+    requires small { (k : ℕ) → from ≤ k → k < vec_len numbers.old
+        → get_or numbers.old.items k 0 + come ≤ usize.MAX }
+    ensures above { (k : ℕ) → k < from
+        → get_or numbers.new.items k 0 ≡ get_or numbers.old.items k 0 }
+    ensures moved { (k : ℕ) → from ≤ k → k < vec_len numbers.old
+        → get_or numbers.new.items k 0 + gone ≡ get_or numbers.old.items k 0 + come }
+    ensures len { vec_len numbers.new ≡ vec_len numbers.old }
+    ensures capacity { vec_capacity numbers.new ≡ vec_capacity numbers.old }
+{
+    move_slice(numbers.as_mut_slice(), from, gone, come);
+}
+
+fn move_slice(numbers: &mut [usize], from: usize, gone: usize, come: usize)
+    requires enough { (k : ℕ) → from ≤ k → k < length numbers.old
+        → gone ≤ get_or numbers.old k 0 + come }
+    requires small { (k : ℕ) → from ≤ k → k < length numbers.old
+        → get_or numbers.old k 0 + come ≤ usize.MAX }
+    ensures above { (k : ℕ) → k < from → get_or numbers.new k 0 ≡ get_or numbers.old k 0 }
+    ensures moved { (k : ℕ) → from ≤ k → k < length numbers.old
+        → get_or numbers.new k 0 + gone ≡ get_or numbers.old k 0 + come }
+{
+    if gone == come {
+        return;
+    }
+    for k in from..numbers.len() {
+        numbers[k] = numbers[k] + come - gone;
+    }
+}
+
+// Puts the numbers of blocks that came, counted from 0, in the place of those of blocks that went, and turns those behind.
+fn exchange_numbers(numbers: &mut Vec<usize>, mut new: Vec<usize>, exchanged: Exchanged)
+    requires ordered { exchanged.from ≤ exchanged.to }
+    requires within { exchanged.to ≤ vec_len numbers.old }
+    requires room { vec_len numbers.old + vec_len new
+        ≤ vec_capacity numbers.old + (exchanged.to - exchanged.from) }
+    requires enough { (k : ℕ) → exchanged.to ≤ k → k < vec_len numbers.old
+        → exchanged.gone ≤ get_or numbers.old.items k 0 + exchanged.come }
+    requires small { (k : ℕ) → exchanged.to ≤ k → k < vec_len numbers.old
+        → get_or numbers.old.items k 0 + exchanged.come ≤ usize.MAX }
+    requires small_new { (k : ℕ) → k < vec_len new
+        → get_or new.items k 0 + exchanged.before ≤ usize.MAX }
+    ensures { AreExchanged numbers.old.items new.items exchanged numbers.new.items }
+{
+    let Exchanged {
+        from,
+        to,
+        before,
+        gone,
+        come,
+    } = exchanged;
+    move_numbers(&mut new, 0, 0, before);
+    move_numbers(numbers, to, gone, come);
+    replace_items(numbers, from, to - from, new);
+}

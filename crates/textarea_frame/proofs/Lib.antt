@@ -1,0 +1,2 @@
+pub mod Layers
+mod Hits

@@ -1,0 +1,28 @@
+use Rattle.std.proofs.Common.{◌≡◌, ℕ, Bool, true, false, None, Some, if◌then◌else◌, refl, sym, subst, ◌∙◌}
+use Rattle.textarea_screen.specs.Rect.{contains}
+use Rattle.textarea_frame.specs.Frame.{FrameState}
+use Rattle.textarea_frame.specs.Hit.{IsHitBy, IsHitInRows, IsHitWith}
+use Rattle.textarea_frame.proofs.frame.Frame.hit.Goals as goal
+
+inside_of : (b : Bool) (n m : ℕ) → (if b then Some n else None) ≡ Some m → b ≡ true
+inside_of true n m e = refl
+inside_of false n m e = cc e
+
+pub returns-then-shows_placeholder-clause-hit : goal.returns-then-shows_placeholder-clause-hit
+returns-then-shows_placeholder-clause-hit c =
+    let x = c.args.position.x in
+    let y = c.args.position.y in
+    subst (λ b. IsHitBy b c.args.self.now c.args.viewport c.args.inner x y (Some (0, 0))) (sym (inside_of (contains c.args.inner x y) _ _ (sym c.hit_row.ensures ∙ c.in-Some.is)))
+    ((0, 0), refl, subst (λ b. IsHitWith b c.args.self.now c.args.viewport c.args.inner x y (0, 0)) (sym c.if-shows_placeholder.true ∙ c.shows_placeholder.ensures) refl)
+
+pub returns-clause-hit : goal.returns-clause-hit
+returns-clause-hit c =
+    let x = c.args.position.x in
+    let y = c.args.position.y in
+    let place = c.in_ok-hit_in_row.field-0 in
+    subst (λ b. IsHitBy b c.args.self.now c.args.viewport c.args.inner x y (Some place)) (sym (inside_of (contains c.args.inner x y) _ _ (sym c.hit_row.ensures ∙ c.in-Some.is))) (
+      place,
+      refl,
+      subst (λ b. IsHitWith b c.args.self.now c.args.viewport c.args.inner x y place) (sym c.if-shows_placeholder.false ∙ c.shows_placeholder.ensures)
+          (subst (λ (f : FrameState). IsHitInRows f.scene c.args.viewport c.args.inner x y place) c.self.view_is c.in_ok-hit_in_row.ensures.hit),
+    )

@@ -1,0 +1,5 @@
+pub mod Frame
+pub mod Placed
+pub mod Cells
+pub mod Drawn
+pub mod Hit

@@ -1,8 +1,0 @@
-use Rattle.std.proofs.Common.{ap, arith}
-use Rattle.textarea_map.specs.Map.{line_bytes}
-use Rattle.textarea_map.proofs.RowSizes.{size_total-more}
-use Rattle.textarea_map.proofs.layout.size_of_rows.Goals as goal
-
-pub loop-line-preserved : goal.loop-line-preserved
-loop-line-preserved c =
-    omega (arith, size_total-more c.args.rows.now c.loop-line.line-index c.line-item.result (omega arith) c.line-item.is, ap line_bytes c.as_slice.ensures, c.line_bytes.ensures, c.loop-line.invariant)

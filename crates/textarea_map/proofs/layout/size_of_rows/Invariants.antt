@@ -1,7 +1,0 @@
-use Rattle.std.proofs.Common.{◌≡◌, ◌-◌, ◌^◌, take, min}
-use Rattle.textarea_map.specs.Map.{size_total}
-use Rattle.textarea_map.proofs.layout.size_of_rows.Given as goal
-
--- the sum so far
-abbrev pub invariant-loop-line : goal.invariant-loop-line
-invariant-loop-line l = l.size ≡ min (size_total (take l.line-index l.rows)) (2 ^ 64 - 1)

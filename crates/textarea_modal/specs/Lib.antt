@@ -1,3 +1,0 @@
-pub mod Course
-pub mod Kinds
-pub mod Runs

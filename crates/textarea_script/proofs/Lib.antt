@@ -1,0 +1,5 @@
+pub mod Courses
+pub mod Ends
+pub mod Printed
+pub mod Runs
+pub mod Words

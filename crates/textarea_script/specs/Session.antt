@@ -1,0 +1,73 @@
+-- Sessions: the inputs that the characters of a text stand for, and what is printed of their end.
+use Rattle.std.specs.Prelude.{◌≢◌, ℕ, false, ◌==◌, if◌then◌else◌, List, [], ◌++◌, codes, decimal, map, IsUtf8, Option}
+use Rattle.std.specs.Io.{StartsWith}
+use Rattle.std.specs.Io.KnownBytes.{Appends}
+use Rattle.std.specs.Str.{chars}
+use Rattle.textarea_data.specs.declared.input.Input.{Input}
+use Rattle.textarea_data.specs.declared.input.Key.{Key}
+use Rattle.textarea_data.specs.declared.input.Key.TheVariants.{Char, Enter, Esc, Tab}
+use Rattle.tui_textarea.specs.State.{State, new_state}
+use Rattle.textarea_script.specs.Runs.{EndsAs}
+use Rattle.textarea_script.specs.declared.modal.ModalStop.{ModalStop}
+use Rattle.textarea_script.specs.declared.modal.ModalStop.TheVariants.{End, Quit, Memory}
+use Rattle.textarea_modal_keys.specs.declared.mode.Mode.{Mode}
+use Rattle.textarea_modal_keys.specs.declared.mode.Mode.TheVariants.{Normal, Insert, Visual, Operator}
+
+-- ---- what is read
+
+-- the key: 27 is Esc, a line feed Enter, a tab Tab, and any other character itself
+abbrev pub key_of : ℕ → Key
+key_of character = if character == 27 then Esc else (if character == 10 then Enter else (if character == 9 then Tab else Char character))
+
+-- the input: that key, with nothing held
+abbrev pub input_of : ℕ → Input
+input_of character = record { key = key_of character; ctrl = false; alt = false; shift = false }
+
+-- the inputs of a text
+abbrev pub inputs_of : List ℕ → List Input
+inputs_of text = map input_of (chars text)
+
+-- ---- what is printed
+
+abbrev pub mode_name : Mode → List ℕ
+mode_name Normal = codes "normal"
+mode_name Insert = codes "insert"
+mode_name Visual = codes "visual"
+mode_name (Operator op) = codes "operator"
+
+abbrev pub stop_name : ModalStop → List ℕ
+stop_name End = codes "end"
+stop_name Quit = codes "quit"
+stop_name Memory = codes "memory"
+
+-- the first three lines: the mode, how many inputs were used, and why that was all
+abbrev pub head : Mode → ℕ → ModalStop → List ℕ
+head mode taken stop =
+    codes "mode " ++ mode_name mode ++ codes "\ntaken " ++ decimal taken ++ codes "\n" ++ stop_name stop ++ codes "\n"
+
+-- ---- sessions
+
+-- the inputs' run on a text area ends so, and none of their calls is refused
+pub record Ends (old : State) (inputs : List Input) (mode : Mode) (taken : ℕ) (stop : ModalStop) : Type 0 where
+  pub new : State
+  pub ended : EndsAs old Normal inputs new mode taken stop
+  pub none_refused : stop ≢ Memory
+
+-- what is printed of the end of these inputs' run: first its mode, number and reason, and then the text area, of which nothing is said
+pub record IsPrinted (old : State) (inputs : List Input) (printed : List ℕ) : Type 0 where
+  pub mode : Mode
+  pub taken : ℕ
+  pub stop : ModalStop
+  pub ends : Ends old inputs mode taken stop
+  pub first : StartsWith printed (head mode taken stop)
+
+-- the bytes are a text, and what is printed of its session is written behind what a writer held, where that is known
+pub record IsWritten (old new : Option (List ℕ)) (bytes : List ℕ) : Type 0 where
+  pub text : IsUtf8 bytes
+  pub printed : List ℕ
+  pub session : IsPrinted (new_state []) (inputs_of bytes) printed
+  pub written : Appends old new printed
+
+-- the bytes are no text
+abbrev pub IsNoText : List ℕ → Type 0
+IsNoText bytes = ¬ (IsUtf8 bytes)

@@ -1,6 +1,0 @@
-use Rattle.std.proofs.Common.{rules, refl, string_bytes}
-use Rattle.textarea_session.proofs.Printed.{printed_same}
-use Rattle.textarea_session.proofs.serve.printed_of_text.Goals as goal
-
-pub returns : goal.returns
-returns c = printed_same c.printed_of_inputs.result (λ text. string_bytes text) refl (search rules) c.printed_of_inputs.ensures
