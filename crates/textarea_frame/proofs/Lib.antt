@@ -1,2 +1,1 @@
 pub mod Layers
-mod Hits
