@@ -1,11 +1,11 @@
 //! The steps of a row with ample memory, made one after another on texts of all sizes.
-use crate::end::{Difference, End, Stop};
-use crate::expand::{counted, expanded, repeated};
 use crate::script::run_script;
 use crate::step::{Step, make};
-use crate::tally::Tally;
 use crate::words::{script_of, step_of};
 use std::alloc::{AllocError, Global};
+use textarea_words::end::{Difference, End, Stop};
+use textarea_words::expand::{counted, expanded, repeated};
+use textarea_words::tally::Tally;
 use textarea_words::words::Lent;
 use tui_textarea::{Buffer, Rect, TextArea};
 

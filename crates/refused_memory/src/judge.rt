@@ -2,16 +2,16 @@
 ghost use Rattle.std.specs.Prelude.{All};
 ghost use Rattle.textarea_calls.specs.Made.{CanBeMade};
 
-use crate::compare::{are_alike_outside, compare, compare_shown};
-use crate::end::{Difference, End, Stop, same};
 use crate::script::run_script;
 use crate::step::{Step, make};
 use crate::words::{script_of, step_of};
 use std::alloc::{AllocError, Global};
 use textarea_calls::{Answer, Call};
 use textarea_commands::commands::{Command, calls, read};
+use textarea_report::compare::{are_alike_outside, compare, compare_shown};
 use textarea_run::RunEnd;
 use textarea_run::run::run;
+use textarea_words::end::{Difference, End, Stop, same};
 use textarea_words::words::Lent;
 use tui_textarea::{Buffer, Rect, TextArea};
 

@@ -16,13 +16,9 @@
 #![tactic(auto)]
 
 mod ample;
-mod compare;
-mod end;
-mod expand;
 mod judge;
 mod script;
 mod step;
-mod tally;
 mod words;
 
 use ample::{Told, make_row};

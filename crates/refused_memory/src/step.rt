@@ -1,8 +1,7 @@
 //! A call, or what else is made of a text area and may be refused.
-ghost use Rattle.std.specs.Prelude.{◌<◌, length};
-
 use std::alloc::AllocError;
 use textarea_calls::{Answer, Call};
+use textarea_pieces::given::copy_pieces;
 use textarea_run::perform::perform;
 use tui_textarea::{Buffer, Input, Key, TextArea};
 
@@ -99,20 +98,9 @@ fn another<'a>(area: &TextArea<'a>, step: Step<'_>) -> Result<TextArea<'a>, Allo
     let alloc = *lines[0].allocator();
     match step {
         Step::Clone => area.clone(),
-        Step::New => TextArea::new(copies(lines)?),
+        Step::New => TextArea::new(copy_pieces(alloc, lines)?),
         Step::FromStrs => TextArea::from_strs(alloc, lines.iter().map(|line| line.as_str())),
-        Step::FromStrings => TextArea::from_strings(alloc, copies(lines)?.into_iter()),
+        Step::FromStrings => TextArea::from_strings(alloc, copy_pieces(alloc, lines)?.into_iter()),
         _ => TextArea::try_default(alloc),
     }
-}
-
-/// Copies of the lines of a text area.
-pub fn copies(lines: &[String]) -> Result<Vec<String>, AllocError>
-    requires { 0 < length lines.now }
-{
-    let mut copies = Vec::new(*lines[0].allocator());
-    for line in lines {
-        copies.push(line.clone()?)?;
-    }
-    Ok(copies)
 }

@@ -1,5 +1,5 @@
 //! What calls answer.
-use textarea_data::atomic::{AtomicRange, RejectedAtomicRange};
+use textarea_atomic::range::{AtomicRange, RejectedAtomicRange};
 use textarea_look::look::CursorRenderMode;
 use textarea_screen::screen::{Alignment, Position, Style};
 use textarea_surround::TextAreaMeasure;

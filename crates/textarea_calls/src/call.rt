@@ -3,7 +3,7 @@ ghost use Rattle.std.specs.Prelude.{◌↔◌, IsTrue};
 ghost use Rattle.textarea_calls.specs.Made.{CanBeMade};
 
 use std::time::Duration;
-use textarea_data::atomic::{AtomicCursorBias, AtomicDeleteDirection, AtomicRange};
+use textarea_atomic::range::{AtomicCursorBias, AtomicDeleteDirection, AtomicRange};
 use textarea_data::cursor::CursorMove;
 use textarea_data::input::Input;
 use textarea_data::scroll::Scrolling;

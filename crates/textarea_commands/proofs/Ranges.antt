@@ -4,7 +4,7 @@ use Rattle.std.specs.List.{after_first, before_first, onto_first, position_or_le
 use Rattle.std.specs.Option.{option_zip}
 use Rattle.std.proofs.lemmas.List.Splits.{slice_split_first}
 use Rattle.std.proofs.lemmas.Bool.Decides.{nat_tests}
-use Rattle.textarea_data.specs.declared.atomic.AtomicRange.{AtomicRange}
+use Rattle.textarea_atomic.specs.declared.range.AtomicRange.{AtomicRange}
 use Rattle.textarea_commands.specs.Arguments.{has_space, is_space, parts}
 use Rattle.textarea_commands.specs.Ranges.{range, ranges, ranges_of}
 

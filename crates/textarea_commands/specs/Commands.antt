@@ -4,7 +4,7 @@ use Rattle.std.specs.List.{after_first, before_first}
 use Rattle.std.specs.Option.{option_zip}
 use Rattle.textarea_data.specs.declared.cursor.CursorMove.TheVariants as move
 use Rattle.textarea_data.specs.declared.input.Input.{Input}
-use Rattle.textarea_data.specs.declared.atomic.AtomicRange.{AtomicRange}
+use Rattle.textarea_atomic.specs.declared.range.AtomicRange.{AtomicRange}
 use Rattle.textarea_screen.specs.Style.{empty_style}
 use Rattle.textarea_commands.specs.Arguments.{Sides, byte_number, has_space, is_space, mode_named, move_named, named, number, page, parts, scroll_by, short_number, sides, truth, two_short_numbers}
 use Rattle.textarea_commands.specs.Escapes.{character, unescaped, unescaped_lines}

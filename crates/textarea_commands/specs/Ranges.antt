@@ -2,7 +2,7 @@
 use Rattle.std.specs.Prelude.{ℕ, List, [], ◌∷◌, Option, Some, None, option_map}
 use Rattle.std.specs.List.{slice_split}
 use Rattle.std.specs.Option.{option_zip}
-use Rattle.textarea_data.specs.declared.atomic.AtomicRange.{AtomicRange}
+use Rattle.textarea_atomic.specs.declared.range.AtomicRange.{AtomicRange}
 use Rattle.textarea_commands.specs.Arguments.{is_space, number}
 
 -- the range of a row, a first column, and the column behind the last one

@@ -9,7 +9,7 @@ ghost use Rattle.textarea_commands.specs.Inputs.{held, input_named, key_alone, k
 ghost use Rattle.textarea_commands.specs.Ranges.{range, ranges, ranges_behind};
 
 use std::alloc::{AllocError, AllocFailed, Global};
-use textarea_data::atomic::AtomicRange;
+use textarea_atomic::range::AtomicRange;
 use textarea_data::cursor::CursorMove;
 use textarea_data::input::{Input, Key};
 use textarea_data::scroll::Scrolling;

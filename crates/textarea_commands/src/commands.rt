@@ -18,8 +18,8 @@ use crate::arguments::{
 use std::alloc::{AllocError, AllocFailed, Global};
 use std::str::from_utf8;
 use std::time::Duration;
+use textarea_atomic::range::AtomicRange;
 use textarea_calls::Call;
-use textarea_data::atomic::AtomicRange;
 use textarea_data::cursor::CursorMove;
 use textarea_data::input::Input;
 use textarea_screen::screen::{Position, Style};

@@ -1,7 +1,6 @@
-//! Plain data: keys, moves and places of a cursor, amounts of scrolling, atomic ranges.
+//! Plain data: keys, moves and places of a cursor, amounts of scrolling.
 #![tactic(auto)]
 
-pub mod atomic;
 pub mod cursor;
 pub mod input;
 pub mod laws;

@@ -7,7 +7,7 @@ use Rattle.textarea_text.specs.Text.{Symbol, lines}
 use Rattle.textarea_text.specs.Place.{Place, end}
 use Rattle.textarea_text.specs.Splice.{CanApply, Fits, Splice, StoodBefore, applied, applied_all, inverse}
 use Rattle.textarea_history.specs.Log.{newest, next}
-use Rattle.textarea_data.specs.declared.atomic.AtomicRange.{AtomicRange}
+use Rattle.textarea_atomic.specs.declared.range.AtomicRange.{AtomicRange}
 use Rattle.textarea_ranges.specs.Held.{IsBeside, IsInside, IsWithin, Overlaps}
 use Rattle.textarea_ranges.specs.Moved.{CoversTheSame, DisturbsBy, moved_range, moved_ranges}
 use Rattle.textarea_ranges.specs.Valid.{AreValid, IsPart}

@@ -4,10 +4,10 @@ use Rattle.textarea_text.specs.Text.{Symbol, Character, Break, lines}
 use Rattle.textarea_text.specs.Place.{Place, IsPlace, end, index_of, line_end, place_of}
 use Rattle.textarea_text.specs.Splice.{Splice}
 use Rattle.textarea_pieces.specs.Part.{part}
-use Rattle.textarea_data.specs.declared.atomic.AtomicRange.{AtomicRange}
-use Rattle.textarea_data.specs.declared.atomic.AtomicCursorBias.TheVariants.{Forward}
-use Rattle.textarea_data.specs.declared.atomic.AtomicDeleteDirection.{AtomicDeleteDirection}
-use Rattle.textarea_data.specs.declared.atomic.AtomicDeleteDirection.TheVariants.{Backward as DeleteBackward, Forward as DeleteForward}
+use Rattle.textarea_atomic.specs.declared.range.AtomicRange.{AtomicRange}
+use Rattle.textarea_atomic.specs.declared.range.AtomicCursorBias.TheVariants.{Forward}
+use Rattle.textarea_atomic.specs.declared.range.AtomicDeleteDirection.{AtomicDeleteDirection}
+use Rattle.textarea_atomic.specs.declared.range.AtomicDeleteDirection.TheVariants.{Backward as DeleteBackward, Forward as DeleteForward}
 use Rattle.textarea_ranges.specs.Held.{hit, moved_out, range_start, range_end, widened}
 use Rattle.textarea_document.specs.State.{DocumentState}
 use Rattle.textarea_document.specs.Outcomes.{edited, unanchored}

@@ -1,7 +1,7 @@
 -- How the atomic ranges of a document go with its text, over one splice after another.
 use Rattle.std.specs.Prelude.{◌≡◌, List, [], ◌∷◌, All, Contains, Option, None, Some}
 use Rattle.textarea_text.specs.Splice.{Splice, StoodBefore}
-use Rattle.textarea_data.specs.declared.atomic.AtomicRange.{AtomicRange}
+use Rattle.textarea_atomic.specs.declared.range.AtomicRange.{AtomicRange}
 use Rattle.textarea_ranges.specs.Moved.{CoversTheSame, moved_range, moved_ranges}
 use Rattle.textarea_document.specs.Ranges.{CutsNone}
 use Rattle.textarea_document.specs.State.{DocumentState}

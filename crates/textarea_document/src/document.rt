@@ -27,7 +27,7 @@ ghost use Rattle.textarea_document.specs.Ranges.{CutsNone};
 use std::alloc::{AllocError, Global};
 use std::marker::Model;
 use std::time::Duration;
-use textarea_data::atomic::AtomicRange;
+use textarea_atomic::range::AtomicRange;
 use textarea_edit::edit::{Change, Edit};
 use textarea_history::history::History;
 use textarea_lines::laid_out::LaidOutLines;

@@ -2,7 +2,7 @@
 ghost use Rattle.std.specs.Prelude.{◌≡◌, ℕ, Bool, false, List, [], ◌∷◌, Contains, None, Option, Some};
 ghost use Rattle.textarea_history.specs.Log.{newest, next};
 ghost use Rattle.textarea_lines.specs.declared.settings.LayoutSettings.{LayoutSettings};
-ghost use Rattle.textarea_data.specs.declared.atomic.AtomicRange.{AtomicRange};
+ghost use Rattle.textarea_atomic.specs.declared.range.AtomicRange.{AtomicRange};
 ghost use Rattle.textarea_ranges.specs.Held.{IsWithin};
 ghost use Rattle.textarea_ranges.specs.Moved.{moved_range};
 ghost use Rattle.textarea_text.specs.Place.{Place, end};

@@ -2,5 +2,3 @@
 #![tactic(auto)]
 
 pub mod history;
-
-pub use textarea_edit::{edit, laws};

@@ -3,14 +3,14 @@ use Rattle.std.proofs.Common.{◌≡◌, ℕ, ◌+◌, ◌-◌, ◌≤◌, ◌<�
 use Rattle.std.proofs.lemmas.List.{length-map}
 use Rattle.textarea_size.specs.Limit.{size_limit}
 use Rattle.textarea_text.specs.Place.{inserted, removed}
-use Rattle.textarea_text.specs.Replaced.{replaced}
+use Rattle.textarea_replace.specs.Replaced.{replaced}
 use Rattle.textarea_text.specs.Size.{weight}
 use Rattle.textarea_text.specs.Splice.{Splice, Allows, Fits, applied}
 use Rattle.textarea_text.specs.Text.{Symbol, characters_of, joined, lines, lines_of, text_of}
 use Rattle.textarea_text.specs.Touched.{IsReplacementFor}
 use Rattle.textarea_text.specs.declared.rows.Replacement.{Replacement}
 use Rattle.std.specs.declared.alloc.Global.{Global}
-use Rattle.textarea_text.proofs.Replacing.{length-replaced}
+use Rattle.textarea_replace.proofs.Replacing.{length-replaced}
 use Rattle.textarea_text.proofs.Sizes.{size_of_text, weight_inserted, weight_removed}
 use Rattle.textarea_rows.specs.RowsView.{RowsView}
 use Rattle.textarea_map.specs.declared.layout.Wrapping.{Wrapping}

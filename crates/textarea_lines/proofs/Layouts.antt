@@ -1,7 +1,7 @@
 -- Rows of lines and their ticks, as lines give place to others.
 use Rattle.std.proofs.Common.{◌≡◌, ℕ, ◌+◌, List, [], ◌++◌, length, take, drop, map, ap, ◌∙◌, arith, String}
 use Rattle.std.proofs.lemmas.List.{append_assoc, append-nil, drop_all, map-append, take-map, drop-map}
-use Rattle.textarea_text.specs.Replaced.{replaced}
+use Rattle.textarea_replace.specs.Replaced.{replaced}
 use Rattle.textarea_text.specs.Text.{lines_of}
 use Rattle.textarea_rows.specs.RowsView.{RowsView}
 use Rattle.textarea_map.specs.declared.layout.Wrapping.{Wrapping}

@@ -4,12 +4,12 @@ use Rattle.std.specs.Result.{IsOk}
 use Rattle.std.proofs.lemmas.List.{get_or-append_right, length-map, length-take-le}
 use Rattle.textarea_size.specs.Limit.{size_limit}
 use Rattle.textarea_text.specs.Place.{end}
-use Rattle.textarea_text.specs.Replaced.{replaced}
+use Rattle.textarea_replace.specs.Replaced.{replaced}
 use Rattle.textarea_text.specs.Size.{weight}
 use Rattle.textarea_text.specs.Splice.{Splice, Fits, applied, place_before}
 use Rattle.textarea_text.specs.Text.{characters, characters_of, following, lines, lines_of, text_of}
 use Rattle.textarea_text.specs.Touched.{breaks_of, lines_coming, lines_going}
-use Rattle.textarea_text.proofs.Replacing.{length-replaced}
+use Rattle.textarea_replace.proofs.Replacing.{length-replaced}
 use Rattle.textarea_text.proofs.Sizes.{length-le-size_of, size_of_text, weight-append, weight-characters, weight_of_following}
 use Rattle.textarea_text.proofs.Splices.{following-append}
 use Rattle.textarea_text.proofs.Touching.{ChangesLine, changes_line, end_row}

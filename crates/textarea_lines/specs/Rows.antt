@@ -3,7 +3,7 @@ use Rattle.std.specs.Prelude.{◌≡◌, ℕ, ◌+◌, ◌<◌, ◌≤◌, true,
 use Rattle.std.specs.Str.{all_scalars}
 use Rattle.textarea_size.specs.Limit.{size_limit}
 use Rattle.textarea_text.specs.Place.{Place}
-use Rattle.textarea_text.specs.Replaced.{replaced}
+use Rattle.textarea_replace.specs.Replaced.{replaced}
 use Rattle.textarea_text.specs.Text.{lines, lines_of}
 use Rattle.textarea_rows.specs.RowsView.{RowsView}
 use Rattle.textarea_wrap.specs.Wrapped.{IsWrapped}

@@ -3,7 +3,7 @@ ghost use Rattle.std.specs.Prelude.{◌≡◌, ◌+◌, ◌^◌, ◌<◌, ◌≤
 ghost use Rattle.textarea_size.specs.Limit.{size_limit};
 ghost use Rattle.textarea_text.specs.Offset.{offset_at};
 ghost use Rattle.textarea_text.specs.Place.{IsPlaceOf};
-ghost use Rattle.textarea_text.specs.Replaced.{replaced};
+ghost use Rattle.textarea_replace.specs.Replaced.{replaced};
 ghost use Rattle.textarea_text.specs.Size.{size_of, weight};
 ghost use Rattle.textarea_text.specs.Splice.{Fits, applied};
 ghost use Rattle.textarea_text.specs.Text.{lines_of, text_of};

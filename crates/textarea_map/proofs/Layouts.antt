@@ -13,7 +13,7 @@ use Rattle.textarea_wrap.specs.declared.wrap.WrapMode.TheVariants as mode
 use Rattle.textarea_map.specs.declared.layout.Wrapping.{Wrapping}
 use Rattle.textarea_map.proofs.Holding.{bytes_of_line}
 use Rattle.textarea_map.specs.Layout.{AreRowsOf, AreRowsOfLine, ticks_behind, ticks_of}
-use Rattle.textarea_text.specs.Replaced.{replaced}
+use Rattle.textarea_replace.specs.Replaced.{replaced}
 
 pub AreRowsOf-append : (w : Wrapping) (lines more : List (List ℕ)) (rows others : List RowsView) → AreRowsOf w lines rows → AreRowsOf w more others → AreRowsOf w (lines ++ more) (rows ++ others)
 AreRowsOf-append w [] more [] others h k = k

@@ -1,6 +1,6 @@
 -- Rows that are to take the place of others in a screen map.
 use Rattle.std.specs.Prelude.{◌≡◌, ℕ, ◌+◌, ◌<◌, ◌≤◌, List, length, vec_len}
-use Rattle.textarea_text.specs.Replaced.{replaced}
+use Rattle.textarea_replace.specs.Replaced.{replaced}
 use Rattle.textarea_rows.specs.RowsView.{RowsView}
 use Rattle.textarea_map.specs.declared.screen_map.NewRows.{NewRows}
 use Rattle.textarea_map.specs.declared.screen_map.NewRows.TheVariants as new

@@ -1,7 +1,7 @@
 //! The rows of each line of a text, kept line by line in blocks of lines. Visual rows are counted from 0 over all lines.
 ghost use Rattle.std.specs.Prelude.{◌≡◌, ◌+◌, ◌*◌, ◌<◌, ◌≤◌, ◌↔◌, ◌∷◌, [], ℕ, List, length, min, take, IfOk, IsOk, OnOk};
 ghost use Rattle.textarea_size.specs.Limit.{size_limit};
-ghost use Rattle.textarea_text.specs.Replaced.{replaced};
+ghost use Rattle.textarea_replace.specs.Replaced.{replaced};
 ghost use Rattle.textarea_text.specs.Size.{size_of};
 ghost use Rattle.textarea_text.specs.Text.{lines_of};
 ghost use Rattle.textarea_wrap.specs.declared.wrap.WrapMode.TheVariants as mode;

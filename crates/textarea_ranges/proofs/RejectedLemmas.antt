@@ -3,9 +3,9 @@ use Rattle.std.proofs.Common.{◌≡◌, ◌≢◌, ◌↔◌, ℕ, ◌≤◌, L
 use Rattle.std.proofs.lemmas.Bool.Decides.{nat_tests}
 use Rattle.std.proofs.lemmas.List.Elements.{All-from_recursion, recursion_from_All}
 use Rattle.std.specs.List.{AllByRecursion}
-use Rattle.textarea_data.specs.declared.atomic.AtomicRange.{AtomicRange}
-use Rattle.textarea_data.specs.declared.atomic.RejectedAtomicRange.{RejectedAtomicRange}
-use Rattle.textarea_data.specs.declared.atomic.AtomicRangeRejectReason.{AtomicRangeRejectReason}
+use Rattle.textarea_atomic.specs.declared.range.AtomicRange.{AtomicRange}
+use Rattle.textarea_atomic.specs.declared.range.RejectedAtomicRange.{RejectedAtomicRange}
+use Rattle.textarea_atomic.specs.declared.range.AtomicRangeRejectReason.{AtomicRangeRejectReason}
 use Rattle.textarea_ranges.specs.Order.{AreInOrder, in_order, is_before}
 use Rattle.textarea_ranges.specs.Rejected.{free_from, last_valid, reason, rejected_behind, rejected_of, with_reason, AreAccepted, AreRefused}
 use Rattle.textarea_ranges.specs.Valid.{AreDisjoint, AreValid, IsPart}

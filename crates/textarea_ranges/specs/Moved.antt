@@ -5,7 +5,7 @@ use Rattle.textarea_text.specs.Text.{Symbol, lines}
 use Rattle.textarea_text.specs.Place.{Place, end, line_of}
 use Rattle.textarea_text.specs.Splice.{Splice, place_after, place_before}
 use Rattle.textarea_text.specs.Carried.{is_up_to, shifted}
-use Rattle.textarea_data.specs.declared.atomic.AtomicRange.{AtomicRange}
+use Rattle.textarea_atomic.specs.declared.range.AtomicRange.{AtomicRange}
 use Rattle.textarea_ranges.specs.Held.{IsInside, Overlaps, range_end, range_start}
 use Rattle.textarea_ranges.specs.Valid.{IsPart}
 

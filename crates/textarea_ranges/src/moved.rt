@@ -3,7 +3,7 @@ ghost use Rattle.std.specs.Prelude.{◌≡◌, ◌≤◌, All, filter_map, lengt
 ghost use Rattle.textarea_size.specs.Limit.{size_limit};
 ghost use Rattle.textarea_ranges.specs.Moved.{IsMovable, moved_by};
 
-use textarea_data::atomic::AtomicRange;
+use textarea_atomic::range::AtomicRange;
 use textarea_text::carried::{is_up_to, shift};
 
 /// Moves the ranges with the text, which changes from `start` up to `old`, and in which what stood behind `old` stands behind

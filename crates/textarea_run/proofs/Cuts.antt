@@ -7,9 +7,9 @@ use Rattle.textarea_lines.specs.Layout.{LaidOut, Layout}
 use Rattle.textarea_lines.specs.declared.settings.LayoutSettings.{LayoutSettings}
 use Rattle.textarea_pieces.specs.Given.{given}
 use Rattle.textarea_pieces.specs.Part.{clip}
-use Rattle.textarea_data.specs.declared.atomic.AtomicDeleteDirection.{AtomicDeleteDirection}
-use Rattle.textarea_data.specs.declared.atomic.AtomicRange.{AtomicRange}
-use Rattle.textarea_data.specs.declared.atomic.RejectedAtomicRange.{RejectedAtomicRange}
+use Rattle.textarea_atomic.specs.declared.range.AtomicDeleteDirection.{AtomicDeleteDirection}
+use Rattle.textarea_atomic.specs.declared.range.AtomicRange.{AtomicRange}
+use Rattle.textarea_atomic.specs.declared.range.RejectedAtomicRange.{RejectedAtomicRange}
 use Rattle.textarea_screen.specs.declared.screen.rect.Rect.{Rect}
 use Rattle.textarea_text.specs.Place.{Place}
 use Rattle.textarea_text.specs.Splice.{Splice}

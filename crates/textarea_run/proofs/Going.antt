@@ -6,9 +6,9 @@ use Rattle.std.specs.Str.{chars}
 use Rattle.textarea_keys.specs.declared.action.Action.{Action}
 use Rattle.textarea_keys.specs.declared.action.Action.TheVariants as action
 use Rattle.textarea_pieces.specs.Given.{given}
-use Rattle.textarea_data.specs.declared.atomic.AtomicDeleteDirection.{AtomicDeleteDirection}
-use Rattle.textarea_data.specs.declared.atomic.AtomicRange.{AtomicRange}
-use Rattle.textarea_data.specs.declared.atomic.RejectedAtomicRange.{RejectedAtomicRange}
+use Rattle.textarea_atomic.specs.declared.range.AtomicDeleteDirection.{AtomicDeleteDirection}
+use Rattle.textarea_atomic.specs.declared.range.AtomicRange.{AtomicRange}
+use Rattle.textarea_atomic.specs.declared.range.RejectedAtomicRange.{RejectedAtomicRange}
 use Rattle.textarea_screen.specs.declared.screen.buffer.Buffer.{Buffer}
 use Rattle.textarea_screen.specs.declared.screen.rect.Rect.{Rect}
 use Rattle.textarea_text.specs.Place.{Place}

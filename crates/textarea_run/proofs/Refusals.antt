@@ -1,7 +1,7 @@
 -- What a refused pattern, and refused atomic ranges, come to.
 use Rattle.std.proofs.Common.{◌≡◌, ◌≢◌, ℕ, List, [], ◌∷◌, Some, Result, Ok, Err, IfErr, IfOk, IsOk, true, false, refl, subst, sym}
-use Rattle.textarea_data.specs.declared.atomic.AtomicRange.{AtomicRange}
-use Rattle.textarea_data.specs.declared.atomic.RejectedAtomicRange.{RejectedAtomicRange}
+use Rattle.textarea_atomic.specs.declared.range.AtomicRange.{AtomicRange}
+use Rattle.textarea_atomic.specs.declared.range.RejectedAtomicRange.{RejectedAtomicRange}
 use Rattle.textarea_pattern.specs.Failures.{IsCarried, IsPatternFailure}
 use Rattle.textarea_pattern.specs.declared.error.SearchError.{SearchError}
 use Rattle.textarea_pattern.specs.declared.error.SearchError.TheVariants.{Memory, Pattern}

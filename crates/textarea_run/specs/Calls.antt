@@ -5,8 +5,8 @@ use Rattle.std.specs.Duration.{as_nanos}
 use Rattle.std.specs.Str.{chars}
 use Rattle.textarea_text.specs.Place.{Place}
 use Rattle.textarea_text.specs.Text.{lines, lines_of, text_of}
-use Rattle.textarea_data.specs.declared.atomic.AtomicRange.{AtomicRange}
-use Rattle.textarea_data.specs.declared.atomic.RejectedAtomicRange.{RejectedAtomicRange}
+use Rattle.textarea_atomic.specs.declared.range.AtomicRange.{AtomicRange}
+use Rattle.textarea_atomic.specs.declared.range.RejectedAtomicRange.{RejectedAtomicRange}
 use Rattle.textarea_ranges.specs.Held.{inside}
 use Rattle.textarea_ranges.specs.Order.{in_order}
 use Rattle.textarea_ranges.specs.Rejected.{rejected_of}

@@ -2,7 +2,7 @@
 use Rattle.std.specs.Prelude.{◌≡◌, ◌⊎◌, List, [], ◌∷◌, ◌++◌, All, length, map, take}
 use Rattle.textarea_document.specs.Goes.{Goes, GoesUncut, StemsFrom}
 use Rattle.textarea_document.specs.State.{DocumentState}
-use Rattle.textarea_data.specs.declared.atomic.AtomicRange.{AtomicRange}
+use Rattle.textarea_atomic.specs.declared.range.AtomicRange.{AtomicRange}
 use Rattle.textarea_ranges.specs.Order.{in_order}
 use Rattle.textarea_screen.specs.declared.screen.buffer.Buffer.{Buffer}
 use Rattle.tui_textarea.specs.Goes.{GoesByAct}

@@ -5,8 +5,8 @@ use Rattle.std.specs.Option.{option_map}
 use Rattle.std.specs.Str.{chars}
 use Rattle.textarea_frame.specs.Placed.{cell_of_position}
 use Rattle.textarea_look.specs.declared.look.CursorRenderMode as modes
-use Rattle.textarea_data.specs.declared.atomic.AtomicRange.{AtomicRange}
-use Rattle.textarea_data.specs.declared.atomic.RejectedAtomicRange.{RejectedAtomicRange}
+use Rattle.textarea_atomic.specs.declared.range.AtomicRange.{AtomicRange}
+use Rattle.textarea_atomic.specs.declared.range.RejectedAtomicRange.{RejectedAtomicRange}
 use Rattle.textarea_screen.specs.declared.screen.alignment.Alignment as alignments
 use Rattle.textarea_screen.specs.declared.screen.style.Style as styles
 use Rattle.textarea_surround.specs.declared.surround.measure.TextAreaMeasure.{TextAreaMeasure}

@@ -29,13 +29,17 @@ pub fn line(alloc: Global, text: &str) -> Result<Line<'static>, AllocError> {
     Line::raw(String::from_str(alloc, text)?)
 }
 
+fn titled(alloc: Global, has_title: bool) -> Result<Block<'static>, AllocError> {
+    if has_title {
+        Ok(Block::new().title(line(alloc, "title")?))
+    } else {
+        Ok(Block::new())
+    }
+}
+
 pub fn block(alloc: Global, sides: Sides) -> Result<Block<'static>, AllocError> {
     let (left, right, top, bottom) = sides.padding;
-    let block = if sides.has_title {
-        Block::new().title(line(alloc, "title")?)
-    } else {
-        Block::new()
-    };
     let padding = Padding::new(left, right, top, bottom);
+    let block = titled(alloc, sides.has_title)?;
     Ok(block.borders(sides.borders).padding(padding))
 }

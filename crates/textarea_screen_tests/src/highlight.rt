@@ -50,9 +50,9 @@ struct Case {
     is_lent: bool,
 }
 
-/// Rows that are asked for highlights. An end closes the newest start, the highlights have ranks, and their offsets may be
-/// inside a character.
-static HIGHLIGHTED: [Case; 9] = [
+static CASES: [Case; 17] = [
+    // Rows that are asked for highlights. An end closes the newest start, the highlights have ranks, and their offsets may be
+    // inside a character.
     Case {
         row: "abcdef",
         look: DRAWN,
@@ -134,10 +134,7 @@ static HIGHLIGHTED: [Case; 9] = [
         spans: &[("a", LINE), ("   ", CURSOR), ("b", LINE)],
         is_lent: false,
     },
-];
-
-/// Rows without highlights: their texts as they are displayed, and a number or spaces in front of them.
-static DISPLAYED: [Case; 8] = [
+    // Rows without highlights: their texts as they are displayed, and a number or spaces in front of them.
     Case {
         row: "ab",
         look: HIDDEN,
@@ -286,14 +283,8 @@ fn first_unmet(alloc: Global, cases: &[Case]) -> Result<Option<usize>, AllocErro
 }
 
 #[test]
-fn highlights(rt: HostRuntime) -> Result<(), Fail> {
-    assert_eq!(rt; first_unmet(rt.alloc(), &HIGHLIGHTED)?, None);
-    Ok(())
-}
-
-#[test]
-fn displayed_rows(rt: HostRuntime) -> Result<(), Fail> {
-    assert_eq!(rt; first_unmet(rt.alloc(), &DISPLAYED)?, None);
+fn rows_with_their_spans(rt: HostRuntime) -> Result<(), Fail> {
+    assert_eq!(rt; first_unmet(rt.alloc(), &CASES)?, None);
     Ok(())
 }
 
@@ -321,10 +312,13 @@ fn shows_one_behind_another(
     Ok(shows_first && shows_in(row, line, Call::Segment(2, 3, true), &second)?)
 }
 
+fn shows_rows(alloc: Global) -> Result<bool, AllocError> {
+    let mut row = highlighter(alloc, "abcdef", DRAWN);
+    shows_one_behind_another(&mut row, &mut Line::new(alloc))
+}
+
 #[test]
 fn one_row_behind_another(rt: HostRuntime) -> Result<(), Fail> {
-    let mut line = Line::new(rt.alloc());
-    let mut row = highlighter(rt.alloc(), "abcdef", DRAWN);
-    assert!(rt; shows_one_behind_another(&mut row, &mut line)?);
+    assert!(rt; shows_rows(rt.alloc())?);
     Ok(())
 }

@@ -1,16 +1,31 @@
-//! Worked cases of what a terminal shows: rectangles, styles and texts, what is around the rows of a text area, the spans of a
-//! row, drawn rows and blocks, and the viewport with caret and hit test.
+//! Worked cases of the text area's plain data: defaults and conversions, the forms in which serde writes it, inputs as keys of
+//! maps, and what the keys ask for; and of what a terminal shows: rectangles, styles and texts, what is around the rows of a text
+//! area, the spans of a row, drawn rows and blocks, and the viewport with caret and hit test.
 #![tactic(auto)]
 
 #[cfg(test)]
+mod actions;
+#[cfg(test)]
 mod blocks;
+#[cfg(test)]
+mod hashed;
 #[cfg(test)]
 mod highlight;
 #[cfg(test)]
+mod keys;
+#[cfg(test)]
+mod moves;
+#[cfg(test)]
 mod paint;
+#[cfg(test)]
+mod plain;
+#[cfg(test)]
+mod ranges;
 #[cfg(test)]
 mod screen;
 #[cfg(test)]
 mod surround;
 #[cfg(test)]
 mod viewport;
+#[cfg(test)]
+mod written;

@@ -7,153 +7,223 @@ use textarea_screen::screen::{
     Alignment, Block, Borders, Buffer, Color, Line, Modifier, Rect, Span, Style,
 };
 
-// The symbols of a buffer, row after row, each before a bar and each row before a line feed.
+const LEFT: Alignment = Alignment::Left;
+
+const CENTER: Alignment = Alignment::Center;
+
+const RIGHT: Alignment = Alignment::Right;
+
+/// What is drawn.
+#[derive(Clone, Copy)]
+enum Drawing {
+    /// Two spans with their alignment and their first column that is shown, in six cells: so many from column 1 on.
+    Row((&'static str, &'static str), Alignment, usize, u16),
+    /// Three columns in the middle of so many, in seven cells.
+    Centered(u16),
+    /// A text in this row, under an area of nine columns and three rows: in three cells of row 1, from column 2 on.
+    Beyond(&'static str, u16),
+    /// A block with a title and all sides over an area, in four columns and three rows.
+    Block(&'static str, (u16, u16, u16, u16)),
+}
+
+/// What is drawn, and the symbols of the cells: row after row, each before a bar and each row before a line feed.
+type Case = (Drawing, &'static str);
+
+const UNTOUCHED: &str = " | | | |\n | | | |\n | | | |\n";
+
+static CASES: [Case; 35] = [
+    (Drawing::Row(("a犬b", ""), LEFT, 0, 2), " |a| | | | |\n"),
+    (Drawing::Row(("a犬b", ""), LEFT, 0, 5), " |a|犬||b| |\n"),
+    (Drawing::Row(("a犬b", ""), LEFT, 1, 4), " |犬||b| | |\n"),
+    (Drawing::Row(("a犬b", ""), LEFT, 2, 4), " | |b| | | |\n"),
+    (Drawing::Row(("犬犬犬", ""), LEFT, 1, 4), " | |犬|| | |\n"),
+    (
+        Drawing::Row(("ab", ""), LEFT, 18446744073709551615, 4),
+        " | | | | | |\n",
+    ),
+    (
+        Drawing::Row(("👩\u{200d}🚀", "x"), LEFT, 0, 5),
+        " |👩\u{200d}🚀||||x|\n",
+    ),
+    (Drawing::Row(("🇩🇪", "x"), LEFT, 0, 5), " |🇩🇪||x| | |\n"),
+    (
+        Drawing::Row(("a  b", "e\u{301}"), LEFT, 0, 5),
+        " |a| | |b|e\u{301}|\n",
+    ),
+    (
+        Drawing::Row(("a\u{7}b", "\tc"), LEFT, 0, 5),
+        " |a|b|c| | |\n",
+    ),
+    (
+        Drawing::Row(("a", "\u{301}b"), LEFT, 0, 5),
+        " |a|b| | | |\n",
+    ),
+    (Drawing::Row(("ab", "c"), CENTER, 9, 5), " | |a|b|c| |\n"),
+    (Drawing::Row(("ab", "c"), CENTER, 0, 4), " | |a|b|c| |\n"),
+    (Drawing::Row(("ab", "c"), RIGHT, 0, 5), " | | |a|b|c|\n"),
+    (Drawing::Row(("ab", "cd"), RIGHT, 0, 3), " |a|b|c| | |\n"),
+    (Drawing::Row(("犬", "ab"), CENTER, 0, 1), " |a| | | | |\n"),
+    (Drawing::Row(("a犬", "b"), RIGHT, 0, 2), " | |a| | | |\n"),
+    (Drawing::Row(("ab", ""), LEFT, 0, 0), " | | | | | |\n"),
+    // Widths 6 and 7 around three columns: both halves are rounded down.
+    (Drawing::Centered(6), " | |a|b|c| | |\n"),
+    (Drawing::Centered(7), " | |a|b|c| | |\n"),
+    (Drawing::Beyond("ab犬c", 1), "犬||c|\n"),
+    (Drawing::Beyond("a犬犬", 1), "|犬||\n"),
+    (Drawing::Beyond("abcd犬", 1), "c|d|犬|\n"),
+    (Drawing::Beyond("ab", 1), " | | |\n"),
+    (Drawing::Beyond("abcd", 0), " | | |\n"),
+    (Drawing::Beyond("abcd", 2), " | | |\n"),
+    (
+        Drawing::Block("", (0, 0, 4, 3)),
+        "┌|─|─|┐|\n│| | |│|\n└|─|─|┘|\n",
+    ),
+    (
+        Drawing::Block("ab", (0, 0, 4, 3)),
+        "┌|a|b|┐|\n│| | |│|\n└|─|─|┘|\n",
+    ),
+    (
+        Drawing::Block("abcdef", (0, 0, 4, 3)),
+        "┌|a|b|┐|\n│| | |│|\n└|─|─|┘|\n",
+    ),
+    (
+        Drawing::Block("a", (1, 1, 1, 1)),
+        " | | | |\n |┌| | |\n | | | |\n",
+    ),
+    (
+        Drawing::Block("a", (1, 1, 2, 1)),
+        " | | | |\n |┌|┐| |\n | | | |\n",
+    ),
+    (
+        Drawing::Block("a", (1, 0, 3, 2)),
+        " |┌|a|┐|\n |└|─|┘|\n | | | |\n",
+    ),
+    (Drawing::Block("a", (0, 0, 0, 5)), UNTOUCHED),
+    (Drawing::Block("a", (65535, 65535, 10, 10)), UNTOUCHED),
+    (
+        Drawing::Block("abcdef", (2, 1, 100, 100)),
+        " | | | |\n | |┌|a|\n | |│| |\n",
+    ),
+];
+
+fn push_row(text: &mut String, buffer: &Buffer, y: u16) -> Result<(), AllocError> {
+    let area = buffer.area();
+    for x in area.x..area.x + area.width {
+        if let Some(cell) = buffer.cell(x, y) {
+            text.push_str(cell.symbol())?;
+            text.push('|')?;
+        }
+    }
+    text.push('\n')?;
+    Ok(())
+}
+
 fn symbols(alloc: Global, buffer: &Buffer) -> Result<String, AllocError> {
     let mut text = String::new(alloc);
     let area = buffer.area();
     for y in area.y..area.y + area.height {
-        for x in area.x..area.x + area.width {
-            if let Some(cell) = buffer.cell(x, y) {
-                text.push_str(cell.symbol())?;
-                text.push('|')?;
-            }
-        }
-        text.push('\n')?;
+        push_row(&mut text, buffer, y)?;
     }
     Ok(text)
 }
 
 fn line<'a>(alloc: Global, first: &'a str, second: &'a str) -> Result<Line<'a>, AllocError> {
-    let mut spans = Vec::new(alloc);
-    spans.push(Span::raw(first))?;
-    spans.push(Span::raw(second))?;
-    Ok(Line::from_spans(spans))
+    let mut line = Line::new(alloc);
+    line.spans.push(Span::raw(first))?;
+    line.spans.push(Span::raw(second))?;
+    Ok(line)
 }
 
-// A row of six cells, of which `width` from column 1 on are drawn.
-fn row(
-    alloc: Global,
-    (first, second): (&str, &str),
-    alignment: Alignment,
-    left: usize,
-    width: u16,
-) -> Result<String, AllocError> {
-    let mut buffer = Buffer::empty(alloc, Rect::new(0, 0, 6, 1))?;
-    let rows = RowArea {
-        area: Rect::new(1, 0, width, 1),
+fn rows_in(area: Rect, alignment: Alignment, left: usize) -> RowArea {
+    RowArea {
+        area,
         alignment,
         left,
         style: Style::new(),
-    };
+    }
+}
+
+fn draw_spans(
+    alloc: Global,
+    buffer: &mut Buffer,
+    rows: RowArea,
+    y: u16,
+    (first, second): (&str, &str),
+) -> Result<(), AllocError> {
     let line = line(alloc, first, second)?;
-    draw_row(&mut buffer, rows, 0, &line)?;
+    draw_row(buffer, rows, y, &line)
+}
+
+fn sides(alloc: Global, title: &str) -> Result<Block<'_>, AllocError> {
+    if title.is_empty() {
+        return Ok(Block::new().borders(Borders::ALL));
+    }
+    let title = line(alloc, title, "")?;
+    Ok(Block::new().borders(Borders::ALL).title(title))
+}
+
+fn draw_sides(
+    alloc: Global,
+    buffer: &mut Buffer,
+    title: &str,
+    area: Rect,
+) -> Result<(), AllocError> {
+    let block = sides(alloc, title)?;
+    draw_block(buffer, area, &block)
+}
+
+fn cells(drawing: Drawing) -> Rect {
+    match drawing {
+        Drawing::Row(_, _, _, _) => Rect::new(0, 0, 6, 1),
+        Drawing::Centered(_) => Rect::new(0, 0, 7, 1),
+        Drawing::Beyond(_, _) => Rect::new(2, 1, 3, 1),
+        Drawing::Block(_, _) => Rect::new(0, 0, 4, 3),
+    }
+}
+
+fn draw(alloc: Global, buffer: &mut Buffer, drawing: Drawing) -> Result<(), AllocError> {
+    match drawing {
+        Drawing::Row(spans, alignment, left, width) => {
+            let rows = rows_in(Rect::new(1, 0, width, 1), alignment, left);
+            draw_spans(alloc, buffer, rows, 0, spans)
+        }
+        Drawing::Centered(width) => {
+            let rows = rows_in(Rect::new(0, 0, width, 1), CENTER, 0);
+            draw_spans(alloc, buffer, rows, 0, ("abc", ""))
+        }
+        Drawing::Beyond(text, y) => {
+            let rows = rows_in(Rect::new(0, 0, 9, 3), LEFT, 0);
+            draw_spans(alloc, buffer, rows, y, (text, ""))
+        }
+        Drawing::Block(title, (x, y, width, height)) => {
+            draw_sides(alloc, buffer, title, Rect::new(x, y, width, height))
+        }
+    }
+}
+
+fn drawn(alloc: Global, drawing: Drawing) -> Result<String, AllocError> {
+    let mut buffer = Buffer::empty(alloc, cells(drawing))?;
+    draw(alloc, &mut buffer, drawing)?;
     symbols(alloc, &buffer)
 }
 
-#[test]
-fn rows(rt: HostRuntime) -> Result<(), Fail> {
-    let left = Alignment::Left;
-    let center = Alignment::Center;
-    let right = Alignment::Right;
-    for (spans, alignment, first, width, wanted) in [
-        (("a犬b", ""), left, 0, 2, " |a| | | | |\n"),
-        (("a犬b", ""), left, 0, 5, " |a|犬||b| |\n"),
-        (("a犬b", ""), left, 1, 4, " |犬||b| | |\n"),
-        (("a犬b", ""), left, 2, 4, " | |b| | | |\n"),
-        (("犬犬犬", ""), left, 1, 4, " | |犬|| | |\n"),
-        (("ab", ""), left, 18446744073709551615, 4, " | | | | | |\n"),
-        (("👩\u{200d}🚀", "x"), left, 0, 5, " |👩\u{200d}🚀||||x|\n"),
-        (("🇩🇪", "x"), left, 0, 5, " |🇩🇪||x| | |\n"),
-        (("a  b", "e\u{301}"), left, 0, 5, " |a| | |b|e\u{301}|\n"),
-        (("a\u{7}b", "\tc"), left, 0, 5, " |a|b|c| | |\n"),
-        (("a", "\u{301}b"), left, 0, 5, " |a|b| | | |\n"),
-        (("ab", "c"), center, 9, 5, " | |a|b|c| |\n"),
-        (("ab", "c"), center, 0, 4, " | |a|b|c| |\n"),
-        (("ab", "c"), right, 0, 5, " | | |a|b|c|\n"),
-        (("ab", "cd"), right, 0, 3, " |a|b|c| | |\n"),
-        (("犬", "ab"), center, 0, 1, " |a| | | | |\n"),
-        (("a犬", "b"), right, 0, 2, " | |a| | | |\n"),
-        (("ab", ""), left, 0, 0, " | | | | | |\n"),
-    ] {
-        let drawn = row(rt.alloc(), spans, alignment, first, width)?;
-        assert_eq!(rt; drawn.as_str(), wanted, "at {wanted}");
-    }
-    Ok(())
+fn is_drawn(alloc: Global, drawing: Drawing, wanted: &str) -> Result<bool, AllocError> {
+    Ok(drawn(alloc, drawing)?.as_str() == wanted)
 }
 
-// Widths 6 and 7 around three columns: both halves are rounded down.
-#[test]
-fn centers(rt: HostRuntime) -> Result<(), Fail> {
-    let alloc = rt.alloc();
-    for (width, wanted) in [(6, " | |a|b|c| | |\n"), (7, " | |a|b|c| | |\n")] {
-        let mut buffer = Buffer::empty(alloc, Rect::new(0, 0, 7, 1))?;
-        let rows = RowArea {
-            area: Rect::new(0, 0, width, 1),
-            alignment: Alignment::Center,
-            left: 0,
-            style: Style::new(),
-        };
-        draw_row(&mut buffer, rows, 0, &line(alloc, "abc", "")?)?;
-        let drawn = symbols(alloc, &buffer)?;
-        assert_eq!(rt; drawn.as_str(), wanted, "at {width}");
+// The first of the cases in which other symbols are drawn: which it is, and its symbols.
+fn first_other(alloc: Global, cases: &[Case]) -> Result<Option<(usize, &'static str)>, AllocError> {
+    for (n, (drawing, wanted)) in cases.iter().enumerate() {
+        if !is_drawn(alloc, *drawing, wanted)? {
+            return Ok(Some((n, *wanted)));
+        }
     }
-    Ok(())
-}
-
-// A buffer of three cells in row 1, from column 2 on, under an area of nine columns and three rows.
-#[test]
-fn rows_beyond_the_buffer(rt: HostRuntime) -> Result<(), Fail> {
-    let alloc = rt.alloc();
-    for (text, y, wanted) in [
-        ("ab犬c", 1, "犬||c|\n"),
-        ("a犬犬", 1, "|犬||\n"),
-        ("abcd犬", 1, "c|d|犬|\n"),
-        ("ab", 1, " | | |\n"),
-        ("abcd", 0, " | | |\n"),
-        ("abcd", 2, " | | |\n"),
-    ] {
-        let mut buffer = Buffer::empty(alloc, Rect::new(2, 1, 3, 1))?;
-        let rows = RowArea {
-            area: Rect::new(0, 0, 9, 3),
-            alignment: Alignment::Left,
-            left: 0,
-            style: Style::new(),
-        };
-        draw_row(&mut buffer, rows, y, &line(alloc, text, "")?)?;
-        let drawn = symbols(alloc, &buffer)?;
-        assert_eq!(rt; drawn.as_str(), wanted, "{text} in {y}");
-    }
-    Ok(())
-}
-
-// A block with all sides over an area, drawn into a buffer of 4 by 3 cells.
-fn block(alloc: Global, title: &str, area: Rect) -> Result<String, AllocError> {
-    let mut buffer = Buffer::empty(alloc, Rect::new(0, 0, 4, 3))?;
-    let mut block = Block::new().borders(Borders::ALL);
-    if !title.is_empty() {
-        block = block.title(line(alloc, title, "")?);
-    }
-    draw_block(&mut buffer, area, &block)?;
-    symbols(alloc, &buffer)
+    Ok(None)
 }
 
 #[test]
-fn blocks(rt: HostRuntime) -> Result<(), Fail> {
-    let untouched = " | | | |\n | | | |\n | | | |\n";
-    for (title, (x, y, width, height), wanted) in [
-        ("", (0, 0, 4, 3), "┌|─|─|┐|\n│| | |│|\n└|─|─|┘|\n"),
-        ("ab", (0, 0, 4, 3), "┌|a|b|┐|\n│| | |│|\n└|─|─|┘|\n"),
-        ("abcdef", (0, 0, 4, 3), "┌|a|b|┐|\n│| | |│|\n└|─|─|┘|\n"),
-        ("a", (1, 1, 1, 1), " | | | |\n |┌| | |\n | | | |\n"),
-        ("a", (1, 1, 2, 1), " | | | |\n |┌|┐| |\n | | | |\n"),
-        ("a", (1, 0, 3, 2), " |┌|a|┐|\n |└|─|┘|\n | | | |\n"),
-        ("a", (0, 0, 0, 5), untouched),
-        ("a", (65535, 65535, 10, 10), untouched),
-        ("abcdef", (2, 1, 100, 100), " | | | |\n | |┌|a|\n | |│| |\n"),
-    ] {
-        let drawn = block(rt.alloc(), title, Rect::new(x, y, width, height))?;
-        assert_eq!(rt; drawn.as_str(), wanted, "{title} at {x}, {y}");
-    }
+fn rows_and_blocks(rt: HostRuntime) -> Result<(), Fail> {
+    assert_eq!(rt; first_other(rt.alloc(), &CASES)?, None);
     Ok(())
 }
 
@@ -173,28 +243,62 @@ fn frame(buffer: &mut Buffer, area: Rect, line: &Line) -> Result<(), AllocError>
     draw_row(buffer, rows, area.y + area.height / 2, line)
 }
 
-#[test]
-fn frames(rt: HostRuntime) -> Result<(), Fail> {
-    let alloc = rt.alloc();
-    let area = Rect::new(0, 0, 3, 3);
-    let mut buffer = Buffer::empty(alloc, area)?;
-    let line = line(alloc, "a", "")?;
-    for times in [1, 2] {
-        frame(&mut buffer, area, &line)?;
-        let drawn = symbols(alloc, &buffer)?;
-        assert_eq!(rt; drawn.as_str(), "┌|─|─|\n│|a| |\n│| | |\n", "{times}");
-        for (x, y, fg, bold) in [
-            (0, 0, Color::Red, false),
-            (1, 1, Color::Reset, true),
-            (2, 1, Color::Reset, false),
-        ] {
-            let style = buffer.cell(x, y).map(|cell| cell.style());
-            let mut wanted = Style::new().fg(fg).bg(Color::Blue);
-            if bold {
-                wanted = wanted.add_modifier(Modifier::BOLD);
-            }
-            assert_eq!(rt; style, Some(wanted), "at {x}, {y}");
+/// Cells of the frame: their colour, and whether they are bold.
+static STYLES: [(u16, u16, Color, bool); 3] = [
+    (0, 0, Color::Red, false),
+    (1, 1, Color::Reset, true),
+    (2, 1, Color::Reset, false),
+];
+
+fn style_on_blue(fg: Color, bold: bool) -> Style {
+    let style = Style::new().fg(fg).bg(Color::Blue);
+    if bold {
+        style.add_modifier(Modifier::BOLD)
+    } else {
+        style
+    }
+}
+
+fn style_of(buffer: &Buffer, x: u16, y: u16) -> Option<Style> {
+    buffer.cell(x, y).map(|cell| cell.style())
+}
+
+// The first of the cells that has another style.
+fn first_other_style(buffer: &Buffer, styles: &[(u16, u16, Color, bool)]) -> Option<(u16, u16)> {
+    for (x, y, fg, bold) in styles {
+        if style_of(buffer, *x, *y) != Some(style_on_blue(*fg, *bold)) {
+            return Some((*x, *y));
         }
     }
+    None
+}
+
+/// Whether a frame is drawn with its symbols, and the first of its cells that has another style.
+type Framed = (bool, Option<(u16, u16)>);
+
+fn framed(alloc: Global, buffer: &mut Buffer, line: &Line) -> Result<Framed, AllocError> {
+    frame(buffer, Rect::new(0, 0, 3, 3), line)?;
+    let is_drawn = symbols(alloc, buffer)?.as_str() == "┌|─|─|\n│|a| |\n│| | |\n";
+    Ok((is_drawn, first_other_style(buffer, &STYLES)))
+}
+
+fn framed_twice(
+    alloc: Global,
+    buffer: &mut Buffer,
+    line: &Line,
+) -> Result<(Framed, Framed), AllocError> {
+    Ok((framed(alloc, buffer, line)?, framed(alloc, buffer, line)?))
+}
+
+fn frames_over_one_another(alloc: Global) -> Result<(Framed, Framed), AllocError> {
+    let mut buffer = Buffer::empty(alloc, Rect::new(0, 0, 3, 3))?;
+    let line = line(alloc, "a", "")?;
+    framed_twice(alloc, &mut buffer, &line)
+}
+
+#[test]
+fn frames(rt: HostRuntime) -> Result<(), Fail> {
+    let framed = frames_over_one_another(rt.alloc())?;
+    assert_eq!(rt; framed, ((true, None), (true, None)));
     Ok(())
 }

@@ -90,20 +90,37 @@ fn is_area(area: Rect, (x, y, width, height): Numbers) -> bool {
         && area.is_empty() == (width == 0 || height == 0)
 }
 
-#[test]
-fn rectangles_end_at_the_greatest_column_and_row(rt: HostRuntime) {
-    for ((x, y, width, height), kept) in AREAS {
-        let area = Rect::new(x, y, width, height);
-        assert!(rt; is_area(area, (x, y, kept.0, kept.1)));
+/// Whether the areas have these widths and heights.
+fn have_sizes(areas: &[(Numbers, (u16, u16))]) -> bool {
+    for ((x, y, width, height), kept) in areas {
+        let area = Rect::new(*x, *y, *width, *height);
+        if !is_area(area, (*x, *y, kept.0, kept.1)) {
+            return false;
+        }
     }
+    true
+}
+
+/// Whether a rectangle has cells just where it is to have some.
+fn has_cells(area: Rect, cells: &[(u16, u16, bool)]) -> bool {
+    for (x, y, inside) in cells {
+        if area.contains(Position { x: *x, y: *y }) != *inside {
+            return false;
+        }
+    }
+    true
 }
 
 #[test]
-fn a_rectangle_contains_its_cells(rt: HostRuntime) {
-    let area = Rect::new(2, 3, 4, 2);
-    for (x, y, inside) in CELLS {
-        assert!(rt; area.contains(Position { x, y }) == inside);
-    }
+fn rectangles(rt: HostRuntime) {
+    assert!(rt;
+        have_sizes(&AREAS),
+        "they end at the greatest column and row"
+    );
+    assert!(rt;
+        has_cells(Rect::new(2, 3, 4, 2), &CELLS),
+        "they contain their cells"
+    );
 }
 
 fn inner(
@@ -134,13 +151,23 @@ fn inside_of_a_block(rt: HostRuntime) -> Result<(), Fail> {
     Ok(())
 }
 
+/// Whether styles over others are these.
+fn are_patched(styles: &[(Style, Style, Style)]) -> bool {
+    for (under, over, wanted) in styles {
+        if under.patch(*over) != *wanted {
+            return false;
+        }
+    }
+    true
+}
+
 #[test]
 fn styles_over_one_another(rt: HostRuntime) {
     let red = Style::new().fg(Color::Red);
     let blue = Style::default().fg(Color::Blue).bg(Color::Rgb(1, 2, 3));
     let bold = Style::new().add_modifier(Modifier::BOLD);
     let not_bold = Style::new().remove_modifier(Modifier::BOLD);
-    for (under, over, wanted) in [
+    let styles = [
         (red, blue, blue),
         (blue, red, red.bg(Color::Rgb(1, 2, 3))),
         (blue, Style::new(), blue),
@@ -152,9 +179,8 @@ fn styles_over_one_another(rt: HostRuntime) {
             Style::new().add_modifier(Modifier::DIM),
             bold.add_modifier(Modifier::DIM),
         ),
-    ] {
-        assert!(rt; under.patch(over) == wanted);
-    }
+    ];
+    assert!(rt; are_patched(&styles));
     let both = bold.remove_modifier(Modifier::BOLD);
     assert!(rt; (both.add_modifier.0, both.sub_modifier.0) == (0, 1));
 }

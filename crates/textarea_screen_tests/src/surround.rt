@@ -84,114 +84,129 @@ enum Told {
     PlaceholderStyle(Style),
 }
 
-/// Calls, and what the surround tells behind them.
-type Case = (&'static [Call], Told);
+/// A call, or what the surround tells behind the calls.
+#[derive(Clone, Copy)]
+enum Step {
+    Ask(Call),
+    Tell(Told),
+}
 
-static HEIGHTS: [Case; 9] = [
-    (&[], Told::Heights(1, 65535)),
-    (
-        &[Call::MinRows(1), Call::MaxRows(65535)],
-        Told::Heights(1, 65535),
-    ),
-    (&[Call::MaxRows(2), Call::MinRows(5)], Told::Heights(5, 5)),
-    (&[Call::MinRows(5), Call::MaxRows(2)], Told::Heights(5, 5)),
-    (&[Call::MinRows(0), Call::MaxRows(9)], Told::Heights(1, 9)),
-    (&[Call::MinRows(0), Call::MaxRows(0)], Told::Heights(1, 1)),
-    (&[Call::MaxRows(0), Call::MinRows(0)], Told::Heights(1, 1)),
-    (
-        &[Call::MinRows(7), Call::MinRows(3)],
-        Told::Heights(3, 65535),
-    ),
-    (&[Call::MaxRows(3), Call::MaxRows(7)], Told::Heights(1, 7)),
-];
-
-static MEASURES: [Case; 10] = [
-    (&[], Told::Measure((5, 2, false), (2, 2, 1, 65535))),
-    (&[], Told::Measure((5, 1, true), (1, 1, 1, 65535))),
-    (
-        &[],
-        Told::Measure((5, 65535, false), (65535, 65535, 1, 65535)),
-    ),
-    (
-        &[],
-        Told::Measure((5, 70000, false), (65535, 65535, 1, 65535)),
-    ),
-    (
-        &[Call::Placeholder(&["a", "b", "c"])],
-        Told::Measure((5, 1, true), (3, 3, 1, 65535)),
-    ),
-    (&[], Told::Measure((5, 5, true), (3, 3, 1, 65535))),
-    (&[], Told::Measure((5, 2, false), (2, 2, 1, 65535))),
-    (
-        &[Call::MinRows(3), Call::MaxRows(4)],
-        Told::Measure((5, 1, false), (1, 3, 3, 4)),
-    ),
-    (&[], Told::Measure((5, 4, false), (4, 4, 3, 4))),
-    (&[], Told::Measure((5, 9, false), (9, 4, 3, 4))),
-];
-
-static BLOCKS: [Case; 16] = [
-    (&[], Told::Around(7, (7, 0))),
-    (&[Call::Block(ALL)], Told::Around(7, (5, 2))),
-    (&[], Told::Measure((7, 2, false), (2, 4, 3, 65535))),
-    (&[Call::Block(LEFT)], Told::Around(7, (6, 0))),
-    (&[], Told::Measure((7, 2, false), (2, 2, 1, 65535))),
-    (&[Call::Block(TITLED)], Told::Around(7, (7, 1))),
-    (&[], Told::Measure((7, 2, false), (2, 3, 2, 65535))),
-    (&[Call::Block(PADDED)], Told::Around(7, (4, 8))),
-    (&[], Told::Measure((7, 2, false), (2, 10, 9, 65535))),
-    (&[Call::Block(WIDE)], Told::Around(7, (7, 65535))),
-    (&[], Told::Measure((7, 2, false), (2, 65535, 65535, 65535))),
-    (
-        &[Call::Block(ALL), Call::MaxRows(2)],
-        Told::Around(1, (0, 2)),
-    ),
-    (&[], Told::Block(Some((Borders::ALL, false)))),
-    (&[], Told::Measure((7, 9, false), (9, 3, 3, 3))),
-    (&[Call::NoBlock], Told::Block(None)),
-    (&[], Told::Measure((7, 9, false), (9, 2, 1, 2))),
-];
-
-static PLACEHOLDERS: [Case; 9] = [
-    (&[], Told::PlaceholderStyle(GRAY)),
-    (&[Call::PlaceholderText("")], Told::Placeholder("", 0, None)),
-    (
-        &[Call::PlaceholderText("hello")],
-        Told::Placeholder("hello", 1, Some(GRAY)),
-    ),
-    (
-        &[Call::PlaceholderText("two\nlines")],
-        Told::Placeholder("two\nlines", 1, Some(GRAY)),
-    ),
-    (&[Call::PlaceholderText("")], Told::Placeholder("", 0, None)),
-    (
-        &[Call::PlaceholderStyle(GREEN)],
-        Told::Placeholder("", 0, None),
-    ),
-    (
-        &[Call::PlaceholderText("hello")],
-        Told::Placeholder("hello", 1, Some(GREEN)),
-    ),
-    (
-        &[Call::Placeholder(&["a", "b"])],
-        Told::Placeholder("a", 2, Some(RED)),
-    ),
-    (&[Call::Placeholder(&[])], Told::Placeholder("", 0, None)),
-];
-
-static FIRST_SPANS: [Case; 3] = [
-    (
-        &[Call::PlaceholderOfSpans(&["lent"], &["below"])],
-        Told::Placeholder("lent", 2, Some(RED)),
-    ),
-    (
-        &[Call::PlaceholderOfSpans(&["lent", "behind"], &["below"])],
-        Told::Placeholder("lent", 2, Some(RED)),
-    ),
-    (
-        &[Call::PlaceholderOfSpans(&[], &[])],
-        Told::Placeholder("", 1, Some(RED)),
-    ),
+/// Steps of a new surround.
+static RUNS: [&[Step]; 13] = [
+    // Heights that are set.
+    &[Step::Tell(Told::Heights(1, 65535))],
+    &[
+        Step::Ask(Call::MinRows(1)),
+        Step::Ask(Call::MaxRows(65535)),
+        Step::Tell(Told::Heights(1, 65535)),
+    ],
+    &[
+        Step::Ask(Call::MaxRows(2)),
+        Step::Ask(Call::MinRows(5)),
+        Step::Tell(Told::Heights(5, 5)),
+    ],
+    &[
+        Step::Ask(Call::MinRows(5)),
+        Step::Ask(Call::MaxRows(2)),
+        Step::Tell(Told::Heights(5, 5)),
+    ],
+    &[
+        Step::Ask(Call::MinRows(0)),
+        Step::Ask(Call::MaxRows(9)),
+        Step::Tell(Told::Heights(1, 9)),
+    ],
+    &[
+        Step::Ask(Call::MinRows(0)),
+        Step::Ask(Call::MaxRows(0)),
+        Step::Tell(Told::Heights(1, 1)),
+    ],
+    &[
+        Step::Ask(Call::MaxRows(0)),
+        Step::Ask(Call::MinRows(0)),
+        Step::Tell(Told::Heights(1, 1)),
+    ],
+    &[
+        Step::Ask(Call::MinRows(7)),
+        Step::Ask(Call::MinRows(3)),
+        Step::Tell(Told::Heights(3, 65535)),
+    ],
+    &[
+        Step::Ask(Call::MaxRows(3)),
+        Step::Ask(Call::MaxRows(7)),
+        Step::Tell(Told::Heights(1, 7)),
+    ],
+    // Heights that are measured.
+    &[
+        Step::Tell(Told::Measure((5, 2, false), (2, 2, 1, 65535))),
+        Step::Tell(Told::Measure((5, 1, true), (1, 1, 1, 65535))),
+        Step::Tell(Told::Measure((5, 65535, false), (65535, 65535, 1, 65535))),
+        Step::Tell(Told::Measure((5, 70000, false), (65535, 65535, 1, 65535))),
+        Step::Ask(Call::Placeholder(&["a", "b", "c"])),
+        Step::Tell(Told::Measure((5, 1, true), (3, 3, 1, 65535))),
+        Step::Tell(Told::Measure((5, 5, true), (3, 3, 1, 65535))),
+        Step::Tell(Told::Measure((5, 2, false), (2, 2, 1, 65535))),
+        Step::Ask(Call::MinRows(3)),
+        Step::Ask(Call::MaxRows(4)),
+        Step::Tell(Told::Measure((5, 1, false), (1, 3, 3, 4))),
+        Step::Tell(Told::Measure((5, 4, false), (4, 4, 3, 4))),
+        Step::Tell(Told::Measure((5, 9, false), (9, 4, 3, 4))),
+    ],
+    // The same with a block.
+    &[
+        Step::Tell(Told::Around(7, (7, 0))),
+        Step::Ask(Call::Block(ALL)),
+        Step::Tell(Told::Around(7, (5, 2))),
+        Step::Tell(Told::Measure((7, 2, false), (2, 4, 3, 65535))),
+        Step::Ask(Call::Block(LEFT)),
+        Step::Tell(Told::Around(7, (6, 0))),
+        Step::Tell(Told::Measure((7, 2, false), (2, 2, 1, 65535))),
+        Step::Ask(Call::Block(TITLED)),
+        Step::Tell(Told::Around(7, (7, 1))),
+        Step::Tell(Told::Measure((7, 2, false), (2, 3, 2, 65535))),
+        Step::Ask(Call::Block(PADDED)),
+        Step::Tell(Told::Around(7, (4, 8))),
+        Step::Tell(Told::Measure((7, 2, false), (2, 10, 9, 65535))),
+        Step::Ask(Call::Block(WIDE)),
+        Step::Tell(Told::Around(7, (7, 65535))),
+        Step::Tell(Told::Measure((7, 2, false), (2, 65535, 65535, 65535))),
+        Step::Ask(Call::Block(ALL)),
+        Step::Ask(Call::MaxRows(2)),
+        Step::Tell(Told::Around(1, (0, 2))),
+        Step::Tell(Told::Block(Some((Borders::ALL, false)))),
+        Step::Tell(Told::Measure((7, 9, false), (9, 3, 3, 3))),
+        Step::Ask(Call::NoBlock),
+        Step::Tell(Told::Block(None)),
+        Step::Tell(Told::Measure((7, 9, false), (9, 2, 1, 2))),
+    ],
+    // Placeholders.
+    &[
+        Step::Tell(Told::PlaceholderStyle(GRAY)),
+        Step::Ask(Call::PlaceholderText("")),
+        Step::Tell(Told::Placeholder("", 0, None)),
+        Step::Ask(Call::PlaceholderText("hello")),
+        Step::Tell(Told::Placeholder("hello", 1, Some(GRAY))),
+        Step::Ask(Call::PlaceholderText("two\nlines")),
+        Step::Tell(Told::Placeholder("two\nlines", 1, Some(GRAY))),
+        Step::Ask(Call::PlaceholderText("")),
+        Step::Tell(Told::Placeholder("", 0, None)),
+        Step::Ask(Call::PlaceholderStyle(GREEN)),
+        Step::Tell(Told::Placeholder("", 0, None)),
+        Step::Ask(Call::PlaceholderText("hello")),
+        Step::Tell(Told::Placeholder("hello", 1, Some(GREEN))),
+        Step::Ask(Call::Placeholder(&["a", "b"])),
+        Step::Tell(Told::Placeholder("a", 2, Some(RED))),
+        Step::Ask(Call::Placeholder(&[])),
+        Step::Tell(Told::Placeholder("", 0, None)),
+    ],
+    // The text of the first span.
+    &[
+        Step::Ask(Call::PlaceholderOfSpans(&["lent"], &["below"])),
+        Step::Tell(Told::Placeholder("lent", 2, Some(RED))),
+        Step::Ask(Call::PlaceholderOfSpans(&["lent", "behind"], &["below"])),
+        Step::Tell(Told::Placeholder("lent", 2, Some(RED))),
+        Step::Ask(Call::PlaceholderOfSpans(&[], &[])),
+        Step::Tell(Told::Placeholder("", 1, Some(RED))),
+    ],
 ];
 
 /// What is set before a surround is copied.
@@ -295,72 +310,43 @@ fn ask_all(
     Ok(())
 }
 
-/// The first of the cases that isn't met, each behind those before it.
+/// Asks, or whether the surround tells what it is to tell.
+fn is_met(alloc: Global, surround: &mut Surround<'static>, step: Step) -> Result<bool, AllocError> {
+    match step {
+        Step::Ask(call) => {
+            ask(alloc, surround, call)?;
+            Ok(true)
+        }
+        Step::Tell(told) => Ok(tells(surround, &told)),
+    }
+}
+
+/// The first of the steps that isn't met.
 fn first_unmet_by(
     alloc: Global,
     surround: &mut Surround<'static>,
-    cases: &[Case],
+    steps: &[Step],
 ) -> Result<Option<usize>, AllocError> {
-    for (n, (calls, told)) in cases.iter().enumerate() {
-        ask_all(alloc, surround, calls)?;
-        if !tells(surround, told) {
+    for (n, step) in steps.iter().enumerate() {
+        if !is_met(alloc, surround, *step)? {
             return Ok(Some(n));
         }
     }
     Ok(None)
 }
 
-/// The first of the cases that a new surround doesn't meet, each behind those before it.
-fn first_unmet(alloc: Global, cases: &[Case]) -> Result<Option<usize>, AllocError> {
-    first_unmet_by(alloc, &mut Surround::new(alloc), cases)
+fn first_unmet_of(alloc: Global, steps: &[Step]) -> Result<Option<usize>, AllocError> {
+    first_unmet_by(alloc, &mut Surround::new(alloc), steps)
 }
 
-/// The first of the cases that isn't met, each by a new surround.
-fn first_unmet_alone(alloc: Global, cases: &[Case]) -> Result<Option<usize>, AllocError> {
-    for (n, case) in cases.iter().enumerate() {
-        if first_unmet(alloc, &[*case])?.is_some() {
-            return Ok(Some(n));
+/// The first of the runs in which a step isn't met, and that step.
+fn first_unmet(alloc: Global, runs: &[&[Step]]) -> Result<Option<(usize, usize)>, AllocError> {
+    for (n, steps) in runs.iter().enumerate() {
+        if let Some(step) = first_unmet_of(alloc, steps)? {
+            return Ok(Some((n, step)));
         }
     }
     Ok(None)
-}
-
-#[test]
-fn heights_that_are_set(rt: HostRuntime) -> Result<(), Fail> {
-    assert_eq!(rt; first_unmet_alone(rt.alloc(), &HEIGHTS)?, None);
-    Ok(())
-}
-
-#[test]
-fn heights_measured(rt: HostRuntime) -> Result<(), Fail> {
-    assert_eq!(rt; first_unmet(rt.alloc(), &MEASURES)?, None);
-    Ok(())
-}
-
-#[test]
-fn heights_measured_with_a_block(rt: HostRuntime) -> Result<(), Fail> {
-    assert_eq!(rt; first_unmet(rt.alloc(), &BLOCKS)?, None);
-    Ok(())
-}
-
-#[test]
-fn placeholders(rt: HostRuntime) -> Result<(), Fail> {
-    assert_eq!(rt; first_unmet(rt.alloc(), &PLACEHOLDERS)?, None);
-    Ok(())
-}
-
-#[test]
-fn text_of_the_first_span(rt: HostRuntime) -> Result<(), Fail> {
-    assert_eq!(rt; first_unmet(rt.alloc(), &FIRST_SPANS)?, None);
-    Ok(())
-}
-
-/// A copy of the surround, which is changed behind it.
-fn copy_and_change(surround: &mut Surround<'static>) -> Result<Surround<'static>, AllocError> {
-    let copied = surround.clone()?;
-    surround.remove_block();
-    surround.set_placeholder_text("")?;
-    Ok(copied)
 }
 
 /// The first that a surround doesn't tell.
@@ -373,18 +359,36 @@ fn first_untold(surround: &Surround<'_>, all: &[Told]) -> Option<usize> {
     None
 }
 
-/// The first that a copy of a surround doesn't tell.
-fn first_not_copied(
+/// The first that a copy doesn't tell once the surround is changed.
+fn first_untold_by(
+    copied: &Surround<'_>,
+    surround: &mut Surround<'static>,
+) -> Result<Option<usize>, AllocError> {
+    surround.remove_block();
+    surround.set_placeholder_text("")?;
+    Ok(first_untold(copied, &COPIED))
+}
+
+fn first_lost(
     alloc: Global,
     surround: &mut Surround<'static>,
 ) -> Result<Option<usize>, AllocError> {
     ask_all(alloc, surround, &SET)?;
-    Ok(first_untold(&copy_and_change(surround)?, &COPIED))
+    let copied = surround.clone()?;
+    first_untold_by(&copied, surround)
+}
+
+/// The first that a copy of a surround doesn't tell.
+fn first_not_copied(alloc: Global) -> Result<Option<usize>, AllocError> {
+    first_lost(alloc, &mut Surround::new(alloc))
 }
 
 #[test]
-fn copies_of_surrounds(rt: HostRuntime) -> Result<(), Fail> {
-    let mut surround = Surround::new(rt.alloc());
-    assert_eq!(rt; first_not_copied(rt.alloc(), &mut surround)?, None);
+fn told_behind_calls_and_by_copies(rt: HostRuntime) -> Result<(), Fail> {
+    let others = (
+        first_unmet(rt.alloc(), &RUNS)?,
+        first_not_copied(rt.alloc())?,
+    );
+    assert_eq!(rt; others, (None, None));
     Ok(())
 }

@@ -5,6 +5,35 @@ use textarea_data::scroll::Scrolling::{HalfPageDown, HalfPageUp, PageDown, PageU
 use textarea_screen::screen::{Position, Rect};
 use textarea_viewport::{RowView, Viewport};
 
+/// A height, ways to scroll, and the first and the last row that are shown then.
+type Scrolled = (u16, [Scrolling; 3], usize, usize);
+
+/// How far the viewport was scrolled, a row, and that row in the viewport.
+static ROWS: [(i32, usize, usize); 5] = [
+    (15, 0, 15),
+    (10, 15, 15),
+    (5, 15, 12),
+    (0, 19, 7),
+    (15, 22, 19),
+];
+
+/// Columns, and these columns in the viewport.
+static COLUMNS: [(usize, usize); 4] = [(0, 2), (2, 2), (5, 5), (9, 5)];
+
+/// The width and the height of an area, the column of the cursor, the first column that is shown, and the caret.
+type Caret = (u16, u16, usize, usize, Option<(u16, u16)>);
+
+static CARETS: [Caret; 5] = [
+    (4, 1, 2, 1, None),
+    (7, 1, 2, 0, Some((5, 0))),
+    (7, 1, 4, 1, Some((6, 0))),
+    (7, 0, 2, 0, None),
+    (0, 1, 2, 5, None),
+];
+
+/// A row in its area, a cell by column and row, and the row and the column that are hit there.
+type Hit = (RowView, u16, u16, Option<(usize, usize)>);
+
 /// Rows down, as a way to scroll.
 fn rows(rows: i16) -> Scrolling {
     Scrolling::Delta { rows, cols: 0 }
@@ -15,10 +44,38 @@ fn drawn(width: u16, height: u16) -> Viewport {
     Viewport::default().showing_row(Rect::new(0, 0, width, height), 0)
 }
 
+fn position_after(height: u16, scrollings: &[Scrolling]) -> (usize, usize, usize, usize) {
+    let mut viewport = drawn(24, height);
+    for scrolling in scrollings {
+        viewport.scroll_by(*scrolling);
+    }
+    viewport.position()
+}
+
+/// The first of the cases in which other rows are shown.
+fn first_other_scrolled(cases: &[Scrolled]) -> Option<usize> {
+    for (n, (height, scrollings, first, last)) in cases.iter().enumerate() {
+        if position_after(*height, scrollings) != (*first, 0, *last, 23) {
+            return Some(n);
+        }
+    }
+    None
+}
+
+/// Where a viewport begins that is scrolled as far as it goes, and then back.
+fn scrolled_far() -> ((usize, usize), (usize, usize)) {
+    let mut viewport = Viewport::default();
+    viewport.scroll(i32::MAX, i32::MIN);
+    viewport.scroll(i32::MAX, 3);
+    let far = viewport.scroll_top();
+    viewport.scroll(i32::MIN, -4);
+    (far, viewport.scroll_top())
+}
+
 #[test]
 fn rows_shown_after_scrolls(rt: HostRuntime) {
     // an area without rows is drawn from the row behind the cursor's on
-    for (height, scrollings, first, last) in [
+    let cases = [
         (8, [rows(15), rows(-5), rows(-5)], 5, 12),
         (8, [rows(15), rows(-5), rows(0)], 10, 17),
         (8, [PageDown, PageDown, rows(-17)], 0, 7),
@@ -26,69 +83,100 @@ fn rows_shown_after_scrolls(rt: HostRuntime) {
         (5, [HalfPageDown, HalfPageDown, rows(0)], 4, 8),
         (5, [rows(9), PageUp, HalfPageUp], 2, 6),
         (0, [PageDown, HalfPageDown, rows(2)], 3, 3),
-    ] {
-        let mut viewport = drawn(24, height);
-        for scrolling in scrollings {
-            viewport.scroll_by(scrolling);
+    ];
+    assert_eq!(rt; first_other_scrolled(&cases), None);
+    assert!(rt; Viewport::default().rect() == (0, 0, 0, 0));
+    assert!(rt; scrolled_far() == ((4294967294, 3), (2147483646, 0)));
+}
+
+/// The nearest row and column in a viewport of 24 by 8 that was scrolled.
+fn clamped(scrolled: i32, row: usize) -> (usize, usize) {
+    let mut viewport = drawn(24, 8);
+    viewport.scroll(scrolled, scrolled);
+    (viewport.clamp_row(row, 19), viewport.clamp_column(3, 2))
+}
+
+/// The first of the rows that is another one in the viewport.
+fn first_other_row(rows: &[(i32, usize, usize)]) -> Option<(i32, usize)> {
+    for (scrolled, row, wanted) in rows {
+        if clamped(*scrolled, *row) != (*wanted, 2) {
+            return Some((*scrolled, *row));
         }
-        assert_eq!(rt; viewport.position(), (first, 0, last, 23));
     }
-    let mut viewport = Viewport::default();
-    assert_eq!(rt; viewport.rect(), (0, 0, 0, 0));
-    viewport.scroll(i32::MAX, i32::MIN);
-    viewport.scroll(i32::MAX, 3);
-    assert_eq!(rt; viewport.scroll_top(), (4294967294, 3));
-    viewport.scroll(i32::MIN, -4);
-    assert_eq!(rt; viewport.scroll_top(), (2147483646, 0));
+    None
+}
+
+/// The first of the columns that is another one in the viewport.
+fn first_other_column(viewport: Viewport, columns: &[(usize, usize)]) -> Option<usize> {
+    for (column, wanted) in columns {
+        if viewport.clamp_column(*column, 20) != *wanted {
+            return Some(*column);
+        }
+    }
+    None
 }
 
 #[test]
 fn rows_and_columns_in_the_viewport(rt: HostRuntime) {
     // twenty rows in an area of 24 by 8
-    for (scrolled, row, wanted) in [
-        (15, 0, 15),
-        (10, 15, 15),
-        (5, 15, 12),
-        (0, 19, 7),
-        (15, 22, 19),
-    ] {
-        let mut viewport = drawn(24, 8);
-        viewport.scroll(scrolled, scrolled);
-        assert_eq!(rt; viewport.clamp_row(row, 19), wanted);
-        assert_eq!(rt; viewport.clamp_column(3, 2), 2);
-    }
+    assert_eq!(rt; first_other_row(&ROWS), None);
     let mut viewport = drawn(4, 1);
     viewport.scroll(0, 2);
-    for (column, wanted) in [(0, 2), (2, 2), (5, 5), (9, 5)] {
-        assert_eq!(rt; viewport.clamp_column(column, 20), wanted);
+    assert_eq!(rt; first_other_column(viewport, &COLUMNS), None);
+}
+
+fn numbers(cell: Option<Position>) -> Option<(u16, u16)> {
+    match cell {
+        Some(Position { x, y }) => Some((x, y)),
+        None => None,
     }
+}
+
+/// Whether a row that isn't wrapped, behind a line number of three columns, is shown from this column on and has this caret.
+fn has_caret((width, height, column, left, caret): Caret) -> bool {
+    let area = Rect::new(0, 0, width, height);
+    let viewport = Viewport::default().showing_row_and_column(area, 0, column, 3);
+    let first = if height == 0 { 1 } else { 0 };
+    viewport.scroll_top() == (first, left)
+        && numbers(RowView::at_left(viewport, area, 3).caret(0, column)) == caret
+}
+
+/// The first of the carets that is elsewhere.
+fn first_other_caret(carets: &[Caret]) -> Option<usize> {
+    for (n, caret) in carets.iter().enumerate() {
+        if !has_caret(*caret) {
+            return Some(n);
+        }
+    }
+    None
 }
 
 #[test]
 fn carets(rt: HostRuntime) {
-    // a row that isn't wrapped, behind a line number of three columns
-    for (width, height, column, left, caret) in [
-        (4, 1, 2, 1, None),
-        (7, 1, 2, 0, Some((5, 0))),
-        (7, 1, 4, 1, Some((6, 0))),
-        (7, 0, 2, 0, None),
-        (0, 1, 2, 5, None),
-    ] {
-        let area = Rect::new(0, 0, width, height);
-        let viewport = Viewport::default().showing_row_and_column(area, 0, column, 3);
-        assert_eq!(rt;
-            viewport.scroll_top(),
-            (if height == 0 { 1 } else { 0 }, left)
-        );
-        let found = RowView::at_left(viewport, area, 3).caret(0, column);
-        assert_eq!(rt; found.map(|cell| (cell.x, cell.y)), caret);
-    }
+    assert_eq!(rt; first_other_caret(&CARETS), None);
     // 70,000 rows of one character, the cursor behind the last
     let area = Rect::new(0, 0, 10, 5);
     let viewport = Viewport::default().showing_row_and_column(area, 69999, 1, 0);
     let caret = RowView::at_left(viewport, area, 0).caret(69999, 1);
-    assert_eq!(rt; viewport.rect(), (69995, 0, 10, 5));
-    assert_eq!(rt; caret, Some(Position { x: 1, y: 4 }));
+    assert!(rt; viewport.rect() == (69995, 0, 10, 5));
+    assert!(rt; caret == Some(Position { x: 1, y: 4 }));
+}
+
+fn hit(view: RowView, position: Position) -> Option<(usize, usize)> {
+    match drawn(8, 3).hit_row(view.inner_area, 0, position) {
+        Some(row) => Some((row, view.hit_column(position, 5))),
+        None => None,
+    }
+}
+
+/// The first of the cells at which something else is hit.
+fn first_other_hit(hits: &[Hit]) -> Option<(u16, u16)> {
+    for (view, x, y, wanted) in hits {
+        if hit(*view, Position { x: *x, y: *y }) != *wanted {
+            return Some((*x, *y));
+        }
+    }
+    None
 }
 
 #[test]
@@ -98,7 +186,7 @@ fn hits(rt: HostRuntime) {
     let high = Rect::new(10, 5, 8, 3);
     let left = RowView::at_left(drawn(8, 1), low, 0);
     let right = RowView::at_offset(drawn(8, 3), high, 3, 0);
-    for (view, x, y, wanted) in [
+    let hits = [
         (left, 12, 5, Some((0, 2))),
         (left, 9, 5, None),
         (left, 17, 5, Some((0, 5))),
@@ -106,14 +194,10 @@ fn hits(rt: HostRuntime) {
         (right, 12, 7, Some((0, 0))),
         (right, 15, 6, Some((0, 2))),
         (right, 15, 8, None),
-    ] {
-        let position = Position { x, y };
-        let row = drawn(8, 3).hit_row(view.inner_area, 0, position);
-        let found = row.map(|row| (row, view.hit_column(position, 5)));
-        assert_eq!(rt; found, wanted, "at {x}, {y}");
-    }
+    ];
+    assert_eq!(rt; first_other_hit(&hits), None);
     let corner = Position { x: 65535, y: 65535 };
     let empty = Rect::new(65535, 65535, 10, 10);
-    assert_eq!(rt; drawn(0, 0).hit_row(empty, 0, corner), None);
-    assert_eq!(rt; Viewport::at_start(low).rect(), (0, 0, 8, 1));
+    assert!(rt; drawn(0, 0).hit_row(empty, 0, corner) == None);
+    assert!(rt; Viewport::at_start(low).rect() == (0, 0, 8, 1));
 }

@@ -2,11 +2,9 @@
 #![tactic(auto)]
 
 pub mod modal;
-pub mod printing;
 pub mod serve;
 pub mod session;
 
 pub use modal::{Modal, ModalEnd, ModalStop};
-pub use printing::{Report, Screen};
 pub use textarea_modal_keys::mode;
 pub use textarea_modal_keys::mode::{Mode, Op};

@@ -2,13 +2,13 @@
 ghost use Rattle.std.specs.Prelude.{◌≡◌, ◌≤◌, ◌<◌, ◌≢◌, All, IfErr};
 ghost use Rattle.textarea_calls.specs.Made.{CanBeMade};
 
-use crate::printing::{Report, Screen};
 use std::alloc::{AllocError, Global};
 use std::io::{Read, Write};
 use std::string::ToString;
 use textarea_calls::{Answer, Call};
 use textarea_commands::commands;
 use textarea_commands::commands::{Command, ReadError};
+use textarea_report::printing::{Report, Screen};
 use textarea_run::run::run;
 use textarea_screen::screen::{Buffer, Rect};
 use tui_textarea::TextArea;

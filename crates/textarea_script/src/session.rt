@@ -12,7 +12,6 @@ mod asking;
 mod head;
 
 use crate::modal::{Modal, ModalStop};
-use crate::printing::Report;
 use crate::serve as script;
 use crate::serve::{DONE, OUT_OF_MEMORY, STREAM_FAILED};
 use crate::session::asking::{Asked, asked_for};
@@ -23,6 +22,7 @@ use std::io::{ErrorKind, Read, Write};
 use std::str::from_utf8;
 use std::string::ToString;
 use textarea_data::input::{Input, Key};
+use textarea_report::printing::Report;
 use tui_textarea::TextArea;
 
 /// The input isn't UTF-8, or the words aren't understood.

@@ -3,7 +3,6 @@ pub mod Splices
 pub mod RowEdits
 pub mod Places
 pub mod StringRows
-pub mod Replacing
 pub mod Sizes
 pub mod Befores
 pub mod Insides

@@ -1,7 +1,6 @@
 pub mod Text
 pub mod Place
 pub mod Splice
-pub mod Replaced
 pub mod Size
 pub mod Touched
 pub mod Carried

@@ -4,6 +4,5 @@
 pub mod carried;
 pub mod inside;
 pub mod laws;
-pub mod replace;
 pub mod rows;
 pub mod util;

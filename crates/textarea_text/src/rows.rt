@@ -5,12 +5,12 @@ ghost use Rattle.textarea_size.specs.Limit.{size_limit};
 ghost use Rattle.textarea_text.specs.Text.{characters, following, joined, lines_of, symbol_in, text_of};
 ghost use Rattle.textarea_text.specs.Offset.{offset_at};
 ghost use Rattle.textarea_text.specs.Place.{IsPlaceOf, IsSymbolBefore, ReplacesRows, changed, index_of};
-ghost use Rattle.textarea_text.specs.Replaced.{replaced};
+ghost use Rattle.textarea_replace.specs.Replaced.{replaced};
 ghost use Rattle.textarea_text.specs.Size.{size_of};
 ghost use Rattle.textarea_text.specs.Touched.{ReplacesPart};
 
-use crate::replace::replace_items;
 use std::alloc::{AllocError, Global};
+use textarea_replace::replace::replace_items;
 use textarea_size::limit::within_limit;
 
 /// The byte at which the column of a line begins; a column counts characters, and the line's length is one. The line is

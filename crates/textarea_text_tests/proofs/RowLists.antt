@@ -1,7 +1,7 @@
 -- The rows of lines, counted line by line.
 use Rattle.std.proofs.Common.{◌≡◌, ◌∙◌, ℕ, ◌+◌, List, ◌++◌, String, ap, drop, length, map, subst, sym, take}
 use Rattle.std.proofs.lemmas.List.{drop-map, length-map, map-append, take-map}
-use Rattle.textarea_text.specs.Replaced.{replaced}
+use Rattle.textarea_replace.specs.Replaced.{replaced}
 use Rattle.textarea_text.specs.Text.{characters_of, lines_of}
 use Rattle.textarea_rows.specs.RowsView.{RowsView}
 use Rattle.textarea_map.specs.declared.layout.Wrapping.{Wrapping}

@@ -1,5 +1,5 @@
-//! Worked cases of words, of given texts and parts of a text, of atomic ranges, of the rows of a line and of all lines, and of
-//! lines that change with their rows.
+//! Worked cases of words, of given texts and parts of a text, of atomic ranges, of searches, of the rows of a line and of all
+//! lines, and of lines that change with their rows.
 #![tactic(auto)]
 
 #[cfg(test)]
@@ -10,6 +10,8 @@ mod map;
 mod pieces;
 #[cfg(test)]
 mod ranges;
+#[cfg(test)]
+mod search;
 #[cfg(test)]
 mod texts;
 #[cfg(test)]

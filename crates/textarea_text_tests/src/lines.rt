@@ -1,6 +1,6 @@
 //! Lines and their rows over some steps: numbers worked by hand from the rules, and the same rows as those of lines that are
 //! laid out anew.
-ghost use Rattle.std.specs.Prelude.{◌≡◌, ◌+◌, ◌<◌, false, length, vec_len, IfOk, IfSome, IsTrue, OnOk, if◌then◌else◌};
+ghost use Rattle.std.specs.Prelude.{◌≡◌, ◌+◌, ◌<◌, false, length, vec_len, IfOk, IsTrue, OnOk, if◌then◌else◌};
 ghost use Rattle.textarea_text.specs.Place.{IsPlace, IsPlaceOf};
 ghost use Rattle.textarea_text.specs.Splice.{Fits};
 ghost use Rattle.textarea_text.specs.Text.{lines};
@@ -387,7 +387,9 @@ fn prepares(
     expected: &[&str],
 ) -> Result<bool, AllocError> {
     let prepared = laid.prepare_width(inner_width)?;
-    Ok(has_rows(&laid.view(), rows) && has_rows(&laid.view_with(&prepared), expected))
+    let is_kept = has_rows(&laid.view(), rows);
+    let is_prepared = has_rows(&laid.view_with(&prepared), expected);
+    Ok(is_kept && is_prepared)
 }
 
 // Other tab stops, where lines aren't wrapped: no line is cut.
@@ -417,6 +419,11 @@ fn put_line(laid: &mut LaidOutLines, text: &str) -> Result<(), AllocError> {
     laid.set_lines(vec![in laid.allocator(); line]?)
 }
 
+fn done(outcome: Result<(), AllocError>) -> Result<bool, AllocError> {
+    outcome?;
+    Ok(true)
+}
+
 // Takes the step; whether it led to what it is to lead to.
 fn leads_there(laid: &mut LaidOutLines, step: Step) -> Result<bool, AllocError> {
     match step {
@@ -425,15 +432,9 @@ fn leads_there(laid: &mut LaidOutLines, step: Step) -> Result<bool, AllocError> 
         Step::Count(width, rows) => Ok(laid.rows_at_width(width)? == rows),
         Step::Prepare(width, rows, expected) => prepares(laid, width, rows, expected),
         Step::PutWidth(width, expected) => set_width(laid, width, expected),
-        Step::PutSettings(settings) => {
-            laid.set_layout_settings(settings)?;
-            Ok(true)
-        }
+        Step::PutSettings(settings) => done(laid.set_layout_settings(settings)),
         Step::PutTabLength(tab_len) => sets_tab_len(laid, tab_len),
-        Step::PutLine(text) => {
-            put_line(laid, text)?;
-            Ok(true)
-        }
+        Step::PutLine(text) => done(put_line(laid, text)),
         Step::Break(place) => breaks(laid, place),
         Step::TypeAndTakeBack => Ok(type_and_take_back(laid)?.is_some()),
         Step::BreakAndTakeBack => Ok(break_and_take_back(laid)?.is_some()),
@@ -475,20 +476,18 @@ fn steps_over_lines(rt: HostRuntime) -> Result<(), Fail> {
     Ok(())
 }
 
-// The lines behind the steps, if each leads where it is to lead.
+// The lines behind the steps, and the first step that leads elsewhere.
 fn lines_behind(
     alloc: Global,
     texts: &[&str],
     settings: LayoutSettings,
     steps: &[Step],
-) -> Result<Option<Vec<String>>, AllocError>
-    ensures { IfOk result (λ found. IfSome found (λ lines. 0 < vec_len lines)) }
+) -> Result<(Option<usize>, Vec<String>), AllocError>
+    ensures { IfOk result (λ found. 0 < vec_len found.1) }
 {
     let mut laid = laid_out(alloc, texts, settings)?;
-    match astray(&mut laid, steps)? {
-        Some(_) => Ok(None),
-        None => Ok(Some(laid.into_lines())),
-    }
+    let step = astray(&mut laid, steps)?;
+    Ok((step, laid.into_lines()))
 }
 
 fn put_lines(laid: &mut LaidOutLines, lines: Vec<String>) -> Result<bool, AllocError>
@@ -520,10 +519,21 @@ fn is_right_under(
         Step::SeeAsAnew,
         Step::TypeAndTakeBack,
     ];
-    match lines_behind(alloc, &NINE_LINES, settings, &steps)? {
-        Some(lines) => are_put(alloc, lines, settings),
-        None => Ok(false),
+    let (step, lines) = lines_behind(alloc, &NINE_LINES, settings, &steps)?;
+    Ok(are_put(alloc, lines, settings)? && step.is_none())
+}
+
+// The first of the settings under which they aren't.
+fn first_wrong_under(
+    alloc: Global,
+    settings: &[(LayoutSettings, LayoutSettings)],
+) -> Result<Option<usize>, AllocError> {
+    for (n, (settings, other)) in settings.iter().enumerate() {
+        if !is_right_under(alloc, *settings, *other)? {
+            return Ok(Some(n));
+        }
     }
+    Ok(None)
 }
 
 #[test]
@@ -542,14 +552,13 @@ fn rows_are_those_of_lines_laid_out_anew(rt: HostRuntime) -> Result<(), Fail> {
         inner_width: 0,
         ..NUMBERED
     };
-    for (settings, other) in [
+    let settings = [
         (NUMBERED, whole),
         (whole, hidden),
         (narrow, NUMBERED),
         (hidden, narrow),
-    ] {
-        assert!(rt; is_right_under(rt.alloc(), settings, other)?);
-    }
+    ];
+    assert!(rt; first_wrong_under(rt.alloc(), &settings)?.is_none());
     Ok(())
 }
 
@@ -567,16 +576,8 @@ fn is_held(alloc: Global) -> Result<bool, AllocError> {
         Step::See(Fact::Empty(false)),
         Step::See(Fact::End(1, (0, 3))),
     ];
-    match lines_behind(alloc, &[], WHOLE, &steps)? {
-        Some(lines) => Ok(is_one_line(lines.as_slice())),
-        None => Ok(false),
-    }
-}
-
-#[test]
-fn lines_are_held(rt: HostRuntime) -> Result<(), Fail> {
-    assert!(rt; is_held(rt.alloc())?);
-    Ok(())
+    let (step, lines) = lines_behind(alloc, &[], WHOLE, &steps)?;
+    Ok(is_one_line(lines.as_slice()) && step.is_none())
 }
 
 fn is_place_in(view: &LaidOutView<'_>, place: Place) -> bool
@@ -609,8 +610,15 @@ fn lends_its_rows(laid: &LaidOutLines) -> bool {
     has_rows(&view, &["abcd", "ef", "gh"]) && has_second_row(&view) && is_lent(&view)
 }
 
+// Whether lines are lent with their rows.
+fn is_view_lent(alloc: Global) -> Result<bool, AllocError> {
+    let laid = laid_out(alloc, &TWO_LINES, GLYPHS)?;
+    Ok(lends_its_rows(&laid))
+}
+
 #[test]
-fn lines_are_lent_with_their_rows(rt: HostRuntime) -> Result<(), Fail> {
-    assert!(rt; lends_its_rows(&laid_out(rt.alloc(), &TWO_LINES, GLYPHS)?));
+fn lines_are_held_and_lent(rt: HostRuntime) -> Result<(), Fail> {
+    assert!(rt; is_held(rt.alloc())?);
+    assert!(rt; is_view_lent(rt.alloc())?);
     Ok(())
 }

@@ -54,7 +54,8 @@ const WITHOUT_STOPS: Wrapping = Wrapping {
 /// Lines, how they are wrapped, and what is to be so in their map.
 type Case = (&'static [&'static str], Wrapping, &'static [Fact]);
 
-static UP_AND_DOWN: [Case; 6] = [
+static CASES: [Case; 13] = [
+    // Up and down.
     (
         &["犬犬", "abcd"],
         ONE_ROW_A_LINE,
@@ -107,9 +108,7 @@ static UP_AND_DOWN: [Case; 6] = [
         WITHOUT_STOPS,
         &[Fact::Moves((0, 2), (0, 2), None, Some((1, 2)))],
     ),
-];
-
-static ROWS: [Case; 5] = [
+    // Rows.
     (
         &["abcdef ghi", ""],
         WORDS,
@@ -154,9 +153,7 @@ static ROWS: [Case; 5] = [
             Fact::Row(2, (1, 1), ("ab犬", "猫"), true),
         ],
     ),
-];
-
-static BACK: [Case; 2] = [
+    // Back from rows and columns to places.
     (
         &["e\u{301}x犬"],
         ONE_ROW_A_LINE,
@@ -286,20 +283,8 @@ fn first_unmet(alloc: Global, cases: &[Case]) -> Result<Option<(usize, usize)>, 
 }
 
 #[test]
-fn up_and_down(rt: HostRuntime) -> Result<(), Fail> {
-    assert_eq!(rt; first_unmet(rt.alloc(), &UP_AND_DOWN)?, None);
-    Ok(())
-}
-
-#[test]
-fn rows(rt: HostRuntime) -> Result<(), Fail> {
-    assert_eq!(rt; first_unmet(rt.alloc(), &ROWS)?, None);
-    Ok(())
-}
-
-#[test]
-fn back(rt: HostRuntime) -> Result<(), Fail> {
-    assert_eq!(rt; first_unmet(rt.alloc(), &BACK)?, None);
+fn places_and_rows(rt: HostRuntime) -> Result<(), Fail> {
+    assert_eq!(rt; first_unmet(rt.alloc(), &CASES)?, None);
     Ok(())
 }
 
@@ -500,36 +485,48 @@ fn follows(alloc: Global, made: Replacements, wrapping: Wrapping) -> Result<bool
     follows_over(alloc, &mut lines, made, wrapping)
 }
 
-#[test]
-fn follows_replacements(rt: HostRuntime) -> Result<(), Fail> {
-    for (seed, wrapping) in [
-        (1, ONE_ROW_A_LINE),
-        (2, wrapped(WrapMode::Word, 9)),
-        (3, wrapped(WrapMode::Glyph, 5)),
-        (4, wrapped(WrapMode::WordOrGlyph, 1)),
-        (5, wrapped(WrapMode::Word, 200)),
-    ] {
-        let made = Replacements {
-            seed,
-            limit: 5,
-            count: 150,
-        };
-        assert!(rt; follows(rt.alloc(), made, wrapping)?);
+fn some_replacements(seed: u64) -> Replacements {
+    Replacements {
+        seed,
+        limit: 5,
+        count: 150,
     }
-    Ok(())
 }
 
 // Replacements of more lines than a block of the map has.
-#[test]
-fn follows_large_replacements(rt: HostRuntime) -> Result<(), Fail> {
-    for (seed, wrapping) in [(6, ONE_ROW_A_LINE), (7, wrapped(WrapMode::Word, 9))] {
-        let made = Replacements {
-            seed,
-            limit: 1500,
-            count: 5,
-        };
-        assert!(rt; follows(rt.alloc(), made, wrapping)?);
+fn large_replacements(seed: u64) -> Replacements {
+    Replacements {
+        seed,
+        limit: 1500,
+        count: 5,
     }
+}
+
+// The first of the replacements, by their seed, that a map doesn't follow.
+fn first_unfollowed(
+    alloc: Global,
+    cases: &[(Replacements, Wrapping)],
+) -> Result<Option<u64>, AllocError> {
+    for (made, wrapping) in cases {
+        if made.limit == 0 || !follows(alloc, *made, *wrapping)? {
+            return Ok(Some(made.seed));
+        }
+    }
+    Ok(None)
+}
+
+#[test]
+fn follows_replacements(rt: HostRuntime) -> Result<(), Fail> {
+    let cases = [
+        (some_replacements(1), ONE_ROW_A_LINE),
+        (some_replacements(2), wrapped(WrapMode::Word, 9)),
+        (some_replacements(3), wrapped(WrapMode::Glyph, 5)),
+        (some_replacements(4), wrapped(WrapMode::WordOrGlyph, 1)),
+        (some_replacements(5), wrapped(WrapMode::Word, 200)),
+        (large_replacements(6), ONE_ROW_A_LINE),
+        (large_replacements(7), wrapped(WrapMode::Word, 9)),
+    ];
+    assert_eq!(rt; first_unfollowed(rt.alloc(), &cases)?, None);
     Ok(())
 }
 

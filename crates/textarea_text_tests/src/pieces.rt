@@ -1,4 +1,8 @@
 //! Given texts cut into pieces and joined again, parts of a text, and the spaces up to a tab stop.
+ghost use Rattle.std.specs.Prelude.{◌<◌, length};
+
+use crate::texts::Place;
+use std::alloc::{AllocError, Global};
 use std::test::Fail;
 use textarea_pieces::given::{copy_pieces, join_with_line_feeds, pieces_of};
 use textarea_pieces::part::between;
@@ -6,58 +10,96 @@ use textarea_pieces::places::clip;
 use textarea_pieces::tab::spaces_to_stop;
 use textarea_text::rows::column_count;
 
-#[test]
-fn given_and_written(rt: HostRuntime) -> Result<(), Fail> {
-    let cases = [
-        ("", "", 1),
-        ("a\r\nb\r", "a\nb\r", 2),
-        ("a\r\r\nb", "a\r\nb", 2),
-        ("\n犬\n", "\n犬\n", 3),
-    ];
-    for (text, written, count) in cases {
-        let pieces = pieces_of(rt.alloc(), text)?;
-        assert_eq!(rt; pieces.len(), count, "{text:?}");
-        let copy = copy_pieces(rt.alloc(), &pieces)?;
-        let joined = join_with_line_feeds(rt.alloc(), &copy)?;
-        assert_eq!(rt; joined.as_str(), written);
+/// What is written of pieces.
+#[derive(Clone, Copy)]
+enum Written {
+    /// All of them, and how many there are.
+    Whole(&'static str, usize),
+    /// Those up to this place.
+    Part(Place, &'static str),
+}
+
+/// A text that is given, and what is written of its pieces.
+type Case = (&'static str, Written);
+
+static CASES: [Case; 8] = [
+    ("", Written::Whole("", 1)),
+    ("a\r\nb\r", Written::Whole("a\nb\r", 2)),
+    ("a\r\r\nb", Written::Whole("a\r\nb", 2)),
+    ("\n犬\n", Written::Whole("\n犬\n", 3)),
+    ("ab\n犬\nef", Written::Part((0, 0), "")),
+    ("ab\n犬\nef", Written::Part((0, 1), "a")),
+    ("ab\n犬\nef", Written::Part((1, 1), "ab\n犬")),
+    ("ab\n犬\nef", Written::Part((2, 1), "ab\n犬\ne")),
+];
+
+fn is_joined(alloc: Global, pieces: &[String], joined: &str) -> Result<bool, AllocError> {
+    Ok(join_with_line_feeds(alloc, pieces)?.as_str() == joined)
+}
+
+fn is_whole(alloc: Global, pieces: &[String], joined: &str) -> Result<bool, AllocError> {
+    let copy = copy_pieces(alloc, pieces)?;
+    is_joined(alloc, &copy, joined)
+}
+
+fn is_part(alloc: Global, pieces: &[String], place: Place, joined: &str) -> Result<bool, AllocError>
+    requires { 0 < length pieces.now }
+{
+    let part = between(alloc, pieces, (0, 0), clip(pieces, place))?;
+    is_joined(alloc, &part, joined)
+}
+
+fn is_written(alloc: Global, pieces: &[String], written: Written) -> Result<bool, AllocError>
+    requires { 0 < length pieces.now }
+{
+    match written {
+        Written::Whole(text, count) => Ok(pieces.len() == count && is_whole(alloc, pieces, text)?),
+        Written::Part(place, text) => is_part(alloc, pieces, place, text),
     }
-    Ok(())
+}
+
+fn is_met(alloc: Global, case: &Case) -> Result<bool, AllocError> {
+    let pieces = pieces_of(alloc, case.0)?;
+    is_written(alloc, pieces.as_slice(), case.1)
+}
+
+// The first of the cases of which something else is written: which it is, and its text.
+fn first_other(alloc: Global, cases: &[Case]) -> Result<Option<(usize, &'static str)>, AllocError> {
+    for (n, case) in cases.iter().enumerate() {
+        if !is_met(alloc, case)? {
+            return Ok(Some((n, case.0)));
+        }
+    }
+    Ok(None)
 }
 
 #[test]
-fn parts(rt: HostRuntime) -> Result<(), Fail> {
-    let lines = pieces_of(rt.alloc(), "ab\n犬\nef")?;
-    let cases = [
-        ((0, 0), ""),
-        ((0, 1), "a"),
-        ((1, 1), "ab\n犬"),
-        ((2, 1), "ab\n犬\ne"),
-    ];
-    for (place, written) in cases {
-        let to = clip(&lines, place);
-        let pieces = between(rt.alloc(), &lines, (0, 0), to)?;
-        let joined = join_with_line_feeds(rt.alloc(), &pieces)?;
-        assert_eq!(rt; joined.as_str(), written);
-    }
+fn given_and_written(rt: HostRuntime) -> Result<(), Fail> {
+    assert_eq!(rt; first_other(rt.alloc(), &CASES)?, None);
     Ok(())
+}
+
+/// A line, a tab length, and the spaces from the line's end to the tab stop.
+static TAB_STOPS: [(&str, u8, u8); 6] = [
+    ("", 4, 4),
+    ("abcd", 4, 4),
+    ("a犬", 4, 1),
+    ("a\tb", 4, 2),
+    ("犬", 1, 1),
+    ("abc", 255, 252),
+];
+
+// The first of the lines that has other spaces behind it.
+fn first_other_stop(stops: &[(&'static str, u8, u8)]) -> Option<&'static str> {
+    for (line, tab_length, spaces) in stops {
+        if *tab_length == 0 || spaces_to_stop(line, column_count(line), *tab_length) != *spaces {
+            return Some(*line);
+        }
+    }
+    None
 }
 
 #[test]
 fn tab_stops(rt: HostRuntime) {
-    let cases = [
-        ("", 4, 4),
-        ("abcd", 4, 4),
-        ("a犬", 4, 1),
-        ("a\tb", 4, 2),
-        ("犬", 1, 1),
-        ("abc", 255, 252),
-    ];
-    for (line, tab_length, spaces) in cases {
-        assert!(rt; 0u8 < tab_length);
-        assert_eq!(rt;
-            spaces_to_stop(line, column_count(line), tab_length),
-            spaces,
-            "behind {line:?}"
-        );
-    }
+    assert_eq!(rt; first_other_stop(&TAB_STOPS), None);
 }

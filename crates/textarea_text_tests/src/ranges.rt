@@ -1,6 +1,8 @@
 //! A list of ranges that is accepted, and one of which each wrong range is named with its reason.
+use crate::texts::strings;
+use std::alloc::{AllocError, Global};
 use std::test::Fail;
-use textarea_data::atomic::{AtomicRange, AtomicRangeRejectReason, RejectedAtomicRange};
+use textarea_atomic::range::{AtomicRange, AtomicRangeRejectReason, RejectedAtomicRange};
 use textarea_ranges::validate::validate;
 
 fn part(row: usize, start_col: usize, end_col: usize) -> AtomicRange {
@@ -15,24 +17,17 @@ fn rejected(range: AtomicRange, reason: AtomicRangeRejectReason) -> RejectedAtom
     RejectedAtomicRange { range, reason }
 }
 
-#[test]
-fn accepted(rt: HostRuntime) -> Result<(), Fail> {
-    let line = String::from_str(rt.alloc(), "a犬c")?;
-    let lines = vec![in rt.alloc(); line]?;
-    let given = vec![in rt.alloc(); part(0, 1, 3), part(0, 0, 1)]?;
+fn are_accepted(alloc: Global, lines: &[String]) -> Result<bool, AllocError> {
+    let given = vec![in alloc; part(0, 1, 3), part(0, 0, 1)]?;
     let expected = [part(0, 0, 1), part(0, 1, 3)];
-    match validate(rt.alloc(), given, &lines)? {
-        Ok(held) => assert!(rt; held.as_slice() == expected.as_slice()),
-        Err(_) => panic!(rt; "refused"),
+    match validate(alloc, given, lines)? {
+        Ok(held) => Ok(held.as_slice() == expected.as_slice()),
+        Err(_) => Ok(false),
     }
-    Ok(())
 }
 
-#[test]
-fn refused(rt: HostRuntime) -> Result<(), Fail> {
-    let line = String::from_str(rt.alloc(), "abc")?;
-    let lines = vec![in rt.alloc(); line]?;
-    let given = vec![in rt.alloc();
+fn are_refused(alloc: Global, lines: &[String]) -> Result<bool, AllocError> {
+    let given = vec![in alloc;
         part(0, 2, 4),
         part(1, 0, 1),
         part(0, 1, 1),
@@ -45,9 +40,22 @@ fn refused(rt: HostRuntime) -> Result<(), Fail> {
         rejected(part(0, 2, 4), AtomicRangeRejectReason::ColumnOutOfBounds),
         rejected(part(1, 0, 1), AtomicRangeRejectReason::RowOutOfBounds),
     ];
-    match validate(rt.alloc(), given, &lines)? {
-        Ok(_) => panic!(rt; "accepted"),
-        Err(error) => assert!(rt; error.rejected.as_slice() == expected.as_slice()),
+    match validate(alloc, given, lines)? {
+        Ok(_) => Ok(false),
+        Err(error) => Ok(error.rejected.as_slice() == expected.as_slice()),
     }
+}
+
+#[test]
+fn accepted(rt: HostRuntime) -> Result<(), Fail> {
+    let lines = strings(rt.alloc(), &["a犬c"])?;
+    assert!(rt; are_accepted(rt.alloc(), &lines)?);
+    Ok(())
+}
+
+#[test]
+fn refused(rt: HostRuntime) -> Result<(), Fail> {
+    let lines = strings(rt.alloc(), &["abc"])?;
+    assert!(rt; are_refused(rt.alloc(), &lines)?);
     Ok(())
 }

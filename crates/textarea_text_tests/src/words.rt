@@ -4,6 +4,55 @@ use textarea_word::word::{
     find_word_start_backward, find_word_start_forward,
 };
 
+static CLASSES: [(char, CharKind); 13] = [
+    (' ', CharKind::Space),
+    ('\t', CharKind::Space),
+    ('\u{85}', CharKind::Space),
+    ('\u{3000}', CharKind::Space),
+    ('\u{200b}', CharKind::Other),
+    ('!', CharKind::Punct),
+    ('~', CharKind::Punct),
+    ('_', CharKind::Other),
+    ('a', CharKind::Other),
+    ('7', CharKind::Other),
+    ('\u{7f}', CharKind::Other),
+    ('犬', CharKind::Other),
+    ('。', CharKind::Other),
+];
+
+/// A line, a start column, and the answers: the next word's start, the column behind a word, a word's last character, the
+/// previous word's start.
+type Searched = (&'static str, usize, [Option<usize>; 4]);
+
+static SEARCHES: [Searched; 16] = [
+    ("ab cd", 0, [Some(3), Some(2), Some(1), None]),
+    ("ab cd", 3, [None, None, Some(4), Some(0)]),
+    ("ab cd", 99, [None, None, None, Some(3)]),
+    ("ab", 2, [None, None, None, Some(0)]),
+    ("a_b.c", 0, [Some(3), Some(3), Some(2), None]),
+    ("a_b.c", 3, [Some(4), Some(4), Some(3), Some(0)]),
+    ("a_b.c", 4, [None, None, Some(4), Some(3)]),
+    ("犬 犬x!", 1, [Some(2), Some(4), Some(3), Some(0)]),
+    ("犬 犬x!", 5, [None, None, None, Some(4)]),
+    ("\t\u{3000}a", 0, [Some(2), None, Some(2), None]),
+    ("\t\u{3000}a", 3, [None, None, None, Some(2)]),
+    ("a  ", 0, [None, Some(1), Some(0), None]),
+    ("a  ", 1, [None, None, None, Some(0)]),
+    ("--", 0, [None, None, Some(1), None]),
+    ("", 0, [None, None, None, None]),
+    ("", 7, [None, None, None, None]),
+];
+
+// The first of the characters that is of another class.
+fn first_other_class(classes: &[(char, CharKind)]) -> Option<char> {
+    for (c, kind) in classes {
+        if CharKind::new(*c) != *kind {
+            return Some(*c);
+        }
+    }
+    None
+}
+
 fn answers(line: &str, start: usize) -> [Option<usize>; 4] {
     [
         find_word_start_forward(line, start),
@@ -13,51 +62,18 @@ fn answers(line: &str, start: usize) -> [Option<usize>; 4] {
     ]
 }
 
-#[test]
-fn classes(rt: HostRuntime) {
-    let cases = [
-        (' ', CharKind::Space),
-        ('\t', CharKind::Space),
-        ('\u{85}', CharKind::Space),
-        ('\u{3000}', CharKind::Space),
-        ('\u{200b}', CharKind::Other),
-        ('!', CharKind::Punct),
-        ('~', CharKind::Punct),
-        ('_', CharKind::Other),
-        ('a', CharKind::Other),
-        ('7', CharKind::Other),
-        ('\u{7f}', CharKind::Other),
-        ('犬', CharKind::Other),
-        ('。', CharKind::Other),
-    ];
-    for (c, kind) in cases {
-        assert!(rt; CharKind::new(c) == kind, "at {c}");
+// The first of the searches that is answered in another way.
+fn first_other_search(searches: &[Searched]) -> Option<(&'static str, usize)> {
+    for (line, start, expected) in searches {
+        if answers(line, *start) != *expected {
+            return Some((*line, *start));
+        }
     }
+    None
 }
 
 #[test]
-fn searches(rt: HostRuntime) {
-    // A line, a start column, and the answers: the next word's start, the column behind a word, a word's last character, the
-    // previous word's start.
-    let cases = [
-        ("ab cd", 0, [Some(3), Some(2), Some(1), None]),
-        ("ab cd", 3, [None, None, Some(4), Some(0)]),
-        ("ab cd", 99, [None, None, None, Some(3)]),
-        ("ab", 2, [None, None, None, Some(0)]),
-        ("a_b.c", 0, [Some(3), Some(3), Some(2), None]),
-        ("a_b.c", 3, [Some(4), Some(4), Some(3), Some(0)]),
-        ("a_b.c", 4, [None, None, Some(4), Some(3)]),
-        ("犬 犬x!", 1, [Some(2), Some(4), Some(3), Some(0)]),
-        ("犬 犬x!", 5, [None, None, None, Some(4)]),
-        ("\t\u{3000}a", 0, [Some(2), None, Some(2), None]),
-        ("\t\u{3000}a", 3, [None, None, None, Some(2)]),
-        ("a  ", 0, [None, Some(1), Some(0), None]),
-        ("a  ", 1, [None, None, None, Some(0)]),
-        ("--", 0, [None, None, Some(1), None]),
-        ("", 0, [None, None, None, None]),
-        ("", 7, [None, None, None, None]),
-    ];
-    for (line, start, expected) in cases {
-        assert_eq!(rt; answers(line, start), expected, "{line} from {start}");
-    }
+fn classes_and_searches(rt: HostRuntime) {
+    let others = (first_other_class(&CLASSES), first_other_search(&SEARCHES));
+    assert_eq!(rt; others, (None, None));
 }

@@ -88,48 +88,55 @@ fn wrapped_lines(rt: HostRuntime) -> Result<(), Fail> {
     Ok(())
 }
 
+fn columns_behind() -> [usize; 10] {
+    [
+        plain_columns('犬'),
+        plain_columns('\n'),
+        column_behind('\t', 5, 4),
+        column_behind('\t', 8, 4),
+        column_behind('\t', 5, 0),
+        column_behind_text("a\t犬", 0, 4),
+        display_column_behind('\t', 5, 0),
+        display_column_behind('\t', 5, 4),
+        display_column_behind_text("a\t犬", 0, 0),
+        display_column_behind_text("a\t犬", 0, 4),
+    ]
+}
+
 #[test]
 fn columns(rt: HostRuntime) {
-    for (found, expected) in [
-        (plain_columns('犬'), 2),
-        (plain_columns('\n'), 0),
-        (column_behind('\t', 5, 4), 8),
-        (column_behind('\t', 8, 4), 12),
-        (column_behind('\t', 5, 0), 5),
-        (column_behind_text("a\t犬", 0, 4), 6),
-        (display_column_behind('\t', 5, 0), 6),
-        (display_column_behind('\t', 5, 4), 8),
-        (display_column_behind_text("a\t犬", 0, 0), 4),
-        (display_column_behind_text("a\t犬", 0, 4), 6),
-    ] {
-        assert!(rt; found == expected);
-    }
+    assert!(rt; columns_behind() == [2, 0, 8, 12, 5, 6, 6, 8, 4, 6]);
     assert!(rt; fits_width("a\t犬", 6, 4) && !fits_width("a\t犬", 5, 4));
+}
+
+/// A width inside, how many lines there are, whether they are numbered, and a mode; the columns of the numbers and of the rows.
+type Layout = ((u16, usize, bool, WrapMode), (usize, Option<usize>));
+
+static LAYOUTS: [Layout; 6] = [
+    ((8, 1, true, WrapMode::Word), (3, Some(4))),
+    ((11, 9, true, WrapMode::Glyph), (3, Some(7))),
+    ((11, 10, true, WrapMode::Glyph), (4, Some(6))),
+    ((8, 1, false, WrapMode::WordOrGlyph), (0, Some(7))),
+    ((0, 0, true, WrapMode::Word), (3, Some(1))),
+    ((65535, 100, true, WrapMode::None), (5, None)),
+];
+
+fn has_columns((settings, columns): Layout) -> bool {
+    let (inner_width, line_count, line_numbers, mode) = settings;
+    let metrics = LayoutMetrics::new(inner_width, line_count, line_numbers, mode);
+    (metrics.line_number_width(), metrics.wrap_width()) == columns
+}
+
+fn have_columns(layouts: &[Layout]) -> bool {
+    for layout in layouts {
+        if !has_columns(*layout) {
+            return false;
+        }
+    }
+    true
 }
 
 #[test]
 fn layouts(rt: HostRuntime) {
-    for (metrics, line_number_width, wrap_width) in [
-        (LayoutMetrics::new(8, 1, true, WrapMode::Word), 3, Some(4)),
-        (LayoutMetrics::new(11, 9, true, WrapMode::Glyph), 3, Some(7)),
-        (
-            LayoutMetrics::new(11, 10, true, WrapMode::Glyph),
-            4,
-            Some(6),
-        ),
-        (
-            LayoutMetrics::new(8, 1, false, WrapMode::WordOrGlyph),
-            0,
-            Some(7),
-        ),
-        (LayoutMetrics::new(0, 0, true, WrapMode::Word), 3, Some(1)),
-        (
-            LayoutMetrics::new(65535, 100, true, WrapMode::None),
-            5,
-            None,
-        ),
-    ] {
-        let found = (metrics.line_number_width(), metrics.wrap_width());
-        assert!(rt; found == (line_number_width, wrap_width));
-    }
+    assert!(rt; have_columns(&LAYOUTS));
 }

@@ -3,9 +3,9 @@ use crate::stop::Stop;
 use crate::styles::style_name;
 use std::alloc::{AllocError, Global};
 use std::fmt;
+use textarea_atomic::range::AtomicRange;
 use textarea_calls::Answer;
 use textarea_calls::printing::Escaped;
-use textarea_data::atomic::AtomicRange;
 use textarea_screen::screen::{Buffer, Color, Rect, Style};
 use textarea_wrap::wrap::WrapMode;
 

@@ -4,8 +4,8 @@ ghost use Rattle.textarea_calls.specs.Made.{CanBeMade};
 
 use crate::styles::style_named;
 use std::alloc::{AllocError, Global};
+use textarea_atomic::range::{AtomicCursorBias, AtomicDeleteDirection};
 use textarea_calls::Call;
-use textarea_data::atomic::{AtomicCursorBias, AtomicDeleteDirection};
 use textarea_data::input::{Input, Key};
 use textarea_look::look::CursorRenderMode;
 use textarea_screen::screen::{Alignment, Block, Borders, Line, Style, Text};

@@ -9,8 +9,8 @@ use Rattle.textarea_document.specs.Outcomes.{moved}
 use Rattle.textarea_document.specs.Selection.{selected_removed}
 use Rattle.textarea_document.specs.State.{DocumentState}
 use Rattle.textarea_drawing.specs.State.{DrawingState}
-use Rattle.textarea_data.specs.declared.atomic.AtomicRange.{AtomicRange}
-use Rattle.textarea_data.specs.declared.atomic.AtomicCursorBias.{AtomicCursorBias}
+use Rattle.textarea_atomic.specs.declared.range.AtomicRange.{AtomicRange}
+use Rattle.textarea_atomic.specs.declared.range.AtomicCursorBias.{AtomicCursorBias}
 use Rattle.textarea_ranges.specs.Held.{moved_out}
 use Rattle.tui_textarea.specs.Drawing.{viewport_scrolled}
 use Rattle.tui_textarea.specs.Moves.{IsMovedWith, anchor_with, bias_of, moved_by, pushed}

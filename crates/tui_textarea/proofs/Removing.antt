@@ -10,8 +10,8 @@ use Rattle.textarea_text.proofs.Places.{IsPlace-end, index_of-end}
 use Rattle.textarea_word.specs.Nearest.{greatest_below, least_below, passing}
 use Rattle.textarea_word.specs.Words.{is_behind_word, is_earlier_word_start, is_later_behind_word, is_word_start, next_behind_word, previous_word_start}
 use Rattle.textarea_ranges.specs.Held.{range_end, range_start}
-use Rattle.textarea_data.specs.declared.atomic.AtomicDeleteDirection.{AtomicDeleteDirection}
-use Rattle.textarea_data.specs.declared.atomic.AtomicRange.{AtomicRange}
+use Rattle.textarea_atomic.specs.declared.range.AtomicDeleteDirection.{AtomicDeleteDirection}
+use Rattle.textarea_atomic.specs.declared.range.AtomicRange.{AtomicRange}
 use Rattle.textarea_document.specs.Edits.{IsMade, Remove, cursor_index, hit_at_cursor}
 use Rattle.textarea_document.specs.Selection.{is_selected, origin, selection_end, selection_start}
 use Rattle.textarea_document.specs.Sound.{IsSound}

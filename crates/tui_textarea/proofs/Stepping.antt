@@ -2,9 +2,9 @@
 use Rattle.std.proofs.Common.{◌≡◌, ◌≢◌, ℕ, ◌==◌, ◌<◌, nat_lt, Bool, true, false, cond, List, [], ◌∷◌, length, replicate, Option, None, Some, refl, arith, eq-eqb}
 use Rattle.textarea_lines.specs.Layout.{LaidOut}
 use Rattle.textarea_ranges.specs.Held.{range_end, range_start}
-use Rattle.textarea_data.specs.declared.atomic.AtomicDeleteDirection.{AtomicDeleteDirection}
-use Rattle.textarea_data.specs.declared.atomic.AtomicDeleteDirection.TheVariants.{Backward, Forward}
-use Rattle.textarea_data.specs.declared.atomic.AtomicRange.{AtomicRange}
+use Rattle.textarea_atomic.specs.declared.range.AtomicDeleteDirection.{AtomicDeleteDirection}
+use Rattle.textarea_atomic.specs.declared.range.AtomicDeleteDirection.TheVariants.{Backward, Forward}
+use Rattle.textarea_atomic.specs.declared.range.AtomicRange.{AtomicRange}
 use Rattle.textarea_text.specs.Place.{Place}
 use Rattle.textarea_text.specs.Text.{Symbol, Break, Character}
 use Rattle.textarea_document.specs.Edits.{Insert, IsMade, Remove, RemoveBefore, RemoveBehind, RemoveBreak, Step, break_removed, cursor_index, hit_at_cursor, hit_before, hit_behind, is_at_end, is_at_start, is_filled, nothing_inserted, part_removed, range_removed_or, removed_before, removed_behind, splice_of, stepped, symbol_removed_before, symbol_removed_behind, symbols_inserted}

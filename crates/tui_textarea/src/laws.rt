@@ -17,7 +17,7 @@ ghost use Rattle.textarea_lines.specs.declared.settings.LayoutSettings.{LayoutSe
 ghost use Rattle.textarea_map.specs.Lent.{LentRows};
 ghost use Rattle.textarea_lines.specs.View.{IsViewOf};
 ghost use Rattle.textarea_blocks.specs.Sums.{row_total};
-ghost use Rattle.textarea_data.specs.declared.atomic.AtomicDeleteDirection.{AtomicDeleteDirection};
+ghost use Rattle.textarea_atomic.specs.declared.range.AtomicDeleteDirection.{AtomicDeleteDirection};
 ghost use Rattle.textarea_screen.specs.declared.screen.rect.Rect.{Rect};
 ghost use Rattle.textarea_surround.specs.Measure.{saturated, width_inside};
 ghost use Rattle.textarea_surround.specs.declared.surround.measure.TextAreaMeasure.{TextAreaMeasure};

@@ -2,6 +2,7 @@
 use std::alloc::Global;
 use std::str::from_utf8;
 use textarea_script::{serve as script, session};
+use textarea_transcripts::transcript::Tried;
 use textarea_words::lines::keys_and_rest;
 use textarea_words::stop::{Stop, compare};
 
@@ -18,11 +19,13 @@ fn check_keys(alloc: Global, keys: &str, wanted: &str) -> Result<(), Stop> {
     check_end(alloc, status, output.as_slice(), errors.as_slice(), wanted)
 }
 
-/// Runs a script, of which this must be printed and nothing else.
-pub fn check_script(alloc: Global, text: &str, wanted: &str) -> Result<(), Stop> {
+/// Runs the script of a transcript, of which this must be printed and nothing else.
+pub fn check_script(alloc: Global, tried: &Tried) -> Result<(), Stop> {
     let mut output = Vec::new(alloc);
     let mut errors = Vec::new(alloc);
-    let status = script::serve(alloc, &mut text.as_bytes(), &mut output, &mut errors);
+    let mut script = tried.script.as_bytes();
+    let status = script::serve(alloc, &mut script, &mut output, &mut errors);
+    let wanted = tried.printed.as_str();
     check_end(alloc, status, output.as_slice(), errors.as_slice(), wanted)
 }
 

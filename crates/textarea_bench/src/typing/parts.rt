@@ -6,7 +6,7 @@ use std::alloc::{AllocError, Global};
 use textarea_map::blocks::BLOCK;
 use textarea_map::layout::Wrapping;
 use textarea_map::screen_map::ScreenMap;
-use textarea_text::replace::replace_items;
+use textarea_replace::replace::replace_items;
 use textarea_wrap::wrap::{WrapCount, WrapMode};
 
 const WRAPPED: Wrapping = Wrapping {

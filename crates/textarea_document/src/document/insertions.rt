@@ -12,7 +12,7 @@ use crate::document::Document;
 use crate::document::edits::edit_of;
 use std::alloc::AllocError;
 use std::time::Duration;
-use textarea_data::atomic::AtomicCursorBias;
+use textarea_atomic::range::AtomicCursorBias;
 use textarea_edit::edit::{Edit, EditKind};
 use textarea_pieces::places::end_of;
 use textarea_ranges::held::move_out;

@@ -7,14 +7,14 @@ ghost use Rattle.textarea_ranges.specs.Held.{inside, range_start, range_end};
 ghost use Rattle.textarea_ranges.specs.Order.{AreInOrder};
 ghost use Rattle.textarea_ranges.specs.Rejected.{AreRefused};
 ghost use Rattle.textarea_ranges.specs.Valid.{AreValid};
-ghost use Rattle.textarea_data.specs.declared.atomic.AtomicDeleteDirection.TheVariants.{Backward, Forward};
+ghost use Rattle.textarea_atomic.specs.declared.range.AtomicDeleteDirection.TheVariants.{Backward, Forward};
 ghost use Rattle.textarea_document.specs.Edits.{hit_at_cursor, is_at_end, is_at_start};
 ghost use Rattle.textarea_document.specs.Ranges.{accepted, anchor_out, anchored, holding, normalized, unless_empty, range_removed, ranges_forgotten};
 
 use crate::document::Document;
 use std::alloc::AllocError;
 use std::time::Duration;
-use textarea_data::atomic::{
+use textarea_atomic::range::{
     AtomicCursorBias, AtomicDeleteDirection, AtomicRange, AtomicRangeError,
 };
 use textarea_pieces::places::clip;

@@ -6,7 +6,7 @@ ghost use Rattle.textarea_text.specs.Text.{Character, text_of};
 ghost use Rattle.textarea_document.specs.Edits.{is_filled};
 ghost use Rattle.textarea_document.specs.Selection.{is_selected};
 ghost use Rattle.textarea_pieces.specs.Given.{given};
-ghost use Rattle.tui_textarea.specs.Edits.{inserts_tab, inserts_text, symbols_or_none_inserted, spaces_to_stop, char_inserted, newline_inserted, tab_inserted, str_inserted};
+ghost use Rattle.tui_textarea.specs.Edits.{inserts_tab, inserts_text, symbols_or_none_inserted, spaces_to_stop, char_inserted, char_or_break_inserted, newline_inserted, tab_inserted, tab_or_spaces_inserted, str_inserted};
 ghost use Rattle.tui_textarea.specs.Selection.{IsLeft, selection_cancelled, unselected};
 
 use crate::textarea::TextArea;
@@ -24,6 +24,14 @@ impl TextArea<'_> {
         ensures err { OnErr result (IsLeft self.old self.new) }
     {
         self.document.remove_selection(self.moment)?;
+        self.insert_char_or_break(c)
+    }
+
+    // Inserts the character where an insertion goes, or breaks the line there.
+    fn insert_char_or_break(&mut self, c: char) -> Result<(), AllocError>
+        ensures ok { OnOk result (self.new ≡ char_or_break_inserted self.old c) }
+        ensures err { OnErr result (self.new ≡ self.old) }
+    {
         if c == '\n' || c == '\r' {
             return self.document.insert_break(self.moment);
         }
@@ -97,13 +105,22 @@ impl TextArea<'_> {
             return self.drop_selection();
         }
         self.document.remove_selection(self.moment)?;
-        if self.settings.hard_tab_indent {
-            self.document
-                .insert_character('\t', self.settings.undo_coalescing, self.moment)?;
-        } else {
-            self.insert_spaces(tab_length)?;
-        }
+        self.insert_tab_or_spaces(tab_length)?;
         Ok(true)
+    }
+
+    // Inserts a tab of this length where an insertion goes.
+    fn insert_tab_or_spaces(&mut self, tab_length: u8) -> Result<(), AllocError>
+        requires some { 0 < tab_length }
+        ensures ok { OnOk result (self.new ≡ tab_or_spaces_inserted self.old tab_length) }
+        ensures err { OnErr result (self.new ≡ self.old) }
+    {
+        if self.settings.hard_tab_indent {
+            return self
+                .document
+                .insert_character('\t', self.settings.undo_coalescing, self.moment);
+        }
+        self.insert_spaces(tab_length)
     }
 
     // Inserts the spaces that reach from where they go to the next tab stop.

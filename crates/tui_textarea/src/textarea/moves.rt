@@ -4,7 +4,7 @@ ghost use Rattle.textarea_text.specs.Place.{IsPlace};
 ghost use Rattle.tui_textarea.specs.Moves.{IsMoved, IsMovedWith, IsTarget, anchor_with, bias_of};
 
 use crate::textarea::TextArea;
-use textarea_data::atomic::AtomicCursorBias;
+use textarea_atomic::range::AtomicCursorBias;
 use textarea_data::cursor::CursorMove;
 use textarea_ranges::held::move_out;
 use textarea_target::target::target;

@@ -7,7 +7,7 @@ ghost use Rattle.tui_textarea.specs.Removals.{break_before_removed, text_cleared
 
 use crate::textarea::TextArea;
 use std::alloc::AllocError;
-use textarea_data::atomic::AtomicDeleteDirection;
+use textarea_atomic::range::AtomicDeleteDirection;
 use textarea_pieces::places::{ahead, line_end, text_end};
 use textarea_target::ends::{word_end_after, word_start_before};
 

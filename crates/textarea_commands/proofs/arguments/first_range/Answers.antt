@@ -1,5 +1,5 @@
 use Rattle.std.proofs.Common.{rules, ◌∙◌, ◌∷◌, [], Option, sym, ap, option_map}
-use Rattle.textarea_data.specs.declared.atomic.AtomicRange.{AtomicRange}
+use Rattle.textarea_atomic.specs.declared.range.AtomicRange.{AtomicRange}
 use Rattle.textarea_commands.specs.Ranges.{ranges}
 use Rattle.textarea_commands.proofs.Ranges.{first_and, ranges_more, ranges_one, ranges_three, ranges_two}
 use Rattle.textarea_commands.proofs.arguments.first_range.Goals as goal

@@ -4,7 +4,7 @@ use Rattle.textarea_commands.specs.Arguments.{IsReadAs}
 use Rattle.textarea_commands.specs.Commands.{Meaning, meant, plain_meant}
 use Rattle.textarea_commands.specs.Commands as meaning
 use Rattle.textarea_commands.specs.declared.commands.Content.TheVariants as content
-use Rattle.textarea_data.specs.declared.atomic.AtomicRange.{AtomicRange}
+use Rattle.textarea_atomic.specs.declared.range.AtomicRange.{AtomicRange}
 use Rattle.textarea_commands.specs.Script.{meaning_of}
 use Rattle.textarea_commands.proofs.Tables.{meant-plain, read-made}
 use Rattle.textarea_commands.proofs.commands.content_named.Goals as goal

@@ -4,7 +4,7 @@ use Rattle.std.proofs.lemmas.Result.{IfOk-at_ok}
 use Rattle.std.specs.Str.{all_scalars}
 use Rattle.std.proofs.lemmas.Str.{IsUtf8-string_bytes, scalars-chars}
 use Rattle.textarea_text.proofs.StringRows.{line_at}
-use Rattle.textarea_text.specs.Replaced.{replaced}
+use Rattle.textarea_replace.specs.Replaced.{replaced}
 use Rattle.textarea_text.specs.Text.{lines_of}
 use Rattle.textarea_map.specs.declared.layout.Wrapping.{Wrapping}
 use Rattle.textarea_wrap.specs.Wrapped.{IsWrapped}

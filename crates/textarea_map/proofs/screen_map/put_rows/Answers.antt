@@ -3,7 +3,7 @@ use Rattle.textarea_blocks.specs.Sums.{row_total}
 use Rattle.textarea_map.specs.Prepared.{HasRoom, rows_in}
 use Rattle.textarea_map.specs.declared.screen_map.NewRows.{NewRows}
 use Rattle.textarea_blocks.specs.Blocks.{all_rows}
-use Rattle.textarea_text.specs.Replaced.{replaced}
+use Rattle.textarea_replace.specs.Replaced.{replaced}
 use Rattle.textarea_map.proofs.screen_map.put_rows.Goals as goal
 
 pub replace_few-requires-clause-lines : goal.replace_few-requires-clause-lines

@@ -1,6 +1,6 @@
 use Rattle.std.proofs.Common.{◌≡◌, ◌+◌, ◌<◌, ◌≤◌, ◌∙◌, List, [], ap, arith, get_or, length, set, ℕ}
-use Rattle.textarea_text.specs.Replaced.{replaced}
-use Rattle.textarea_text.proofs.Replacing.{length-replaced}
+use Rattle.textarea_replace.specs.Replaced.{replaced}
+use Rattle.textarea_replace.proofs.Replacing.{length-replaced}
 use Rattle.textarea_rows.specs.RowsView.{RowsView}
 use Rattle.textarea_blocks.specs.Blocks.{BlocksView, all_rows, rows_of_each}
 use Rattle.textarea_blocks.specs.Sums.{row_total}

@@ -1,7 +1,7 @@
 use Rattle.std.proofs.Common.{◌≡◌, ◌+◌, ◌-◌, ◌≤◌, ◌∷◌, ◌∙◌, List, [], ap, arith, drop, get_or, length, set, take, ℕ}
 use Rattle.std.proofs.lemmas.List.{append-nil, length-drop, length-set, length-take-le}
-use Rattle.textarea_text.specs.Replaced.{replaced}
-use Rattle.textarea_text.proofs.Replacing.{length-replaced}
+use Rattle.textarea_replace.specs.Replaced.{replaced}
+use Rattle.textarea_replace.proofs.Replacing.{length-replaced}
 use Rattle.textarea_rows.specs.RowsView.{RowsView}
 use Rattle.textarea_blocks.specs.Blocks.{BlocksView, all_rows, lines_before}
 use Rattle.textarea_blocks.specs.Sums.{row_total}

@@ -1,5 +1,5 @@
 use Rattle.std.proofs.Common.{◌≡◌, ◌+◌, ◌-◌, ◌≤◌, List, ap, arith, drop, length, refl, subst, sym, take, ℕ}
-use Rattle.textarea_text.specs.Replaced.{replaced}
+use Rattle.textarea_replace.specs.Replaced.{replaced}
 use Rattle.textarea_rows.specs.RowsView.{RowsView}
 use Rattle.textarea_blocks.specs.Blocks.{all_rows}
 use Rattle.textarea_blocks.specs.Sums.{row_total, size_total}

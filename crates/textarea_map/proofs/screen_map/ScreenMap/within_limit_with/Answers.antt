@@ -1,6 +1,6 @@
 use Rattle.std.proofs.Common.{◌≡◌, ◌+◌, ◌-◌, ◌≤◌, List, ap, arith, drop, min, refl, take, ℕ, Result, Ok, Err}
 use Rattle.std.specs.Result.{IsErr, IsOk}
-use Rattle.textarea_text.specs.Replaced.{replaced}
+use Rattle.textarea_replace.specs.Replaced.{replaced}
 use Rattle.textarea_rows.specs.RowsView.{RowsView}
 use Rattle.textarea_blocks.specs.Sums.{row_total, size_total}
 use Rattle.textarea_map.specs.Map.{MapView}

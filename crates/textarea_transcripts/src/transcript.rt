@@ -5,19 +5,16 @@
 //! line `input HELD KEY | HELD KEY .. => ANSWER` are tried one after another, each in a text area of its own.
 //!
 //! Any other line is as `tascript` prints it of the text area at that place: its lines, its cursor, its selection, its screen; what
-//! isn't shown is as it was shown last, also at the end, and before that there is no screen. Where all calls are lines of scripts,
-//! `tascript` must print the same of the script.
+//! isn't shown is as it was shown last, also at the end, and before that there is no screen.
 ghost use Rattle.std.specs.Prelude.{IfSome};
 ghost use Rattle.textarea_calls.specs.Made.{CanBeMade};
 
-use crate::sessions::check_script;
-use crate::told::told_of;
 use std::alloc::{AllocError, Global};
 use textarea_calls::Call;
 use textarea_commands::commands::{Command, read};
+use textarea_report::printing::{Report, Screen};
+use textarea_report::told::told_of;
 use textarea_run::perform::perform;
-use textarea_script::printing::{Report, Screen};
-use textarea_script::serve::{COLUMNS, ROWS};
 use textarea_words::lines::unescaped;
 use textarea_words::shown::{Script, Shown};
 use textarea_words::stop::{Stop, compare};
@@ -25,13 +22,27 @@ use textarea_words::told::told_answer;
 use textarea_words::words::{Lent, call_of, character, lines_in, titled};
 use tui_textarea::{Borders, Buffer, Color, Rect, Style, TextArea};
 
-/// Makes the calls of a transcript, once for each of its inputs.
-pub fn check(alloc: Global, case: &str) -> Result<(), Stop> {
+/// The columns of the buffer that is drawn into, as many as `tascript` has.
+const COLUMNS: u16 = 80;
+
+/// The rows of the buffer that is drawn into.
+const ROWS: u16 = 24;
+
+/// A script whose calls a transcript made.
+#[derive(Drop)]
+pub struct Tried {
+    /// Its lines.
+    pub script: String,
+    /// What `tascript` must print of it.
+    pub printed: String,
+}
+
+/// Makes the calls of a transcript in a new text area, each with its input of this number, and gives their script, where all are
+/// lines of one.
+pub fn check(alloc: Global, case: &str, choice: usize) -> Result<Option<Tried>, Stop> {
     let lent = lent(alloc)?;
-    for choice in 0..choices(case) {
-        check_choice(alloc, case, choice, &lent)?;
-    }
-    Ok(())
+    let mut trial = Trial::new(alloc, choice)?;
+    check_new(alloc, case, &lent, &mut trial)
 }
 
 // A block in green on yellow, a placeholder of two lines, and a letter's key.
@@ -46,8 +57,8 @@ fn lent(alloc: Global) -> Result<Lent, AllocError> {
     })
 }
 
-// How many inputs the line with the most has, and 1 at least.
-fn choices(case: &str) -> usize {
+/// How many inputs the line with the most has, and 1 at least.
+pub fn choices(case: &str) -> usize {
     let mut most = 1usize;
     for line in case.lines() {
         if line.starts_with("input") {
@@ -57,13 +68,12 @@ fn choices(case: &str) -> usize {
     most
 }
 
-// Makes the calls in a new text area, with the input of this number.
-fn check_choice(alloc: Global, case: &str, choice: usize, lent: &Lent) -> Result<(), Stop> {
-    let mut trial = Trial::new(alloc, choice)?;
-    check_new(alloc, case, lent, &mut trial)
-}
-
-fn check_new(alloc: Global, case: &str, lent: &Lent, trial: &mut Trial) -> Result<(), Stop> {
+fn check_new(
+    alloc: Global,
+    case: &str,
+    lent: &Lent,
+    trial: &mut Trial,
+) -> Result<Option<Tried>, Stop> {
     let mut area = TextArea::try_default(alloc)?;
     check_area(alloc, case, lent, &mut area, trial)
 }
@@ -74,13 +84,13 @@ fn check_area(
     lent: &Lent,
     area: &mut TextArea<'_>,
     trial: &mut Trial,
-) -> Result<(), Stop> {
+) -> Result<Option<Tried>, Stop> {
     for line in case.lines() {
         trial.try_line(alloc, area, lent, line)?;
     }
     trial.shown.is_new = trial.shown.is_known;
     trial.compare_shown(alloc, area)?;
-    trial.compare_script(alloc, area)
+    Ok(trial.tried(alloc, area)?)
 }
 
 // The line with the input of this number alone, where it has several.
@@ -180,14 +190,15 @@ impl Trial {
         compare(self.cells.printed(alloc, area)?, wanted.as_str())
     }
 
-    // `tascript` must print the same of the script, where all calls are lines of one.
-    fn compare_script(&self, alloc: Global, area: &TextArea<'_>) -> Result<(), Stop> {
+    // The script, where all calls are lines of one.
+    fn tried(&self, alloc: Global, area: &TextArea<'_>) -> Result<Option<Tried>, AllocError> {
         if self.script.has_words {
-            return Ok(());
+            return Ok(None);
         }
+        let script = self.script.lines.clone()?;
         let printed = self.cells.printed(alloc, area)?;
-        let wanted = format!(in alloc; "{}{printed}", self.script.answers)?;
-        check_script(alloc, self.script.lines.as_str(), wanted.as_str())
+        let printed = format!(in alloc; "{}{printed}", self.script.answers)?;
+        Ok(Some(Tried { script, printed }))
     }
 }
 

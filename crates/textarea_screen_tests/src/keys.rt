@@ -1,9 +1,9 @@
 // The forms of keys and inputs.
-use crate::written::{check, check_refused};
-use std::test::Fail;
+use crate::written::first_wrong;
+use std::alloc::Global;
 use textarea_data::input::{Input, Key};
 
-const KEYS: [(Key, &str); 24] = [
+static KEYS: [(Key, &str); 24] = [
     (Key::Char('a'), r#"{"Char":"a"}"#),
     (Key::Char('"'), r#"{"Char":"\""}"#),
     (Key::Char('犬'), r#"{"Char":"犬"}"#),
@@ -30,7 +30,7 @@ const KEYS: [(Key, &str); 24] = [
     (Key::Null, r#""Null""#),
 ];
 
-const NO_KEYS: [&str; 11] = [
+static NO_KEYS: [&str; 11] = [
     "",
     "null",
     "13",
@@ -44,14 +44,7 @@ const NO_KEYS: [&str; 11] = [
     r#"{"F":1,"Char":"a"}"#,
 ];
 
-#[test]
-fn keys(rt: HostRuntime) -> Result<(), Fail> {
-    check(&rt, rt.alloc(), &KEYS)?;
-    check_refused::<Key>(&rt, rt.alloc(), &NO_KEYS);
-    Ok(())
-}
-
-const INPUTS: [(Input, &str); 4] = [
+static INPUTS: [(Input, &str); 4] = [
     (
         Input {
             key: Key::Esc,
@@ -90,7 +83,7 @@ const INPUTS: [(Input, &str); 4] = [
     ),
 ];
 
-const NO_INPUTS: [&str; 5] = [
+static NO_INPUTS: [&str; 5] = [
     r#""Esc""#,
     "{}",
     r#"{"key":"Esc","ctrl":true,"alt":false}"#,
@@ -98,9 +91,7 @@ const NO_INPUTS: [&str; 5] = [
     r#"{"key":"Esc","ctrl":1,"alt":false,"shift":true}"#,
 ];
 
-#[test]
-fn inputs(rt: HostRuntime) -> Result<(), Fail> {
-    check(&rt, rt.alloc(), &INPUTS)?;
-    check_refused::<Input>(&rt, rt.alloc(), &NO_INPUTS);
-    Ok(())
+/// The first form of these tables that is wrong.
+pub fn first_wrong_form(alloc: Global) -> Option<&'static str> {
+    first_wrong(alloc, &KEYS, &NO_KEYS).or(first_wrong(alloc, &INPUTS, &NO_INPUTS))
 }

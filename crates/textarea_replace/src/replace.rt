@@ -1,6 +1,6 @@
 //! Some items of a vector give place to others, without memory.
 ghost use Rattle.std.specs.Prelude.{◌≡◌, ◌+◌, ◌-◌, ◌≤◌, ◌++◌, length, take, drop, vec_len, vec_capacity};
-ghost use Rattle.textarea_text.specs.Replaced.{replaced};
+ghost use Rattle.textarea_replace.specs.Replaced.{replaced};
 
 /// Puts `new` in the place of the `count` items from `start` on. As many items as both have are swapped, so
 /// items that give place to as many others move no other item.

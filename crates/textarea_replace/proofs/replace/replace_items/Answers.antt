@@ -1,7 +1,7 @@
 use Rattle.std.proofs.Common.{◌+◌, ◌-◌, ◌++◌, ◌∙◌, ap, arith, take, drop, cond}
-use Rattle.textarea_text.specs.Replaced.{replaced}
-use Rattle.textarea_text.proofs.Replacing.{replaced_by_fewer, replaced_by_more}
-use Rattle.textarea_text.proofs.replace.replace_items.Goals as goal
+use Rattle.textarea_replace.specs.Replaced.{replaced}
+use Rattle.textarea_replace.proofs.Replacing.{replaced_by_fewer, replaced_by_more}
+use Rattle.textarea_replace.proofs.replace.replace_items.Goals as goal
 
 pub returns-then-shared-count-clause-items : goal.returns-then-shared-count-clause-items
 returns-then-shared-count-clause-items g c =

@@ -1,7 +1,7 @@
 //! What two text areas differ in, as far as it is seen.
-use crate::end::{Difference, Stop, same};
-use crate::step::copies;
 use std::alloc::AllocError;
+use textarea_pieces::given::copy_pieces;
+use textarea_words::end::{Difference, Stop, same};
 use tui_textarea::{Buffer, Cell, Position, Rect, TextArea};
 
 /// The columns of an area in which two text areas are drawn.
@@ -106,7 +106,8 @@ fn typed_lines(area: &TextArea<'_>) -> Result<Vec<String>, AllocError> {
 fn type_and_undo(area: &mut TextArea<'_>) -> Result<Vec<String>, AllocError> {
     area.insert_char('x')?;
     area.undo()?;
-    copies(area.lines())
+    let lines = area.lines();
+    copy_pieces(*lines[0].allocator(), lines)
 }
 
 // As many edits are taken back, or made again, with the same behind each.

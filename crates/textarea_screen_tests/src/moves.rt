@@ -1,11 +1,11 @@
 // The forms of moves, scrolls and modes.
-use crate::written::{check, check_refused};
-use std::test::Fail;
+use crate::written::first_wrong;
+use std::alloc::Global;
 use textarea_data::cursor::CursorMove;
 use textarea_data::scroll::Scrolling;
 use textarea_wrap::wrap::WrapMode;
 
-const MOVES: [(CursorMove, &str); 16] = [
+static MOVES: [(CursorMove, &str); 16] = [
     (CursorMove::Forward, r#""Forward""#),
     (CursorMove::Back, r#""Back""#),
     (CursorMove::Up, r#""Up""#),
@@ -24,7 +24,7 @@ const MOVES: [(CursorMove, &str); 16] = [
     (CursorMove::InViewport, r#""InViewport""#),
 ];
 
-const NO_MOVES: [&str; 7] = [
+static NO_MOVES: [&str; 7] = [
     r#""forward""#,
     r#""Backward""#,
     r#""Jump""#,
@@ -34,14 +34,7 @@ const NO_MOVES: [&str; 7] = [
     r#"{"Jump":[-1,0]}"#,
 ];
 
-#[test]
-fn moves(rt: HostRuntime) -> Result<(), Fail> {
-    check(&rt, rt.alloc(), &MOVES)?;
-    check_refused::<CursorMove>(&rt, rt.alloc(), &NO_MOVES);
-    Ok(())
-}
-
-const SCROLLS: [(Scrolling, &str); 6] = [
+static SCROLLS: [(Scrolling, &str); 6] = [
     (
         Scrolling::Delta { rows: 1, cols: 2 },
         r#"{"Delta":{"rows":1,"cols":2}}"#,
@@ -59,7 +52,7 @@ const SCROLLS: [(Scrolling, &str); 6] = [
     (Scrolling::HalfPageUp, r#""HalfPageUp""#),
 ];
 
-const NO_SCROLLS: [&str; 5] = [
+static NO_SCROLLS: [&str; 5] = [
     r#""Page""#,
     r#""Delta""#,
     r#"{"Delta":1}"#,
@@ -67,25 +60,18 @@ const NO_SCROLLS: [&str; 5] = [
     r#"{"Delta":{"rows":32768,"cols":0}}"#,
 ];
 
-#[test]
-fn scrolls(rt: HostRuntime) -> Result<(), Fail> {
-    check(&rt, rt.alloc(), &SCROLLS)?;
-    check_refused::<Scrolling>(&rt, rt.alloc(), &NO_SCROLLS);
-    Ok(())
-}
-
-const MODES: [(WrapMode, &str); 4] = [
+static MODES: [(WrapMode, &str); 4] = [
     (WrapMode::None, r#""None""#),
     (WrapMode::Word, r#""Word""#),
     (WrapMode::Glyph, r#""Glyph""#),
     (WrapMode::WordOrGlyph, r#""WordOrGlyph""#),
 ];
 
-const NO_MODES: [&str; 4] = ["null", "1", r#""Words""#, r#""none""#];
+static NO_MODES: [&str; 4] = ["null", "1", r#""Words""#, r#""none""#];
 
-#[test]
-fn modes(rt: HostRuntime) -> Result<(), Fail> {
-    check(&rt, rt.alloc(), &MODES)?;
-    check_refused::<WrapMode>(&rt, rt.alloc(), &NO_MODES);
-    Ok(())
+/// The first form of these tables that is wrong.
+pub fn first_wrong_form(alloc: Global) -> Option<&'static str> {
+    first_wrong(alloc, &MOVES, &NO_MOVES)
+        .or(first_wrong(alloc, &SCROLLS, &NO_SCROLLS))
+        .or(first_wrong(alloc, &MODES, &NO_MODES))
 }

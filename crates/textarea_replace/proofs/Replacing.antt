@@ -1,7 +1,7 @@
 -- The steps by which some items of a list give place to others.
 use Rattle.std.proofs.Common.{◌≡◌, ℕ, ◌+◌, ◌-◌, ◌≤◌, List, ◌++◌, length, take, drop, sym, ap, ◌∙◌, arith}
 use Rattle.std.proofs.lemmas.List.{append_assoc, take_at, drop_at, take_all, drop-drop, length-append, length-drop, length-take-le, take-append-drop}
-use Rattle.textarea_text.specs.Replaced.{replaced}
+use Rattle.textarea_replace.specs.Replaced.{replaced}
 
 pub take_two : {X : Type 0} (above middle below : List X) (n : ℕ) → length above + length middle ≡ n → take n (above ++ (middle ++ below)) ≡ above ++ middle
 take_two above middle below n e =

@@ -1,0 +1,4 @@
+//! Items of a vector that give place to others.
+#![tactic(auto)]
+
+pub mod replace;
