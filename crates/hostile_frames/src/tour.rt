@@ -100,7 +100,16 @@ fn judge_text(
     asked: &[Call<'_>],
     judge: &mut Judge,
 ) -> Result<(), NotJudged> {
-    let mut area = TextArea::try_default(alloc)?;
+    judge_new(TextArea::try_default(alloc)?, lines, setting, asked, judge)
+}
+
+fn judge_new(
+    mut area: TextArea<'_>,
+    lines: &str,
+    setting: Setting,
+    asked: &[Call<'_>],
+    judge: &mut Judge,
+) -> Result<(), NotJudged> {
     judge_area(&mut area, lines, setting, asked, judge)
 }
 

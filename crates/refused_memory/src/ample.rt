@@ -53,7 +53,16 @@ fn make_text(
     lent: &Lent,
     told: &mut Told,
 ) -> Result<(), Stop> {
-    let mut area = TextArea::try_default(alloc)?;
+    make_in(TextArea::try_default(alloc)?, rows, row, lent, told)
+}
+
+fn make_in(
+    mut area: TextArea<'_>,
+    rows: &str,
+    row: &str,
+    lent: &Lent,
+    told: &mut Told,
+) -> Result<(), Stop> {
     make_all(&mut area, rows, row, lent, told)
 }
 

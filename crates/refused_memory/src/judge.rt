@@ -74,7 +74,10 @@ fn judge_lines(alloc: Global, row: &str, judge: &mut Judge) -> Result<(), Stop> 
 }
 
 fn judge_text(alloc: Global, row: &str, lent: &Lent, judge: &mut Judge) -> Result<(), Stop> {
-    let mut area = TextArea::try_default(alloc)?;
+    judge_in(TextArea::try_default(alloc)?, row, lent, judge)
+}
+
+fn judge_in(mut area: TextArea<'_>, row: &str, lent: &Lent, judge: &mut Judge) -> Result<(), Stop> {
     judge_all(&mut area, row, lent, judge)
 }
 
@@ -144,7 +147,15 @@ fn judge_commands(
 
 // Makes a step behind a clone.
 fn judge_step(area: &mut TextArea<'_>, step: Step<'_>, judge: &mut Judge) -> Result<(), Stop> {
-    let mut other = area.clone()?;
+    judge_with(area.clone()?, area, step, judge)
+}
+
+fn judge_with(
+    mut other: TextArea<'_>,
+    area: &mut TextArea<'_>,
+    step: Step<'_>,
+    judge: &mut Judge,
+) -> Result<(), Stop> {
     judge_beside(area, &mut other, step, judge)
 }
 
@@ -244,7 +255,17 @@ fn judge_run_commands(
 fn judge_calls(area: &mut TextArea<'_>, calls: &[Call<'_>], judge: &mut Judge) -> Result<(), Stop>
     requires { All CanBeMade calls.now }
 {
-    let mut other = area.clone()?;
+    judge_run_with(area.clone()?, area, calls, judge)
+}
+
+fn judge_run_with(
+    mut other: TextArea<'_>,
+    area: &mut TextArea<'_>,
+    calls: &[Call<'_>],
+    judge: &mut Judge,
+) -> Result<(), Stop>
+    requires { All CanBeMade calls.now }
+{
     judge_run_beside(area, &mut other, calls, judge)
 }
 

@@ -88,8 +88,11 @@ fn set_atomic_ranges(area: &mut TextArea<'_>) -> Result<Answer, AllocError> {
 }
 
 fn lines_of_another(area: &TextArea<'_>, step: Step<'_>) -> Result<Answer, AllocError> {
-    let another = another(area, step)?;
-    Ok(Answer::Number(another.lines().len()))
+    Ok(line_count(another(area, step)?))
+}
+
+fn line_count(area: TextArea<'_>) -> Answer {
+    Answer::Number(area.lines().len())
 }
 
 // A clone of the text area or, for the other steps, a text area that is made of its lines or, by default, of none.

@@ -69,7 +69,7 @@ pub mod screen {
 
 /// Amounts of scrolling.
 pub mod scroll {
-    pub use textarea_data::scroll::Scrolling;
+    pub use textarea_scroll::scroll::Scrolling;
 }
 
 /// Searches for a pattern, and its matches in lines.

@@ -7,8 +7,8 @@ use Rattle.std.specs.Option.{option_zip}
 use Rattle.std.specs.Str.Parse.{digits_value}
 use Rattle.textarea_data.specs.declared.cursor.CursorMove.{CursorMove}
 use Rattle.textarea_data.specs.declared.cursor.CursorMove.TheVariants as move
-use Rattle.textarea_data.specs.declared.scroll.Scrolling.{Scrolling}
-use Rattle.textarea_data.specs.declared.scroll.Scrolling.TheVariants as scrolling
+use Rattle.textarea_scroll.specs.declared.scroll.Scrolling.{Scrolling}
+use Rattle.textarea_scroll.specs.declared.scroll.Scrolling.TheVariants as scrolling
 use Rattle.textarea_screen.specs.declared.screen.rect.Rect.{Rect}
 use Rattle.textarea_commands.specs.declared.arguments.Unread.{Unread}
 use Rattle.textarea_commands.specs.declared.arguments.Unread.TheVariants.{NoCommand, Memory}

@@ -12,8 +12,8 @@ use std::alloc::{AllocError, AllocFailed, Global};
 use textarea_atomic::range::AtomicRange;
 use textarea_data::cursor::CursorMove;
 use textarea_data::input::{Input, Key};
-use textarea_data::scroll::Scrolling;
 use textarea_screen::screen::Rect;
+use textarea_scroll::scroll::Scrolling;
 use textarea_wrap::wrap::WrapMode;
 
 // Why a command was not read.

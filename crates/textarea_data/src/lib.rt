@@ -1,7 +1,6 @@
-//! Plain data: keys, moves and places of a cursor, amounts of scrolling.
+//! Plain data: keys, moves and places of a cursor.
 #![tactic(auto)]
 
 pub mod cursor;
 pub mod input;
 pub mod laws;
-pub mod scroll;

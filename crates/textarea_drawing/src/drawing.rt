@@ -12,9 +12,9 @@ ghost use Rattle.textarea_viewport.specs.Scrolled.{scrolled_by};
 
 use std::alloc::{AllocError, Global};
 use std::marker::Model;
-use textarea_data::scroll::Scrolling;
 use textarea_look::look::{CustomHighlight, Look};
 use textarea_screen::screen::Position;
+use textarea_scroll::scroll::Scrolling;
 use textarea_search::search::KeptMatches;
 use textarea_viewport::Viewport;
 

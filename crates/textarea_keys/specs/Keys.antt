@@ -4,8 +4,8 @@
 use Rattle.std.specs.Prelude.{pos, negsuc, List, [], ◌∷◌, codes}
 use Rattle.textarea_data.specs.declared.input.Key.TheVariants as key
 use Rattle.textarea_data.specs.declared.cursor.CursorMove.TheVariants as move
-use Rattle.textarea_data.specs.declared.scroll.Scrolling.{Scrolling}
-use Rattle.textarea_data.specs.declared.scroll.Scrolling.TheVariants as scrolling
+use Rattle.textarea_scroll.specs.declared.scroll.Scrolling.{Scrolling}
+use Rattle.textarea_scroll.specs.declared.scroll.Scrolling.TheVariants as scrolling
 use Rattle.textarea_keys.specs.declared.action.Action.TheVariants as action
 use Rattle.textarea_keys.specs.Answer.{changed, unchanged, as_called}
 use Rattle.textarea_keys.specs.Table.{Row, plain, ctrl, alt, both, any, chars, chars_but, one, row, always, insert_its_char, move_by, scroll_by}

@@ -5,7 +5,7 @@ use Rattle.textarea_data.specs.declared.input.Input.{Input}
 use Rattle.textarea_data.specs.declared.input.Key.{Key}
 use Rattle.textarea_data.specs.declared.input.Key.TheVariants as key
 use Rattle.textarea_data.specs.declared.cursor.CursorMove.{CursorMove}
-use Rattle.textarea_data.specs.declared.scroll.Scrolling.{Scrolling}
+use Rattle.textarea_scroll.specs.declared.scroll.Scrolling.{Scrolling}
 use Rattle.textarea_keys.specs.declared.action.Action.{Action}
 use Rattle.textarea_keys.specs.declared.action.Action.TheVariants as action
 use Rattle.textarea_keys.specs.Answer.{Answer, unchanged, answer_of}

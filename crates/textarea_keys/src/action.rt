@@ -4,7 +4,7 @@ ghost use Rattle.std.specs.Prelude.{◌≡◌};
 ghost use Rattle.textarea_keys.specs.Answer.{answer_of, told};
 
 use textarea_data::cursor::CursorMove;
-use textarea_data::scroll::Scrolling;
+use textarea_scroll::scroll::Scrolling;
 
 /// What an input asks for: a call of the text area, with what it takes.
 #[derive(Clone, Copy, Debug, PartialEq, Eq)]

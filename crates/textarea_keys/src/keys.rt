@@ -6,7 +6,7 @@ ghost use Rattle.textarea_keys.specs.Table.{action_by};
 
 use crate::action::Action;
 use textarea_data::input::{Input, Key};
-use textarea_data::scroll::Scrolling;
+use textarea_scroll::scroll::Scrolling;
 
 mod groups;
 

@@ -8,7 +8,7 @@ use Rattle.textarea_data.specs.declared.input.Key.{Key}
 use Rattle.textarea_data.specs.declared.input.Key.TheVariants as key
 use Rattle.textarea_data.specs.declared.cursor.CursorMove.{CursorMove}
 use Rattle.textarea_data.specs.declared.cursor.CursorMove.TheVariants as move
-use Rattle.textarea_data.specs.declared.scroll.Scrolling.TheVariants as scrolling
+use Rattle.textarea_scroll.specs.declared.scroll.Scrolling.TheVariants as scrolling
 use Rattle.textarea_keys.specs.Table.{Inputs, plain, ctrl, any, chars, one, is_held, has}
 use Rattle.textarea_calls.specs.declared.call.Call.{Call}
 use Rattle.textarea_calls.specs.declared.call.Call.TheVariants as call

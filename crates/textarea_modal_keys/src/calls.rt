@@ -5,7 +5,7 @@ ghost use Rattle.textarea_modal_keys.specs.Table.{goes};
 
 use crate::mode::Mode;
 use textarea_data::cursor::CursorMove;
-use textarea_data::scroll::Scrolling;
+use textarea_scroll::scroll::Scrolling;
 
 /// A call that a key makes on a text area.
 #[derive(Clone, Copy)]

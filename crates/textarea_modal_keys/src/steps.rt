@@ -9,7 +9,7 @@ use crate::calls::{Calls, KeyCall, Step};
 use crate::mode::{Mode, Op};
 use textarea_data::cursor::CursorMove;
 use textarea_data::input::{Input, Key};
-use textarea_data::scroll::Scrolling;
+use textarea_scroll::scroll::Scrolling;
 
 /// What an input comes to in a mode, or none where it is handed on to the text area, in Insert.
 pub fn step(mode: Mode, input: &Input) -> Option<Step>

@@ -99,8 +99,11 @@ fn compare_typed(area: &TextArea<'_>, other: &TextArea<'_>) -> Result<(), Stop> 
 
 // The lines of a clone in which a character was typed and taken back.
 fn typed_lines(area: &TextArea<'_>) -> Result<Vec<String>, AllocError> {
-    let mut typed = area.clone()?;
-    type_and_undo(&mut typed)
+    lines_behind_typing(area.clone()?)
+}
+
+fn lines_behind_typing(mut area: TextArea<'_>) -> Result<Vec<String>, AllocError> {
+    type_and_undo(&mut area)
 }
 
 fn type_and_undo(area: &mut TextArea<'_>) -> Result<Vec<String>, AllocError> {

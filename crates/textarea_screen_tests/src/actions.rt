@@ -4,10 +4,10 @@ use std::collections::HashMap;
 use std::test::Fail;
 use textarea_data::cursor::CursorMove::*;
 use textarea_data::input::{Input, Key};
-use textarea_data::scroll::Scrolling;
 use textarea_keys::action::Action;
 use textarea_keys::action::Action::*;
 use textarea_keys::keys::{action_of, action_without_shortcuts};
+use textarea_scroll::scroll::Scrolling;
 
 /// Whether Ctrl and Alt are held.
 type Held = (bool, bool);

@@ -2,7 +2,7 @@
 use std::test::Fail;
 use textarea_data::cursor::DataCursor;
 use textarea_data::input::{Input, Key};
-use textarea_data::scroll::Scrolling;
+use textarea_scroll::scroll::Scrolling;
 
 #[test]
 fn defaults(rt: HostRuntime) -> Result<(), Fail> {

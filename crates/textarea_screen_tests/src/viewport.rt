@@ -1,8 +1,8 @@
 //! The viewport, the caret and the hit test, as numbers.
 
-use textarea_data::scroll::Scrolling;
-use textarea_data::scroll::Scrolling::{HalfPageDown, HalfPageUp, PageDown, PageUp};
 use textarea_screen::screen::{Position, Rect};
+use textarea_scroll::scroll::Scrolling;
+use textarea_scroll::scroll::Scrolling::{HalfPageDown, HalfPageUp, PageDown, PageUp};
 use textarea_viewport::{RowView, Viewport};
 
 /// A height, ways to scroll, and the first and the last row that are shown then.

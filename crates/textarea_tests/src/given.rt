@@ -64,7 +64,10 @@ pub fn copy_stands_alone(area: &mut TextArea<'_>) -> Result<bool, AllocError> {
 }
 
 fn copy_and_change(area: &mut TextArea<'_>) -> Result<bool, AllocError> {
-    let copy = area.clone()?;
+    change_and_compare(area.clone()?, area)
+}
+
+fn change_and_compare(copy: TextArea<'_>, area: &mut TextArea<'_>) -> Result<bool, AllocError> {
     change_beside(area, &copy)
 }
 

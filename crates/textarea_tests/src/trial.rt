@@ -37,6 +37,9 @@ impl Trial {
 
 /// Tries it with a text area of its own: whether all was as it must be.
 pub fn succeeds(alloc: Global, trial: Trial) -> Result<bool, AllocError> {
-    let mut area = trial.area(alloc)?;
+    succeeds_in(alloc, trial, trial.area(alloc)?)
+}
+
+fn succeeds_in(alloc: Global, trial: Trial, mut area: TextArea<'_>) -> Result<bool, AllocError> {
     trial.is_right(alloc, &mut area)
 }

@@ -1,7 +1,7 @@
 -- What scrolling makes of a viewport.
 use Rattle.std.specs.Prelude.{ℕ, ◌+◌, ◌-◌, ◌/◌, ℤ, pos, negsuc}
-use Rattle.textarea_data.specs.declared.scroll.Scrolling.{Scrolling}
-use Rattle.textarea_data.specs.declared.scroll.Scrolling.TheVariants.{Delta, PageDown, PageUp, HalfPageDown, HalfPageUp}
+use Rattle.textarea_scroll.specs.declared.scroll.Scrolling.{Scrolling}
+use Rattle.textarea_scroll.specs.declared.scroll.Scrolling.TheVariants.{Delta, PageDown, PageUp, HalfPageDown, HalfPageUp}
 use Rattle.textarea_viewport.specs.Viewport.{ViewportState, saturated}
 
 -- a first row or column that is scrolled, forward by a number that isn't negative and back by one that is (`negsuc n` is

@@ -12,8 +12,8 @@ ghost use Rattle.textarea_viewport.specs.Shown.{
 ghost use Rattle.textarea_viewport.specs.Viewport.{clamped, initial_viewport, last_shown};
 
 use std::marker::Model;
-use textarea_data::scroll::Scrolling;
 use textarea_screen::screen::{Position, Rect};
+use textarea_scroll::scroll::Scrolling;
 
 /// The first visual row and the first column that are shown, and the width and height of the area they are shown in. All
 /// four are 0 before anything is drawn.

@@ -1,6 +1,6 @@
 -- What is drawn of a text area, and what drawing and scrolling make of its state.
 use Rattle.std.specs.Prelude.{◌≡◌, ℕ, [], ◌∷◌, ◌++◌}
-use Rattle.textarea_data.specs.declared.scroll.Scrolling.{Scrolling}
+use Rattle.textarea_scroll.specs.declared.scroll.Scrolling.{Scrolling}
 use Rattle.textarea_drawing.specs.Frame.{Parts}
 use Rattle.textarea_drawing.specs.Rendered as drawing
 use Rattle.textarea_drawing.specs.State.{DrawingState, with_viewport}

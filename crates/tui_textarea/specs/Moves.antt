@@ -3,7 +3,7 @@ use Rattle.std.specs.Prelude.{◌≡◌, Bool, true, false, List, Option, Some, 
 use Rattle.textarea_text.specs.Place.{Place}
 use Rattle.textarea_data.specs.declared.cursor.CursorMove.{CursorMove}
 use Rattle.textarea_data.specs.declared.cursor.CursorMove.TheVariants as move
-use Rattle.textarea_data.specs.declared.scroll.Scrolling.{Scrolling}
+use Rattle.textarea_scroll.specs.declared.scroll.Scrolling.{Scrolling}
 use Rattle.textarea_atomic.specs.declared.range.AtomicRange.{AtomicRange}
 use Rattle.textarea_atomic.specs.declared.range.AtomicCursorBias.{AtomicCursorBias}
 use Rattle.textarea_atomic.specs.declared.range.AtomicCursorBias.TheVariants.{Backward, Forward}

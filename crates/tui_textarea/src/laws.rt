@@ -2,7 +2,7 @@
 ghost use Rattle.std.specs.Prelude.{◌≡◌, ◌<◌, ◌^◌, ℕ, Bool, List, true, false, length};
 ghost use Rattle.textarea_size.specs.Limit.{size_limit};
 ghost use Rattle.textarea_data.specs.declared.cursor.CursorMove.{CursorMove};
-ghost use Rattle.textarea_data.specs.declared.scroll.Scrolling.{Scrolling};
+ghost use Rattle.textarea_scroll.specs.declared.scroll.Scrolling.{Scrolling};
 ghost use Rattle.textarea_document.specs.Goes.{GoesUncut};
 ghost use Rattle.textarea_document.specs.Cuts.{CutsAll, CutsBySettings, CutsByWidth, SplicesUpTo};
 ghost use Rattle.textarea_document.specs.Rows.{laid_out_of};

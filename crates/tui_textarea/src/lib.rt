@@ -14,13 +14,13 @@ pub use textarea_atomic::range::{
 };
 pub use textarea_data::cursor::{CursorMove, DataCursor};
 pub use textarea_data::input::{Input, Key};
-pub use textarea_data::scroll::Scrolling;
 pub use textarea_look::look::CursorRenderMode;
 pub use textarea_map::layout::Wrapping;
 pub use textarea_screen::screen::{
     Alignment, Block, Borders, Buffer, Cell, Color, Line, Modifier, Padding, Position, Rect, Span,
     SpanText, Style, Text,
 };
+pub use textarea_scroll::scroll::Scrolling;
 pub use textarea_surround::surround::measure::TextAreaMeasure;
 pub use textarea_viewport::Viewport;
 pub use textarea_wrap::wrap::WrapMode;

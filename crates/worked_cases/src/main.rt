@@ -3,8 +3,7 @@
 //! Standard input has sections. A line `== KIND TITLE` begins one, and its cases stand behind it, with an empty line between each
 //! two. The first lines of a case may be comments, which begin with `# `. A blank at a line's end is written `\u{20}`. The kinds:
 //!
-//! - `transcripts`: calls and what they answer, and the text area on the way (`textarea_transcripts`). Where all calls are lines of
-//!   scripts, `tascript` must print the same of the script.
+//! - `transcripts`: calls and what they answer, and the text area on the way (`transcript`).
 //! - `unread`: lines, none of which is a script.
 //! - `sessions`: behind `> `, the keys of a session of the modal editor, with the escapes of scripts; and what is printed of it.
 //! - `runs`: behind `> `, keys of the modal editor with Ctrl and Alt, and what is told at their end (`runs`).
@@ -15,11 +14,11 @@
 
 mod runs;
 mod sessions;
+mod transcript;
 
 use std::alloc::Global;
 use std::io::Read;
 use std::process::ExitCode;
-use textarea_transcripts::transcript;
 use textarea_words::lines;
 use textarea_words::stop::Stop;
 
@@ -67,20 +66,10 @@ fn check(alloc: Global, kind: &str, case: &str) -> Result<(), Stop> {
     let case = lines::plain(alloc, case)?;
     let case = case.as_str();
     match kind {
-        "transcripts" => check_transcript(alloc, case),
+        "transcripts" => transcript::check(alloc, case),
         "unread" => sessions::check_unread(alloc, case),
         "sessions" => sessions::check(alloc, case),
         "runs" => runs::check(alloc, case),
         _ => Err(Stop::Unread),
     }
-}
-
-// Runs a transcript, once for each of its inputs, and the scripts that its calls are.
-fn check_transcript(alloc: Global, case: &str) -> Result<(), Stop> {
-    for choice in 0..transcript::choices(case) {
-        if let Some(tried) = transcript::check(alloc, case, choice)? {
-            sessions::check_script(alloc, &tried)?;
-        }
-    }
-    Ok(())
 }

@@ -25,7 +25,15 @@ fn end_of(alloc: Global, keys: &str) -> Result<String, Stop> {
 }
 
 fn end_drawn_into(alloc: Global, buffer: &mut Buffer, keys: &str) -> Result<String, Stop> {
-    let mut area = TextArea::try_default(alloc)?;
+    end_of_new(alloc, TextArea::try_default(alloc)?, buffer, keys)
+}
+
+fn end_of_new(
+    alloc: Global,
+    mut area: TextArea<'_>,
+    buffer: &mut Buffer,
+    keys: &str,
+) -> Result<String, Stop> {
     end_in(alloc, &mut area, buffer, keys)
 }
 

@@ -2,7 +2,6 @@
 use std::alloc::Global;
 use std::str::from_utf8;
 use textarea_script::{serve as script, session};
-use textarea_transcripts::transcript::Tried;
 use textarea_words::lines::keys_and_rest;
 use textarea_words::stop::{Stop, compare};
 
@@ -19,13 +18,11 @@ fn check_keys(alloc: Global, keys: &str, wanted: &str) -> Result<(), Stop> {
     check_end(alloc, status, output.as_slice(), errors.as_slice(), wanted)
 }
 
-/// Runs the script of a transcript, of which this must be printed and nothing else.
-pub fn check_script(alloc: Global, tried: &Tried) -> Result<(), Stop> {
+/// Runs a script, of which this must be printed and nothing else.
+pub fn check_script(alloc: Global, text: &str, wanted: &str) -> Result<(), Stop> {
     let mut output = Vec::new(alloc);
     let mut errors = Vec::new(alloc);
-    let mut script = tried.script.as_bytes();
-    let status = script::serve(alloc, &mut script, &mut output, &mut errors);
-    let wanted = tried.printed.as_str();
+    let status = script::serve(alloc, &mut text.as_bytes(), &mut output, &mut errors);
     check_end(alloc, status, output.as_slice(), errors.as_slice(), wanted)
 }
 

@@ -10,7 +10,7 @@ use super::{ONE_DOWN, ONE_UP};
 use crate::action::Action;
 use textarea_data::cursor::CursorMove;
 use textarea_data::input::Key;
-use textarea_data::scroll::Scrolling;
+use textarea_scroll::scroll::Scrolling;
 
 /// What a key asks for with neither Ctrl nor Alt.
 pub(super) fn plain(key: Key, shift: bool) -> Action

@@ -16,8 +16,8 @@ ghost use Rattle.tui_textarea.specs.Moves.{IsScrolled, IsScrolledWith};
 use crate::textarea::TextArea;
 use std::alloc::AllocError;
 use textarea_data::cursor::CursorMove;
-use textarea_data::scroll::Scrolling;
 use textarea_screen::screen::{Buffer, Position, Rect};
+use textarea_scroll::scroll::Scrolling;
 use textarea_viewport::Viewport;
 
 impl TextArea<'_> {

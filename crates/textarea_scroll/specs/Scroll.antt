@@ -1,7 +1,7 @@
 -- Rows and columns as a way to scroll.
 use Rattle.std.specs.Prelude.{ℤ}
-use Rattle.textarea_data.specs.declared.scroll.Scrolling.{Scrolling}
-use Rattle.textarea_data.specs.declared.scroll.Scrolling.TheVariants.{Delta}
+use Rattle.textarea_scroll.specs.declared.scroll.Scrolling.{Scrolling}
+use Rattle.textarea_scroll.specs.declared.scroll.Scrolling.TheVariants.{Delta}
 
 -- by the first number of rows, and by the second of columns
 abbrev pub delta_of : ℤ × ℤ → Scrolling

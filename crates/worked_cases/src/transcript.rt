@@ -1,20 +1,23 @@
 //! Transcripts: calls and what they answer, and the text area on the way.
 //!
 //! A line `CALL => ANSWER` is a call, as a line of a script or as words (`textarea_words`), and what it answers; `*` stands for any
-//! answer. `input_without_shortcuts` has the words of `input`, and the words of `told` tell what no call answers. The inputs of a
-//! line `input HELD KEY | HELD KEY .. => ANSWER` are tried one after another, each in a text area of its own.
+//! answer. `input_without_shortcuts` has the words of `input`, and other words tell what no call answers (`textarea_report::told`).
+//! The inputs of a line `input HELD KEY | HELD KEY .. => ANSWER` are tried one after another, each in a text area of its own.
 //!
 //! Any other line is as `tascript` prints it of the text area at that place: its lines, its cursor, its selection, its screen; what
-//! isn't shown is as it was shown last, also at the end, and before that there is no screen.
+//! isn't shown is as it was shown last, also at the end, and before that there is no screen. Where all calls are lines of scripts,
+//! `tascript` must print the same of the script.
 ghost use Rattle.std.specs.Prelude.{IfSome};
 ghost use Rattle.textarea_calls.specs.Made.{CanBeMade};
 
+use crate::sessions::check_script;
 use std::alloc::{AllocError, Global};
 use textarea_calls::Call;
 use textarea_commands::commands::{Command, read};
 use textarea_report::printing::{Report, Screen};
 use textarea_report::told::told_of;
 use textarea_run::perform::perform;
+use textarea_script::serve::{COLUMNS, ROWS};
 use textarea_words::lines::unescaped;
 use textarea_words::shown::{Script, Shown};
 use textarea_words::stop::{Stop, compare};
@@ -22,27 +25,13 @@ use textarea_words::told::told_answer;
 use textarea_words::words::{Lent, call_of, character, lines_in, titled};
 use tui_textarea::{Borders, Buffer, Color, Rect, Style, TextArea};
 
-/// The columns of the buffer that is drawn into, as many as `tascript` has.
-const COLUMNS: u16 = 80;
-
-/// The rows of the buffer that is drawn into.
-const ROWS: u16 = 24;
-
-/// A script whose calls a transcript made.
-#[derive(Drop)]
-pub struct Tried {
-    /// Its lines.
-    pub script: String,
-    /// What `tascript` must print of it.
-    pub printed: String,
-}
-
-/// Makes the calls of a transcript in a new text area, each with its input of this number, and gives their script, where all are
-/// lines of one.
-pub fn check(alloc: Global, case: &str, choice: usize) -> Result<Option<Tried>, Stop> {
+/// Makes the calls of a transcript, once for each of its inputs.
+pub fn check(alloc: Global, case: &str) -> Result<(), Stop> {
     let lent = lent(alloc)?;
-    let mut trial = Trial::new(alloc, choice)?;
-    check_new(alloc, case, &lent, &mut trial)
+    for choice in 0..choices(case) {
+        check_choice(alloc, case, choice, &lent)?;
+    }
+    Ok(())
 }
 
 // A block in green on yellow, a placeholder of two lines, and a letter's key.
@@ -57,8 +46,8 @@ fn lent(alloc: Global) -> Result<Lent, AllocError> {
     })
 }
 
-/// How many inputs the line with the most has, and 1 at least.
-pub fn choices(case: &str) -> usize {
+// How many inputs the line with the most has, and 1 at least.
+fn choices(case: &str) -> usize {
     let mut most = 1usize;
     for line in case.lines() {
         if line.starts_with("input") {
@@ -68,13 +57,23 @@ pub fn choices(case: &str) -> usize {
     most
 }
 
-fn check_new(
+// Makes the calls in a new text area, with the input of this number.
+fn check_choice(alloc: Global, case: &str, choice: usize, lent: &Lent) -> Result<(), Stop> {
+    let mut trial = Trial::new(alloc, choice)?;
+    check_new(alloc, case, lent, &mut trial)
+}
+
+fn check_new(alloc: Global, case: &str, lent: &Lent, trial: &mut Trial) -> Result<(), Stop> {
+    check_in(alloc, case, lent, TextArea::try_default(alloc)?, trial)
+}
+
+fn check_in(
     alloc: Global,
     case: &str,
     lent: &Lent,
+    mut area: TextArea<'_>,
     trial: &mut Trial,
-) -> Result<Option<Tried>, Stop> {
-    let mut area = TextArea::try_default(alloc)?;
+) -> Result<(), Stop> {
     check_area(alloc, case, lent, &mut area, trial)
 }
 
@@ -84,13 +83,13 @@ fn check_area(
     lent: &Lent,
     area: &mut TextArea<'_>,
     trial: &mut Trial,
-) -> Result<Option<Tried>, Stop> {
+) -> Result<(), Stop> {
     for line in case.lines() {
         trial.try_line(alloc, area, lent, line)?;
     }
     trial.shown.is_new = trial.shown.is_known;
     trial.compare_shown(alloc, area)?;
-    Ok(trial.tried(alloc, area)?)
+    trial.compare_script(alloc, area)
 }
 
 // The line with the input of this number alone, where it has several.
@@ -190,15 +189,14 @@ impl Trial {
         compare(self.cells.printed(alloc, area)?, wanted.as_str())
     }
 
-    // The script, where all calls are lines of one.
-    fn tried(&self, alloc: Global, area: &TextArea<'_>) -> Result<Option<Tried>, AllocError> {
+    // `tascript` must print the same of the script, where all calls are lines of one.
+    fn compare_script(&self, alloc: Global, area: &TextArea<'_>) -> Result<(), Stop> {
         if self.script.has_words {
-            return Ok(None);
+            return Ok(());
         }
-        let script = self.script.lines.clone()?;
         let printed = self.cells.printed(alloc, area)?;
-        let printed = format!(in alloc; "{}{printed}", self.script.answers)?;
-        Ok(Some(Tried { script, printed }))
+        let wanted = format!(in alloc; "{}{printed}", self.script.answers)?;
+        check_script(alloc, self.script.lines.as_str(), wanted.as_str())
     }
 }
 

@@ -1,7 +1,7 @@
 //! How far to scroll.
 
 ghost use Rattle.std.specs.Prelude.{◌≡◌};
-ghost use Rattle.textarea_data.specs.Scroll.{delta_of};
+ghost use Rattle.textarea_scroll.specs.Scroll.{delta_of};
 
 use serde::{Deserialize, Serialize};
 

@@ -1,0 +1,4 @@
+//! How far to scroll, as data.
+#![tactic(auto)]
+
+pub mod scroll;
