@@ -1,6 +1,7 @@
 -- A list is accepted exactly if it is valid; and the list of the rejected, range by range.
-use Rattle.std.proofs.Common.{◌≡◌, ◌≢◌, ◌↔◌, ℕ, ◌≤◌, List, [], ◌∷◌, ◌++◌, Option, Some, None, refl, sym, ap, ◌∙◌, inl, inr, arith, subst, zero-le}
+use Rattle.std.proofs.Common.{◌≡◌, ◌≢◌, ◌↔◌, ℕ, ◌+◌, ◌<◌, ◌≤◌, List, [], ◌∷◌, ◌++◌, Option, Some, None, refl, sym, ap, ◌∙◌, inl, inr, arith, subst, zero-le, drop, get_or, length}
 use Rattle.std.proofs.lemmas.Bool.Decides.{nat_tests}
+use Rattle.std.proofs.lemmas.List.{append_assoc, drop_more}
 use Rattle.std.proofs.lemmas.List.Elements.{All-from_recursion, recursion_from_All}
 use Rattle.std.specs.List.{AllByRecursion}
 use Rattle.textarea_atomic.specs.declared.range.AtomicRange.{AtomicRange}
@@ -141,3 +142,15 @@ pub AreRefused-in_order : (rows : List (List ℕ)) (given held : List AtomicRang
 AreRefused-in_order rows given held rejected order listed some =
     let all : rejected ≡ rejected_of rows (in_order given) = listed ∙ ap (rejected_of rows) order in
     record { listed = all; some = some; invalid = λ valid. some (all ∙ (accepted_if_valid rows given).1 valid) }
+
+-- those listed up to a range of the list, and those that the rest gives behind it, are all; so they are with this one told
+pub listed_on : (rows : List (List ℕ)) (ranges : List AtomicRange) (index : ℕ) (none : AtomicRange) (last after : Option AtomicRange) (items new all : List RejectedAtomicRange) → index < length ranges → items ++ rejected_behind rows last (drop index ranges) ≡ all → new ≡ items ++ with_reason (get_or ranges index none) (reason rows last (get_or ranges index none)) → after ≡ last_valid last (get_or ranges index none) (reason rows last (get_or ranges index none)) → new ++ rejected_behind rows after (drop (index + 1) ranges) ≡ all
+listed_on rows ranges index none last after items new all within old listed is =
+    let range = get_or ranges index none in
+    let why = reason rows last range in
+    let rest = drop (index + 1) ranges in
+    ap (λ (t : List RejectedAtomicRange). t ++ rejected_behind rows after rest) listed
+    ∙ ap (λ (l : Option AtomicRange). (items ++ with_reason range why) ++ rejected_behind rows l rest) is
+    ∙ append_assoc items (with_reason range why) (rejected_behind rows (last_valid last range why) rest)
+    ∙ ap (λ (t : List AtomicRange). items ++ rejected_behind rows last t) (sym (drop_more ranges index none within))
+    ∙ old
