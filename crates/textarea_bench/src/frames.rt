@@ -66,14 +66,18 @@ impl Job {
     /// Draws a frame and then as many as the job has, and answers with the first row of the last one.
     pub fn run(&self, alloc: Global) -> Result<String> {
         let mut buffer = Buffer::empty(alloc, AREA)?;
-        self.draw_text(alloc, &mut buffer)?;
-        Ok(first_row(alloc, &buffer)?)
+        let drawn = self.draw_text(alloc, &mut buffer);
+        drop(buffer);
+        drawn
     }
 
-    // Makes the text area, and draws the frames of it.
-    fn draw_text(&self, alloc: Global, buffer: &mut Buffer) -> Result<()> {
+    // Makes the text area, draws the frames of it, and answers with the first row of the last one.
+    fn draw_text(&self, alloc: Global, buffer: &mut Buffer) -> Result<String> {
         let mut text_area = TextArea::new(self.paragraphs(alloc)?)?;
-        self.draw_frames(&mut text_area, buffer)
+        let drawn = self.draw_frames(&mut text_area, buffer);
+        drop(text_area);
+        drawn?;
+        Ok(first_row(alloc, buffer)?)
     }
 
     // The lines of the text.

@@ -38,12 +38,31 @@ impl<'a> Job<'a> {
         let mut spans = Vec::new(alloc);
         spans.push(Span::raw(text.as_str()))?;
         let line = Line::from_spans(spans);
+        let row = self.draw(alloc, &line);
+        drop(line);
+        row
+    }
+
+    // The symbols of the first row, once all frames of the line are drawn into one buffer.
+    fn draw(&self, alloc: Global, line: &Line) -> Result<String, AllocError> {
         let area = Rect::new(0, 0, self.width, self.height);
         let mut buffer = Buffer::empty(alloc, area)?;
+        let row = self.draw_into(alloc, &mut buffer, line);
+        drop(buffer);
+        row
+    }
+
+    fn draw_into(
+        &self,
+        alloc: Global,
+        buffer: &mut Buffer,
+        line: &Line,
+    ) -> Result<String, AllocError> {
+        let area = buffer.area();
         for _ in 0..self.frames {
-            draw_frame(&mut buffer, area, &line)?;
+            draw_frame(buffer, area, line)?;
         }
-        first_row(alloc, &buffer)
+        first_row(alloc, buffer)
     }
 }
 

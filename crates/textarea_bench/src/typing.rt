@@ -29,6 +29,9 @@ const PARAGRAPH: &str =
 const FULL_ROW: &str =
     "A line that is as wide as the screen, so that one character more takes a row mor";
 
+/// The inner width at first and at the end.
+const INNER_WIDTH: u16 = 81;
+
 /// What is done.
 #[derive(Clone, Copy, Debug)]
 enum Work {
@@ -135,23 +138,21 @@ impl Job {
             },
             tab_len: 4,
             line_numbers: false,
-            inner_width: 81,
+            inner_width: INNER_WIDTH,
         };
         let mut document = Document::new(alloc, Vec::new(alloc), view, 50)?;
-        self.work_on(alloc, &mut document, lines)?;
-        Ok((
-            document.rows_at_width(view.inner_width)?,
-            document.cursor().1,
-        ))
+        let answer = self.work_on(alloc, &mut document, lines);
+        drop(document);
+        answer
     }
 
-    // Sets these lines, or the long one, and does the work.
+    // Sets these lines, or the long one, does the work, and answers with the number of visual rows and the cursor's column.
     fn work_on(
         &self,
         alloc: Global,
         document: &mut Document,
         lines: Vec<String>,
-    ) -> Result<(), AllocError> {
+    ) -> Result<(usize, usize), AllocError> {
         match self.work {
             Work::Line(line) => self.put_line(alloc, document, line)?,
             Work::LastBreaks => put_lines(document, lines, usize::MAX)?,
@@ -160,7 +161,8 @@ impl Job {
         for time in 0..self.times {
             self.work_once(document, time)?;
         }
-        Ok(())
+        let rows = document.rows_at_width(INNER_WIDTH)?;
+        Ok((rows, document.cursor().1))
     }
 
     // The lines of the text; none where it gets one long line.
@@ -238,7 +240,7 @@ fn type_character(document: &mut Document, c: char) -> Result<(), AllocError> {
 
 // The inner width that is set then.
 fn width_of(time: usize) -> u16 {
-    if time % 2 == 0 { 61 } else { 81 }
+    if time % 2 == 0 { 61 } else { INNER_WIDTH }
 }
 
 // Sets the inner width, for which the lines are cut anew.

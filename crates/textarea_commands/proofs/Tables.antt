@@ -1,15 +1,17 @@
 -- The table of commands: names that it doesn't have, and what a name that it has means.
 use Rattle.std.proofs.Common.{◌≡◌, ◌≢◌, ℕ, Bool, true, false, List, [], ◌∷◌, ◌++◌, Option, Some, None, ◌⊎◌, inl, inr, refl, if◌then◌else◌, ◌∙◌, ap, sym, subst, Result, Ok, Err, IsOkAnd, MatchResult}
 use Rattle.std.proofs.lemmas.Slice.Eq.{bytes_eq-Decides}
-use Rattle.std.specs.Prelude.{bytes_eq, option_and_then, option_map}
+use Rattle.std.specs.Prelude.{bytes_eq, option_and_then, option_map, IfOk, IfSome, IsSomeAnd, MatchOption}
+use Rattle.std.specs.Option.{ok_or}
 use Rattle.textarea_commands.specs.Arguments.{IsReadAs, named}
+use Rattle.textarea_calls.specs.Made.{CanBeMade}
 use Rattle.textarea_calls.specs.declared.call.Call.{Call}
-use Rattle.textarea_commands.specs.Script.{meaning_of}
+use Rattle.textarea_commands.specs.Script.{meaning_of, IsReady}
 use Rattle.textarea_commands.specs.declared.arguments.Unread.{Unread}
 use Rattle.textarea_commands.specs.declared.arguments.Unread.TheVariants.{NoCommand, Memory}
 use Rattle.textarea_commands.specs.declared.commands.Content.{Content}
 use Rattle.textarea_commands.specs.declared.commands.Content.TheVariants.{Plain}
-use Rattle.textarea_commands.specs.Commands.{Meaning, borrowing_commands, plain_commands, meant, meant_by, plain_meant}
+use Rattle.textarea_commands.specs.Commands.{Meaning, borrowing_commands, given, plain_commands, meant, meant_by, plain_meant}
 
 -- each row has another name, or means nothing by these arguments
 abbrev pub MeansNothing : List ℕ → Option (List ℕ) → List (List ℕ × (Option (List ℕ) → Option Meaning)) → Type 0
@@ -76,6 +78,15 @@ meant-unread meant means name row arguments reading made none named by_row unrea
     ∙ sym by_row
     ∙ sym (ap (λ given. meant given (Some arguments)) named)
 
+-- what is read in one step is what is read in two
+pub option_map-twice : {A B C : Type 0} (second : B → C) (first : A → B) (read : Option A) → option_map second (option_map first read) ≡ option_map (λ x. second (first x)) read
+option_map-twice second first None = refl
+option_map-twice second first (Some x) = refl
+
+-- where no call is made, none has to be ready
+pub ready-none : (made : Option Call) → made ≡ None → IfSome made CanBeMade
+ready-none made none = subst (λ (made : Option Call). IfSome made CanBeMade) (sym none) tt
+
 -- what is read is made a command's content, and means what was read
 pub read-made : {A V : Type 0} → (view : A → V) (content : A → Content) (means : V → Meaning) (given : Option V) (read : Result A Unread) (made : Result Content Unread) → ((x : A) → meaning_of (content x) ≡ means (view x)) → IsReadAs view given read → MatchResult read (λ x. IsOkAnd made (λ one. one ≡ content x)) (λ unread. made ≡ Err unread) → IsReadAs meaning_of (option_map means given) made
 read-made view content means given (Ok x) (Ok one) told so cases =
@@ -85,3 +96,32 @@ read-made view content means given (Err NoCommand) made told so cases =
     subst (λ (made : Result Content Unread). IsReadAs meaning_of (option_map means given) made) (sym cases) (ap (option_map means) so)
 read-made view content means given (Err Memory) made told so cases =
     subst (λ (made : Result Content Unread). IsReadAs meaning_of (option_map means given) made) (sym cases) tt
+
+-- the content that is made of what is read is ready
+pub ready-read : {A : Type 0} (content : A → Content) (read : Result A Unread) (made : Result Content Unread) → ((x : A) → IsReady (content x)) → MatchResult read (λ x. IsOkAnd made (λ one. one ≡ content x)) (λ unread. made ≡ Err unread) → IfOk made IsReady
+ready-read content (Ok x) (Ok one) ready cases = subst IsReady (sym cases) (ready x)
+ready-read content (Ok x) (Err unread) ready cases = absurd cases
+ready-read content (Err unread) made ready cases = subst (λ (made : Result Content Unread). IfOk made IsReady) (sym cases) tt
+
+-- what is given is made a command's content, which is ready
+pub ready-given : {A : Type 0} (content : A → Content) (given : Option A) (mapped : Option Content) (made : Result Content Unread) → ((x : A) → given ≡ Some x → IsReady (content x)) → MatchOption given (mapped ≡ None) (λ x. IsSomeAnd mapped (λ one. one ≡ content x)) → made ≡ ok_or mapped NoCommand → IfOk made IsReady
+ready-given content None mapped made ready cases value =
+    subst (λ (made : Result Content Unread). IfOk made IsReady) (sym (value ∙ ap (λ (mapped : Option Content). ok_or mapped NoCommand) cases)) tt
+ready-given content (Some x) None made ready cases value = absurd cases
+ready-given content (Some x) (Some one) made ready cases value =
+    subst (λ (made : Result Content Unread). IfOk made IsReady) (sym value) (subst IsReady (sym cases) (ready x refl))
+
+-- and means what was given
+pub given-made : {A : Type 0} (content : A → Content) (means : A → Meaning) (reading given : Option A) (mapped : Option Content) (made : Result Content Unread) → ((x : A) → meaning_of (content x) ≡ means x) → given ≡ reading → MatchOption given (mapped ≡ None) (λ x. IsSomeAnd mapped (λ one. one ≡ content x)) → made ≡ ok_or mapped NoCommand → IsReadAs meaning_of (option_map means reading) made
+given-made content means reading None mapped made told so cases value =
+    subst (λ (made : Result Content Unread). IsReadAs meaning_of (option_map means reading) made)
+    (sym (value ∙ ap (λ (mapped : Option Content). ok_or mapped NoCommand) cases)) (ap (option_map means) (sym so))
+given-made content means reading (Some x) None made told so cases value = absurd cases
+given-made content means reading (Some x) (Some one) made told so cases value =
+    subst (λ (made : Result Content Unread). IsReadAs meaning_of (option_map means reading) made) (sym value)
+    (ap (option_map means) (sym so) ∙ ap Some (sym (told x)) ∙ ap (λ (one : Content). Some (meaning_of one)) (sym cases))
+
+-- what is given behind a name is read, if it is there
+pub given-then : {A : Type 0} (reading : List ℕ → Option A) (means : A → Meaning) (arguments : Option (List ℕ)) → given reading means arguments ≡ option_map means (option_and_then reading arguments)
+given-then reading means None = refl
+given-then reading means (Some arguments) = refl

@@ -17,7 +17,7 @@ use textarea_scroll::scroll::Scrolling;
 use textarea_wrap::wrap::WrapMode;
 
 // Why a command was not read.
-#[derive(Clone, Copy, Debug, PartialEq, Eq)]
+#[derive(Clone, Copy)]
 pub enum Unread {
     // It is none.
     NoCommand,

@@ -53,10 +53,17 @@ fn compare_drawn(area: &mut TextArea<'_>, other: &mut TextArea<'_>) -> Result<()
     let is_measured_alike = area.measure(COLUMNS)? == other.measure(COLUMNS)?;
     same(is_measured_alike, Difference::Measure)?;
     let buffer = drawn(area)?;
-    let other_buffer = drawn(other)?;
-    let are_alike = are_alike_outside(&buffer, &other_buffer, Rect::default());
-    same(are_alike, Difference::Cells)?;
+    let are_alike = is_drawn_so(other, &buffer);
+    drop(buffer);
+    same(are_alike?, Difference::Cells)?;
     compare_shown(area, other)
+}
+
+fn is_drawn_so(area: &mut TextArea<'_>, wanted: &Buffer) -> Result<bool, AllocError> {
+    let buffer = drawn(area)?;
+    let is_alike = are_alike_outside(wanted, &buffer, Rect::default());
+    drop(buffer);
+    Ok(is_alike)
 }
 
 fn drawn(area: &mut TextArea<'_>) -> Result<Buffer, AllocError> {
@@ -99,11 +106,10 @@ fn compare_typed(area: &TextArea<'_>, other: &TextArea<'_>) -> Result<(), Stop> 
 
 // The lines of a clone in which a character was typed and taken back.
 fn typed_lines(area: &TextArea<'_>) -> Result<Vec<String>, AllocError> {
-    lines_behind_typing(area.clone()?)
-}
-
-fn lines_behind_typing(mut area: TextArea<'_>) -> Result<Vec<String>, AllocError> {
-    type_and_undo(&mut area)
+    let mut typed = area.clone()?;
+    let lines = type_and_undo(&mut typed);
+    drop(typed);
+    lines
 }
 
 fn type_and_undo(area: &mut TextArea<'_>) -> Result<Vec<String>, AllocError> {

@@ -23,28 +23,46 @@ pub struct Screen<'a> {
 
 impl fmt::Display for Report<'_, '_> {
     fn fmt<W: fmt::Write>(&self, f: &mut fmt::Formatter<W>) -> fmt::Result {
-        for (index, answer) in self.answers.iter().enumerate() {
-            writeln!(f, "{} {answer}", index + 1)?;
-        }
-        let lines = self.area.lines();
-        writeln!(f, "lines {}", lines.len())?;
-        for line in lines {
-            writeln!(f, "|{}", Escaped(line.as_str()))?;
-        }
-        let (row, column) = self.area.cursor();
-        writeln!(f, "cursor {row} {column}")?;
-        match self.area.selection_range() {
-            Some((start, end)) => writeln!(
-                f,
-                "selection {} {} {} {}",
-                start.0, start.1, end.0, end.1
-            )?,
-            None => writeln!(f, "selection none")?,
-        }
+        write_answers(f, self.answers)?;
+        write_lines(f, self.area.lines())?;
+        write_cursor(f, self.area.cursor())?;
+        write_selection(f, self.area.selection_range())?;
         match self.screen {
             Some(screen) => write!(f, "{screen}"),
             None => Ok(()),
         }
+    }
+}
+
+fn write_answers<W: fmt::Write>(f: &mut fmt::Formatter<W>, answers: &[Answer]) -> fmt::Result {
+    for (index, answer) in answers.iter().enumerate() {
+        writeln!(f, "{} {answer}", index + 1)?;
+    }
+    Ok(())
+}
+
+fn write_lines<W: fmt::Write>(f: &mut fmt::Formatter<W>, lines: &[String]) -> fmt::Result {
+    writeln!(f, "lines {}", lines.len())?;
+    for line in lines {
+        writeln!(f, "|{}", Escaped(line.as_str()))?;
+    }
+    Ok(())
+}
+
+fn write_cursor<W: fmt::Write>(
+    f: &mut fmt::Formatter<W>,
+    (row, column): (usize, usize),
+) -> fmt::Result {
+    writeln!(f, "cursor {row} {column}")
+}
+
+fn write_selection<W: fmt::Write>(
+    f: &mut fmt::Formatter<W>,
+    selection: Option<((usize, usize), (usize, usize))>,
+) -> fmt::Result {
+    match selection {
+        Some((start, end)) => writeln!(f, "selection {} {} {} {}", start.0, start.1, end.0, end.1),
+        None => writeln!(f, "selection none"),
     }
 }
 
@@ -58,14 +76,24 @@ impl fmt::Display for Screen<'_> {
         let right = (area.x + area.width).min(whole.x + whole.width);
         writeln!(f, "screen {}", bottom.saturating_sub(top))?;
         for y in top..bottom {
-            write!(f, "|")?;
-            for x in left..right {
-                if let Some(cell) = buffer.cell(x, y) {
-                    write!(f, "{}", Escaped(cell.symbol()))?;
-                }
-            }
-            writeln!(f, "|")?;
+            write_row(f, buffer, y, (left, right))?;
         }
         Ok(())
     }
+}
+
+// The cells of a row from a column up to another.
+fn write_row<W: fmt::Write>(
+    f: &mut fmt::Formatter<W>,
+    buffer: &Buffer,
+    y: u16,
+    (left, right): (u16, u16),
+) -> fmt::Result {
+    write!(f, "|")?;
+    for x in left..right {
+        if let Some(cell) = buffer.cell(x, y) {
+            write!(f, "{}", Escaped(cell.symbol()))?;
+        }
+    }
+    writeln!(f, "|")
 }

@@ -239,8 +239,8 @@ fn first_other_held((has_shortcuts, all_held, asked): Keys) -> Option<(bool, Hel
     None
 }
 
-fn first_other(all: &[Keys]) -> Option<(bool, Held, Key)> {
-    for keys in all {
+fn first_other() -> Option<(bool, Held, Key)> {
+    for keys in &KEYS {
         if let Some(other) = first_other_held(*keys) {
             return Some(other);
         }
@@ -271,8 +271,8 @@ static ANSWERS: [(Action, [bool; 2]); 18] = [
 ];
 
 // The first of the actions that answers something else.
-fn first_other_answer(answers: &[(Action, [bool; 2])]) -> Option<Action> {
-    for (action, wanted) in answers {
+fn first_other_answer() -> Option<Action> {
+    for (action, wanted) in &ANSWERS {
         if [action.answer(false), action.answer(true)] != *wanted {
             return Some(*action);
         }
@@ -282,7 +282,7 @@ fn first_other_answer(answers: &[(Action, [bool; 2])]) -> Option<Action> {
 
 #[test]
 fn keys_and_answers(rt: HostRuntime) {
-    let others = (first_other(&KEYS), first_other_answer(&ANSWERS));
+    let others = (first_other(), first_other_answer());
     assert_eq!(rt; others, (None, None));
     assert!(rt; action_of(&Input::default()) == Nothing);
 }

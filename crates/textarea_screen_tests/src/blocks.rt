@@ -1,7 +1,7 @@
 //! Blocks of the cases.
 
 use std::alloc::{AllocError, Global};
-use textarea_screen::screen::{Block, Borders, Line, Padding};
+use textarea_screen::screen::{Block, Borders, Line, Padding, Span, Text};
 
 /// What a block has at its sides: their lines, whether a title, and the padding at the left, right, top and bottom.
 #[derive(Clone, Copy)]
@@ -25,13 +25,28 @@ pub const TITLED: Sides = Sides {
     padding: (0, 0, 0, 0),
 };
 
+/// Puts a span of each text behind those of a line.
+pub fn push_spans<'a>(line: &mut Line<'a>, texts: &[&'a str]) -> Result<(), AllocError> {
+    for text in texts {
+        line.spans.push(Span::raw(text))?;
+    }
+    Ok(())
+}
+
 pub fn line(alloc: Global, text: &str) -> Result<Line<'static>, AllocError> {
     Line::raw(String::from_str(alloc, text)?)
 }
 
+/// Puts such a line behind the lines of a text.
+pub fn push_line(alloc: Global, text: &mut Text<'_>, words: &str) -> Result<(), AllocError> {
+    text.lines.push(line(alloc, words)?)?;
+    Ok(())
+}
+
 fn titled(alloc: Global, has_title: bool) -> Result<Block<'static>, AllocError> {
     if has_title {
-        Ok(Block::new().title(line(alloc, "title")?))
+        let title = line(alloc, "title")?;
+        Ok(Block::new().title(title))
     } else {
         Ok(Block::new())
     }

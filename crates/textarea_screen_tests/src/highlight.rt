@@ -242,7 +242,10 @@ fn ask_all(row: &mut LineHighlighter<'_>, calls: &[Call]) -> Result<(), AllocErr
 
 fn shown(alloc: Global, case: &Case) -> Result<Line<'static>, AllocError> {
     let mut row = highlighter(alloc, case.row, case.look);
-    ask_all(&mut row, case.calls)?;
+    if let Err(error) = ask_all(&mut row, case.calls) {
+        drop(row);
+        return Err(error);
+    }
     row.into_spans()
 }
 
@@ -269,12 +272,14 @@ fn is_lent(line: &Line<'_>) -> bool {
 
 fn is_met(alloc: Global, case: &Case) -> Result<bool, AllocError> {
     let line = shown(alloc, case)?;
-    Ok(shows(&line, case.spans) && is_lent(&line) == case.is_lent)
+    let is_met = shows(&line, case.spans) && is_lent(&line) == case.is_lent;
+    drop(line);
+    Ok(is_met)
 }
 
 /// The first of the cases that is not met.
-fn first_unmet(alloc: Global, cases: &[Case]) -> Result<Option<usize>, AllocError> {
-    for (n, case) in cases.iter().enumerate() {
+fn first_unmet(alloc: Global) -> Result<Option<usize>, AllocError> {
+    for (n, case) in CASES.iter().enumerate() {
         if !is_met(alloc, case)? {
             return Ok(Some(n));
         }
@@ -284,7 +289,8 @@ fn first_unmet(alloc: Global, cases: &[Case]) -> Result<Option<usize>, AllocErro
 
 #[test]
 fn rows_with_their_spans(rt: HostRuntime) -> Result<(), Fail> {
-    assert_eq!(rt; first_unmet(rt.alloc(), &CASES)?, None);
+    let unmet = first_unmet(rt.alloc())?;
+    assert_eq!(rt; unmet, None);
     Ok(())
 }
 
@@ -301,20 +307,29 @@ fn shows_in(
     Ok(shows(line, spans) && line.style == Style::new())
 }
 
+/// The spans that are shown of the first row.
+static FIRST: [(&str, u8); 3] = [("a", PLAIN), ("bc", CUSTOM), ("def", PLAIN)];
+
+/// The spans that are shown of the row behind it.
+static SECOND: [(&str, u8); 3] = [("xy", PLAIN), ("z", SELECTION), (" ", SELECTION)];
+
 fn shows_one_behind_another(
     row: &mut LineHighlighter<'static>,
     line: &mut Line<'static>,
 ) -> Result<bool, AllocError> {
-    let first = [("a", PLAIN), ("bc", CUSTOM), ("def", PLAIN)];
-    let shows_first = shows_in(row, line, Call::Custom(1, 3), &first)?;
+    let shows_first = shows_in(row, line, Call::Custom(1, 3), &FIRST)?;
     row.restart("xyz", CursorCellRender::Hidden, 4, None, shade(SELECTION));
-    let second = [("xy", PLAIN), ("z", SELECTION), (" ", SELECTION)];
-    Ok(shows_first && shows_in(row, line, Call::Segment(2, 3, true), &second)?)
+    let shows_second = shows_in(row, line, Call::Segment(2, 3, true), &SECOND)?;
+    Ok(shows_first && shows_second)
 }
 
 fn shows_rows(alloc: Global) -> Result<bool, AllocError> {
     let mut row = highlighter(alloc, "abcdef", DRAWN);
-    shows_one_behind_another(&mut row, &mut Line::new(alloc))
+    let mut line = Line::new(alloc);
+    let shows = shows_one_behind_another(&mut row, &mut line);
+    drop(line);
+    drop(row);
+    shows
 }
 
 #[test]

@@ -1,10 +1,11 @@
 //! Rows and blocks, drawn into the cells of a buffer.
 
+use crate::blocks::push_spans;
 use std::alloc::{AllocError, Global};
 use std::test::Fail;
 use textarea_paint::paint::{RowArea, draw_block, draw_row};
 use textarea_screen::screen::{
-    Alignment, Block, Borders, Buffer, Color, Line, Modifier, Rect, Span, Style,
+    Alignment, Block, Borders, Buffer, Color, Line, Modifier, Rect, Style,
 };
 
 const LEFT: Alignment = Alignment::Left;
@@ -129,8 +130,10 @@ fn symbols(alloc: Global, buffer: &Buffer) -> Result<String, AllocError> {
 
 fn line<'a>(alloc: Global, first: &'a str, second: &'a str) -> Result<Line<'a>, AllocError> {
     let mut line = Line::new(alloc);
-    line.spans.push(Span::raw(first))?;
-    line.spans.push(Span::raw(second))?;
+    if let Err(error) = push_spans(&mut line, &[first, second]) {
+        drop(line);
+        return Err(error);
+    }
     Ok(line)
 }
 
@@ -151,7 +154,9 @@ fn draw_spans(
     (first, second): (&str, &str),
 ) -> Result<(), AllocError> {
     let line = line(alloc, first, second)?;
-    draw_row(buffer, rows, y, &line)
+    let drawn = draw_row(buffer, rows, y, &line);
+    drop(line);
+    drawn
 }
 
 fn sides(alloc: Global, title: &str) -> Result<Block<'_>, AllocError> {
@@ -169,7 +174,9 @@ fn draw_sides(
     area: Rect,
 ) -> Result<(), AllocError> {
     let block = sides(alloc, title)?;
-    draw_block(buffer, area, &block)
+    let drawn = draw_block(buffer, area, &block);
+    drop(block);
+    drawn
 }
 
 fn cells(drawing: Drawing) -> Rect {
@@ -201,19 +208,30 @@ fn draw(alloc: Global, buffer: &mut Buffer, drawing: Drawing) -> Result<(), Allo
     }
 }
 
-fn drawn(alloc: Global, drawing: Drawing) -> Result<String, AllocError> {
-    let mut buffer = Buffer::empty(alloc, cells(drawing))?;
-    draw(alloc, &mut buffer, drawing)?;
-    symbols(alloc, &buffer)
+fn has_symbols(alloc: Global, buffer: &Buffer, wanted: &str) -> Result<bool, AllocError> {
+    Ok(symbols(alloc, buffer)?.as_str() == wanted)
+}
+
+fn draws(
+    alloc: Global,
+    buffer: &mut Buffer,
+    drawing: Drawing,
+    wanted: &str,
+) -> Result<bool, AllocError> {
+    draw(alloc, buffer, drawing)?;
+    has_symbols(alloc, buffer, wanted)
 }
 
 fn is_drawn(alloc: Global, drawing: Drawing, wanted: &str) -> Result<bool, AllocError> {
-    Ok(drawn(alloc, drawing)?.as_str() == wanted)
+    let mut buffer = Buffer::empty(alloc, cells(drawing))?;
+    let is_drawn = draws(alloc, &mut buffer, drawing, wanted);
+    drop(buffer);
+    is_drawn
 }
 
 // The first of the cases in which other symbols are drawn: which it is, and its symbols.
-fn first_other(alloc: Global, cases: &[Case]) -> Result<Option<(usize, &'static str)>, AllocError> {
-    for (n, (drawing, wanted)) in cases.iter().enumerate() {
+fn first_other(alloc: Global) -> Result<Option<(usize, &'static str)>, AllocError> {
+    for (n, (drawing, wanted)) in CASES.iter().enumerate() {
         if !is_drawn(alloc, *drawing, wanted)? {
             return Ok(Some((n, *wanted)));
         }
@@ -223,7 +241,8 @@ fn first_other(alloc: Global, cases: &[Case]) -> Result<Option<(usize, &'static 
 
 #[test]
 fn rows_and_blocks(rt: HostRuntime) -> Result<(), Fail> {
-    assert_eq!(rt; first_other(rt.alloc(), &CASES)?, None);
+    let other = first_other(rt.alloc())?;
+    assert_eq!(rt; other, None);
     Ok(())
 }
 
@@ -233,9 +252,12 @@ fn frame(buffer: &mut Buffer, area: Rect, line: &Line) -> Result<(), AllocError>
         .borders(Borders::LEFT.union(Borders::TOP))
         .style(Style::new().bg(Color::Blue))
         .border_style(Style::new().fg(Color::Red));
-    draw_block(buffer, area, &block)?;
+    let inner = block.inner(area);
+    let drawn = draw_block(buffer, area, &block);
+    drop(block);
+    drawn?;
     let rows = RowArea {
-        area: block.inner(area),
+        area: inner,
         alignment: Alignment::Left,
         left: 0,
         style: Style::new().add_modifier(Modifier::BOLD),
@@ -278,22 +300,27 @@ type Framed = (bool, Option<(u16, u16)>);
 
 fn framed(alloc: Global, buffer: &mut Buffer, line: &Line) -> Result<Framed, AllocError> {
     frame(buffer, Rect::new(0, 0, 3, 3), line)?;
-    let is_drawn = symbols(alloc, buffer)?.as_str() == "┌|─|─|\n│|a| |\n│| | |\n";
+    let is_drawn = has_symbols(alloc, buffer, "┌|─|─|\n│|a| |\n│| | |\n")?;
     Ok((is_drawn, first_other_style(buffer, &STYLES)))
 }
 
-fn framed_twice(
-    alloc: Global,
-    buffer: &mut Buffer,
-    line: &Line,
-) -> Result<(Framed, Framed), AllocError> {
-    Ok((framed(alloc, buffer, line)?, framed(alloc, buffer, line)?))
+// The frame of a new row, in a buffer that may show one.
+fn framed_row(alloc: Global, buffer: &mut Buffer) -> Result<Framed, AllocError> {
+    let line = line(alloc, "a", "")?;
+    let framed = framed(alloc, buffer, &line);
+    drop(line);
+    framed
+}
+
+fn framed_twice(alloc: Global, buffer: &mut Buffer) -> Result<(Framed, Framed), AllocError> {
+    Ok((framed_row(alloc, buffer)?, framed_row(alloc, buffer)?))
 }
 
 fn frames_over_one_another(alloc: Global) -> Result<(Framed, Framed), AllocError> {
     let mut buffer = Buffer::empty(alloc, Rect::new(0, 0, 3, 3))?;
-    let line = line(alloc, "a", "")?;
-    framed_twice(alloc, &mut buffer, &line)
+    let framed = framed_twice(alloc, &mut buffer);
+    drop(buffer);
+    framed
 }
 
 #[test]

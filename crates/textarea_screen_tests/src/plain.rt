@@ -1,4 +1,6 @@
 // Defaults, conversions, copies, and what is shown by `Debug`.
+use std::alloc::{AllocError, Global};
+use std::fmt::Debug;
 use std::test::Fail;
 use textarea_data::cursor::DataCursor;
 use textarea_data::input::{Input, Key};
@@ -23,13 +25,19 @@ fn places_and_amounts(rt: HostRuntime) {
     assert!(rt; scrolling == Scrolling::Delta { rows: 1, cols: -2 });
 }
 
+fn is_shown<T>(alloc: Global, value: &T) -> Result<bool, AllocError>
+where
+    T: Debug,
+{
+    let shown = format!(in alloc; "{value:?}")?;
+    Ok(!shown.is_empty())
+}
+
 #[test]
 fn shown_by_debug(rt: HostRuntime) -> Result<(), Fail> {
-    let key = Key::Char('a');
-    let shown = format!(in rt.alloc(); "{key:?}")?;
-    assert!(rt; !shown.is_empty());
-    let input = Input::default();
-    let shown = format!(in rt.alloc(); "{input:?}")?;
-    assert!(rt; !shown.is_empty());
+    let is_key_shown = is_shown(rt.alloc(), &Key::Char('a'))?;
+    assert!(rt; is_key_shown);
+    let is_input_shown = is_shown(rt.alloc(), &Input::default())?;
+    assert!(rt; is_input_shown);
     Ok(())
 }

@@ -1,6 +1,6 @@
 //! Rectangles, blocks, styles, sets of bits, texts and cells, as tables.
 
-use crate::blocks::{ALL, Sides, TITLED, block, line};
+use crate::blocks::{ALL, Sides, TITLED, block, push_line};
 use bitflags::Flags;
 use std::alloc::{AllocError, Global};
 use std::test::Fail;
@@ -128,16 +128,15 @@ fn inner(
     sides: Sides,
     (x, y, width, height): Numbers,
 ) -> Result<Numbers, AllocError> {
-    let inner = block(alloc, sides)?.inner(Rect::new(x, y, width, height));
+    let block = block(alloc, sides)?;
+    let inner = block.inner(Rect::new(x, y, width, height));
+    drop(block);
     Ok((inner.x, inner.y, inner.width, inner.height))
 }
 
 /// The first of the blocks that leaves something else of its area.
-fn first_other_inner(
-    alloc: Global,
-    blocks: &[(Sides, Numbers, Numbers)],
-) -> Result<Option<usize>, AllocError> {
-    for (n, (sides, area, wanted)) in blocks.iter().enumerate() {
+fn first_other_inner(alloc: Global) -> Result<Option<usize>, AllocError> {
+    for (n, (sides, area, wanted)) in INNER.iter().enumerate() {
         if inner(alloc, *sides, *area)? != *wanted {
             return Ok(Some(n));
         }
@@ -147,7 +146,8 @@ fn first_other_inner(
 
 #[test]
 fn inside_of_a_block(rt: HostRuntime) -> Result<(), Fail> {
-    assert_eq!(rt; first_other_inner(rt.alloc(), &INNER)?, None);
+    let other = first_other_inner(rt.alloc())?;
+    assert_eq!(rt; other, None);
     Ok(())
 }
 
@@ -234,26 +234,34 @@ fn bits_of_the_sets(rt: HostRuntime) {
     assert!(rt; others == (None, None) && are_whole_sets_right());
 }
 
-fn two_spans(alloc: Global) -> Result<Line<'static>, AllocError> {
-    let mut line = line(alloc, "title")?;
+fn push_lent(line: &mut Line<'_>) -> Result<(), AllocError> {
     line.spans.push(Span {
         content: SpanText::Borrowed("lent"),
         style: Style::new().fg(Color::Green),
     })?;
-    Ok(line)
+    Ok(())
 }
 
-fn one_line(alloc: Global) -> Result<Text<'static>, AllocError> {
-    let mut text = Text {
-        lines: Vec::new(alloc),
-        style: Style::new().bg(Color::Indexed(7)),
-    };
-    text.lines.push(two_spans(alloc)?)?;
-    Ok(text)
+/// Puts a line of two spans behind the lines of a text.
+fn push_two_spans(alloc: Global, text: &mut Text<'_>) -> Result<(), AllocError> {
+    push_line(alloc, text, "title")?;
+    match text.lines.last_mut() {
+        Some(line) => push_lent(line),
+        None => Ok(()),
+    }
+}
+
+fn copy_with_line<'a>(alloc: Global, text: &mut Text<'a>) -> Result<Text<'a>, AllocError> {
+    push_two_spans(alloc, text)?;
+    text.clone()
 }
 
 fn copy_of_one_line(alloc: Global) -> Result<Text<'static>, AllocError> {
-    one_line(alloc)?.clone()
+    let mut text = Text::new(alloc);
+    text.style = Style::new().bg(Color::Indexed(7));
+    let copy = copy_with_line(alloc, &mut text);
+    drop(text);
+    copy
 }
 
 fn is_span(span: &Span<'_>) -> bool {
@@ -284,7 +292,10 @@ fn is_one_line(text: &Text<'_>) -> bool {
 
 #[test]
 fn copies_of_texts(rt: HostRuntime) -> Result<(), Fail> {
-    assert!(rt; is_one_line(&copy_of_one_line(rt.alloc())?));
+    let copy = copy_of_one_line(rt.alloc())?;
+    let is_one_line = is_one_line(&copy);
+    drop(copy);
+    assert!(rt; is_one_line);
     Ok(())
 }
 
@@ -327,12 +338,18 @@ fn is_styled(cell: &Cell) -> bool {
 fn cells_of_a_buffer(rt: HostRuntime) -> Result<(), Fail> {
     let area = Rect::new(65533, 7, 4, 3);
     let buffer = Buffer::empty(rt.alloc(), area)?;
-    assert!(rt; buffer.area() == area && first_other_place(&buffer, &BUFFERED) == None);
+    let has_area = buffer.area() == area;
+    let other = first_other_place(&buffer, &BUFFERED);
+    drop(buffer);
+    assert!(rt; has_area && other == None);
     Ok(())
 }
 
 #[test]
 fn cells(rt: HostRuntime) {
-    assert!(rt; is_styled(&styled_cell()));
+    let cell = styled_cell();
+    let is_styled = is_styled(&cell);
+    drop(cell);
+    assert!(rt; is_styled);
     assert!(rt; Alignment::Left != Alignment::Right);
 }

@@ -1,9 +1,9 @@
 //! What surrounds the rows of a text area, as tables: calls, and what the surround tells behind them.
 
-use crate::blocks::{ALL, Sides, TITLED, block, line};
+use crate::blocks::{ALL, Sides, TITLED, block, push_line, push_spans};
 use std::alloc::{AllocError, Global};
 use std::test::Fail;
-use textarea_screen::screen::{Borders, Color, Line, Modifier, Span, Style, Text};
+use textarea_screen::screen::{Borders, Color, Line, Modifier, Style, Text};
 use textarea_surround::Surround;
 
 const GRAY: Style = Style {
@@ -225,44 +225,77 @@ static COPIED: [Told; 4] = [
     Told::Measure((7, 2, true), (1, 3, 3, 9)),
 ];
 
-fn lines(alloc: Global, texts: &[&str]) -> Result<Text<'static>, AllocError> {
-    let mut lines = Vec::new(alloc);
-    for text in texts {
-        lines.push(line(alloc, text)?)?;
-    }
-    Ok(Text { lines, style: RED })
-}
-
-fn line_of_spans(alloc: Global, texts: &[&'static str]) -> Result<Line<'static>, AllocError> {
-    let mut line = Line::new(alloc);
-    for text in texts {
-        line.spans.push(Span::raw(text))?;
-    }
-    Ok(line)
-}
-
-fn lines_below(
+/// Puts a line of these spans behind the lines of a text.
+fn push_line_of_spans(
     alloc: Global,
+    text: &mut Text<'static>,
     spans: &[&'static str],
-    below: &[&str],
-) -> Result<Text<'static>, AllocError> {
-    let mut text = lines(alloc, below)?;
-    text.lines.insert(0, line_of_spans(alloc, spans)?)?;
-    Ok(text)
+) -> Result<(), AllocError> {
+    text.lines.push(Line::new(alloc))?;
+    match text.lines.last_mut() {
+        Some(line) => push_spans(line, spans),
+        None => Ok(()),
+    }
+}
+
+/// Puts a line of each of these behind the lines of a text.
+fn push_lines(alloc: Global, text: &mut Text<'static>, lines: &[&str]) -> Result<(), AllocError> {
+    for words in lines {
+        push_line(alloc, text, words)?;
+    }
+    Ok(())
+}
+
+/// The same, behind a line of spans if there is one.
+fn push_all(
+    alloc: Global,
+    text: &mut Text<'static>,
+    spans: Option<&[&'static str]>,
+    lines: &[&str],
+) -> Result<(), AllocError> {
+    if let Some(spans) = spans {
+        push_line_of_spans(alloc, text, spans)?;
+    }
+    push_lines(alloc, text, lines)
+}
+
+/// Sets a placeholder of such lines, in red.
+fn set_lines(
+    alloc: Global,
+    surround: &mut Surround<'static>,
+    spans: Option<&[&'static str]>,
+    lines: &[&str],
+) -> Result<(), AllocError> {
+    let mut text: Text<'static> = Text::new(alloc);
+    text.style = RED;
+    let pushed = push_all(alloc, &mut text, spans, lines);
+    if pushed.is_ok() {
+        surround.set_styled_placeholder(text);
+    } else {
+        drop(text);
+    }
+    pushed
+}
+
+fn set_block(
+    alloc: Global,
+    surround: &mut Surround<'static>,
+    sides: Sides,
+) -> Result<(), AllocError> {
+    surround.set_block(block(alloc, sides)?);
+    Ok(())
 }
 
 fn ask(alloc: Global, surround: &mut Surround<'static>, call: Call) -> Result<(), AllocError> {
     match call {
         Call::MinRows(rows) => surround.set_min_rows(rows),
         Call::MaxRows(rows) => surround.set_max_rows(rows),
-        Call::Block(sides) => surround.set_block(block(alloc, sides)?),
+        Call::Block(sides) => set_block(alloc, surround, sides)?,
         Call::NoBlock => surround.remove_block(),
         Call::PlaceholderText(text) => surround.set_placeholder_text(text)?,
         Call::PlaceholderStyle(style) => surround.set_placeholder_style(style),
-        Call::Placeholder(texts) => surround.set_styled_placeholder(lines(alloc, texts)?),
-        Call::PlaceholderOfSpans(spans, below) => {
-            surround.set_styled_placeholder(lines_below(alloc, spans, below)?)
-        }
+        Call::Placeholder(texts) => set_lines(alloc, surround, None, texts)?,
+        Call::PlaceholderOfSpans(spans, below) => set_lines(alloc, surround, Some(spans), below)?,
     }
     Ok(())
 }
@@ -336,12 +369,15 @@ fn first_unmet_by(
 }
 
 fn first_unmet_of(alloc: Global, steps: &[Step]) -> Result<Option<usize>, AllocError> {
-    first_unmet_by(alloc, &mut Surround::new(alloc), steps)
+    let mut surround = Surround::new(alloc);
+    let unmet = first_unmet_by(alloc, &mut surround, steps);
+    drop(surround);
+    unmet
 }
 
 /// The first of the runs in which a step isn't met, and that step.
-fn first_unmet(alloc: Global, runs: &[&[Step]]) -> Result<Option<(usize, usize)>, AllocError> {
-    for (n, steps) in runs.iter().enumerate() {
+fn first_unmet(alloc: Global) -> Result<Option<(usize, usize)>, AllocError> {
+    for (n, steps) in RUNS.iter().enumerate() {
         if let Some(step) = first_unmet_of(alloc, steps)? {
             return Ok(Some((n, step)));
         }
@@ -375,20 +411,22 @@ fn first_lost(
 ) -> Result<Option<usize>, AllocError> {
     ask_all(alloc, surround, &SET)?;
     let copied = surround.clone()?;
-    first_untold_by(&copied, surround)
+    let untold = first_untold_by(&copied, surround);
+    drop(copied);
+    untold
 }
 
 /// The first that a copy of a surround doesn't tell.
 fn first_not_copied(alloc: Global) -> Result<Option<usize>, AllocError> {
-    first_lost(alloc, &mut Surround::new(alloc))
+    let mut surround = Surround::new(alloc);
+    let lost = first_lost(alloc, &mut surround);
+    drop(surround);
+    lost
 }
 
 #[test]
 fn told_behind_calls_and_by_copies(rt: HostRuntime) -> Result<(), Fail> {
-    let others = (
-        first_unmet(rt.alloc(), &RUNS)?,
-        first_not_copied(rt.alloc())?,
-    );
+    let others = (first_unmet(rt.alloc())?, first_not_copied(rt.alloc())?);
     assert_eq!(rt; others, (None, None));
     Ok(())
 }

@@ -2,11 +2,55 @@
 
 use textarea_screen::screen::{Position, Rect};
 use textarea_scroll::scroll::Scrolling;
-use textarea_scroll::scroll::Scrolling::{HalfPageDown, HalfPageUp, PageDown, PageUp};
+use textarea_scroll::scroll::Scrolling::{Delta, HalfPageDown, HalfPageUp, PageDown, PageUp};
 use textarea_viewport::{RowView, Viewport};
 
 /// A height, ways to scroll, and the first and the last row that are shown then.
-type Scrolled = (u16, [Scrolling; 3], usize, usize);
+type Scrolled = (u16, &'static [Scrolling], usize, usize);
+
+static SCROLLED: [Scrolled; 7] = [
+    (
+        8,
+        &[
+            Delta { rows: 15, cols: 0 },
+            Delta { rows: -5, cols: 0 },
+            Delta { rows: -5, cols: 0 },
+        ],
+        5,
+        12,
+    ),
+    (
+        8,
+        &[
+            Delta { rows: 15, cols: 0 },
+            Delta { rows: -5, cols: 0 },
+            Delta { rows: 0, cols: 0 },
+        ],
+        10,
+        17,
+    ),
+    (8, &[PageDown, PageDown, Delta { rows: -17, cols: 0 }], 0, 7),
+    (
+        8,
+        &[PageDown, Delta { rows: 3, cols: 0 }, HalfPageUp],
+        7,
+        14,
+    ),
+    (
+        5,
+        &[HalfPageDown, HalfPageDown, Delta { rows: 0, cols: 0 }],
+        4,
+        8,
+    ),
+    (5, &[Delta { rows: 9, cols: 0 }, PageUp, HalfPageUp], 2, 6),
+    // An area without rows is drawn from the row behind the cursor's on.
+    (
+        0,
+        &[PageDown, HalfPageDown, Delta { rows: 2, cols: 0 }],
+        3,
+        3,
+    ),
+];
 
 /// How far the viewport was scrolled, a row, and that row in the viewport.
 static ROWS: [(i32, usize, usize); 5] = [
@@ -31,13 +75,18 @@ static CARETS: [Caret; 5] = [
     (0, 1, 2, 5, None),
 ];
 
-/// A row in its area, a cell by column and row, and the row and the column that are hit there.
-type Hit = (RowView, u16, u16, Option<(usize, usize)>);
+/// Whether a row is behind an offset, a cell by column and row, and the row and the column that are hit there.
+type Hit = (bool, u16, u16, Option<(usize, usize)>);
 
-/// Rows down, as a way to scroll.
-fn rows(rows: i16) -> Scrolling {
-    Scrolling::Delta { rows, cols: 0 }
-}
+static HITS: [Hit; 7] = [
+    (false, 12, 5, Some((0, 2))),
+    (false, 9, 5, None),
+    (false, 17, 5, Some((0, 5))),
+    (false, 12, 6, None),
+    (true, 12, 7, Some((0, 0))),
+    (true, 15, 6, Some((0, 2))),
+    (true, 15, 8, None),
+];
 
 /// The viewport once a text is drawn in an area of this size, the cursor in its first row.
 fn drawn(width: u16, height: u16) -> Viewport {
@@ -53,8 +102,8 @@ fn position_after(height: u16, scrollings: &[Scrolling]) -> (usize, usize, usize
 }
 
 /// The first of the cases in which other rows are shown.
-fn first_other_scrolled(cases: &[Scrolled]) -> Option<usize> {
-    for (n, (height, scrollings, first, last)) in cases.iter().enumerate() {
+fn first_other_scrolled() -> Option<usize> {
+    for (n, (height, scrollings, first, last)) in SCROLLED.iter().enumerate() {
         if position_after(*height, scrollings) != (*first, 0, *last, 23) {
             return Some(n);
         }
@@ -74,17 +123,7 @@ fn scrolled_far() -> ((usize, usize), (usize, usize)) {
 
 #[test]
 fn rows_shown_after_scrolls(rt: HostRuntime) {
-    // an area without rows is drawn from the row behind the cursor's on
-    let cases = [
-        (8, [rows(15), rows(-5), rows(-5)], 5, 12),
-        (8, [rows(15), rows(-5), rows(0)], 10, 17),
-        (8, [PageDown, PageDown, rows(-17)], 0, 7),
-        (8, [PageDown, rows(3), HalfPageUp], 7, 14),
-        (5, [HalfPageDown, HalfPageDown, rows(0)], 4, 8),
-        (5, [rows(9), PageUp, HalfPageUp], 2, 6),
-        (0, [PageDown, HalfPageDown, rows(2)], 3, 3),
-    ];
-    assert_eq!(rt; first_other_scrolled(&cases), None);
+    assert_eq!(rt; first_other_scrolled(), None);
     assert!(rt; Viewport::default().rect() == (0, 0, 0, 0));
     assert!(rt; scrolled_far() == ((4294967294, 3), (2147483646, 0)));
 }
@@ -169,10 +208,19 @@ fn hit(view: RowView, position: Position) -> Option<(usize, usize)> {
     }
 }
 
+/// "hello" at the left of an area of one row, or behind an offset of 3 in one of three rows.
+fn row(is_behind_offset: bool) -> RowView {
+    if is_behind_offset {
+        RowView::at_offset(drawn(8, 3), Rect::new(10, 5, 8, 3), 3, 0)
+    } else {
+        RowView::at_left(drawn(8, 1), Rect::new(10, 5, 8, 1), 0)
+    }
+}
+
 /// The first of the cells at which something else is hit.
-fn first_other_hit(hits: &[Hit]) -> Option<(u16, u16)> {
-    for (view, x, y, wanted) in hits {
-        if hit(*view, Position { x: *x, y: *y }) != *wanted {
+fn first_other_hit() -> Option<(u16, u16)> {
+    for (is_behind_offset, x, y, wanted) in &HITS {
+        if hit(row(*is_behind_offset), Position { x: *x, y: *y }) != *wanted {
             return Some((*x, *y));
         }
     }
@@ -181,23 +229,9 @@ fn first_other_hit(hits: &[Hit]) -> Option<(u16, u16)> {
 
 #[test]
 fn hits(rt: HostRuntime) {
-    // "hello" at the left of the area (10, 5, 8, 1), and behind an offset of 3 in one of three rows
-    let low = Rect::new(10, 5, 8, 1);
-    let high = Rect::new(10, 5, 8, 3);
-    let left = RowView::at_left(drawn(8, 1), low, 0);
-    let right = RowView::at_offset(drawn(8, 3), high, 3, 0);
-    let hits = [
-        (left, 12, 5, Some((0, 2))),
-        (left, 9, 5, None),
-        (left, 17, 5, Some((0, 5))),
-        (left, 12, 6, None),
-        (right, 12, 7, Some((0, 0))),
-        (right, 15, 6, Some((0, 2))),
-        (right, 15, 8, None),
-    ];
-    assert_eq!(rt; first_other_hit(&hits), None);
+    assert_eq!(rt; first_other_hit(), None);
     let corner = Position { x: 65535, y: 65535 };
     let empty = Rect::new(65535, 65535, 10, 10);
     assert!(rt; drawn(0, 0).hit_row(empty, 0, corner) == None);
-    assert!(rt; Viewport::at_start(low).rect() == (0, 0, 8, 1));
+    assert!(rt; Viewport::at_start(Rect::new(10, 5, 8, 1)).rect() == (0, 0, 8, 1));
 }

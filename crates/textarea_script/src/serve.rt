@@ -113,16 +113,10 @@ fn read_script<R: Read>(alloc: Global, reader: &mut R) -> Result<Vec<Command>, F
 
 // What is printed of a script of these commands.
 fn printed_of(alloc: Global, commands: Vec<Command>) -> Result<String, Failure> {
-    printed_in(alloc, TextArea::try_default(alloc)?, commands)
-}
-
-// What is printed of a run of the commands' calls on this text area, which is let go.
-fn printed_in(
-    alloc: Global,
-    mut area: TextArea<'_>,
-    commands: Vec<Command>,
-) -> Result<String, Failure> {
-    printed_behind(alloc, &mut area, commands)
+    let mut area = TextArea::try_default(alloc)?;
+    let printed = printed_behind(alloc, &mut area, commands);
+    drop(area);
+    printed
 }
 
 // What is printed of a run of the commands' calls.

@@ -184,15 +184,10 @@ fn printed_of_inputs(alloc: Global, inputs: &[Input]) -> Result<String, AllocErr
     ensures { IfOk result
         (λ printed. IsPrinted (new_state []) inputs.now (string_bytes printed)) }
 {
-    printed_on(alloc, TextArea::try_default(alloc)?, inputs)
-}
-
-// What is printed of the inputs' run on this text area, which is let go.
-fn printed_on(alloc: Global, mut area: TextArea<'_>, inputs: &[Input]) -> Result<String, AllocError>
-    ensures { IfOk result
-        (λ printed. IsPrinted area.entry inputs.now (string_bytes printed)) }
-{
-    printed_behind(alloc, &mut area, inputs)
+    let mut area = TextArea::try_default(alloc)?;
+    let printed = printed_behind(alloc, &mut area, inputs);
+    drop(area);
+    printed
 }
 
 // What is printed of the inputs' run on a text area.

@@ -64,11 +64,10 @@ pub fn copy_stands_alone(area: &mut TextArea<'_>) -> Result<bool, AllocError> {
 }
 
 fn copy_and_change(area: &mut TextArea<'_>) -> Result<bool, AllocError> {
-    change_and_compare(area.clone()?, area)
-}
-
-fn change_and_compare(copy: TextArea<'_>, area: &mut TextArea<'_>) -> Result<bool, AllocError> {
-    change_beside(area, &copy)
+    let copy = area.clone()?;
+    let stands_alone = change_beside(area, &copy);
+    drop(copy);
+    stands_alone
 }
 
 fn change_beside(area: &mut TextArea<'_>, copy: &TextArea<'_>) -> Result<bool, AllocError> {

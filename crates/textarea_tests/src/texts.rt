@@ -1,5 +1,6 @@
-// Texts, as strings and as lines.
+// Texts, as strings, as lines and as bytes.
 use std::alloc::{AllocError, Global};
+use std::str::from_utf8;
 
 /// A string of each text.
 pub fn strings(alloc: Global, texts: &[&str]) -> Result<Vec<String>, AllocError> {
@@ -17,4 +18,9 @@ pub fn are_lines(lines: &[String], wanted: &[&str]) -> bool {
             .iter()
             .zip(wanted)
             .all(|(line, wanted)| line.as_str() == *wanted)
+}
+
+/// The text of these bytes, where they are one.
+pub fn text_of(bytes: &[u8]) -> &str {
+    from_utf8(bytes).unwrap_or("no UTF-8")
 }

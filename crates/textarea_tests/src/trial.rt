@@ -1,4 +1,4 @@
-// What is tried with a text area. One function owns each that is tried, since to own one is dear to prove; all else is lent it.
+// What is tried with a text area. One function owns each that is tried, and lends it to all else.
 use crate::given::copy_stands_alone;
 use crate::many_lines::{are_shown_and_scrolled, lines_of_x};
 use crate::quick_start::is_as_told;
@@ -37,9 +37,8 @@ impl Trial {
 
 /// Tries it with a text area of its own: whether all was as it must be.
 pub fn succeeds(alloc: Global, trial: Trial) -> Result<bool, AllocError> {
-    succeeds_in(alloc, trial, trial.area(alloc)?)
-}
-
-fn succeeds_in(alloc: Global, trial: Trial, mut area: TextArea<'_>) -> Result<bool, AllocError> {
-    trial.is_right(alloc, &mut area)
+    let mut area = trial.area(alloc)?;
+    let is_right = trial.is_right(alloc, &mut area);
+    drop(area);
+    is_right
 }

@@ -15,6 +15,7 @@ use textarea_edit::edit::{Edit, EditKind};
 use textarea_lines::laid_out::LaidOutLines;
 use textarea_lines::settings::{LayoutSettings, is_wrapped};
 use textarea_map::view::LaidOutView;
+use textarea_pieces::given::copy_pieces;
 use textarea_text::rows::column_count;
 use textarea_wrap::wrap::WrapMode;
 
@@ -44,25 +45,18 @@ enum Fact {
 #[derive(Clone, Copy)]
 enum Step {
     See(Fact),
-    /// Each place is seen where it would be if the lines were laid out now.
-    SeeAsAnew,
     /// How many rows there are at a width.
     Count(u16, usize),
     /// The rows at a width that is prepared while these stand.
     Prepare(u16, &'static [&'static str], &'static [&'static str]),
     /// The rows at a width that is put in.
     PutWidth(u16, &'static [&'static str]),
-    PutSettings(LayoutSettings),
     PutTabLength(u8),
     /// The one line that is held then.
     PutLine(&'static str),
     Break(Place),
-    /// A character at the end, which is taken back.
-    TypeAndTakeBack,
-    /// A break at the end, which is taken back.
-    BreakAndTakeBack,
-    /// The same: how many rows there are between, and where the end of the text is seen.
-    BreakAndTakeBackFrom(usize, Place),
+    /// A break at the end, which is taken back: how many rows there are between, and where the end of the text is seen.
+    BreakAndTakeBack(usize, Place),
 }
 
 const GLYPHS: LayoutSettings = LayoutSettings {
@@ -77,6 +71,20 @@ const NUMBERED: LayoutSettings = LayoutSettings {
     tab_len: 4,
     line_numbers: true,
     inner_width: 11,
+};
+
+const NUMBERED_WHOLE: LayoutSettings = LayoutSettings {
+    mode: WrapMode::None,
+    tab_len: 4,
+    line_numbers: true,
+    inner_width: 11,
+};
+
+const NARROW_WORDS: LayoutSettings = LayoutSettings {
+    mode: WrapMode::Word,
+    tab_len: 4,
+    line_numbers: false,
+    inner_width: 4,
 };
 
 const WHOLE: LayoutSettings = LayoutSettings {
@@ -124,7 +132,7 @@ static CASES: [Case; 10] = [
         NUMBERED,
         &[
             Step::See(Fact::End(9, (8, 7))),
-            Step::BreakAndTakeBackFrom(19, (18, 0)),
+            Step::BreakAndTakeBack(19, (18, 0)),
             Step::See(Fact::End(9, (8, 7))),
         ],
     ),
@@ -286,11 +294,12 @@ fn is_so(laid: &LaidOutLines, fact: Fact) -> bool {
 
 // The same lines, laid out now.
 fn laid_out_anew(laid: &LaidOutLines) -> Result<LaidOutLines, AllocError> {
-    let mut lines = Vec::new(laid.allocator());
-    for line in laid.lines() {
-        lines.push(line.clone()?)?;
-    }
-    LaidOutLines::new(laid.allocator(), lines, laid.layout_settings())
+    let alloc = laid.allocator();
+    LaidOutLines::new(
+        alloc,
+        copy_pieces(alloc, laid.lines())?,
+        laid.layout_settings(),
+    )
 }
 
 fn is_line_alike(laid: &LaidOutLines, anew: &LaidOutLines, row: usize, end: usize) -> bool {
@@ -313,7 +322,10 @@ fn is_alike(laid: &LaidOutLines, anew: &LaidOutLines) -> bool {
 }
 
 fn is_as_anew(laid: &LaidOutLines) -> Result<bool, AllocError> {
-    Ok(is_alike(laid, &laid_out_anew(laid)?))
+    let anew = laid_out_anew(laid)?;
+    let answer = is_alike(laid, &anew);
+    drop(anew);
+    Ok(answer)
 }
 
 // Makes an edit and undoes it. The end as it is seen between, if the rows are those of lines laid out anew before and after.
@@ -389,6 +401,7 @@ fn prepares(
     let prepared = laid.prepare_width(inner_width)?;
     let is_kept = has_rows(&laid.view(), rows);
     let is_prepared = has_rows(&laid.view_with(&prepared), expected);
+    drop(prepared);
     Ok(is_kept && is_prepared)
 }
 
@@ -419,8 +432,8 @@ fn put_line(laid: &mut LaidOutLines, text: &str) -> Result<(), AllocError> {
     laid.set_lines(vec![in laid.allocator(); line]?)
 }
 
-fn done(outcome: Result<(), AllocError>) -> Result<bool, AllocError> {
-    outcome?;
+fn puts_line(laid: &mut LaidOutLines, text: &str) -> Result<bool, AllocError> {
+    put_line(laid, text)?;
     Ok(true)
 }
 
@@ -428,17 +441,13 @@ fn done(outcome: Result<(), AllocError>) -> Result<bool, AllocError> {
 fn leads_there(laid: &mut LaidOutLines, step: Step) -> Result<bool, AllocError> {
     match step {
         Step::See(fact) => Ok(is_so(laid, fact)),
-        Step::SeeAsAnew => is_as_anew(laid),
         Step::Count(width, rows) => Ok(laid.rows_at_width(width)? == rows),
         Step::Prepare(width, rows, expected) => prepares(laid, width, rows, expected),
         Step::PutWidth(width, expected) => set_width(laid, width, expected),
-        Step::PutSettings(settings) => done(laid.set_layout_settings(settings)),
         Step::PutTabLength(tab_len) => sets_tab_len(laid, tab_len),
-        Step::PutLine(text) => done(put_line(laid, text)),
+        Step::PutLine(text) => puts_line(laid, text),
         Step::Break(place) => breaks(laid, place),
-        Step::TypeAndTakeBack => Ok(type_and_take_back(laid)?.is_some()),
-        Step::BreakAndTakeBack => Ok(break_and_take_back(laid)?.is_some()),
-        Step::BreakAndTakeBackFrom(rows, visual) => {
+        Step::BreakAndTakeBack(rows, visual) => {
             Ok(break_and_take_back(laid)? == Some((rows, visual)))
         }
     }
@@ -457,7 +466,9 @@ fn astray(laid: &mut LaidOutLines, steps: &[Step]) -> Result<Option<usize>, Allo
 // The first of the steps over the lines of a case that leads elsewhere.
 fn astray_in(alloc: Global, case: &Case) -> Result<Option<usize>, AllocError> {
     let mut laid = laid_out(alloc, case.0, case.1)?;
-    astray(&mut laid, case.2)
+    let step = astray(&mut laid, case.2);
+    drop(laid);
+    step
 }
 
 // The first of the cases in which a step leads elsewhere, and which step that is.
@@ -470,24 +481,14 @@ fn first_unmet(alloc: Global, cases: &[Case]) -> Result<Option<(usize, usize)>, 
     Ok(None)
 }
 
-#[test]
-fn steps_over_lines(rt: HostRuntime) -> Result<(), Fail> {
-    assert_eq!(rt; first_unmet(rt.alloc(), &CASES)?, None);
-    Ok(())
+fn cases() -> &'static [Case] {
+    &CASES
 }
 
-// The lines behind the steps, and the first step that leads elsewhere.
-fn lines_behind(
-    alloc: Global,
-    texts: &[&str],
-    settings: LayoutSettings,
-    steps: &[Step],
-) -> Result<(Option<usize>, Vec<String>), AllocError>
-    ensures { IfOk result (λ found. 0 < vec_len found.1) }
-{
-    let mut laid = laid_out(alloc, texts, settings)?;
-    let step = astray(&mut laid, steps)?;
-    Ok((step, laid.into_lines()))
+#[test]
+fn steps_over_lines(rt: HostRuntime) -> Result<(), Fail> {
+    assert_eq!(rt; first_unmet(rt.alloc(), cases())?, None);
+    Ok(())
 }
 
 fn put_lines(laid: &mut LaidOutLines, lines: Vec<String>) -> Result<bool, AllocError>
@@ -502,26 +503,40 @@ fn are_put(alloc: Global, lines: Vec<String>, settings: LayoutSettings) -> Resul
     requires { 0 < vec_len lines }
 {
     let mut others = laid_out(alloc, &[], settings)?;
-    put_lines(&mut others, lines)
+    let answer = put_lines(&mut others, lines);
+    drop(others);
+    answer
 }
 
-// Whether the rows are those of lines laid out anew, over edits under some settings and under others.
+// Whether the rows are those of lines laid out anew, and stay so over a character.
+fn is_right(laid: &mut LaidOutLines) -> Result<bool, AllocError> {
+    Ok(is_as_anew(laid)? && type_and_take_back(laid)?.is_some())
+}
+
+// Whether they are so under the settings that stand, there over a break, too, and under others.
+fn is_right_over(laid: &mut LaidOutLines, other: LayoutSettings) -> Result<bool, AllocError> {
+    let was_right = is_right(laid)? && break_and_take_back(laid)?.is_some();
+    laid.set_layout_settings(other)?;
+    Ok(is_right(laid)? && was_right)
+}
+
+// Whether they are so under some settings and under others, and for the lines in place of none.
 fn is_right_under(
     alloc: Global,
     settings: LayoutSettings,
     other: LayoutSettings,
 ) -> Result<bool, AllocError> {
-    let steps = [
-        Step::SeeAsAnew,
-        Step::TypeAndTakeBack,
-        Step::BreakAndTakeBack,
-        Step::PutSettings(other),
-        Step::SeeAsAnew,
-        Step::TypeAndTakeBack,
-    ];
-    let (step, lines) = lines_behind(alloc, &NINE_LINES, settings, &steps)?;
-    Ok(are_put(alloc, lines, settings)? && step.is_none())
+    let mut laid = laid_out(alloc, &NINE_LINES, settings)?;
+    let was_right = is_right_over(&mut laid, other);
+    Ok(are_put(alloc, laid.into_lines(), settings)? && was_right?)
 }
+
+static SETTINGS: [(LayoutSettings, LayoutSettings); 4] = [
+    (NUMBERED, NUMBERED_WHOLE),
+    (NUMBERED_WHOLE, HIDDEN_NUMBERED),
+    (NARROW_WORDS, NUMBERED),
+    (HIDDEN_NUMBERED, NARROW_WORDS),
+];
 
 // The first of the settings under which they aren't.
 fn first_wrong_under(
@@ -538,27 +553,7 @@ fn first_wrong_under(
 
 #[test]
 fn rows_are_those_of_lines_laid_out_anew(rt: HostRuntime) -> Result<(), Fail> {
-    let narrow = LayoutSettings {
-        mode: WrapMode::Word,
-        inner_width: 4,
-        line_numbers: false,
-        ..NUMBERED
-    };
-    let whole = LayoutSettings {
-        mode: WrapMode::None,
-        ..NUMBERED
-    };
-    let hidden = LayoutSettings {
-        inner_width: 0,
-        ..NUMBERED
-    };
-    let settings = [
-        (NUMBERED, whole),
-        (whole, hidden),
-        (narrow, NUMBERED),
-        (hidden, narrow),
-    ];
-    assert!(rt; first_wrong_under(rt.alloc(), &settings)?.is_none());
+    assert!(rt; first_wrong_under(rt.alloc(), &SETTINGS)?.is_none());
     Ok(())
 }
 
@@ -566,18 +561,23 @@ fn is_one_line(lines: &[String]) -> bool {
     lines.len() == 1 && lines[0].as_str() == "abc"
 }
 
+static HELD: [Step; 6] = [
+    Step::See(Fact::Empty(true)),
+    Step::See(Fact::Settings(WHOLE)),
+    Step::See(Fact::End(1, (0, 0))),
+    Step::PutLine("abc"),
+    Step::See(Fact::Empty(false)),
+    Step::See(Fact::End(1, (0, 3))),
+];
+
 // Whether one line takes the place of none, and is given back.
 fn is_held(alloc: Global) -> Result<bool, AllocError> {
-    let steps = [
-        Step::See(Fact::Empty(true)),
-        Step::See(Fact::Settings(WHOLE)),
-        Step::See(Fact::End(1, (0, 0))),
-        Step::PutLine("abc"),
-        Step::See(Fact::Empty(false)),
-        Step::See(Fact::End(1, (0, 3))),
-    ];
-    let (step, lines) = lines_behind(alloc, &[], WHOLE, &steps)?;
-    Ok(is_one_line(lines.as_slice()) && step.is_none())
+    let mut laid = laid_out(alloc, &[], WHOLE)?;
+    let step = astray(&mut laid, &HELD);
+    let lines = laid.into_lines();
+    let is_given_back = is_one_line(lines.as_slice());
+    drop(lines);
+    Ok(step?.is_none() && is_given_back)
 }
 
 fn is_place_in(view: &LaidOutView<'_>, place: Place) -> bool
@@ -613,7 +613,9 @@ fn lends_its_rows(laid: &LaidOutLines) -> bool {
 // Whether lines are lent with their rows.
 fn is_view_lent(alloc: Global) -> Result<bool, AllocError> {
     let laid = laid_out(alloc, &TWO_LINES, GLYPHS)?;
-    Ok(lends_its_rows(&laid))
+    let answer = lends_its_rows(&laid);
+    drop(laid);
+    Ok(answer)
 }
 
 #[test]

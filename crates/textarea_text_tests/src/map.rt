@@ -263,7 +263,9 @@ fn first_wrong_of(
     facts: &[Fact],
 ) -> Result<Option<usize>, AllocError> {
     let map = ScreenMap::new(alloc, lines, wrapping, &mut WrapCount::new())?;
-    Ok(first_wrong_in(&map, lines, facts))
+    let wrong = first_wrong_in(&map, lines, facts);
+    drop(map);
+    Ok(wrong)
 }
 
 // The first of the facts that is not so in the map of the lines of a case.
@@ -282,9 +284,13 @@ fn first_unmet(alloc: Global, cases: &[Case]) -> Result<Option<(usize, usize)>, 
     Ok(None)
 }
 
+fn cases() -> &'static [Case] {
+    &CASES
+}
+
 #[test]
 fn places_and_rows(rt: HostRuntime) -> Result<(), Fail> {
-    assert_eq!(rt; first_unmet(rt.alloc(), &CASES)?, None);
+    assert_eq!(rt; first_unmet(rt.alloc(), cases())?, None);
     Ok(())
 }
 
@@ -382,14 +388,18 @@ fn is_as_anew(
     requires { AreRowsOf map.now.wrapping (lines_of lines.now) map.now.rows }
 {
     let anew = ScreenMap::new(alloc, lines, wrapping, counter)?;
-    Ok(is_same(map, &anew, lines))
+    let answer = is_same(map, &anew, lines);
+    drop(anew);
+    Ok(answer)
 }
 
 fn is_copied(map: &ScreenMap, lines: &[String]) -> Result<bool, AllocError>
     requires { AreRowsOf map.now.wrapping (lines_of lines.now) map.now.rows }
 {
     let copy = map.clone()?;
-    Ok(is_same(map, &copy, lines))
+    let answer = is_same(map, &copy, lines);
+    drop(copy);
+    Ok(answer)
 }
 
 // Some lines, and which lines they take the place of, both fewer than the limit.
@@ -466,7 +476,9 @@ fn follows_over(
     requires { 0 < made.limit }
 {
     let mut map = ScreenMap::new(alloc, lines.as_slice(), wrapping, &mut WrapCount::new())?;
-    follows_all(alloc, &mut map, lines, made, wrapping)
+    let answer = follows_all(alloc, &mut map, lines, made, wrapping);
+    drop(map);
+    answer
 }
 
 fn wrapped(mode: WrapMode, width: usize) -> Wrapping {
@@ -485,48 +497,53 @@ fn follows(alloc: Global, made: Replacements, wrapping: Wrapping) -> Result<bool
     follows_over(alloc, &mut lines, made, wrapping)
 }
 
-fn some_replacements(seed: u64) -> Replacements {
-    Replacements {
-        seed,
-        limit: 5,
-        count: 150,
-    }
-}
+/// The limit of lines in each replacement, and how many there are.
+type Amount = (usize, usize);
 
-// Replacements of more lines than a block of the map has.
-fn large_replacements(seed: u64) -> Replacements {
-    Replacements {
-        seed,
-        limit: 1500,
-        count: 5,
+const SMALL: Amount = (5, 150);
+
+/// More lines than a block of the map has.
+const LARGE: Amount = (1500, 5);
+
+/// What the numbers of replacements begin with, the amount of these, and how their lines are wrapped: the mode and the width.
+type Followed = (u64, Amount, (WrapMode, usize));
+
+static FOLLOWED: [Followed; 7] = [
+    (1, SMALL, (WrapMode::None, 0)),
+    (2, SMALL, (WrapMode::Word, 9)),
+    (3, SMALL, (WrapMode::Glyph, 5)),
+    (4, SMALL, (WrapMode::WordOrGlyph, 1)),
+    (5, SMALL, (WrapMode::Word, 200)),
+    (6, LARGE, (WrapMode::None, 0)),
+    (7, LARGE, (WrapMode::Word, 9)),
+];
+
+fn is_followed(alloc: Global, case: &Followed) -> Result<bool, AllocError> {
+    let (seed, (limit, count), (mode, width)) = *case;
+    if limit == 0 {
+        return Ok(false);
     }
+    let made = Replacements { seed, limit, count };
+    follows(alloc, made, wrapped(mode, width))
 }
 
 // The first of the replacements, by their seed, that a map doesn't follow.
-fn first_unfollowed(
-    alloc: Global,
-    cases: &[(Replacements, Wrapping)],
-) -> Result<Option<u64>, AllocError> {
-    for (made, wrapping) in cases {
-        if made.limit == 0 || !follows(alloc, *made, *wrapping)? {
-            return Ok(Some(made.seed));
+fn first_unfollowed(alloc: Global, cases: &[Followed]) -> Result<Option<u64>, AllocError> {
+    for case in cases {
+        if !is_followed(alloc, case)? {
+            return Ok(Some(case.0));
         }
     }
     Ok(None)
 }
 
+fn followed() -> &'static [Followed] {
+    &FOLLOWED
+}
+
 #[test]
 fn follows_replacements(rt: HostRuntime) -> Result<(), Fail> {
-    let cases = [
-        (some_replacements(1), ONE_ROW_A_LINE),
-        (some_replacements(2), wrapped(WrapMode::Word, 9)),
-        (some_replacements(3), wrapped(WrapMode::Glyph, 5)),
-        (some_replacements(4), wrapped(WrapMode::WordOrGlyph, 1)),
-        (some_replacements(5), wrapped(WrapMode::Word, 200)),
-        (large_replacements(6), ONE_ROW_A_LINE),
-        (large_replacements(7), wrapped(WrapMode::Word, 9)),
-    ];
-    assert_eq!(rt; first_unfollowed(rt.alloc(), &cases)?, None);
+    assert_eq!(rt; first_unfollowed(rt.alloc(), followed())?, None);
     Ok(())
 }
 
@@ -565,7 +582,9 @@ fn follows_breaks_of(
 ) -> Result<bool, AllocError> {
     let wrapping = wrapped(WrapMode::Word, 9);
     let mut map = ScreenMap::new(alloc, lines.as_slice(), wrapping, &mut WrapCount::new())?;
-    follows_breaks(alloc, &mut map, lines, row, count, wrapping)
+    let answer = follows_breaks(alloc, &mut map, lines, row, count, wrapping);
+    drop(map);
+    answer
 }
 
 // A block that is filled up is halved.

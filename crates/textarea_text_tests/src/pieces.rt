@@ -34,19 +34,26 @@ static CASES: [Case; 8] = [
 ];
 
 fn is_joined(alloc: Global, pieces: &[String], joined: &str) -> Result<bool, AllocError> {
-    Ok(join_with_line_feeds(alloc, pieces)?.as_str() == joined)
+    let text = join_with_line_feeds(alloc, pieces)?;
+    let answer = text.as_str() == joined;
+    drop(text);
+    Ok(answer)
 }
 
 fn is_whole(alloc: Global, pieces: &[String], joined: &str) -> Result<bool, AllocError> {
     let copy = copy_pieces(alloc, pieces)?;
-    is_joined(alloc, &copy, joined)
+    let answer = is_joined(alloc, &copy, joined);
+    drop(copy);
+    answer
 }
 
 fn is_part(alloc: Global, pieces: &[String], place: Place, joined: &str) -> Result<bool, AllocError>
     requires { 0 < length pieces.now }
 {
     let part = between(alloc, pieces, (0, 0), clip(pieces, place))?;
-    is_joined(alloc, &part, joined)
+    let answer = is_joined(alloc, &part, joined);
+    drop(part);
+    answer
 }
 
 fn is_written(alloc: Global, pieces: &[String], written: Written) -> Result<bool, AllocError>
@@ -60,27 +67,35 @@ fn is_written(alloc: Global, pieces: &[String], written: Written) -> Result<bool
 
 fn is_met(alloc: Global, case: &Case) -> Result<bool, AllocError> {
     let pieces = pieces_of(alloc, case.0)?;
-    is_written(alloc, pieces.as_slice(), case.1)
+    let answer = is_written(alloc, pieces.as_slice(), case.1);
+    drop(pieces);
+    answer
 }
 
-// The first of the cases of which something else is written: which it is, and its text.
-fn first_other(alloc: Global, cases: &[Case]) -> Result<Option<(usize, &'static str)>, AllocError> {
+// The first of the cases of which something else is written.
+fn first_other(alloc: Global, cases: &[Case]) -> Result<Option<usize>, AllocError> {
     for (n, case) in cases.iter().enumerate() {
         if !is_met(alloc, case)? {
-            return Ok(Some((n, case.0)));
+            return Ok(Some(n));
         }
     }
     Ok(None)
 }
 
+fn cases() -> &'static [Case] {
+    &CASES
+}
+
 #[test]
 fn given_and_written(rt: HostRuntime) -> Result<(), Fail> {
-    assert_eq!(rt; first_other(rt.alloc(), &CASES)?, None);
+    assert_eq!(rt; first_other(rt.alloc(), cases())?, None);
     Ok(())
 }
 
 /// A line, a tab length, and the spaces from the line's end to the tab stop.
-static TAB_STOPS: [(&str, u8, u8); 6] = [
+type TabStop = (&'static str, u8, u8);
+
+static TAB_STOPS: [TabStop; 6] = [
     ("", 4, 4),
     ("abcd", 4, 4),
     ("a犬", 4, 1),
@@ -89,17 +104,25 @@ static TAB_STOPS: [(&str, u8, u8); 6] = [
     ("abc", 255, 252),
 ];
 
+fn is_stop((line, tab_length, spaces): TabStop) -> bool {
+    tab_length > 0 && spaces_to_stop(line, column_count(line), tab_length) == spaces
+}
+
 // The first of the lines that has other spaces behind it.
-fn first_other_stop(stops: &[(&'static str, u8, u8)]) -> Option<&'static str> {
-    for (line, tab_length, spaces) in stops {
-        if *tab_length == 0 || spaces_to_stop(line, column_count(line), *tab_length) != *spaces {
-            return Some(*line);
+fn first_other_stop(stops: &[TabStop]) -> Option<&'static str> {
+    for stop in stops {
+        if !is_stop(*stop) {
+            return Some(stop.0);
         }
     }
     None
 }
 
+fn stops() -> &'static [TabStop] {
+    &TAB_STOPS
+}
+
 #[test]
 fn tab_stops(rt: HostRuntime) {
-    assert_eq!(rt; first_other_stop(&TAB_STOPS), None);
+    assert_eq!(rt; first_other_stop(stops()), None);
 }

@@ -20,10 +20,13 @@ fn rejected(range: AtomicRange, reason: AtomicRangeRejectReason) -> RejectedAtom
 fn are_accepted(alloc: Global, lines: &[String]) -> Result<bool, AllocError> {
     let given = vec![in alloc; part(0, 1, 3), part(0, 0, 1)]?;
     let expected = [part(0, 0, 1), part(0, 1, 3)];
-    match validate(alloc, given, lines)? {
-        Ok(held) => Ok(held.as_slice() == expected.as_slice()),
-        Err(_) => Ok(false),
-    }
+    let outcome = validate(alloc, given, lines)?;
+    let answer = match &outcome {
+        Ok(held) => held.as_slice() == expected.as_slice(),
+        Err(_) => false,
+    };
+    drop(outcome);
+    Ok(answer)
 }
 
 fn are_refused(alloc: Global, lines: &[String]) -> Result<bool, AllocError> {
@@ -40,22 +43,37 @@ fn are_refused(alloc: Global, lines: &[String]) -> Result<bool, AllocError> {
         rejected(part(0, 2, 4), AtomicRangeRejectReason::ColumnOutOfBounds),
         rejected(part(1, 0, 1), AtomicRangeRejectReason::RowOutOfBounds),
     ];
-    match validate(alloc, given, lines)? {
-        Ok(_) => Ok(false),
-        Err(error) => Ok(error.rejected.as_slice() == expected.as_slice()),
-    }
+    let outcome = validate(alloc, given, lines)?;
+    let answer = match &outcome {
+        Ok(_) => false,
+        Err(error) => error.rejected.as_slice() == expected.as_slice(),
+    };
+    drop(outcome);
+    Ok(answer)
+}
+
+fn accepts(alloc: Global) -> Result<bool, AllocError> {
+    let lines = strings(alloc, &["a犬c"])?;
+    let answer = are_accepted(alloc, lines.as_slice());
+    drop(lines);
+    answer
+}
+
+fn refuses(alloc: Global) -> Result<bool, AllocError> {
+    let lines = strings(alloc, &["abc"])?;
+    let answer = are_refused(alloc, lines.as_slice());
+    drop(lines);
+    answer
 }
 
 #[test]
 fn accepted(rt: HostRuntime) -> Result<(), Fail> {
-    let lines = strings(rt.alloc(), &["a犬c"])?;
-    assert!(rt; are_accepted(rt.alloc(), &lines)?);
+    assert!(rt; accepts(rt.alloc())?);
     Ok(())
 }
 
 #[test]
 fn refused(rt: HostRuntime) -> Result<(), Fail> {
-    let lines = strings(rt.alloc(), &["abc"])?;
-    assert!(rt; are_refused(rt.alloc(), &lines)?);
+    assert!(rt; refuses(rt.alloc())?);
     Ok(())
 }

@@ -4,9 +4,7 @@ ghost use Rattle.std.specs.Prelude.{◌<◌, length};
 use crate::texts::{Place, strings};
 use std::alloc::{AllocError, Global};
 use std::test::Fail;
-use textarea_search::search::{
-    KeepingMatcher, KeptMatches, LineMatcher, Matches, Search, SearchError,
-};
+use textarea_search::search::{KeptMatches, LineMatcher, Matches, Search, SearchError};
 
 /// What is found in lines.
 #[derive(Clone, Copy)]
@@ -157,14 +155,27 @@ fn are_all(found: &mut Matches, spans: &[(usize, usize)]) -> bool {
 }
 
 fn lists(search: &Search, line: &str, spans: &[(usize, usize)]) -> Result<bool, AllocError> {
-    match search.matches(line)? {
-        Some(mut found) => Ok(are_all(&mut found, spans)),
-        None => Ok(false),
-    }
+    let mut found = search.matches(line)?;
+    let answer = match &mut found {
+        Some(found) => are_all(found, spans),
+        None => false,
+    };
+    drop(found);
+    Ok(answer)
 }
 
 fn are_same(spans: &[(usize, usize)], listed: &[(usize, usize)]) -> bool {
     spans == listed
+}
+
+fn lists_one(
+    matcher: &mut LineMatcher<'_>,
+    line: &str,
+    spans: &mut Vec<(usize, usize)>,
+    list: &[(usize, usize)],
+) -> Result<bool, AllocError> {
+    matcher.spans_into(line, spans)?;
+    Ok(are_same(spans, list))
 }
 
 fn lists_each(
@@ -173,9 +184,8 @@ fn lists_each(
     spans: &mut Vec<(usize, usize)>,
     lists: &[&[(usize, usize)]],
 ) -> Result<bool, AllocError> {
-    for (line, list) in lines.iter().zip(lists) {
-        matcher.spans_into(line.as_str(), spans)?;
-        if !are_same(spans, list) {
+    for (n, line) in lines.iter().enumerate() {
+        if n >= lists.len() || !lists_one(matcher, line.as_str(), spans, lists[n])? {
             return Ok(false);
         }
     }
@@ -183,19 +193,26 @@ fn lists_each(
 }
 
 fn lists_line_after_line(
-    alloc: Global,
     search: &Search,
     lines: &[String],
+    spans: &mut Vec<(usize, usize)>,
     lists: &[&[(usize, usize)]],
 ) -> Result<bool, AllocError> {
     match search.line_matcher()? {
-        Some(mut matcher) => lists_each(&mut matcher, lines, &mut Vec::new(alloc), lists),
+        Some(mut matcher) => lists_each(&mut matcher, lines, spans, lists),
         None => Ok(false),
     }
 }
 
 fn has_no_list(search: &Search, line: &str) -> Result<bool, AllocError> {
-    Ok(search.matches(line)?.is_none())
+    let found = search.matches(line)?;
+    let answer = found.is_none();
+    drop(found);
+    Ok(answer)
+}
+
+fn leads_nowhere(search: &Search, lines: &[String], is_forward: bool) -> Result<bool, AllocError> {
+    Ok(found_from(search, lines, (0, 0), is_forward, true)?.is_none())
 }
 
 // Whether a search leads nowhere from the first line, and lists no matches of it.
@@ -203,8 +220,8 @@ fn finds_nothing(search: &Search, lines: &[String]) -> Result<bool, AllocError>
     requires { 0 < length lines.now }
 {
     Ok(
-        search.forward(lines, (0, 0), true)?.is_none()
-            && search.back(lines, (0, 0), true)?.is_none()
+        leads_nowhere(search, lines, true)?
+            && leads_nowhere(search, lines, false)?
             && has_no_list(search, lines[0].as_str())?,
     )
 }
@@ -226,7 +243,9 @@ fn finds(
             )
         }
         Found::Matches(spans) => lists(search, lines[0].as_str(), spans),
-        Found::LineAfterLine(lists) => lists_line_after_line(alloc, search, lines, lists),
+        Found::LineAfterLine(lists) => {
+            lists_line_after_line(search, lines, &mut Vec::new(alloc), lists)
+        }
         Found::Nothing => finds_nothing(search, lines),
     }
 }
@@ -238,30 +257,46 @@ fn finds_in(
     found: Found,
 ) -> Result<bool, AllocError> {
     let lines = strings(alloc, texts)?;
-    finds(alloc, search, lines.as_slice(), found)
+    let answer = finds(alloc, search, lines.as_slice(), found);
+    drop(lines);
+    answer
 }
 
-fn is_met(alloc: Global, (pattern, texts, found): Case) -> Result<bool, AllocError> {
+fn sets_pattern(alloc: Global, search: &mut Search, pattern: &str) -> bool {
+    let outcome = search.set_pattern(alloc, pattern);
+    let answer = outcome.is_ok();
+    drop(outcome);
+    answer
+}
+
+fn is_met(alloc: Global, case: &Case) -> Result<bool, AllocError> {
     let mut search = Search::default();
-    if search.set_pattern(alloc, pattern).is_err() {
-        return Ok(false);
-    }
-    finds_in(alloc, &search, texts, found)
+    let answer = if sets_pattern(alloc, &mut search, case.0) {
+        finds_in(alloc, &search, case.1, case.2)
+    } else {
+        Ok(false)
+    };
+    drop(search);
+    answer
 }
 
-// The first of the cases that isn't met: which it is, and its pattern.
-fn first_unmet(alloc: Global, cases: &[Case]) -> Result<Option<(usize, &'static str)>, AllocError> {
+// The first of the cases that isn't met.
+fn first_unmet(alloc: Global, cases: &[Case]) -> Result<Option<usize>, AllocError> {
     for (n, case) in cases.iter().enumerate() {
-        if !is_met(alloc, *case)? {
-            return Ok(Some((n, case.0)));
+        if !is_met(alloc, case)? {
+            return Ok(Some(n));
         }
     }
     Ok(None)
 }
 
+fn cases() -> &'static [Case] {
+    &CASES
+}
+
 #[test]
 fn found_in_lines(rt: HostRuntime) -> Result<(), Fail> {
-    assert_eq!(rt; first_unmet(rt.alloc(), &CASES)?, None);
+    assert_eq!(rt; first_unmet(rt.alloc(), cases())?, None);
     Ok(())
 }
 
@@ -281,50 +316,62 @@ static KEPT: [Kept; 5] = [
     ("", (7, "a fo"), &[]),
 ];
 
-fn list_by(
-    mut matcher: KeepingMatcher<'_, '_>,
-    (number, line): (usize, &str),
-    spans: &mut Vec<(usize, usize)>,
-) -> Result<(), AllocError> {
-    matcher.spans_into(number, line, spans)
-}
-
 // Lists the matches of a line into a vector that may hold others.
 fn list_kept(
     search: &Search,
     kept: &mut KeptMatches,
-    line: (usize, &str),
+    (number, line): (usize, &str),
     spans: &mut Vec<(usize, usize)>,
 ) -> Result<(), AllocError> {
-    list_by(search.keeping_matcher(kept, 1)?, line, spans)
+    let mut matcher = search.keeping_matcher(kept, 1)?;
+    matcher.spans_into(number, line, spans)
 }
 
-// The first of the lines that is listed in another way: which it is, and its pattern.
+// Whether the pattern is set and the line then has its matches.
+fn lists_kept(
+    alloc: Global,
+    search: &mut Search,
+    kept: &mut KeptMatches,
+    spans: &mut Vec<(usize, usize)>,
+    (pattern, line, listed): &Kept,
+) -> Result<bool, AllocError> {
+    let is_set = sets_pattern(alloc, search, pattern);
+    list_kept(search, kept, *line, spans)?;
+    Ok(is_set && are_same(spans, listed))
+}
+
+// The first of the lines that is listed in another way.
 fn first_other_kept(
     alloc: Global,
     search: &mut Search,
     kept: &mut KeptMatches,
     spans: &mut Vec<(usize, usize)>,
-) -> Result<Option<(usize, &'static str)>, AllocError> {
-    for (n, (pattern, line, listed)) in KEPT.iter().enumerate() {
-        let is_set = search.set_pattern(alloc, pattern).is_ok();
-        list_kept(search, kept, *line, spans)?;
-        if !is_set || !are_same(spans, listed) {
-            return Ok(Some((n, *pattern)));
+    lines: &[Kept],
+) -> Result<Option<usize>, AllocError> {
+    for (n, line) in lines.iter().enumerate() {
+        if !lists_kept(alloc, search, kept, spans, line)? {
+            return Ok(Some(n));
         }
     }
     Ok(None)
 }
 
-fn first_unkept(alloc: Global) -> Result<Option<(usize, &'static str)>, AllocError> {
+fn first_unkept(alloc: Global, lines: &[Kept]) -> Result<Option<usize>, AllocError> {
+    let mut search = Search::default();
     let mut kept = KeptMatches::new(alloc);
-    let mut spans = Vec::new(alloc);
-    first_other_kept(alloc, &mut Search::default(), &mut kept, &mut spans)
+    let other = first_other_kept(alloc, &mut search, &mut kept, &mut Vec::new(alloc), lines);
+    drop(kept);
+    drop(search);
+    other
+}
+
+fn kept_lines() -> &'static [Kept] {
+    &KEPT
 }
 
 #[test]
 fn kept_line_after_line(rt: HostRuntime) -> Result<(), Fail> {
-    assert_eq!(rt; first_unkept(rt.alloc())?, None);
+    assert_eq!(rt; first_unkept(rt.alloc(), kept_lines())?, None);
     Ok(())
 }
 
@@ -341,11 +388,14 @@ static SETTINGS: [Setting; 4] = [
 
 // Whether a pattern is set or, as none of the syntax of `regex`, refused.
 fn is_taken(alloc: Global, search: &mut Search, pattern: &str, is_set: bool) -> bool {
-    match search.set_pattern(alloc, pattern) {
+    let outcome = search.set_pattern(alloc, pattern);
+    let answer = match &outcome {
         Ok(()) => is_set,
         Err(SearchError::Pattern(regex::Error::Syntax(_))) => !is_set,
         Err(_) => false,
-    }
+    };
+    drop(outcome);
+    answer
 }
 
 fn is_for(search: &Search, pattern: Option<&str>) -> bool {
@@ -355,7 +405,9 @@ fn is_for(search: &Search, pattern: Option<&str>) -> bool {
 // What is searched for, also by a copy.
 fn is_also_for(search: &Search, pattern: Option<&str>) -> Result<bool, AllocError> {
     let copy = search.clone()?;
-    Ok(is_for(search, pattern) && is_for(&copy, pattern))
+    let answer = is_for(search, pattern) && is_for(&copy, pattern);
+    drop(copy);
+    Ok(answer)
 }
 
 // What is searched for. Without a pattern nothing is found.
@@ -366,23 +418,38 @@ fn goes_on(alloc: Global, search: &Search, pattern: Option<&str>) -> Result<bool
     )
 }
 
-// The first of the patterns behind which something else is searched for: which it is, and the pattern.
+fn sets(alloc: Global, search: &mut Search, setting: &Setting) -> Result<bool, AllocError> {
+    let (pattern, is_set, wanted) = *setting;
+    Ok(is_taken(alloc, search, pattern, is_set) && goes_on(alloc, search, wanted)?)
+}
+
+// The first of the patterns behind which something else is searched for.
 fn first_other(
     alloc: Global,
     search: &mut Search,
     settings: &[Setting],
-) -> Result<Option<(usize, &'static str)>, AllocError> {
-    for (n, (pattern, is_set, wanted)) in settings.iter().enumerate() {
-        if !is_taken(alloc, search, pattern, *is_set) || !goes_on(alloc, search, *wanted)? {
-            return Ok(Some((n, *pattern)));
+) -> Result<Option<usize>, AllocError> {
+    for (n, setting) in settings.iter().enumerate() {
+        if !sets(alloc, search, setting)? {
+            return Ok(Some(n));
         }
     }
     Ok(None)
 }
 
+fn first_unlike(alloc: Global, settings: &[Setting]) -> Result<Option<usize>, AllocError> {
+    let mut search = Search::default();
+    let other = first_other(alloc, &mut search, settings);
+    drop(search);
+    other
+}
+
+fn settings() -> &'static [Setting] {
+    &SETTINGS
+}
+
 #[test]
 fn patterns(rt: HostRuntime) -> Result<(), Fail> {
-    let other = first_other(rt.alloc(), &mut Search::default(), &SETTINGS)?;
-    assert_eq!(rt; other, None);
+    assert_eq!(rt; first_unlike(rt.alloc(), settings())?, None);
     Ok(())
 }

@@ -40,56 +40,75 @@ static LINES: [Wrapped; 23] = [
     ("a b", WrapMode::Word, usize::MAX, 255, "a b|"),
 ];
 
-// The texts of the rows, each followed by a bar.
-fn shown(alloc: Global, line: &str, rows: &Rows) -> Result<String, AllocError> {
-    let mut text = String::new(alloc);
-    for (start, end) in rows.as_slice() {
+// Writes the texts of the rows, each followed by a bar.
+fn show(text: &mut String, line: &str, rows: &[(usize, usize)]) -> Result<(), AllocError> {
+    for (start, end) in rows {
         if let Some(row) = line.get(*start..*end) {
             text.push_str(row)?;
         }
         text.push('|')?;
     }
-    Ok(text)
+    Ok(())
 }
 
-// The texts of a copy of the rows.
-fn shown_copy(alloc: Global, line: &str, rows: &Rows) -> Result<String, AllocError> {
-    shown(alloc, line, &rows.clone()?)
-}
-
-fn shown_rows(
+// Whether the rows have these texts.
+fn is_shown(
     alloc: Global,
     line: &str,
-    mode: WrapMode,
-    width: usize,
-    tab_len: u8,
-) -> Result<String, AllocError> {
-    let mut count = WrapCount::new();
-    shown_copy(
-        alloc,
-        line,
-        &line_ranges(alloc, line, mode, width, tab_len, &mut count)?,
-    )
+    rows: &[(usize, usize)],
+    expected: &str,
+) -> Result<bool, AllocError> {
+    let mut text = String::new(alloc);
+    let shown = show(&mut text, line, rows);
+    let answer = text.as_str() == expected;
+    drop(text);
+    shown?;
+    Ok(answer)
+}
+
+// Whether a copy of the rows has them.
+fn is_copy_shown(
+    alloc: Global,
+    line: &str,
+    rows: &Rows,
+    expected: &str,
+) -> Result<bool, AllocError> {
+    let copy = rows.clone()?;
+    let answer = is_shown(alloc, line, copy.as_slice(), expected);
+    drop(copy);
+    answer
+}
+
+fn is_wrapped(alloc: Global, case: &Wrapped) -> Result<bool, AllocError> {
+    let (line, mode, width, tab_len, expected) = *case;
+    let rows = line_ranges(alloc, line, mode, width, tab_len, &mut WrapCount::new())?;
+    let answer = is_copy_shown(alloc, line, &rows, expected);
+    drop(rows);
+    answer
 }
 
 // The first of the lines that is wrapped in another way.
 fn first_other(alloc: Global, lines: &[Wrapped]) -> Result<Option<usize>, AllocError> {
-    for (n, (line, mode, width, tab_len, expected)) in lines.iter().enumerate() {
-        if shown_rows(alloc, line, *mode, *width, *tab_len)?.as_str() != *expected {
+    for (n, case) in lines.iter().enumerate() {
+        if !is_wrapped(alloc, case)? {
             return Ok(Some(n));
         }
     }
     Ok(None)
 }
 
+fn lines() -> &'static [Wrapped] {
+    &LINES
+}
+
 #[test]
 fn wrapped_lines(rt: HostRuntime) -> Result<(), Fail> {
-    assert_eq!(rt; first_other(rt.alloc(), &LINES)?, None);
+    assert_eq!(rt; first_other(rt.alloc(), lines())?, None);
     Ok(())
 }
 
-fn columns_behind() -> [usize; 10] {
-    [
+fn are_right_columns() -> bool {
+    let columns = [
         plain_columns('犬'),
         plain_columns('\n'),
         column_behind('\t', 5, 4),
@@ -100,12 +119,13 @@ fn columns_behind() -> [usize; 10] {
         display_column_behind('\t', 5, 4),
         display_column_behind_text("a\t犬", 0, 0),
         display_column_behind_text("a\t犬", 0, 4),
-    ]
+    ];
+    columns == [2, 0, 8, 12, 5, 6, 6, 8, 4, 6]
 }
 
 #[test]
 fn columns(rt: HostRuntime) {
-    assert!(rt; columns_behind() == [2, 0, 8, 12, 5, 6, 6, 8, 4, 6]);
+    assert!(rt; are_right_columns());
     assert!(rt; fits_width("a\t犬", 6, 4) && !fits_width("a\t犬", 5, 4));
 }
 

@@ -102,11 +102,15 @@ fn own_color(color: Option<Color>) -> Option<Color> {
 
 fn area_of(text: &str) -> Option<Rect> {
     let mut parts = text.split(' ');
-    let x = parts.next()?.parse().ok()?;
-    let y = parts.next()?.parse().ok()?;
-    let width = parts.next()?.parse().ok()?;
-    let height = parts.next()?.parse().ok()?;
+    let x = number(parts.next())?;
+    let y = number(parts.next())?;
+    let width = number(parts.next())?;
+    let height = number(parts.next())?;
     Some(Rect::new(x, y, width, height))
+}
+
+fn number(text: Option<&str>) -> Option<u16> {
+    text?.parse().ok()
 }
 
 /// What isn't as of a new text area: each part by its name.

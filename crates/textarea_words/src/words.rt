@@ -34,7 +34,7 @@ impl Lent {
 
 /// A block with these borders and this title.
 pub fn titled(alloc: Global, borders: Borders, title: &str) -> Result<Block<'static>, AllocError> {
-    let title = Line::raw(String::from_str(alloc, title)?)?;
+    let title = line_of(alloc, title)?;
     Ok(Block::new().borders(borders).title(title))
 }
 
@@ -42,9 +42,13 @@ pub fn titled(alloc: Global, borders: Borders, title: &str) -> Result<Block<'sta
 pub fn lines_in(alloc: Global, style: Style, texts: &[&str]) -> Result<Text<'static>, AllocError> {
     let mut lines = Vec::new(alloc);
     for text in texts {
-        lines.push(Line::raw(String::from_str(alloc, text)?)?)?;
+        lines.push(line_of(alloc, text)?)?;
     }
     Ok(Text { lines, style })
+}
+
+fn line_of(alloc: Global, text: &str) -> Result<Line<'static>, AllocError> {
+    Line::raw(String::from_str(alloc, text)?)
 }
 
 /// The key of a character, with nothing held.
@@ -140,59 +144,19 @@ fn call_with<'a>(name: &str, arguments: &'a str) -> Option<Call<'a>>
 fn call_of_parts<'a>(name: &str, arguments: &str) -> Option<Call<'a>>
     ensures { IfSome result CanBeMade }
 {
-    match name {
-        "set_min_rows" => setting_least(arguments),
-        "set_max_rows" => setting_greatest(arguments),
-        "set_cursor_render_mode" => setting_render_mode(arguments),
-        "set_alignment" => setting_alignment(arguments),
-        "normalize_cursor_around_atomic_ranges" => going_out_of_range(arguments),
-        "atomic_range_at_cursor" => finding_range(arguments),
-        "delete_atomic_range_at_cursor" => deleting_range(arguments),
-        "custom_highlight" => highlight(arguments),
-        _ => setting_style(name, arguments),
-    }
-}
-
-fn setting_least<'a>(rows: &str) -> Option<Call<'a>>
-    ensures { IfSome result CanBeMade }
-{
-    Some(Call::SetMinRows(rows.parse().ok()?))
-}
-
-fn setting_greatest<'a>(rows: &str) -> Option<Call<'a>>
-    ensures { IfSome result CanBeMade }
-{
-    Some(Call::SetMaxRows(rows.parse().ok()?))
-}
-
-fn setting_render_mode<'a>(mode: &str) -> Option<Call<'a>>
-    ensures { IfSome result CanBeMade }
-{
-    Some(Call::SetCursorRenderMode(render_mode(mode)?))
-}
-
-fn setting_alignment<'a>(name: &str) -> Option<Call<'a>>
-    ensures { IfSome result CanBeMade }
-{
-    Some(Call::SetAlignment(alignment(name)?))
-}
-
-fn going_out_of_range<'a>(side: &str) -> Option<Call<'a>>
-    ensures { IfSome result CanBeMade }
-{
-    Some(Call::NormalizeCursorAroundAtomicRanges(bias(side)?))
-}
-
-fn finding_range<'a>(side: &str) -> Option<Call<'a>>
-    ensures { IfSome result CanBeMade }
-{
-    Some(Call::AtomicRangeAtCursor(direction(side)?))
-}
-
-fn deleting_range<'a>(side: &str) -> Option<Call<'a>>
-    ensures { IfSome result CanBeMade }
-{
-    Some(Call::DeleteAtomicRangeAtCursor(direction(side)?))
+    Some(match name {
+        "set_min_rows" => Call::SetMinRows(arguments.parse().ok()?),
+        "set_max_rows" => Call::SetMaxRows(arguments.parse().ok()?),
+        "set_cursor_render_mode" => Call::SetCursorRenderMode(render_mode(arguments)?),
+        "set_alignment" => Call::SetAlignment(alignment(arguments)?),
+        "normalize_cursor_around_atomic_ranges" => {
+            Call::NormalizeCursorAroundAtomicRanges(bias(arguments)?)
+        }
+        "atomic_range_at_cursor" => Call::AtomicRangeAtCursor(direction(arguments)?),
+        "delete_atomic_range_at_cursor" => Call::DeleteAtomicRangeAtCursor(direction(arguments)?),
+        "custom_highlight" => return highlight(arguments),
+        _ => return setting_style(name, arguments),
+    })
 }
 
 // The call of this name that sets a style.

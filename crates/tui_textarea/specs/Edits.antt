@@ -64,4 +64,4 @@ abbrev pub tab_inserted : State → State
 tab_inserted state = tab_or_spaces_inserted (unselected state) (tab_length state.document)
 
 abbrev pub inserts_tab : State → Bool
-inserts_tab state = is_selected state.document || not (tab_length state.document == 0)
+inserts_tab state = not (tab_length state.document == 0) || is_selected state.document

@@ -21,20 +21,16 @@ pub fn check(alloc: Global, case: &str) -> Result<(), Stop> {
 // What is told at the end of these runs. What is drawn into and the text area have an owner each.
 fn end_of(alloc: Global, keys: &str) -> Result<String, Stop> {
     let mut buffer = Buffer::empty(alloc, Rect::new(0, 0, 20, 4))?;
-    end_drawn_into(alloc, &mut buffer, keys)
+    let end = end_drawn_into(alloc, &mut buffer, keys);
+    drop(buffer);
+    end
 }
 
 fn end_drawn_into(alloc: Global, buffer: &mut Buffer, keys: &str) -> Result<String, Stop> {
-    end_of_new(alloc, TextArea::try_default(alloc)?, buffer, keys)
-}
-
-fn end_of_new(
-    alloc: Global,
-    mut area: TextArea<'_>,
-    buffer: &mut Buffer,
-    keys: &str,
-) -> Result<String, Stop> {
-    end_in(alloc, &mut area, buffer, keys)
+    let mut area = TextArea::try_default(alloc)?;
+    let end = end_in(alloc, &mut area, buffer, keys);
+    drop(area);
+    end
 }
 
 // The same, in a text area that is still empty.

@@ -60,21 +60,16 @@ fn choices(case: &str) -> usize {
 // Makes the calls in a new text area, with the input of this number.
 fn check_choice(alloc: Global, case: &str, choice: usize, lent: &Lent) -> Result<(), Stop> {
     let mut trial = Trial::new(alloc, choice)?;
-    check_new(alloc, case, lent, &mut trial)
+    let checked = check_new(alloc, case, lent, &mut trial);
+    drop(trial);
+    checked
 }
 
 fn check_new(alloc: Global, case: &str, lent: &Lent, trial: &mut Trial) -> Result<(), Stop> {
-    check_in(alloc, case, lent, TextArea::try_default(alloc)?, trial)
-}
-
-fn check_in(
-    alloc: Global,
-    case: &str,
-    lent: &Lent,
-    mut area: TextArea<'_>,
-    trial: &mut Trial,
-) -> Result<(), Stop> {
-    check_area(alloc, case, lent, &mut area, trial)
+    let mut area = TextArea::try_default(alloc)?;
+    let checked = check_area(alloc, case, lent, &mut area, trial);
+    drop(area);
+    checked
 }
 
 fn check_area(

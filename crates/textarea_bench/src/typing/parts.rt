@@ -21,10 +21,14 @@ pub fn break_in_map(alloc: Global, lines: &[String], times: usize) -> Result<usi
     let mut counter = WrapCount::new();
     let mut map = ScreenMap::new(alloc, lines, WRAPPED, &mut counter)?;
     let row = lines.len() / 2 / BLOCK * BLOCK + BLOCK / 2;
+    let mut broken = Ok(());
     if row < lines.len() {
-        break_rows(alloc, &mut map, row, times, &mut counter)?;
+        broken = break_rows(alloc, &mut map, row, times, &mut counter);
     }
-    Ok(map.row_count())
+    let rows = map.row_count();
+    drop(map);
+    broken?;
+    Ok(rows)
 }
 
 // Two lines take the place of one, and one of these two, so many times.

@@ -8,7 +8,7 @@ use Rattle.textarea_commands.proofs.arguments.escaped_character.Goals.{in-n, in-
 pub returns-in_err-next-clause-value : goal.returns-in_err-next-clause-value
 returns-in_err-next-clause-value c =
     let none = escape_nothing c.args.text.now (ap length (sym c.chars-rest.ensures.rest) ∙ c.in_err-next.ensures.steps.0.0) in
-    search (rules, none)
+    rw c.from_residual.ensures none
 
 pub returns-in-u-clause-value : goal.returns-in-u-clause-value
 returns-in-u-clause-value c =
@@ -38,3 +38,6 @@ returns-clause-value c =
       | in-t w ↦ escape_letter 116 c.args.text.now c.as_str-2.result.now (lit< tt) (letter 116 w.in-t.is) ∙ ap (λ (n : ℕ). Some (n, c.as_str-2.result.now)) (sym w.c-is)
       | in-92 w ↦ escape_letter 92 c.args.text.now c.as_str-2.result.now (lit< tt) (letter 92 w.in-92.is) ∙ ap (λ (n : ℕ). Some (n, c.as_str-2.result.now)) (sym w.c-is)
     ]
+
+pub returns-in_err-next-clause-shorter : goal.returns-in_err-next-clause-shorter
+returns-in_err-next-clause-shorter c = rw c.from_residual.ensures tt

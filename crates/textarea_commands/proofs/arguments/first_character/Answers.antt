@@ -6,7 +6,7 @@ use Rattle.textarea_commands.proofs.arguments.first_character.Goals as goal
 pub returns-in_err-c-clause-value : goal.returns-in_err-c-clause-value
 returns-in_err-c-clause-value c =
     let none = first_nothing c.args.text.now (ap length (sym c.chars-rest.ensures.rest) ∙ c.in_err-c.ensures.steps.0.0) in
-    search (rules, none)
+    rw c.from_residual.ensures none
 
 pub returns-in-92-clause-value : goal.returns-in-92-clause-value
 returns-in-92-clause-value c =
@@ -20,3 +20,6 @@ returns-clause-value c =
     let first : Some c.in_ok-c.c ≡ slice_get (chars c.args.text.now) 0 = c.in_ok-c.ensures.steps.2 ∙ ap (λ (t : List ℕ). slice_get (chars t) 0) c.chars-rest.ensures.rest in
     let other : c.in_ok-c.c ≢ 92 = search rules in
     first_plain c.args.text.now c.as_str-2.result.now c.in_ok-c.c is first other
+
+pub returns-in_err-c-clause-shorter : goal.returns-in_err-c-clause-shorter
+returns-in_err-c-clause-shorter c = rw c.from_residual.ensures tt

@@ -1,4 +1,5 @@
-use Rattle.std.proofs.Common.{◌+◌, ap, arith, refl}
+use Rattle.std.proofs.Common.{◌+◌, Err, Ok, Result, ap, arith, refl}
+use Rattle.std.specs.Result.{OnErr}
 use Rattle.textarea_text.specs.Place.{Place}
 use Rattle.textarea_text.specs.Size.{size_of, weight}
 use Rattle.textarea_text.specs.Splice.{applied}
@@ -26,3 +27,11 @@ put_whole_line-requires-clause-whole c = can_cut _ _ _ _ _ _ _ _ _ (steps (goal.
 
 pub returns-clause-line : goal.returns-clause-line
 returns-clause-line c = rw (← (ap (λ (p : Place). p.0) c.start-row.ensures), ← c.as_slice.ensures.value) c.put_whole_line.ensures.rows
+
+-- of a fact that holds, where a call fails
+on_err : {T E : Type 0} (r : Result T E) (P : Type 0) → P → OnErr r P
+on_err (Ok x) P h = tt
+on_err (Err e) P h = h
+
+pub returns-in_err-rows-clause-lines_stay : goal.returns-in_err-rows-clause-lines_stay
+returns-in_err-rows-clause-lines_stay c = on_err _ _ refl

@@ -1,9 +1,13 @@
-use Rattle.std.proofs.Common.{◌≡◌, ◌∙◌, ◌-◌, sym, ap, arith, true, nat_lt}
+use Rattle.std.proofs.Common.{◌≡◌, ◌∙◌, ◌-◌, Some, sym, ap, arith, true, nat_lt}
 use Rattle.std.specs.Duration.{as_nanos}
 use Rattle.std.proofs.lemmas.Bool.Decides.{nat_tests}
 use Rattle.textarea_history.specs.Log.{Kept, pause}
-use Rattle.textarea_history.proofs.Stores.{joins_is}
+use Rattle.textarea_history.proofs.Stores.{joins_is, typed_is}
 use Rattle.textarea_history.proofs.history.History.joins.Goals as goal
+
+pub continues-requires-clause-character : goal.continues-requires-clause-character
+continues-requires-clause-character c =
+    typed_is c.args.edit.now.splice c.args.coalesce (Some c.in-Some.c) (sym c.in-Some.is ∙ c.typed_character.ensures)
 
 pub returns-then-as_nanos-lt-PAUSE : goal.returns-then-as_nanos-lt-PAUSE
 returns-then-as_nanos-lt-PAUSE c =

@@ -1,18 +1,16 @@
 //! A text in all settings and areas, behind all calls and at all tab lengths.
-ghost use Rattle.std.specs.Prelude.{All};
-ghost use Rattle.textarea_calls.specs.Made.{CanBeMade};
-
-use crate::asked::{calls_of, lent, script_of};
-use crate::caret::has_tab;
-use crate::judge::Judge;
-use crate::setting::Setting;
-use crate::tally::Tally;
-use std::alloc::{AllocError, AllocFailed, Global};
+use crate::frames::asked::{calls_of, lent, script_of};
+use crate::frames::caret::has_tab;
+use crate::frames::judge::Judge;
+use crate::frames::setting::Setting;
+use crate::frames::tally::Tally;
+use crate::script::run_unseen;
+use std::alloc::{AllocError, Global};
 use textarea_calls::Call;
-use textarea_commands::commands::{Command, ReadError, calls, read};
-use textarea_run::run::run;
+use textarea_commands::commands::{Command, read};
+use textarea_words::end::Stop;
 use textarea_words::words::Lent;
-use tui_textarea::{Buffer, CursorMove, Rect, TextArea};
+use tui_textarea::{CursorMove, Rect, TextArea};
 
 /// The frames in each area, the cursor at another place in each.
 const FRAMES: usize = 4;
@@ -25,47 +23,35 @@ const BEHIND_CALLS: Rect = Rect {
     height: 4,
 };
 
-/// Nothing was judged: a script isn't one, or something else than a judged call ran out of memory.
-#[derive(Clone, Copy)]
-pub struct NotJudged;
-
-impl From<AllocError> for NotJudged {
-    fn from(_refused: AllocError) -> NotJudged {
-        NotJudged
-    }
-}
-
-impl<T: Drop> From<AllocFailed<T>> for NotJudged {
-    fn from(_refused: AllocFailed<T>) -> NotJudged {
-        NotJudged
-    }
-}
-
-impl From<ReadError> for NotJudged {
-    fn from(_unread: ReadError) -> NotJudged {
-        NotJudged
-    }
-}
-
 /// Judges the text that the lines of a script make, whose widest cluster that isn't a tab has so many columns, and makes the
 /// calls of other lines on it, each a line of a script or words.
-pub fn tour(alloc: Global, lines: &str, widest: usize, asked: &str) -> Result<Tally, NotJudged> {
+pub fn tour(alloc: Global, lines: &str, widest: usize, asked: &str) -> Result<Tally, Stop> {
     let mut judge = Judge::new(alloc, widest)?;
-    judge_lines(alloc, lines, asked, &mut judge)?;
-    Ok(judge.tally())
+    let judged = judge_lines(alloc, lines, asked, &mut judge);
+    let tally = judge.tally();
+    drop(judge);
+    judged?;
+    Ok(tally)
 }
 
 // Judges a text in all settings, behind the calls of lines too.
-fn judge_lines(
+fn judge_lines(alloc: Global, lines: &str, asked: &str, judge: &mut Judge) -> Result<(), Stop> {
+    let lent = lent(alloc)?;
+    let judged = judge_lent(alloc, lines, (asked, &lent), judge);
+    drop(lent);
+    judged
+}
+
+// Judges a text in all settings, behind the calls of lines too, for which this is lent.
+fn judge_lent(
     alloc: Global,
     lines: &str,
-    asked: &str,
+    (asked, lent): (&str, &Lent),
     judge: &mut Judge,
-) -> Result<(), NotJudged> {
-    let lent = lent(alloc)?;
-    let script = script_of(alloc, asked, &lent)?;
+) -> Result<(), Stop> {
+    let script = script_of(alloc, asked, lent)?;
     let commands = read(alloc, script.as_bytes())?;
-    judge_commands(alloc, lines, (asked, commands.as_slice(), &lent), judge)
+    judge_commands(alloc, lines, (asked, commands.as_slice(), lent), judge)
 }
 
 // Judges a text in all settings, behind the calls of lines too, where the commands are those of the lines that are no words.
@@ -74,9 +60,11 @@ fn judge_commands(
     lines: &str,
     (asked, commands, lent): (&str, &[Command], &Lent),
     judge: &mut Judge,
-) -> Result<(), NotJudged> {
+) -> Result<(), Stop> {
     let asked = calls_of(alloc, asked, commands, lent)?;
-    judge_settings(alloc, lines, asked.as_slice(), judge)
+    let judged = judge_settings(alloc, lines, asked.as_slice(), judge);
+    drop(asked);
+    judged
 }
 
 // Judges a text in all settings, behind these calls too.
@@ -85,7 +73,7 @@ fn judge_settings(
     lines: &str,
     asked: &[Call<'_>],
     judge: &mut Judge,
-) -> Result<(), NotJudged> {
+) -> Result<(), Stop> {
     for number in 0..Setting::COUNT {
         judge_text(alloc, lines, Setting::numbered(number), asked, judge)?;
     }
@@ -99,18 +87,11 @@ fn judge_text(
     setting: Setting,
     asked: &[Call<'_>],
     judge: &mut Judge,
-) -> Result<(), NotJudged> {
-    judge_new(TextArea::try_default(alloc)?, lines, setting, asked, judge)
-}
-
-fn judge_new(
-    mut area: TextArea<'_>,
-    lines: &str,
-    setting: Setting,
-    asked: &[Call<'_>],
-    judge: &mut Judge,
-) -> Result<(), NotJudged> {
-    judge_area(&mut area, lines, setting, asked, judge)
+) -> Result<(), Stop> {
+    let mut area = TextArea::try_default(alloc)?;
+    let judged = judge_area(&mut area, lines, setting, asked, judge);
+    drop(area);
+    judged
 }
 
 // Judges an empty text area, once the lines of a script and the setting are put into it.
@@ -120,7 +101,7 @@ fn judge_area(
     setting: Setting,
     asked: &[Call<'_>],
     judge: &mut Judge,
-) -> Result<(), NotJudged> {
+) -> Result<(), Stop> {
     write(area, lines)?;
     setting.put(area)?;
     draw_areas(judge, area);
@@ -130,30 +111,11 @@ fn judge_area(
 }
 
 // Makes the calls of a script on a text area.
-fn write(area: &mut TextArea<'_>, script: &str) -> Result<(), NotJudged> {
-    let alloc = *area.lines()[0].allocator();
-    let commands = read(alloc, script.as_bytes())?;
-    make_commands(alloc, area, commands.as_slice())
-}
-
-// Makes the calls that the commands lend.
-fn make_commands(
-    alloc: Global,
-    area: &mut TextArea<'_>,
-    commands: &[Command],
-) -> Result<(), NotJudged> {
-    let calls = calls(alloc, commands)?;
-    make_unseen(alloc, area, calls.as_slice())
-}
-
-// Makes calls on a text area, with a buffer that has no cell.
-fn make_unseen(alloc: Global, area: &mut TextArea<'_>, calls: &[Call<'_>]) -> Result<(), NotJudged>
-    requires { All CanBeMade calls.now }
-{
-    let mut nowhere = Buffer::empty(alloc, Rect::default())?;
-    match run(area, calls, &mut nowhere).refused {
+fn write(area: &mut TextArea<'_>, script: &str) -> Result<(), Stop> {
+    let end = run_unseen(area, script)?;
+    match end.refused {
         None => Ok(()),
-        Some(_) => Err(NotJudged),
+        Some(_) => Err(Stop::Memory),
     }
 }
 

@@ -1,7 +1,7 @@
 //! The steps of a row with ample memory, made one after another on texts of all sizes.
+use crate::rows::step::{Step, make};
+use crate::rows::words::{script_of, step_of};
 use crate::script::run_script;
-use crate::step::{Step, make};
-use crate::words::{script_of, step_of};
 use std::alloc::{AllocError, Global};
 use textarea_words::end::{Difference, End, Stop};
 use textarea_words::expand::{counted, expanded, repeated};
@@ -43,7 +43,9 @@ pub fn make_row(alloc: Global, rows: &str, row: &str, told: &mut Told) -> End {
 
 fn make_lines(alloc: Global, rows: &str, row: &str, told: &mut Told) -> Result<(), Stop> {
     let lent = Lent::new(alloc)?;
-    make_text(alloc, rows, row, &lent, told)
+    let made = make_text(alloc, rows, row, &lent, told);
+    drop(lent);
+    made
 }
 
 fn make_text(
@@ -53,17 +55,10 @@ fn make_text(
     lent: &Lent,
     told: &mut Told,
 ) -> Result<(), Stop> {
-    make_in(TextArea::try_default(alloc)?, rows, row, lent, told)
-}
-
-fn make_in(
-    mut area: TextArea<'_>,
-    rows: &str,
-    row: &str,
-    lent: &Lent,
-    told: &mut Told,
-) -> Result<(), Stop> {
-    make_all(&mut area, rows, row, lent, told)
+    let mut area = TextArea::try_default(alloc)?;
+    let made = make_all(&mut area, rows, row, lent, told);
+    drop(area);
+    made
 }
 
 // Makes the lines of a row one after another.

@@ -88,11 +88,10 @@ fn set_atomic_ranges(area: &mut TextArea<'_>) -> Result<Answer, AllocError> {
 }
 
 fn lines_of_another(area: &TextArea<'_>, step: Step<'_>) -> Result<Answer, AllocError> {
-    Ok(line_count(another(area, step)?))
-}
-
-fn line_count(area: TextArea<'_>) -> Answer {
-    Answer::Number(area.lines().len())
+    let other = another(area, step)?;
+    let count = other.lines().len();
+    drop(other);
+    Ok(Answer::Number(count))
 }
 
 // A clone of the text area or, for the other steps, a text area that is made of its lines or, by default, of none.

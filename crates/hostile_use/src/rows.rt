@@ -1,7 +1,7 @@
 //! Makes the calls of rows, and judges what each of them left where its memory was refused, or tells their answers where
 //! memory was ample.
 //!
-//! Standard input has rows, with an empty line between each two. A row's first line is its name, and each further line a call,
+//! A section has rows, with an empty line between each two. A row's first line is its name, and each further line a call,
 //! as a line of a script or as a word of `words`. Its calls are judged (`judge`), and whoever starts the program has requests
 //! for memory refused (`tools/refused-memory`).
 //!
@@ -10,36 +10,24 @@
 //! `times N LINE` makes a line so many times, by one run if it is a script's; and `row NAME` makes the lines of another row. A row
 //! whose name begins with `list ` isn't made by itself.
 //!
-//! A line is printed for each row. The exit status is 0 where all was as it has to be, 1 where a stream failed, 3 where memory
-//! was refused to what is around the calls, so that nothing was judged, and 4 where a judgement failed: also where a line isn't
-//! read, and where a call of a row with ample memory was out of memory or its pattern was refused.
-#![tactic(auto)]
-
+//! A line is printed for each row. A line that isn't read fails its row; and so does, where memory is ample, a call that is out of
+//! memory or whose pattern is refused.
 mod ample;
 mod judge;
-mod script;
 mod step;
 mod words;
 
-use ample::{Told, make_row};
-use judge::judge_row;
-use std::io::Read;
-use std::process::ExitCode;
+use crate::rows::ample::{Told, make_row};
+use crate::rows::judge::judge_row;
+use crate::{NOT_JUDGED, STREAM_FAILED};
 
-const STREAM_FAILED: u8 = 1;
-
-const NOT_JUDGED: u8 = 3;
-
-fn main(rt: HostRuntime) -> ExitCode {
-    let mut rows = String::new(rt.alloc());
-    if rt.stdin().read_to_string(&mut rows).is_err() {
-        return ExitCode::from(STREAM_FAILED);
-    }
+/// Makes the rows of a section, and tells the end of each.
+pub fn tell(rt: &(impl Print + AllocGlobal), rows: &str) -> u8 {
     let mut status = 0;
-    for row in rows.as_str().split("\n\n") {
-        status = status.max(tell_row(&rt, rows.as_str(), row));
+    for row in rows.split("\n\n") {
+        status = status.max(tell_row(rt, rows, row));
     }
-    ExitCode::from(status)
+    status
 }
 
 // Makes a row of its kind, and tells its end.
@@ -59,7 +47,9 @@ fn tell_made(rt: &(impl Print + AllocGlobal), rows: &str, name: &str, lines: &st
         return NOT_JUDGED;
     };
     let end = make_row(rt.alloc(), rows, lines, &mut told);
-    if println!(rt; "{name}: {end}, {}", told.tally).is_err() {
+    let tally = told.tally;
+    drop(told);
+    if println!(rt; "{name}: {end}, {tally}").is_err() {
         return STREAM_FAILED;
     }
     end.status()

@@ -1,6 +1,6 @@
 //! Frames, and what is promised of their carets.
-use crate::caret::{is_caret_promised, is_wide_row};
-use crate::tally::{Tally, count};
+use crate::frames::caret::{is_caret_promised, is_wide_row};
+use crate::frames::tally::{Tally, count};
 use std::alloc::{AllocError, Global};
 use textarea_calls::Call;
 use textarea_run::perform::perform;

@@ -2,9 +2,9 @@
 ghost use Rattle.std.specs.Prelude.{All};
 ghost use Rattle.textarea_calls.specs.Made.{CanBeMade};
 
-use crate::script::run_script;
-use crate::step::{Step, make};
-use crate::words::{script_of, step_of};
+use crate::rows::step::{Step, make};
+use crate::rows::words::{script_of, step_of};
+use crate::script::run_unseen;
 use std::alloc::{AllocError, Global};
 use textarea_calls::{Answer, Call};
 use textarea_commands::commands::{Command, calls, read};
@@ -56,10 +56,9 @@ pub fn judge_row(alloc: Global, row: &str) -> End {
     match Judge::new(alloc) {
         Ok(mut judge) => {
             let stop = judge_lines(alloc, row, &mut judge).err();
-            End {
-                made: judge.made,
-                stop,
-            }
+            let made = judge.made;
+            drop(judge);
+            End { made, stop }
         }
         Err(_) => End {
             made: 0,
@@ -70,15 +69,16 @@ pub fn judge_row(alloc: Global, row: &str) -> End {
 
 fn judge_lines(alloc: Global, row: &str, judge: &mut Judge) -> Result<(), Stop> {
     let lent = Lent::new(alloc)?;
-    judge_text(alloc, row, &lent, judge)
+    let judged = judge_text(alloc, row, &lent, judge);
+    drop(lent);
+    judged
 }
 
 fn judge_text(alloc: Global, row: &str, lent: &Lent, judge: &mut Judge) -> Result<(), Stop> {
-    judge_in(TextArea::try_default(alloc)?, row, lent, judge)
-}
-
-fn judge_in(mut area: TextArea<'_>, row: &str, lent: &Lent, judge: &mut Judge) -> Result<(), Stop> {
-    judge_all(&mut area, row, lent, judge)
+    let mut area = TextArea::try_default(alloc)?;
+    let judged = judge_all(&mut area, row, lent, judge);
+    drop(area);
+    judged
 }
 
 fn judge_all(
@@ -115,9 +115,7 @@ fn judge_line(
 
 // Makes the calls of a script, and draws nowhere.
 fn make_script(area: &mut TextArea<'_>, script: &str, judge: &mut Judge) -> Result<(), Stop> {
-    let alloc = *area.lines()[0].allocator();
-    let mut nowhere = Buffer::empty(alloc, Rect::default())?;
-    let end = run_script(area, script, &mut nowhere)?;
+    let end = run_unseen(area, script)?;
     judge.count(end.answers.len());
     match end.refused {
         Some(_) => Err(Stop::Memory),
@@ -147,16 +145,10 @@ fn judge_commands(
 
 // Makes a step behind a clone.
 fn judge_step(area: &mut TextArea<'_>, step: Step<'_>, judge: &mut Judge) -> Result<(), Stop> {
-    judge_with(area.clone()?, area, step, judge)
-}
-
-fn judge_with(
-    mut other: TextArea<'_>,
-    area: &mut TextArea<'_>,
-    step: Step<'_>,
-    judge: &mut Judge,
-) -> Result<(), Stop> {
-    judge_beside(area, &mut other, step, judge)
+    let mut other = area.clone()?;
+    let judged = judge_beside(area, &mut other, step, judge);
+    drop(other);
+    judged
 }
 
 // Makes a step. Where memory isn't refused to it, the clone has to answer the same and to be alike then.
@@ -169,7 +161,9 @@ fn judge_beside(
     match make_or_refuse(area, step, &mut judge.buffer) {
         Err(_) => judge_refused(area, other, step, judge),
         Ok(answer) => {
-            judge_answer(&answer, other, step, judge)?;
+            let judged = judge_answer(&answer, other, step, judge);
+            drop(answer);
+            judged?;
             judge.compare_cells(Rect::default())?;
             compare_shown(area, other)
         }
@@ -196,7 +190,9 @@ fn judge_answer(
     judge: &mut Judge,
 ) -> Result<(), Stop> {
     let wanted = make_or_refuse(other, step, &mut judge.other)?;
-    same(*answer == wanted, Difference::Answer)?;
+    let is_answered_so = *answer == wanted;
+    drop(wanted);
+    same(is_answered_so, Difference::Answer)?;
     judge.count(1);
     Ok(())
 }
@@ -255,18 +251,10 @@ fn judge_run_commands(
 fn judge_calls(area: &mut TextArea<'_>, calls: &[Call<'_>], judge: &mut Judge) -> Result<(), Stop>
     requires { All CanBeMade calls.now }
 {
-    judge_run_with(area.clone()?, area, calls, judge)
-}
-
-fn judge_run_with(
-    mut other: TextArea<'_>,
-    area: &mut TextArea<'_>,
-    calls: &[Call<'_>],
-    judge: &mut Judge,
-) -> Result<(), Stop>
-    requires { All CanBeMade calls.now }
-{
-    judge_run_beside(area, &mut other, calls, judge)
+    let mut other = area.clone()?;
+    let judged = judge_run_beside(area, &mut other, calls, judge);
+    drop(other);
+    judged
 }
 
 fn judge_run_beside(
@@ -278,7 +266,9 @@ fn judge_run_beside(
     requires { All CanBeMade calls.now }
 {
     let end = run(area, calls, &mut judge.buffer);
-    judge_end(area, other, calls, &end, judge)
+    let judged = judge_end(area, other, calls, &end, judge);
+    drop(end);
+    judged
 }
 
 fn judge_end(

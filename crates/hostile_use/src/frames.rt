@@ -1,6 +1,6 @@
 //! Draws frames of hostile texts, in many areas and settings and behind each call, and judges them.
 //!
-//! Standard input has blocks of lines, with an empty line between each two. The first block has the calls that are made on each
+//! A section has blocks of lines, with an empty line between each two. The first block has the calls that are made on each
 //! text, with a frame behind each, as lines of a script or as words (`textarea_words`). Each further block is a text: its first line
 //! is a name and, behind a space, the columns of the widest cluster that isn't a tab; the lines behind it are a script that makes the
 //! text. A line is printed for each text: how many frames were drawn and calls made, how many carets were shown, had to be shown and
@@ -8,11 +8,6 @@
 //!
 //! No call may fail. A caret that is shown has to lie in the inner area, and to be hit back to the cursor where no character of the
 //! cursor's visual row has display width 0; and a caret has to be shown where that is promised.
-//!
-//! The exit status is 0 where all was as it has to be, 1 where a stream failed, 3 where something else than a judged call ran out
-//! of memory or the input can't be read, and 4 where a judgement failed.
-#![tactic(auto)]
-
 mod asked;
 mod caret;
 mod judge;
@@ -20,25 +15,17 @@ mod setting;
 mod tally;
 mod tour;
 
-use std::io::Read;
-use std::process::ExitCode;
-use tour::tour;
+use crate::frames::tour::tour;
+use crate::{NOT_JUDGED, STREAM_FAILED};
 
-const STREAM_FAILED: u8 = 1;
-
-const NOT_JUDGED: u8 = 3;
-
-fn main(rt: HostRuntime) -> ExitCode {
-    let mut given = String::new(rt.alloc());
-    if rt.stdin().read_to_string(&mut given).is_err() {
-        return ExitCode::from(STREAM_FAILED);
-    }
-    let (asked, texts) = given.split_once("\n\n").unwrap_or(("", ""));
+/// Judges the texts of a section, and tells what was counted of each.
+pub fn tell(rt: &(impl Print + AllocGlobal), section: &str) -> u8 {
+    let (asked, texts) = section.split_once("\n\n").unwrap_or((section, ""));
     let mut status = 0;
     for text in texts.split("\n\n") {
-        status = status.max(tell_text(&rt, asked, text));
+        status = status.max(tell_text(rt, asked, text));
     }
-    ExitCode::from(status)
+    status
 }
 
 // Judges a text, and tells what was counted.

@@ -1,5 +1,6 @@
 //! The calls of lines: those of scripts, and those that no script makes.
 use std::alloc::{AllocError, Global};
+use std::slice::Iter;
 use textarea_calls::Call;
 use textarea_commands::commands::Command;
 use textarea_words::words::{Lent, call_of, character, lines_in, titled};
@@ -36,11 +37,21 @@ pub fn calls_of<'a>(
     let mut calls = Vec::new(alloc);
     let mut commands = commands.iter();
     for line in lines.lines() {
-        if let Some(call) = call_of(line, lent) {
+        if let Some(call) = next_call(line, &mut commands, lent) {
             calls.push(call)?;
-        } else if let Some(command) = commands.next() {
-            calls.push(command.call())?;
         }
     }
     Ok(calls)
+}
+
+// The call of words or, where the line is none, that of the next command.
+fn next_call<'a>(
+    line: &'a str,
+    commands: &mut Iter<'a, Command>,
+    lent: &'a Lent,
+) -> Option<Call<'a>> {
+    match call_of(line, lent) {
+        Some(call) => Some(call),
+        None => Some(commands.next()?.call()),
+    }
 }

@@ -1,5 +1,5 @@
 //! What a row may say besides the lines of scripts: the calls that no script makes, as words, and what makes text areas.
-use crate::step::Step;
+use crate::rows::step::Step;
 use textarea_words::words::{Lent, call_of};
 
 /// A text with edits of all kinds behind it, of which two are undone: calls that are made by one run.

@@ -3,7 +3,7 @@ use textarea_commands::commands::{Command, calls, read};
 use textarea_run::RunEnd;
 use textarea_run::run::run;
 use textarea_words::end::Stop;
-use tui_textarea::{Buffer, TextArea};
+use tui_textarea::{Buffer, Rect, TextArea};
 
 /// Makes the calls of a script by one run, which draws into the buffer.
 pub fn run_script(
@@ -14,6 +14,15 @@ pub fn run_script(
     let alloc = *area.lines()[0].allocator();
     let commands = read(alloc, script.as_bytes())?;
     run_commands(area, commands.as_slice(), buffer)
+}
+
+/// Makes the calls of a script by one run, which draws nowhere.
+pub fn run_unseen(area: &mut TextArea<'_>, script: &str) -> Result<RunEnd, Stop> {
+    let alloc = *area.lines()[0].allocator();
+    let mut nowhere = Buffer::empty(alloc, Rect::default())?;
+    let end = run_script(area, script, &mut nowhere);
+    drop(nowhere);
+    end
 }
 
 // Makes the calls that the commands lend.

@@ -1,0 +1,23 @@
+use Rattle.std.proofs.Common.{◌≡◌, ◌∙◌, List, Option, Some, ap, sym, option_map, rules}
+use Rattle.std.specs.Prelude.{String}
+use Rattle.textarea_text.specs.Text.{text_of, Symbol}
+use Rattle.textarea_text.specs.Place.{Place}
+use Rattle.textarea_text.specs.Splice.{Splice, applied, inverse, place_after, place_before}
+use Rattle.textarea_edit.specs.Change.{Makes}
+use Rattle.textarea_history.specs.Log.{Log, Undoes, Logged, logged_of, newest, taken_back, undone_by}
+use Rattle.textarea_history.proofs.history.History.undo.Goals as goal
+
+-- the newest edit is taken back where its inverse made the lines, the log is the one after it, and the cursor stands
+-- where the inverse ends
+undoes : {Z : Type 0} (before after : List (String Z)) (old new : Log) (splice change : Splice) (back : Place) → newest old ≡ Some splice → change ≡ inverse splice → Makes change before after → new ≡ taken_back old splice → back ≡ place_after change → Undoes (logged_of before old) (logged_of after new) (Some back)
+undoes before after old new splice change back found is made log place = record {
+  is_undone = ap (λ (t : List Symbol). record { text = t; log = new }) (made ∙ ap (applied (text_of before)) is)
+      ∙ ap (λ (l : Log). record { text = applied (text_of before) (inverse splice); log = l }) log
+      ∙ sym (ap (λ (o : Option Splice). undone_by o (logged_of before old)) found);
+  cursor = ap (λ (p : Place). Some p) (place ∙ ap place_after is) ∙ sym (ap (option_map place_before) found);
+}
+
+pub returns-clause-ok : goal.returns-clause-ok
+returns-clause-ok c =
+    let found = c.in-Some.ensures.edit in
+    undoes c.args.lines.now.items c.apply.new.lines.items c.args.self.now.log _ c.in-Some.edit.now.splice c.inverse-change.result _ found c.inverse-change.ensures c.in_ok-apply.ensures.ok (search rules) (cc)

@@ -1,0 +1,19 @@
+use Rattle.std.proofs.Common.{◌≡◌, ◌∙◌, true, false, cond, Some, None, ap, sym}
+use Rattle.textarea_text.specs.Place.{Place}
+use Rattle.textarea_text.specs.Carried.{is_up_to, shifted}
+use Rattle.textarea_atomic.specs.declared.range.AtomicRange.{AtomicRange}
+use Rattle.textarea_ranges.specs.Held.{range_end, range_start}
+use Rattle.textarea_ranges.specs.Moved.{moved_by, shifted_range}
+use Rattle.textarea_ranges.proofs.moved.moved.Goals as goal
+
+-- a range that doesn't end by the start, and starts at the old place or behind it, goes along with both its ends
+goes_along : (start old new : Place) (range : AtomicRange) (first behind : Place) → first ≡ shifted old new (range_start range) → behind ≡ shifted old new (range_end range) → is_up_to (range_end range) start ≡ false → is_up_to old (range_start range) ≡ true → Some (record { row = first.0; start_col = first.1; end_col = behind.1 }) ≡ moved_by start old new range
+goes_along start old new range first behind first_is behind_is later along =
+    ap (λ (p : Place). Some (record { row = p.0; start_col = p.1; end_col = behind.1 })) first_is
+    ∙ ap (λ (p : Place). Some (record { row = (shifted old new (range_start range)).0; start_col = (shifted old new (range_start range)).1; end_col = p.1 })) behind_is
+    ∙ sym (ap (λ b. cond b (Some range) (cond (is_up_to old (range_start range)) (Some (shifted_range old new range)) None)) later
+    ∙ ap (λ b. cond b (Some (shifted_range old new range)) None) along)
+
+pub returns : goal.returns
+returns c =
+    goes_along c.args.start c.args.old c.args.new c.args.range c.shift-place.result c.shift.result c.shift-place.ensures c.shift.ensures (sym c.is_up_to.ensures ∙ c.if-is_up_to.false) (sym c.is_up_to-2.ensures ∙ c.if-not-is_up_to.false)
