@@ -472,8 +472,8 @@ fn astray_in(alloc: Global, case: &Case) -> Result<Option<usize>, AllocError> {
 }
 
 // The first of the cases in which a step leads elsewhere, and which step that is.
-fn first_unmet(alloc: Global, cases: &[Case]) -> Result<Option<(usize, usize)>, AllocError> {
-    for (n, case) in cases.iter().enumerate() {
+fn first_unmet(alloc: Global) -> Result<Option<(usize, usize)>, AllocError> {
+    for (n, case) in CASES.iter().enumerate() {
         if let Some(step) = astray_in(alloc, case)? {
             return Ok(Some((n, step)));
         }
@@ -481,13 +481,10 @@ fn first_unmet(alloc: Global, cases: &[Case]) -> Result<Option<(usize, usize)>, 
     Ok(None)
 }
 
-fn cases() -> &'static [Case] {
-    &CASES
-}
-
 #[test]
 fn steps_over_lines(rt: HostRuntime) -> Result<(), Fail> {
-    assert_eq!(rt; first_unmet(rt.alloc(), cases())?, None);
+    let unmet = first_unmet(rt.alloc())?;
+    assert_eq!(rt; unmet, None);
     Ok(())
 }
 

@@ -275,8 +275,8 @@ fn first_wrong(alloc: Global, case: &Case) -> Result<Option<usize>, AllocError> 
 }
 
 // The first of the cases in which a fact is not so, and which fact that is.
-fn first_unmet(alloc: Global, cases: &[Case]) -> Result<Option<(usize, usize)>, AllocError> {
-    for (n, case) in cases.iter().enumerate() {
+fn first_unmet(alloc: Global) -> Result<Option<(usize, usize)>, AllocError> {
+    for (n, case) in CASES.iter().enumerate() {
         if let Some(fact) = first_wrong(alloc, case)? {
             return Ok(Some((n, fact)));
         }
@@ -284,13 +284,10 @@ fn first_unmet(alloc: Global, cases: &[Case]) -> Result<Option<(usize, usize)>, 
     Ok(None)
 }
 
-fn cases() -> &'static [Case] {
-    &CASES
-}
-
 #[test]
 fn places_and_rows(rt: HostRuntime) -> Result<(), Fail> {
-    assert_eq!(rt; first_unmet(rt.alloc(), cases())?, None);
+    let unmet = first_unmet(rt.alloc())?;
+    assert_eq!(rt; unmet, None);
     Ok(())
 }
 

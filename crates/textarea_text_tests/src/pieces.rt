@@ -73,8 +73,8 @@ fn is_met(alloc: Global, case: &Case) -> Result<bool, AllocError> {
 }
 
 // The first of the cases of which something else is written.
-fn first_other(alloc: Global, cases: &[Case]) -> Result<Option<usize>, AllocError> {
-    for (n, case) in cases.iter().enumerate() {
+fn first_other(alloc: Global) -> Result<Option<usize>, AllocError> {
+    for (n, case) in CASES.iter().enumerate() {
         if !is_met(alloc, case)? {
             return Ok(Some(n));
         }
@@ -82,13 +82,10 @@ fn first_other(alloc: Global, cases: &[Case]) -> Result<Option<usize>, AllocErro
     Ok(None)
 }
 
-fn cases() -> &'static [Case] {
-    &CASES
-}
-
 #[test]
 fn given_and_written(rt: HostRuntime) -> Result<(), Fail> {
-    assert_eq!(rt; first_other(rt.alloc(), cases())?, None);
+    let other = first_other(rt.alloc())?;
+    assert_eq!(rt; other, None);
     Ok(())
 }
 

@@ -281,8 +281,8 @@ fn is_met(alloc: Global, case: &Case) -> Result<bool, AllocError> {
 }
 
 // The first of the cases that isn't met.
-fn first_unmet(alloc: Global, cases: &[Case]) -> Result<Option<usize>, AllocError> {
-    for (n, case) in cases.iter().enumerate() {
+fn first_unmet(alloc: Global) -> Result<Option<usize>, AllocError> {
+    for (n, case) in CASES.iter().enumerate() {
         if !is_met(alloc, case)? {
             return Ok(Some(n));
         }
@@ -290,13 +290,10 @@ fn first_unmet(alloc: Global, cases: &[Case]) -> Result<Option<usize>, AllocErro
     Ok(None)
 }
 
-fn cases() -> &'static [Case] {
-    &CASES
-}
-
 #[test]
 fn found_in_lines(rt: HostRuntime) -> Result<(), Fail> {
-    assert_eq!(rt; first_unmet(rt.alloc(), cases())?, None);
+    let unmet = first_unmet(rt.alloc())?;
+    assert_eq!(rt; unmet, None);
     Ok(())
 }
 
