@@ -88,6 +88,11 @@ symbol_removed_before_is document start symbol typed now before =
     not_zero : (m : ℕ) → m ≢ 0 → (m == 0) ≡ false
     not_zero m apart = grind (arith, nat_tests)
 
+-- at the text's start nothing is removed
+pub nothing_before : (document : DocumentState) (typed : Bool) (now : ℕ) → index_of document.text document.cursor ≡ 0 → unanchored document ≡ symbol_removed_before document typed now
+nothing_before document typed now start =
+    ap (λ (n : ℕ). cond (n == 0) (unanchored document) (edited document (symbol_removal document.text (index_of document.text document.cursor - 1)) typed now)) (sym start)
+
 -- the change of an edit that removes
 pub removal_of_kind : (kind : EditKind) (before after : Place) (symbols : List Symbol) → inserts_of kind ≡ false → symbols_of kind ≡ symbols → splice_of kind before after ≡ record { place = after; symbols = symbols; inserts = false }
 removal_of_kind kind before after symbols removes e =

@@ -1,9 +1,9 @@
-use Rattle.std.proofs.Common.{◌≤◌, ◌∙◌, ap, Err, Ok, Result, filter_map, refl, subst, sym}
-use Rattle.std.specs.Result.{OnErr}
+use Rattle.std.proofs.Common.{◌≤◌, ◌∙◌, ap, filter_map, refl, subst, sym}
 use Rattle.textarea_size.specs.Limit.{size_limit}
 use Rattle.textarea_text.specs.Place.{Place}
 use Rattle.textarea_text.specs.Splice.{place_before}
 use Rattle.textarea_ranges.specs.Moved.{moved_by, moved_ranges}
+use Rattle.textarea_document.proofs.Failures.{if_err}
 use Rattle.textarea_document.proofs.Moves.{movable}
 use Rattle.textarea_document.proofs.document.make_change.Goals as goal
 
@@ -27,11 +27,6 @@ returns-clause-ranges c =
 
 pub returns-clause-cursor : goal.returns-clause-cursor
 returns-clause-cursor c = c.cursor_after-new.ensures
-
--- what holds anyway holds after an error
-if_err : {T E P : Type 0} (r : Result T E) → P → OnErr r P
-if_err (Ok x) h = tt
-if_err (Err e) h = h
 
 pub returns-in_err-change_lines-clause-ranges_stay : goal.returns-in_err-change_lines-clause-ranges_stay
 returns-in_err-change_lines-clause-ranges_stay c = if_err c.from_residual.result refl

@@ -1,5 +1,7 @@
-use Rattle.std.proofs.Common.{List, subst}
+use Rattle.std.proofs.Common.{List, refl, subst}
+use Rattle.textarea_screen.proofs.ChangeLemmas.{KeepsOutside-same}
 use Rattle.textarea_screen.specs.Buffer.{Changes, area_of}
+use Rattle.textarea_screen.specs.Rect.{contains}
 use Rattle.textarea_screen.specs.Text.{ShownLine}
 use Rattle.textarea_frame.specs.Cells.{AreLinesOf, frame_change}
 use Rattle.textarea_frame.specs.Placed.{Placing}
@@ -21,3 +23,9 @@ returns-clause-outside c = c.draw.ensures.outside
 
 pub draw-requires-clause-within : goal.draw-requires-clause-within
 draw-requires-clause-within c = c.requires.within
+
+pub returns-in_err-placing-clause-outside : goal.returns-in_err-placing-clause-outside
+returns-in_err-placing-clause-outside c = KeepsOutside-same (contains c.args.area) refl
+
+pub returns-in_err-draw-clause-outside : goal.returns-in_err-draw-clause-outside
+returns-in_err-draw-clause-outside c = c.draw.ensures.outside

@@ -12,3 +12,6 @@ returns-clause-rows c =
 pub returns-clause-ticks : goal.returns-clause-ticks
 returns-clause-ticks c =
     IfOk-weaker c.make_room.result _ _ (λ p e. ap ticks_of e ∙ c.in_ok-rows.ensures.ticks) c.make_room.ensures.rows
+
+pub returns-clause-wrapping : goal.returns-clause-wrapping
+returns-clause-wrapping c = c.make_room.ensures.wrapping

@@ -36,3 +36,12 @@ returns-clause-ticks c =
     c.in_ok-push_lines.ensures.ticks c.in_ok-push_lines.ensures.counted c.in_ok-push_lines-2.ensures.ticks c.in_ok-push_lines-2.ensures.counted third size
     ∙ ap (λ n. ticks_behind c.args.count.now (length items - new.count + n)) c.as_slice.ensures.len)
     c.push_lines-3.ensures.ticks
+
+pub returns-clause-counted : goal.returns-clause-counted
+returns-clause-counted c =
+    let items = c.args.lines.now in
+    let row = c.args.replacement.now.row in
+    let at = row + c.args.replacement.now.count in
+    on_ok_weaker c.push_lines-3.result
+    (λ third. omega (arith, third, c.in_ok-push_lines.ensures.counted, c.in_ok-push_lines-2.ensures.counted, c.requires.within, c.as_slice.ensures.len, length-take-le row items (omega arith), ap length (take_rest items at), length-drop at items))
+    c.push_lines-3.ensures.counted

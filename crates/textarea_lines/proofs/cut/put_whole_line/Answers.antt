@@ -50,3 +50,6 @@ returns-clause-rows c =
       right = subst (λ n. IsWrapped mode.None n 1 (encode_utf8_all (get_or (lines_of c.args.lines.now) c.args.row [])) c.unwrap-cut.result.ranges) tab_len
           (subst (λ (t : List ℕ). IsWrapped mode.None c.wrapping-wrapping.result.tab_len 1 t c.unwrap-cut.result.ranges) bytes right);
     }
+
+pub returns-clause-wrapping : goal.returns-clause-wrapping
+returns-clause-wrapping c = c.replace.ensures.wrapping ∙ c.wrapping-wrapping.ensures

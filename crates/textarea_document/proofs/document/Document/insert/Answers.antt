@@ -1,11 +1,15 @@
-use Rattle.std.proofs.Common.{◌≡◌, ◌∙◌, ◌∷◌, ℕ, List, [], ap, false, refl, sym, true}
+use Rattle.std.proofs.Common.{◌≡◌, ◌≤◌, ◌∙◌, ◌∷◌, ℕ, Global, List, String, [], ap, arith, false, refl, subst, sym, true}
 use Rattle.std.specs.Duration.{as_nanos}
+use Rattle.textarea_size.specs.Limit.{size_limit}
 use Rattle.textarea_text.specs.Text.{Symbol, text_of}
-use Rattle.textarea_text.specs.Place.{Place}
+use Rattle.textarea_text.specs.Place.{Place, end}
+use Rattle.textarea_text.specs.Size.{size_of}
 use Rattle.textarea_text.specs.Splice.{Splice}
 use Rattle.textarea_document.specs.State.{DocumentState}
 use Rattle.textarea_document.specs.Edits.{insertion, insertion_place, is_filled, symbols_inserted}
 use Rattle.textarea_document.specs.Outcomes.{edited}
+use Rattle.textarea_document.proofs.Inserts.{filled_length}
+use Rattle.textarea_document.proofs.Parts.{well_formed}
 use Rattle.textarea_document.proofs.document.Document.insert.Goals as goal
 
 -- where there is a symbol, an insertion is an edit
@@ -22,3 +26,20 @@ returns-clause-ok c =
     ∙ ap (λ (s : Splice). edited document s false now)
     (c.edit_of.ensures.splice ∙ ap (λ (p : Place). insertion p (text_of items)) c.insertion_place-start.ensures.value)
     ∙ filled document (text_of items) now (sym (ap is_filled (ap text_of c.as_slice.ensures.value)) ∙ sym c.has_symbol.ensures ∙ c.if-not-has_symbol.false)
+
+pub end_of-end-requires-clause-room : goal.end_of-end-requires-clause-room
+end_of-end-requires-clause-room c =
+    let small = c.insertion_place-start.ensures.small in
+    omega (arith, small.0, small.1, c.in_ok-size_within_limit.ensures.limit.0 refl, ap (λ (items : List (String Global)). size_of items) (c.as_slice-3.ensures.value ∙ sym c.as_slice-2.ensures.value))
+
+pub returns-clause-limit : goal.returns-clause-limit
+returns-clause-limit c = λ _. subst (λ (items : List (String Global)). size_of items ≤ size_limit) c.as_slice-2.ensures.value (c.in_ok-size_within_limit.ensures.limit.0 refl)
+
+pub edit-requires-clause-well_formed : goal.edit-requires-clause-well_formed
+edit-requires-clause-well_formed c =
+    let items = c.args.pieces.items in
+    let start = c.insertion_place-start.result in
+    well_formed c.edit_of.result (insertion start (text_of items)) c.edit_of.ensures.splice
+    (filled_length (text_of items) (sym (ap is_filled (ap text_of c.as_slice.ensures.value)) ∙ sym c.has_symbol.ensures ∙ c.if-not-has_symbol.false))
+    (c.edit_of.ensures.end ∙ c.end_of-end.ensures ∙ ap (end start) (ap text_of c.as_slice-3.ensures.value))
+    c.edit_of.ensures.pieces

@@ -1,23 +1,22 @@
-use Rattle.std.proofs.Common.{◌≡◌, ◌∙◌, Bool, Option, ap, not, subst, sym}
+use Rattle.std.proofs.Common.{◌≡◌, ◌∙◌, ℕ, Bool, None, Option, Some, ap, false, not, refl, subst, sym, true≢false}
 use Rattle.std.specs.Duration.{as_nanos}
+use Rattle.std.specs.Option.{IfSome}
 use Rattle.std.specs.Result.{IfOk}
 use Rattle.std.proofs.lemmas.Result.{on_ok_weaker}
 use Rattle.textarea_atomic.specs.declared.range.AtomicRange.{AtomicRange}
-use Rattle.textarea_document.specs.Edits.{is_at_start, range_removed_or, removed_before, symbol_removed_before}
+use Rattle.textarea_document.specs.Edits.{hit_before, is_at_start, range_removed_or, removed_before, symbol_removed_before}
 use Rattle.textarea_document.specs.State.{DocumentState}
 use Rattle.textarea_document.proofs.document.Document.remove_before.Goals as goal
 
 -- where no range is hit nothing changes
-stays : (c : goal.After-remove_symbol_before) → c.remove_hit.new.self ≡ c.args.self.now
-stays c =
-    let document = c.args.self.now in
-    c.in_ok-remove_hit.ensures.ok
-    ∙ ap (λ (o : Option AtomicRange). range_removed_or o document (as_nanos c.args.now) document)
-    (sym c.in_ok-remove_hit.ensures.removed ∙ c.in-None.is)
+stays : (document left : DocumentState) (hit : Option AtomicRange) (now : ℕ) → left ≡ range_removed_or (hit_before document) document now document → hit ≡ hit_before document → hit ≡ None → left ≡ document
+stays document left hit now removed is none = removed ∙ ap (λ (o : Option AtomicRange). range_removed_or o document now document) (sym is ∙ none)
 
 pub returns-in-None-clause-removed : goal.returns-in-None-clause-removed
 returns-in-None-clause-removed c =
-    subst (λ (s : DocumentState). IfOk c.remove_symbol_before.result (λ (removed : Bool). removed ≡ not (is_at_start s))) (stays c) c.remove_symbol_before.ensures.removed
+    subst (λ (s : DocumentState). IfOk c.remove_symbol_before.result (λ (removed : Bool). removed ≡ not (is_at_start s)))
+    (stays c.args.self.now c.remove_hit.new.self c.in_ok-remove_hit.field-0 (as_nanos c.args.now) c.in_ok-remove_hit.ensures.ok c.in_ok-remove_hit.ensures.removed c.in-None.is)
+    c.remove_symbol_before.ensures.removed
 
 pub returns-in-None-clause-ok : goal.returns-in-None-clause-ok
 unfolding removed_before
@@ -26,7 +25,31 @@ returns-in-None-clause-ok c =
     let now = as_nanos c.args.now in
     on_ok_weaker c.remove_symbol_before.result
     (λ e. e
-    ∙ ap (λ (s : DocumentState). symbol_removed_before s c.args.typed now) (stays c)
+    ∙ ap (λ (s : DocumentState). symbol_removed_before s c.args.typed now) (stays document c.remove_hit.new.self c.in_ok-remove_hit.field-0 now c.in_ok-remove_hit.ensures.ok c.in_ok-remove_hit.ensures.removed c.in-None.is)
     ∙ ap (λ (o : Option AtomicRange). range_removed_or o document now (symbol_removed_before document c.args.typed now))
     (sym (sym c.in_ok-remove_hit.ensures.removed ∙ c.in-None.is)))
     c.remove_symbol_before.ensures.ok
+
+pub returns-in_err-remove_hit-clause-nothing : goal.returns-in_err-remove_hit-clause-nothing
+returns-in_err-remove_hit-clause-nothing c = λ start. absurd (true≢false (sym (c.in_err-remove_hit.ensures.start refl start)))
+
+pub remove_symbol_before-requires : goal.remove_symbol_before-requires
+remove_symbol_before-requires c =
+    let document = c.args.self.now in
+    let removed = c.in_ok-remove_hit.ensures.removed in
+    record { none_hit = ap hit_before (stays document c.remove_hit.new.self c.in_ok-remove_hit.field-0 (as_nanos c.args.now) c.in_ok-remove_hit.ensures.ok removed c.in-None.is) ∙ sym removed ∙ c.in-None.is }
+
+pub returns-in-Some-clause-removed : goal.returns-in-Some-clause-removed
+returns-in-Some-clause-removed c =
+    let document = c.args.self.now in
+    sym (ap not (subst (λ (o : Option AtomicRange). IfSome o (λ _. is_at_start document ≡ false)) c.in-Some.is (c.in_ok-remove_hit.ensures.before refl)))
+
+pub returns-in-Some-clause-ok : goal.returns-in-Some-clause-ok
+unfolding removed_before
+returns-in-Some-clause-ok c =
+    let document = c.args.self.now in
+    let now = as_nanos c.args.now in
+    let is : hit_before document ≡ Some c.in-Some.field-0 = sym c.in_ok-remove_hit.ensures.removed ∙ c.in-Some.is in
+    c.in_ok-remove_hit.ensures.ok
+    ∙ ap (λ (o : Option AtomicRange). range_removed_or o document now document) is
+    ∙ ap (λ (o : Option AtomicRange). range_removed_or o document now (symbol_removed_before document c.args.typed now)) (sym is)

@@ -1,13 +1,13 @@
-use Rattle.std.proofs.Common.{◌≡◌, ◌≤◌, ◌∙◌, ◌∷◌, [], ap, arith, cond, false, sym, subst}
+use Rattle.std.proofs.Common.{◌≡◌, ◌≤◌, ◌∙◌, ◌∷◌, List, [], ap, arith, cond, false, sym, subst}
 use Rattle.std.specs.Duration.{as_nanos}
 use Rattle.std.specs.Option.{IfSome}
-use Rattle.textarea_text.specs.Text.{symbol_in}
-use Rattle.textarea_text.specs.Place.{IsSymbolBefore}
+use Rattle.textarea_text.specs.Text.{Symbol, symbol_in}
+use Rattle.textarea_text.specs.Place.{IsSymbolBefore, index_of}
 use Rattle.textarea_text.specs.Splice.{Fits, Splice}
 use Rattle.textarea_ranges.specs.Held.{TakesWhole}
 use Rattle.textarea_document.specs.Outcomes.{edited}
 use Rattle.textarea_document.specs.Ranges.{CutsNone}
-use Rattle.textarea_document.proofs.Behinds.{before_cursor, removal_of_kind, symbol_removed_before_is}
+use Rattle.textarea_document.proofs.Behinds.{before_cursor, nothing_before, removal_of_kind, symbol_removed_before_is}
 use Rattle.textarea_document.proofs.Parts.{well_formed}
 use Rattle.textarea_document.proofs.Ranges.{whole_before}
 use Rattle.textarea_document.proofs.document.Document.remove_symbol_before.Goals as goal
@@ -43,13 +43,24 @@ edit-requires-clause-cuts_none c =
     subst (CutsNone document.ranges) (sym (removes c))
     (subst (TakesWhole document.ranges before.start) known.ends (whole_before document.text document.ranges document.cursor before.start (symbol_in before.character) c.lines.ensures.ranges c.requires.none_hit known))
 
+-- the edit is recorded as one that was typed or not, as asked
+made : (c : goal.In_ok-edit) → c.edit.new.self ≡ edited c.args.self.now c.between.result.splice c.args.typed (as_nanos c.args.now)
+made c = c.in_ok-edit.ensures.ok
+
 pub returns-clause-ok : goal.returns-clause-ok
 returns-clause-ok c =
     let document = c.args.self.now in
     let before = c.in-Some.before in
     let symbol = symbol_in before.character in
-    c.in_ok-edit.ensures.ok
+    made c
     ∙ ap (λ (s : Splice). edited document s c.args.typed (as_nanos c.args.now))
     (c.between.ensures.splice ∙ removal_of_kind c.deletion_of-kind.result c.cursor-cursor.result before.start (symbol ∷ []) c.deletion_of-kind.ensures.inserts c.deletion_of-kind.ensures.symbols)
     ∙ symbol_removed_before_is document before.start symbol c.args.typed (as_nanos c.args.now)
     (before_cursor c.lines.result.now document.text c.cursor-cursor.result document.cursor before.start symbol c.lines.ensures.value c.cursor-cursor.ensures.value c.in-Some.ensures)
+
+pub returns-in_default-clause-ok : goal.returns-in_default-clause-ok
+returns-in_default-clause-ok c =
+    let document = c.args.self.now in
+    c.set_anchor.ensures
+    ∙ nothing_before document c.args.typed (as_nanos c.args.now)
+    (ap (index_of document.text) (sym c.cursor-cursor.ensures.value) ∙ ap (λ (t : List Symbol). index_of t c.cursor-cursor.result) (sym c.lines.ensures.value) ∙ c.in_default.ensures)

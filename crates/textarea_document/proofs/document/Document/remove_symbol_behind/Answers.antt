@@ -1,4 +1,4 @@
-use Rattle.std.proofs.Common.{◌∙◌, ◌∷◌, [], ap, sym, subst}
+use Rattle.std.proofs.Common.{◌≡◌, ◌∙◌, ◌∷◌, [], ap, sym, subst}
 use Rattle.std.specs.Duration.{as_nanos}
 use Rattle.textarea_text.specs.Text.{symbol_in}
 use Rattle.textarea_text.specs.Place.{IsPlace}
@@ -10,13 +10,17 @@ use Rattle.textarea_document.proofs.Behinds.{behind_cursor, removal_at_cursor, s
 use Rattle.textarea_document.proofs.Ranges.{whole_behind}
 use Rattle.textarea_document.proofs.document.Document.remove_symbol_behind.Goals as goal
 
+-- the edit is recorded as one that was typed or not, as asked
+made : (c : goal.In_ok-edit) → c.edit.new.self ≡ edited c.args.self.now c.between.result.splice c.args.typed (as_nanos c.args.now)
+made c = c.in_ok-edit.ensures.ok
+
 pub returns-clause-ok : goal.returns-clause-ok
 returns-clause-ok c =
     let document = c.args.self.now in
     let found = c.in-Some.behind in
     let symbol = symbol_in found.character in
     let at = c.cursor-cursor.ensures.value in
-    c.in_ok-edit.ensures.ok
+    made c
     ∙ ap (λ (s : Splice). edited document s c.args.typed (as_nanos c.args.now))
     (c.between.ensures.splice ∙ removal_at_cursor c.deletion_of-kind.result found.end c.cursor-cursor.result document.cursor (symbol ∷ []) c.deletion_of-kind.ensures.inserts c.deletion_of-kind.ensures.symbols at)
     ∙ symbol_removed_behind_is document found.end symbol c.args.typed (as_nanos c.args.now) (subst (IsPlace document.text) at c.cursor-cursor.ensures.place)

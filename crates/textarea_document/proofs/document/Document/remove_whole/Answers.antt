@@ -1,8 +1,12 @@
 use Rattle.std.proofs.Common.{◌≡◌, ◌∙◌, sym, ap, subst, arith, List, false}
+use Rattle.std.specs.Duration.{as_nanos}
+use Rattle.std.specs.Result.{OnOk}
+use Rattle.std.proofs.lemmas.Result.{on_ok_weaker}
 use Rattle.textarea_text.specs.Text.{Symbol}
-use Rattle.textarea_text.specs.Splice.{Fits}
+use Rattle.textarea_text.specs.Splice.{Fits, Splice}
 use Rattle.textarea_ranges.specs.Held.{TakesWhole}
 use Rattle.textarea_document.specs.Edits.{removal}
+use Rattle.textarea_document.specs.Outcomes.{edited}
 use Rattle.textarea_document.specs.Ranges.{CutsNone}
 use Rattle.textarea_document.proofs.Parts.{part_ends, part_some, removal_fits, some_pieces, well_formed}
 use Rattle.textarea_document.proofs.document.Document.remove_whole.Goals as goal
@@ -30,3 +34,16 @@ edit-requires-clause-cuts_none c =
     let text = c.args.self.now.text in
     let ranges = c.args.self.now.ranges in
     subst (CutsNone ranges) (sym (removes c)) (subst (TakesWhole ranges c.args.from) (part_ends text c.args.from c.args.to c.requires.from c.requires.to (omega (arith, c.requires.ordered))) c.requires.whole)
+
+-- the edit is recorded as one that was not typed
+made : (c : goal.After-edit) → OnOk c.edit.result (c.edit.new.self ≡ edited c.args.self.now c.edit_of.result.splice false (as_nanos c.args.now))
+made c = c.edit.ensures.ok
+
+pub returns-clause-ok : goal.returns-clause-ok
+returns-clause-ok c =
+    let document = c.args.self.now in
+    on_ok_weaker c.edit.result
+    (λ e. e
+    ∙ ap (λ (s : Splice). edited document s false (as_nanos c.args.now)) c.edit_of.ensures.splice
+    ∙ ap (λ (s : List Symbol). edited document (record { place = c.args.from; symbols = s; inserts = false }) false (as_nanos c.args.now)) c.requires.pieces)
+    (made c)

@@ -1,7 +1,10 @@
-use Rattle.std.proofs.Common.{◌≡◌, ℕ, Bool, true, false, None, Some, if◌then◌else◌, refl, sym, subst, ◌∙◌}
+use Rattle.std.proofs.Common.{◌≡◌, ◌-◌, ℕ, Bool, true, false, None, Some, if◌then◌else◌, ap, refl, sym, subst, ◌∙◌}
+use Rattle.textarea_blocks.specs.Sums.{row_total}
 use Rattle.textarea_screen.specs.Rect.{contains}
+use Rattle.textarea_frame.specs.declared.frame.Frame.TheInside.{Inside}
 use Rattle.textarea_frame.specs.Frame.{FrameState}
 use Rattle.textarea_frame.specs.Hit.{IsHitBy, IsHitInRows, IsHitWith}
+use Rattle.textarea_viewport.specs.Caret.{hit_row}
 use Rattle.textarea_frame.proofs.frame.Frame.hit.Goals as goal
 
 inside_of : (b : Bool) (n m : ℕ) → (if b then Some n else None) ≡ Some m → b ≡ true
@@ -26,3 +29,8 @@ returns-clause-hit c =
       subst (λ b. IsHitWith b c.args.self.now c.args.viewport c.args.inner x y place) (sym c.if-shows_placeholder.false ∙ c.shows_placeholder.ensures)
           (subst (λ (f : FrameState). IsHitInRows f.scene c.args.viewport c.args.inner x y place) c.self.view_is c.in_ok-hit_in_row.ensures.hit),
     )
+
+pub hit_in_row-requires-clause-hit : goal.hit_in_row-requires-clause-hit
+hit_in_row-requires-clause-hit c =
+    ap (λ (count : ℕ). hit_row c.args.viewport.row c.args.inner (count - 1) c.args.position.x c.args.position.y) (sym (c.row_count-last_row.ensures.value ∙ ap (λ (i : Inside). row_total i.scene.rows.rows) c.self-inside.view_is))
+    ∙ sym c.hit_row.ensures ∙ c.in-Some.is

@@ -1,6 +1,29 @@
-use Rattle.std.proofs.Common.{arith}
+use Rattle.std.proofs.Common.{◌∙◌, ◌<◌, List, String, ap, arith, length, subst}
+use Rattle.std.specs.declared.alloc.Global.{Global}
+use Rattle.textarea_text.specs.Size.{size_of}
+use Rattle.textarea_text.specs.Text.{lines_of}
+use Rattle.textarea_map.specs.Layout.{AreRowsOf}
+use Rattle.textarea_lines.specs.Wrappings.{wrapping_for}
 use Rattle.textarea_lines.proofs.Changes.{laid_new}
+use Rattle.textarea_lines.proofs.Founds.{found_first}
 use Rattle.textarea_lines.proofs.laid_out.LaidOutLines.lay_out.Goals as goal
+
+pub invariant_of-result : goal.invariant_of-result
+invariant_of-result c =
+    let items = c.args.lines.items in
+    let map = c.in_ok-map.map in
+    let some : 0 < length items = omega (arith, c.requires, c.args.lines.ok.0) in
+    let size_is = c.in_ok-size.ensures.size ∙ ap size_of c.as_slice.ensures.value in
+    record {
+      held = record {
+        stored = record { some = some; size_is = size_is; limit = omega (arith, size_is, ap size_of c.as_slice-2.ensures.value, c.in_ok-map.ensures.limit) };
+        wrapping_is = c.in_ok-map.ensures.wrapping ∙ c.wrapping_for-wrapping.ensures ∙ ap (wrapping_for c.args.settings) (c.len.ensures ∙ c.args.lines.ok.0);
+        laid_out = subst (λ (t : List (String Global)). AreRowsOf map.wrapping (lines_of t) map.rows) c.as_slice-2.ensures.value c.in_ok-map.ensures.rows;
+      };
+      measured = tt;
+      kept = tt;
+      place = found_first items c.new-2.result c.new-2.ensures some;
+    }
 
 pub returns : goal.returns
 returns c =

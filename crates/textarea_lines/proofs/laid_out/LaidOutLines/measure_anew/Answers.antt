@@ -1,8 +1,11 @@
 use Rattle.std.proofs.Common.{◌≡◌, ◌∙◌, ℕ, List, ap, refl, subst, sym}
 use Rattle.std.specs.Result.{IfOk}
 use Rattle.textarea_text.specs.Text.{lines, lines_of}
+use Rattle.textarea_map.specs.declared.layout.Wrapping.{Wrapping}
+use Rattle.textarea_map.specs.Layout.{AreRowsOf}
 use Rattle.textarea_map.specs.Map.{IsRowCount}
 use Rattle.textarea_lines.specs.Layout.{LaidOut}
+use Rattle.textarea_lines.specs.View.{IsWholeCut}
 use Rattle.textarea_lines.proofs.Stores.{lines_held}
 use Rattle.textarea_lines.proofs.Widths.{next_cut}
 use Rattle.textarea_lines.proofs.laid_out.LaidOutLines.measure_anew.Goals as goal
@@ -27,3 +30,9 @@ returns-in-Err-clause-rows c =
     let same : lines_of c.as_slice.result.now ≡ lines c.args.self.now.text =
     ap lines_of c.as_slice.ensures.value ∙ sym (lines_held items c.self.invariant.held.stored.some) ∙ ap (λ (l : LaidOut). lines l.text) c.self.view_is in
     subst (λ (t : List (List ℕ)). IfOk c.rows_in.result (IsRowCount c.args.wrapping t)) same c.rows_in.ensures.rows
+
+pub returns-in-Ok-clause-rows : goal.returns-in-Ok-clause-rows
+returns-in-Ok-clause-rows c =
+    let cut = c.in-Ok.cut in
+    let whole = subst (λ (l : LaidOut). IsWholeCut l c.args.wrapping cut) c.self.view_is c.in-Ok.ensures in
+    (cut.map.rows, subst (λ (w : Wrapping). AreRowsOf w (lines c.args.self.now.text) cut.map.rows) whole.wrapping whole.rows, c.keep.ensures.rows)

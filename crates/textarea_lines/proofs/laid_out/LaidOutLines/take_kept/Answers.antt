@@ -5,3 +5,6 @@ pub returns-clause-kept : goal.returns-clause-kept
 returns-clause-kept c =
     let inside = c.self.inside in
     whole_taken inside.settings inside.lines.items inside.count inside.map.rows c.args.self.now c.args.wrapping inside.kept c.take_if_cut.result c.self.invariant.held.stored.some c.self.view_is c.self.invariant.kept c.take_if_cut.ensures.taken c.take_if_cut.ensures.wrapping
+
+pub returns-clause-same : goal.returns-clause-same
+returns-clause-same c = c.self.view_is
