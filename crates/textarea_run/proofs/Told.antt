@@ -1,7 +1,8 @@
 -- What the outcome of a call of the text area says of the call that was made.
 use Rattle.std.proofs.Common.{◌≡◌, ◌≢◌, Bool, Result, Ok, Err, IfOk, IsOk, subst, sym, false, true}
-use Rattle.std.specs.Result.{OnErr, OnOk}
+use Rattle.std.specs.Result.{IsOkAnd, MatchResult, OnErr, OnOk, is_err}
 use Rattle.tui_textarea.specs.State.{State}
+use Rattle.textarea_calls.specs.declared.answer.Answer.{Answer}
 use Rattle.textarea_calls.specs.declared.call.Call.{Call}
 use Rattle.textarea_run.specs.Calls.{IsLeft, MayRefuse, Refused}
 use Rattle.textarea_run.specs.Outcomes.{IsAnswer, IsBehind}
@@ -56,3 +57,20 @@ told old call made said is answer = subst (λ (asked : Call). IsAnswer old asked
 -- the state behind such a call
 pub behind : (old new : State) (call made : Call) (said : Said) → call ≡ made → IsBehind old made said new → IsBehind old call said new
 behind old new call made said is so = subst (λ (asked : Call). IsBehind old asked said new) (sym is) so
+
+-- what is so in any case is so of a call that is refused
+pub so_refused : {T E P : Type 0} (outcome : Result T E) → P → OnErr outcome P
+so_refused (Ok done) so = tt
+so_refused (Err error) so = so
+
+-- an answer that is made of the outcome of a call
+pub mapped : {T E : Type 0} (answer : T → Answer) (So : Answer → Type 0) (outcome : Result T E) (told : Result Answer E)
+    → MatchResult outcome (λ x. IsOkAnd told (λ one. one ≡ answer x)) (λ error. told ≡ Err error) → IfOk outcome (λ x. So (answer x)) → IfOk told So
+mapped answer So (Ok x) (Ok one) is so = subst So (sym is) so
+mapped answer So (Ok x) (Err error) is so = absurd is
+mapped {T} {E} answer So (Err error) told is so = subst (λ (told : Result Answer E). IfOk told So) (sym is) tt
+
+-- what is so of a call that is refused, where it is
+pub so_of_refused : {T E : Type 0} (outcome : Result T E) (P : Type 0) → is_err outcome ≡ true → OnErr outcome P → P
+so_of_refused (Ok done) P is so = let no : false ≡ true = is in cc
+so_of_refused (Err error) P is so = so

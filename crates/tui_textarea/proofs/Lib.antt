@@ -13,3 +13,5 @@ mod Stepping
 mod Going
 mod WorkedCounts
 mod Lifted
+mod Unselected
+mod CursorLine

@@ -1,9 +1,10 @@
-use Rattle.std.proofs.Common.{◌≡◌, ◌+◌, ◌<◌, ◌∷◌, [], ◌++◌, ◌∙◌, ap, cond, inr, length, map, refl, sym, subst, take, List, arith, is_ok, rules, true, vec_len, vec_capacity}
+use Rattle.std.proofs.Common.{◌≡◌, ◌+◌, ◌<◌, ◌∷◌, [], ◌++◌, ◌∙◌, ap, cond, inr, length, map, refl, sym, subst, take, take_all, List, arith, is_ok, rules, true, vec_len, vec_capacity}
 use Rattle.std.proofs.lemmas.Option.{slice_get_read}
 use Rattle.textarea_run.specs.Goes.{AllStemInRun}
 use Rattle.textarea_run.specs.Run.{Leads}
 use Rattle.textarea_run.specs.Said.{said}
 use Rattle.textarea_calls.specs.declared.answer.Answer.{Answer}
+use Rattle.textarea_calls.specs.declared.call.Call.{Call}
 use Rattle.textarea_run.proofs.Going.{stem_at_start, stem_counted, stem_left, stem_next}
 use Rattle.textarea_run.proofs.Runs.{leads_more}
 use Rattle.textarea_run.proofs.run.make_all.Goals as goal
@@ -54,3 +55,8 @@ returns-in-Err-clause-ranges c =
     let counted : length c.loop-index.answers.items ≡ c.loop-index.index = omega (arith, c.loop-index.answers.ok, before.counted) in
     stem_counted c.args.area.now c.make.new.area c.args.buffer.now c.args.calls.now c.loop-index.answers.items c.loop-index.index counted
     (stem_left c.args.area.now c.loop-index.area c.make.new.area c.args.buffer.now (take c.loop-index.index c.args.calls.now) (map said c.loop-index.answers.items) c.in-Err.ensures.before c.in-Err.ensures.left before.stem)
+
+pub returns-clause-led : goal.returns-clause-led
+returns-clause-led c =
+    subst (λ (made : List Call). Leads c.args.area.now c.args.buffer.now made (map said c.loop-index.answers.items) c.loop-index.area c.loop-index.buffer)
+    (take_all c.loop-index.index c.args.calls.now (omega (arith, c.loop-index-test.false))) c.loop-index.invariant.led

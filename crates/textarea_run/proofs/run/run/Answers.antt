@@ -1,8 +1,16 @@
-use Rattle.std.proofs.Common.{◌∙◌}
+use Rattle.std.proofs.Common.{◌+◌, ◌<◌, ◌∙◌, arith, inl, length, refl, sym, vec_capacity, vec_len}
 use Rattle.textarea_run.proofs.Going.{stem_at_first}
+use Rattle.textarea_run.proofs.Told.{so_of_refused}
 use Rattle.textarea_run.proofs.run.run.Goals as goal
 
 pub returns-then-is_err-clause-ranges : goal.returns-then-is_err-clause-ranges
 returns-then-is_err-clause-ranges c =
     stem_at_first c.args.area.now c.args.buffer.now c.args.calls.now c.try_reserve.new.self.items c.is_sound.ensures
     (c.try_reserve.ensures.items ∙ c.new-answers.ensures.items)
+
+pub returns-then-is_err-clause-led : goal.returns-then-is_err-clause-led
+returns-then-is_err-clause-led c =
+    let reserve = c.try_reserve in
+    let full = so_of_refused reserve.result (vec_capacity c.new-answers.result < vec_len c.new-answers.result + length c.args.calls.now)
+    (sym c.is_err.ensures.value ∙ c.if-is_err.true) reserve.ensures.full in
+    inl (record { some = omega (arith, c.new-answers.ensures.len, full); first = refl; answered = reserve.ensures.items ∙ c.new-answers.ensures.items; state = refl; screen = refl })

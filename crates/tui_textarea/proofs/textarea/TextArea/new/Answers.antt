@@ -1,0 +1,27 @@
+use Rattle.std.proofs.Common.{◌≡◌, ◌∙◌, ℕ, List, Option, is_some, [], ap, false}
+use Rattle.textarea_document.specs.State.{DocumentState, new_document}
+use Rattle.textarea_drawing.specs.State.{DrawingState, new_drawing}
+use Rattle.textarea_surround.specs.State.{SurroundState, new_surround}
+use Rattle.textarea_text.specs.Text.{Symbol, text_of}
+use Rattle.tui_textarea.specs.State.{default_layout, default_settings, new_state}
+use Rattle.tui_textarea.specs.declared.textarea.settings.Settings.{Settings}
+use Rattle.tui_textarea.proofs.Unselected.{none_is}
+use Rattle.tui_textarea.proofs.textarea.TextArea.new.Goals as goal
+
+-- a state whose parts are new ones is new
+made_new : (text : List Symbol) (document : DocumentState) (yank : List Symbol) (settings : Settings) (pattern : Option (List ℕ)) (surround : SurroundState) (drawing : DrawingState)
+    → document ≡ new_document text default_layout 50 → yank ≡ [] → settings ≡ default_settings → is_some pattern ≡ false → surround ≡ new_surround → drawing ≡ new_drawing
+    → record (new_state text) { document = document; yank = yank; settings = settings; pattern = pattern; surround = surround; drawing = drawing } ≡ new_state text
+made_new text document yank settings pattern surround drawing d y s p b f =
+    let start = new_state text in
+    ap (λ (x : DocumentState). record start { document = x; yank = yank; settings = settings; pattern = pattern; surround = surround; drawing = drawing }) d
+    ∙ ap (λ (x : List Symbol). record start { yank = x; settings = settings; pattern = pattern; surround = surround; drawing = drawing }) y
+    ∙ ap (λ (x : Settings). record start { settings = x; pattern = pattern; surround = surround; drawing = drawing }) s
+    ∙ ap (λ (x : Option (List ℕ)). record start { pattern = x; surround = surround; drawing = drawing }) (none_is pattern p)
+    ∙ ap (λ (x : SurroundState). record start { surround = x; drawing = drawing }) b
+    ∙ ap (λ (x : DrawingState). record start { drawing = x }) f
+
+pub returns : goal.returns
+returns c =
+    made_new (text_of c.args.lines.items) c.in_ok-new.field-0 (text_of c.new-2.result.items) c.default.result c.default-2.result c.new-3.result c.new-4.result
+    c.in_ok-new.ensures (ap text_of c.new-2.ensures.items) c.default.ensures c.default-2.ensures c.new-3.ensures c.new-4.ensures
