@@ -1,0 +1,17 @@
+use Rattle.std.proofs.Common.{◌≡◌, ◌∙◌, ap}
+use Rattle.std.proofs.lemmas.Result.{IfOk-weaker, on_err_weaker}
+use Rattle.textarea_document.specs.State.{DocumentState}
+use Rattle.tui_textarea.specs.State.{State, with_document}
+use Rattle.tui_textarea.proofs.textarea.TextArea.try_set_atomic_ranges.Goals as goal
+
+-- with the document that it had, the state is as it was
+kept : {view state : State} → view ≡ state → (document : DocumentState) → document ≡ view.document → with_document view document ≡ state
+kept {view} is document same = ap (with_document view) same ∙ is
+
+pub returns-clause-refused : goal.returns-clause-refused
+returns-clause-refused c =
+    IfOk-weaker c.try_set_ranges.result _ _ (λ outcome refused. on_err_weaker outcome (kept c.self.view_is c.try_set_ranges.new.self) refused)
+    c.try_set_ranges.ensures.refused
+
+pub returns-clause-err : goal.returns-clause-err
+returns-clause-err c = on_err_weaker c.try_set_ranges.result (kept c.self.view_is c.try_set_ranges.new.self) c.try_set_ranges.ensures.err
