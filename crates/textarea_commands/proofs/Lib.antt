@@ -2,6 +2,7 @@ pub mod Escapes
 pub mod Fronts
 pub mod Lines
 pub mod Numbers
+pub mod Pairs
 pub mod Ranges
 pub mod Scripts
 pub mod Tables

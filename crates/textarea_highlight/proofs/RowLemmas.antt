@@ -1,13 +1,13 @@
 -- The spans of a row, put together from its parts.
-use Rattle.std.proofs.Common.{arith, ◌≡◌, List, ◌++◌, Option, refl, sym, ap, subst, ◌∙◌}
+use Rattle.std.proofs.Common.{arith, ◌≡◌, ℕ, List, ◌++◌, Option, refl, sym, ap, subst, ◌∙◌}
 use Rattle.std.proofs.lemmas.Grind.{common_steps}
 use Rattle.textarea_screen.specs.declared.screen.style.Style.{Style}
 use Rattle.textarea_screen.specs.Style.{empty_style}
 use Rattle.textarea_screen.specs.Text.{ShownSpan}
 use Rattle.textarea_highlight.specs.declared.highlight.borders.Border.{Border}
-use Rattle.textarea_highlight.specs.Borders.{IsBorderOrder}
+use Rattle.textarea_highlight.specs.Borders.{IsBorderOrder, match_borders}
 use Rattle.textarea_highlight.specs.Cut.{AddsPieces}
-use Rattle.textarea_highlight.specs.Highlights.{Highlights, end_style, end_cell}
+use Rattle.textarea_highlight.specs.Highlights.{Highlights, end_style, end_cell, with_matches}
 use Rattle.textarea_highlight.specs.Row.{AddsRow, ShowsRow}
 
 -- v is the highlighter as its fields show it
@@ -31,3 +31,10 @@ pub row_added : (v h : Highlights) (sorted : List Border) (numbers all : List Sh
     AddsRow (record v { numbers = numbers; borders = sorted }) v.numbers all → style ≡ empty_style → ShowsRow h (record { spans = all; style = style })
 row_added v h sorted numbers all style same order added plain =
     row_shown v h same sorted sorted added.front all style (end_style v) order refl added.cut (ap end_style same) added.spans plain
+
+-- the borders of matches behind those that were there
+pub matches_added : (v h : Highlights) → v ≡ h → (pairs : List (ℕ × ℕ)) (style : Style) (new added : List Border) → new ≡ v.borders ++ added → added ≡ match_borders v.row pairs style →
+    record v { borders = new } ≡ with_matches h pairs style
+matches_added v h same pairs style new added grown found =
+    subst (λ (k : Highlights). record v { borders = new } ≡ with_matches k pairs style) same
+    (ap (λ (borders : List Border). record v { borders = borders }) (grown ∙ ap (λ (borders : List Border). v.borders ++ borders) found))

@@ -3,3 +3,4 @@ mod Found
 mod Holds
 mod OneFilling
 mod Placeholder
+mod Told

@@ -1,2 +1,3 @@
 pub mod BufferLemmas
 pub mod ChangeLemmas
+pub mod Copies

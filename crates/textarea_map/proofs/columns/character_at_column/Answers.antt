@@ -1,4 +1,4 @@
-use Rattle.std.proofs.Common.{◌≡◌, inl, inr, ap, ◌∙◌, arith, below_more, length}
+use Rattle.std.proofs.Common.{◌≡◌, ◌<◌, ◌≤◌, ◌⊎◌, inl, inr, ap, ◌∙◌, arith, below_more, length}
 use Rattle.std.proofs.lemmas.List.{length-drop, nil_from_length}
 use Rattle.std.proofs.lemmas.Str.{chars-nil, chars_past_char, IsUtf8-past_char}
 use Rattle.std.specs.Str.{chars}
@@ -7,6 +7,14 @@ use Rattle.textarea_wrap.proofs.ColumnLemmas.{shorter_behind}
 use Rattle.textarea_map.proofs.RowColumns.{column_at-more, leads_to_covering, leads_to_end, leads_to_first, passed}
 use Rattle.textarea_map.proofs.columns.character_at_column.Goals as goal
 
+-- the column is the character's, or one that the character covers
+either : (c : goal.Joined-then-column-at) → (c.args.column ≤ c.loop-c.at) ⊎ ((c.loop-c.at < c.args.column) × (c.args.column < c.display_column_behind-next.result))
+either c = c.then-column-at.either
+
+-- the column lies behind the character
+further : (c : goal.Else-column-next) → c.display_column_behind-next.result ≤ c.args.column
+further c = c.if-column-next.false
+
 pub returns-then-column-at : goal.returns-then-column-at
 returns-then-column-at c =
     let was = c.loop-c.invariant in
@@ -14,7 +22,7 @@ returns-then-column-at c =
     let t = c.args.tab_len in
     let read = chars_past_char _ _ c.in-Some.c was.text c.in-Some.ensures.steps.0 in
     let step = passed cs _ c.loop-c.index c.in-Some.c was.within (was.left ∙ read) in
-    elim c.then-column-at.either [
+    elim (either c) [
       | inl h ↦ leads_to_first t cs c.args.column c.loop-c.index c.loop-c.at was.within was.at (omega (arith, h, was.reached)) was.before
       | inr h ↦
           leads_to_covering t cs c.args.column c.loop-c.index c.loop-c.at c.display_column_behind-next.result step.0 was.at
@@ -38,7 +46,7 @@ loop-c-preserved c =
       at = cc (c.display_column_behind-next.ensures.value, was.at, step.1, column_at-more t cs c.loop-c.index 0 step.0);
       fits = omega (arith, was.fits, c.display_column_behind-next.ensures.near, shorter);
       before = below_more _ _ was.before (omega (arith, was.at, c.if-column-at.false));
-      reached = c.if-column-next.false;
+      reached = further c;
     }
 
 pub returns : goal.returns

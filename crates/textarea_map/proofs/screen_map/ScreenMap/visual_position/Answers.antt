@@ -1,4 +1,4 @@
-use Rattle.std.proofs.Common.{◌≡◌, ◌+◌, ◌<◌, ◌≤◌, ◌∙◌, ℕ, List, [], ap, arith, encode_utf8_all, get_or, length, max, sym, take}
+use Rattle.std.proofs.Common.{◌≡◌, ◌+◌, ◌-◌, ◌<◌, ◌≤◌, ◌∙◌, ℕ, List, [], ap, arith, drop, encode_utf8_all, get_or, length, max, sym, take}
 use Rattle.std.proofs.lemmas.List.{length-map}
 use Rattle.std.specs.Str.{chars}
 use Rattle.textarea_text.specs.Text.{characters_of, lines_of}
@@ -30,6 +30,10 @@ short c = offset_within c.index-lines-place.result _ _ _ c.as_str-line.ensures.v
 there : (c : After-display_column_behind_text-column) → c.args.place.0 < length (all_rows c.self.inside.blocks.blocks)
 there c =
     omega (arith, c.requires.place.0, length-AreRowsOf c.args.self.now.wrapping (lines_of c.args.lines.now) c.args.self.now.rows c.requires.rows, ap (λ (v : MapView). length v.rows) c.self.view_is)
+
+-- what is read of the line begins with the row
+read : (c : After-display_column_behind_text-column) → c.range.result.now ≡ take (c.byte_offset-offset.result - (range_at c.rows_of-ranges.result.now c.row_holding-row.result).0) (drop (range_at c.rows_of-ranges.result.now c.row_holding-row.result).0 c.as_str-line.result.now)
+read c = c.range.ensures.value
 
 pub rows_of-ranges-requires : goal.rows_of-ranges-requires
 rows_of-ranges-requires c =
@@ -73,10 +77,12 @@ returns c =
     let offset = c.byte_offset-offset.result in
     let same = offset_of_line c.index-lines-place.result _ c.args.place.1 offset c.as_str-line.ensures.value c.byte_offset-offset.ensures ∙ ap (λ (t : List ℕ). offset_in t c.args.place.1) (sym (line_at _ _ c.index-lines-place.result (within known) c.index-lines-place.is)) in
     let start = ap (λ (t : List (ℕ × ℕ)). (range_at t row).0) c.rows_of-ranges.ensures in
+    let first = (range_at (ranges_at c.args.self.now.rows c.args.place.0) row).0 in
     let seen = seen_in c.args.self.now.wrapping (lines_of c.args.lines.now) c.args.self.now.rows c.args.place row offset _ _ c.range.result.now c.requires.rows c.requires.place
     (omega (arith, c.row_holding-row.ensures.within, ap length c.rows_of-ranges.ensures))
     (omega (arith, c.row_holding-row.ensures.from, start))
     (λ more. omega (arith, c.row_holding-row.ensures.next (omega (arith, more, ap length c.rows_of-ranges.ensures)), ap (λ (t : List (ℕ × ℕ)). (range_at t (row + 1)).0) c.rows_of-ranges.ensures))
-    same (omega (arith, short known, ap length (bytes known))) c.first_row.ensures c.range.utf8 (cc (c.range.ensures.value, start, bytes known))
+    same (omega (arith, short known, ap length (bytes known))) c.first_row.ensures c.range.utf8
+    (read at.After-display_column_behind_text-column ∙ ap (λ (n : ℕ). take (offset - n) (drop n c.as_str-line.result.now)) start ∙ ap (λ (t : List ℕ). take (offset - first) (drop first t)) (bytes known))
     (c.display_column_behind_text-column.ensures.value ∙ ap (λ (v : MapView). display_end_column v.wrapping.tab_len 0 (chars c.range.result.now)) c.self.view_is) in
     record { row = seen.0; seen = seen.1 }
