@@ -2,7 +2,7 @@
 use Rattle.std.proofs.Common.{◌≡◌, ◌≢◌, ◌≤◌, ℕ, Bool, true, false, cond, ◌&&◌, List, refl, sym, ap, ap₂, ◌∙◌, arith}
 use Rattle.std.proofs.lemmas.Bool.{cond-false}
 use Rattle.std.proofs.lemmas.Bool.Decides.{nat_tests}
-use Rattle.textarea_screen.specs.Buffer.{Changes, KeepsOutside}
+use Rattle.textarea_screen.specs.Buffer.{area_of, Changes, HasNone, KeepsOutside}
 use Rattle.textarea_screen.specs.Cell.{ShownCell}
 use Rattle.textarea_screen.specs.Rect.{contains, is_in_row}
 use Rattle.textarea_screen.specs.Text.{ShownLine}
@@ -72,3 +72,10 @@ module _ (rows : RowArea) (other seen : Rect) (row : ℕ) (meets : Meets rows.ar
 
   pub kept_outside : {old new : Buffer} → KeepsOutside (is_in_cells (cells_of_row rows.area row)) old new → KeepsOutside (is_in_row rows.area row) old new
   kept_outside kept = KeepsOutside-wider (is_in_row rows.area row) kept (λ x y outside. in_row x y ∙ outside)
+
+  -- a buffer of the other area has a cell of the row
+  pub not_none : (buffer : Buffer) → other ≡ area_of buffer → HasNone (is_in_row rows.area row) buffer → ⊥
+  not_none buffer is none =
+      let both = meets seen.x row in
+      let without : is_in_row rows.area row seen.x row ≡ true → contains other seen.x row ≡ false = λ inside. rw is (none seen.x row inside) in
+      grind (arith, nat_tests, without)

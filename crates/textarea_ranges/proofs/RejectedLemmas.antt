@@ -1,18 +1,27 @@
 -- A list is accepted exactly if it is valid; and the list of the rejected, range by range.
-use Rattle.std.proofs.Common.{◌≡◌, ◌≢◌, ◌↔◌, ℕ, ◌+◌, ◌<◌, ◌≤◌, List, [], ◌∷◌, ◌++◌, Option, Some, None, refl, sym, ap, ◌∙◌, inl, inr, arith, subst, zero-le, drop, get_or, length}
+use Rattle.std.proofs.Common.{◌≡◌, ◌≢◌, ◌↔◌, ℕ, ◌+◌, ◌<◌, ◌≤◌, List, [], ◌∷◌, ◌++◌, Option, Some, None, refl, sym, ap, ◌∙◌, inl, inr, arith, subst, zero-le, drop, get_or, length, String}
 use Rattle.std.proofs.lemmas.Bool.Decides.{nat_tests}
-use Rattle.std.proofs.lemmas.List.{append_assoc, drop_more}
+use Rattle.std.proofs.lemmas.List.{append_assoc, drop_more, get_or_past, length-map}
 use Rattle.std.proofs.lemmas.List.Elements.{All-from_recursion, recursion_from_All}
+use Rattle.std.specs.declared.alloc.Global.{Global}
 use Rattle.std.specs.List.{AllByRecursion}
 use Rattle.textarea_atomic.specs.declared.range.AtomicRange.{AtomicRange}
 use Rattle.textarea_atomic.specs.declared.range.RejectedAtomicRange.{RejectedAtomicRange}
 use Rattle.textarea_atomic.specs.declared.range.AtomicRangeRejectReason.{AtomicRangeRejectReason}
+use Rattle.textarea_text.specs.Place.{line_of}
+use Rattle.textarea_text.specs.Text.{characters_of, lines_of}
 use Rattle.textarea_ranges.specs.Order.{AreInOrder, in_order, is_before}
 use Rattle.textarea_ranges.specs.Rejected.{free_from, last_valid, reason, rejected_behind, rejected_of, with_reason, AreAccepted, AreRefused}
 use Rattle.textarea_ranges.specs.Valid.{AreDisjoint, AreValid, IsPart}
 use Rattle.textarea_ranges.proofs.Lists.{AllPairs-later, EachLater, each_both, each_weaker, later-AllPairs}
 use Rattle.textarea_ranges.proofs.Sorts.{NotBefore}
 use Rattle.textarea_ranges.proofs.OrderLemmas.{AreInOrder-in_order, each-in_order, each_from_in_order, later-in_order, later_from_in_order, sorted-in_order}
+
+-- ---- lines
+
+-- the row behind the last line, and each one behind it, has no characters
+pub no_columns : (lines : List (String Global)) (row : ℕ) → length lines ≤ row → 0 ≡ length (line_of (lines_of lines) row)
+no_columns lines row past = sym (ap length (get_or_past (lines_of lines) row [] (omega (arith, past, length-map lines characters_of))))
 
 -- ---- one range
 

@@ -143,7 +143,8 @@ impl<'a> TextArea<'a> {
     pub fn try_default(alloc: Global) -> Result<Self, AllocError>
         ensures { IfOk result (λ area. area ≡ new_state []) }
     {
-        TextArea::new(Vec::new(alloc))
+        let lines = Vec::new(alloc);
+        TextArea::new(lines)
     }
 
     /// Holds these lines in place of the old ones, the cursor at the nearest place of theirs. All edits are forgotten,

@@ -21,7 +21,8 @@ impl<'b> TextArea<'b> {
             (λ area. (strings : List (String Global)) × Drains I.next_gives lines strings
             × (area ≡ new_state (text_of strings))) }
     {
-        TextArea::new(collect_lines(alloc, lines)?)
+        let all = collect_lines(alloc, lines)?;
+        TextArea::new(all)
     }
 
     /// A text area of copies of the lines that the iterator gives, the cursor at the start; no line at all becomes one
@@ -36,7 +37,8 @@ impl<'b> TextArea<'b> {
             (λ area. (texts : List (Bor (List ℕ))) × Drains I.next_gives lines texts
             × (area ≡ new_state (text_of_each texts))) }
     {
-        TextArea::new(copy_lines(alloc, lines)?)
+        let all = copy_lines(alloc, lines)?;
+        TextArea::new(all)
     }
 }
 

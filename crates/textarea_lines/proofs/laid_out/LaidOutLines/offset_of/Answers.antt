@@ -1,4 +1,4 @@
-use Rattle.std.proofs.Common.{◌≡◌, ◌≤◌, ◌∙◌, ap, arith, length, subst, sym}
+use Rattle.std.proofs.Common.{◌≡◌, ◌≤◌, ◌∙◌, ap, arith, length, refl, subst, sym}
 use Rattle.std.specs.Str.{chars}
 use Rattle.textarea_text.specs.Offset.{offset_at}
 use Rattle.textarea_text.specs.Place.{IsPlace, IsPlaceOf}
@@ -29,6 +29,17 @@ pub index-requires : goal.index-requires
 index-requires c =
     let here = rows_place c.self.inside.lines.items c.args.place c.self.invariant.held.stored.some (subst (λ (l : LaidOut). IsPlace l.text c.args.place) (sym c.self.view_is) c.requires) in
     omega (arith, row_within c.self.inside.lines.items c.args.place here, c.self.inside.lines.ok.0)
+
+pub byte_offset_from-requires-clause-known : goal.byte_offset_from-requires-clause-known
+byte_offset_from-requires-clause-known c =
+    let found = c.self.inside.found in
+    omega (arith, column_within c.self.inside.lines.items (found.row, found.col) c.index.result.now c.self.invariant.place.place (rw c.if-self-place.true c.index.ensures), ap (λ t. length (chars t)) c.as_str-line.ensures.value)
+
+pub byte_offset_from-requires-clause-offset : goal.byte_offset_from-requires-clause-offset
+byte_offset_from-requires-clause-offset c =
+    let found = c.self.inside.found in
+    c.self.invariant.place.offset
+    ∙ sym (offset_read c.self.inside.lines.items (found.row, found.col) c.index.result.now c.as_str-line.result.now _ c.self.invariant.place.place (rw c.if-self-place.true c.index.ensures) c.as_str-line.ensures.value refl)
 
 pub byte_offset_from-requires-clause-column : goal.byte_offset_from-requires-clause-column
 byte_offset_from-requires-clause-column c = column (goal.at.byte_offset_from-requires-clause-column c).After-as_str-line

@@ -6,7 +6,7 @@ use Rattle.textarea_screen.proofs.ChangeLemmas.{Changes-inside, Changes-none}
 use Rattle.textarea_paint.specs.Cells.{place_from}
 use Rattle.textarea_paint.specs.Clusters.{row_clusters}
 use Rattle.textarea_paint.specs.Row.{first_shown, placed_row, fitting, row_cell}
-use Rattle.textarea_paint.proofs.RowAreaLemmas.{first_shown-fitting, placed_row-fitting, row_start-within, unseen_row, row_cell-outside, shown_row, kept_outside}
+use Rattle.textarea_paint.proofs.RowAreaLemmas.{first_shown-fitting, placed_row-fitting, row_start-within, unseen_row, row_cell-outside, shown_row, kept_outside, not_none}
 use Rattle.textarea_paint.proofs.paint.row.draw_row.Goals as goal
 
 pub returns-then-not-contains-clause-ok : goal.returns-then-not-contains-clause-ok
@@ -34,6 +34,10 @@ returns-in-Left-clause-err c =
     (kept_outside c.args.rows c.area.result c.intersection-seen.result c.args.y c.intersection-seen.ensures (sym c.contains.ensures ∙ c.if-not-contains.false))
     c.draw_left.ensures.err
 
+pub returns-in-Left-clause-unseen : goal.returns-in-Left-clause-unseen
+returns-in-Left-clause-unseen c none =
+    absurd (not_none c.args.rows c.area.result c.intersection-seen.result c.args.y c.intersection-seen.ensures (sym c.contains.ensures ∙ c.if-not-contains.false) c.args.buffer.now c.area.ensures none)
+
 pub draw_fitting-requires-clause-within : goal.draw_fitting-requires-clause-within
 draw_fitting-requires-clause-within c =
     let rows = c.args.rows in
@@ -55,3 +59,7 @@ returns-in_default-clause-err c =
     on_err_weaker c.draw_fitting.result
     (kept_outside c.args.rows c.area.result c.intersection-seen.result c.args.y c.intersection-seen.ensures (sym c.contains.ensures ∙ c.if-not-contains.false))
     c.draw_fitting.ensures.err
+
+pub returns-in_default-clause-unseen : goal.returns-in_default-clause-unseen
+returns-in_default-clause-unseen c none =
+    absurd (not_none c.args.rows c.area.result c.intersection-seen.result c.args.y c.intersection-seen.ensures (sym c.contains.ensures ∙ c.if-not-contains.false) c.args.buffer.now c.area.ensures none)

@@ -1,5 +1,5 @@
-use Rattle.std.proofs.Common.{◌≡◌, Err, Ok, Result, ap, subst}
-use Rattle.std.specs.Result.{OnOk}
+use Rattle.std.proofs.Common.{◌≡◌, ◌∙◌, Err, Ok, Result, ap, ap₂, subst}
+use Rattle.std.specs.Result.{OnErr, OnOk}
 use Rattle.textarea_document.specs.State.{DocumentState}
 use Rattle.textarea_drawing.specs.Rendered as below
 use Rattle.textarea_drawing.specs.State.{DrawingState}
@@ -18,5 +18,23 @@ rendered (Ok x) {view} is area document drawing h = record {
 }
 rendered (Err e) is area document drawing h = h
 
+-- a state whose drawn parts are left as they were is left as it was
+left : {T E : Type 0} (r : Result T E) {view old : State} → view ≡ old → (document : DocumentState) (drawing : DrawingState)
+    → OnErr r ((document ≡ view.document) × (drawing ≡ view.drawing)) → OnErr r (record view { document = document; drawing = drawing } ≡ old)
+left (Ok x) is document drawing h = h
+left (Err e) {view} is document drawing h = ap₂ (λ d s. record view { document = d; drawing = s }) h.0 h.1 ∙ is
+
 pub returns-clause-ok : goal.returns-clause-ok
 returns-clause-ok c = rendered c.render.result c.self.view_is c.args.area c.render.new.document c.render.new.self c.render.ensures.ok
+
+pub returns-clause-cells : goal.returns-clause-cells
+returns-clause-cells c = c.render.ensures.cells
+
+pub returns-clause-back : goal.returns-clause-back
+returns-clause-back c = c.render.ensures.back
+
+pub returns-clause-shown : goal.returns-clause-shown
+returns-clause-shown c = c.render.ensures.shown
+
+pub returns-clause-err : goal.returns-clause-err
+returns-clause-err c = left c.render.result c.self.view_is c.render.new.document c.render.new.self c.render.ensures.err

@@ -1,0 +1,14 @@
+use Rattle.std.proofs.Common.{◌≡◌, min, arith}
+use Rattle.textarea_screen.specs.Block.{shown_block, top_inset}
+use Rattle.textarea_screen.proofs.screen.block.Block.inner.Goals as goal
+use Rattle.textarea_screen.proofs.screen.block.Block.inner.Goals.{After-inset-top}
+
+-- what comes off at the top, with a title but no top side too
+top_is : (c : After-inset-top) → c.inset-top.result ≡ min (top_inset (shown_block c.args.self.now)) 65535
+top_is c = grind arith
+
+pub returns-clause-y : goal.returns-clause-y
+returns-clause-y c = omega (arith, top_is (goal.at.returns-clause-y c).After-inset-top)
+
+pub returns-clause-height : goal.returns-clause-height
+returns-clause-height c = grind (arith, top_is (goal.at.returns-clause-height c).After-inset-top)

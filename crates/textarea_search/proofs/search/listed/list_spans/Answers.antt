@@ -1,0 +1,20 @@
+use Rattle.std.proofs.Common.{◌≡◌, ℕ, List, [], ◌∷◌, ◌++◌, length, refl, sym, ap, ap₂, ◌∙◌, arith, rules, append_assoc}
+use Rattle.textarea_search.proofs.search.listed.list_spans.Goals as goal
+
+-- what is held and what is left are all, and stay all where the first span of what is left is put behind what is held
+moved : (held now left behind all : List (ℕ × ℕ)) (a b start end : ℕ) → now ≡ held ++ (a, b) ∷ [] → a ≡ start → b ≡ end → left ≡ (start, end) ∷ behind → held ++ left ≡ all →
+    now ++ behind ≡ all
+moved held now left behind all a b start end pushed at_start at_end taken before =
+    ap (λ l. l ++ behind) pushed ∙ append_assoc held ((a, b) ∷ []) behind ∙ ap₂ (λ s e. held ++ (s, e) ∷ behind) at_start at_end ∙ sym (ap (λ l. held ++ l) taken) ∙ before
+
+pub loop-found-init : goal.loop-found-init
+loop-found-init c = (refl, omega arith, search rules)
+
+pub loop-found-preserved : goal.loop-found-preserved
+loop-found-preserved c =
+    let found = c.in-Some.ensures in
+    let same = c.loop-found.invariant.0 in (
+      found.same ∙ same,
+      omega (arith, ap length found.within),
+      rw c.end-after.ensures (moved c.loop-found.spans.items _ _ _ _ _ _ _ _ c.in_ok-push.ensures.items (omega arith) (omega arith) (rw same at found.found) c.loop-found.invariant.2),
+    )

@@ -1,0 +1,9 @@
+use Rattle.std.proofs.Common.{◌∙◌, ap}
+use Rattle.std.proofs.lemmas.Result.{IfOk-weaker}
+use Rattle.tui_textarea.specs.State.{new_state}
+use Rattle.tui_textarea.proofs.textarea.TextArea.from_strs.Goals as goal
+
+pub returns : goal.returns
+returns c c' =
+    let given = c'.in_ok-all.ensures in
+    IfOk-weaker c'.new.result _ _ (λ area is. (given.0, given.1, is ∙ ap new_state given.2)) c'.new.ensures
