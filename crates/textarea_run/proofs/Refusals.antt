@@ -6,10 +6,10 @@ use Rattle.textarea_pattern.specs.Failures.{IsCarried, IsPatternFailure}
 use Rattle.textarea_pattern.specs.declared.error.SearchError.{SearchError}
 use Rattle.textarea_pattern.specs.declared.error.SearchError.TheVariants.{Memory, Pattern}
 use Rattle.tui_textarea.specs.State.{State}
-use Rattle.textarea_run.specs.Calls.{with_ranges_if}
-use Rattle.textarea_run.specs.Outcomes.{IsPatternAnswer}
-use Rattle.textarea_run.specs.Patterns.{IsToldAs}
-use Rattle.textarea_run.specs.Said.{said}
+use Rattle.textarea_outcomes.specs.Calls.{with_ranges_if}
+use Rattle.textarea_outcomes.specs.Outcomes.{IsPatternAnswer}
+use Rattle.textarea_outcomes.specs.Patterns.{IsToldAs}
+use Rattle.textarea_outcomes.specs.Said.{said}
 use Rattle.textarea_calls.specs.declared.answer.Answer.{Answer}
 
 -- where ranges are rejected, none is set

@@ -5,9 +5,9 @@ use Rattle.textarea_screen.specs.declared.screen.buffer.Buffer.{Buffer}
 use Rattle.tui_textarea.specs.State.{State}
 use Rattle.textarea_calls.specs.declared.call.Call.{Call}
 use Rattle.textarea_calls.specs.declared.call.Call.TheVariants.{Render}
-use Rattle.textarea_run.specs.Kinds.{kind_of}
-use Rattle.textarea_run.specs.Outcomes.{IsShown, IsSpared}
-use Rattle.textarea_run.specs.declared.kind.Kind.TheVariants.{Draws}
+use Rattle.textarea_calls.specs.Kinds.{kind_of}
+use Rattle.textarea_outcomes.specs.Outcomes.{IsShown, IsSpared}
+use Rattle.textarea_calls.specs.declared.kind.Kind.TheVariants.{Draws}
 
 shown : (call : Call) (state : State) (buffer : Buffer) → kind_of call ≢ Draws → IsShown call state buffer buffer
 shown (Render area) state buffer other = absurd (other refl)

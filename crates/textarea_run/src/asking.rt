@@ -1,9 +1,9 @@
 // Calls that read the cursor, the selection or a setting.
 ghost use Rattle.std.specs.Prelude.{◌≡◌};
-ghost use Rattle.textarea_run.specs.Kinds.{kind_of};
-ghost use Rattle.textarea_run.specs.Outcomes.{IsAnswer, IsBehind};
-ghost use Rattle.textarea_run.specs.Said.{said};
-ghost use Rattle.textarea_run.specs.declared.kind.Kind.TheVariants.{Asks, AsksSettings};
+ghost use Rattle.textarea_calls.specs.Kinds.{kind_of};
+ghost use Rattle.textarea_outcomes.specs.Outcomes.{IsAnswer, IsBehind};
+ghost use Rattle.textarea_outcomes.specs.Said.{said};
+ghost use Rattle.textarea_calls.specs.declared.kind.Kind.TheVariants.{Asks, AsksSettings};
 
 use textarea_calls::{Answer, Call};
 use tui_textarea::TextArea;

@@ -1,10 +1,10 @@
 // Calls that draw, and those for how it is drawn.
 ghost use Rattle.std.specs.Prelude.{◌≡◌, OnErr, OnOk};
-ghost use Rattle.textarea_run.specs.Calls.{Refused};
-ghost use Rattle.textarea_run.specs.Kinds.{kind_of};
-ghost use Rattle.textarea_run.specs.Outcomes.{IsAnswer, IsBehind, IsShown, IsSpared};
-ghost use Rattle.textarea_run.specs.Said.{said, Done};
-ghost use Rattle.textarea_run.specs.declared.kind.Kind.TheVariants.{Draws, Looks, Reads, Styles};
+ghost use Rattle.textarea_outcomes.specs.Calls.{Refused};
+ghost use Rattle.textarea_calls.specs.Kinds.{kind_of};
+ghost use Rattle.textarea_outcomes.specs.Outcomes.{IsAnswer, IsBehind, IsShown, IsSpared};
+ghost use Rattle.textarea_outcomes.specs.Said.{said, Done};
+ghost use Rattle.textarea_calls.specs.declared.kind.Kind.TheVariants.{Draws, Looks, Reads, Styles};
 
 use std::alloc::AllocError;
 use textarea_calls::{Answer, Call};

@@ -1,10 +1,8 @@
-//! Runs of calls on a text area, with the buffer that they draw into: one call, a list of calls, and laws of what they do.
+//! Runs of calls on a text area, with the buffer that they draw into: one call, and a list of calls.
 #![tactic(auto)]
 
 mod asking;
 mod drawing;
-mod kind;
-pub mod laws;
 mod memory;
 pub mod perform;
 mod pressing;

@@ -1,10 +1,10 @@
 // Calls of keys.
 ghost use Rattle.std.specs.Prelude.{◌≡◌, IfOk, OnErr};
-ghost use Rattle.textarea_run.specs.Calls.{Refused};
-ghost use Rattle.textarea_run.specs.Kinds.{kind_of};
-ghost use Rattle.textarea_run.specs.Outcomes.{IsAnswer, IsBehind};
-ghost use Rattle.textarea_run.specs.Said.{Flag};
-ghost use Rattle.textarea_run.specs.declared.kind.Kind.TheVariants.{Presses};
+ghost use Rattle.textarea_outcomes.specs.Calls.{Refused};
+ghost use Rattle.textarea_calls.specs.Kinds.{kind_of};
+ghost use Rattle.textarea_outcomes.specs.Outcomes.{IsAnswer, IsBehind};
+ghost use Rattle.textarea_outcomes.specs.Said.{Flag};
+ghost use Rattle.textarea_calls.specs.declared.kind.Kind.TheVariants.{Presses};
 
 use std::alloc::AllocError;
 use textarea_calls::Call;

@@ -3,17 +3,17 @@ ghost use Rattle.std.specs.Prelude.{◌≡◌, ◌≤◌, [], length, vec_capaci
 ghost use Rattle.textarea_document.specs.Goes.{GoesUncut};
 ghost use Rattle.textarea_document.specs.Sound.{IsSound};
 ghost use Rattle.textarea_calls.specs.Made.{CanBeMade};
-ghost use Rattle.textarea_run.specs.Calls.{Refused};
-ghost use Rattle.textarea_run.specs.Goes.{AllStem, GoesByCall};
-ghost use Rattle.textarea_run.specs.Outcomes.{IsSpared};
-ghost use Rattle.textarea_run.specs.Run.{Makes, Run};
-ghost use Rattle.textarea_run.specs.Said.{said};
+ghost use Rattle.textarea_outcomes.specs.Calls.{Refused};
+ghost use Rattle.textarea_outcomes.specs.Goes.{AllStem, GoesByCall};
+ghost use Rattle.textarea_outcomes.specs.Outcomes.{IsSpared};
+ghost use Rattle.textarea_outcomes.specs.Run.{Makes, Run};
+ghost use Rattle.textarea_outcomes.specs.Said.{said};
 
-use crate::laws::ranges_go_with_each_call;
 use crate::memory::allocator;
 use crate::perform::perform;
 use std::alloc::AllocError;
 use textarea_calls::{Answer, Call};
+use textarea_outcomes::laws::ranges_go_with_each_call;
 use textarea_screen::screen::Buffer;
 use tui_textarea::TextArea;
 

@@ -1,12 +1,14 @@
 //! Worked cases of the text area's plain data: defaults and conversions, the forms in which serde writes it, inputs as keys of
-//! maps, and what the keys ask for; and of what a terminal shows: rectangles, styles and texts, what is around the rows of a text
-//! area, the spans of a row, drawn rows and blocks, and the viewport with caret and hit test.
+//! maps, what the keys ask for, and calls that can't be made; and of what a terminal shows: rectangles, styles and texts, what is
+//! around the rows of a text area, the spans of a row, drawn rows and blocks, and the viewport with caret and hit test.
 #![tactic(auto)]
 
 #[cfg(test)]
 mod actions;
 #[cfg(test)]
 mod blocks;
+#[cfg(test)]
+mod calls;
 #[cfg(test)]
 mod hashed;
 #[cfg(test)]

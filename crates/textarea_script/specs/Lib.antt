@@ -1,5 +1,2 @@
-pub mod Course
-pub mod Kinds
-pub mod Runs
 pub mod Session
 pub mod Words

@@ -7,9 +7,9 @@ use Rattle.textarea_data.specs.declared.input.Input.{Input}
 use Rattle.textarea_data.specs.declared.input.Key.{Key}
 use Rattle.textarea_data.specs.declared.input.Key.TheVariants.{Char, Enter, Esc, Tab}
 use Rattle.tui_textarea.specs.State.{State, new_state}
-use Rattle.textarea_script.specs.Runs.{EndsAs}
-use Rattle.textarea_script.specs.declared.modal.ModalStop.{ModalStop}
-use Rattle.textarea_script.specs.declared.modal.ModalStop.TheVariants.{End, Quit, Memory}
+use Rattle.textarea_modal.specs.Runs.{EndsAs}
+use Rattle.textarea_modal.specs.declared.modal.ModalStop.{ModalStop}
+use Rattle.textarea_modal.specs.declared.modal.ModalStop.TheVariants.{End, Quit, Memory}
 use Rattle.textarea_modal_keys.specs.declared.mode.Mode.{Mode}
 use Rattle.textarea_modal_keys.specs.declared.mode.Mode.TheVariants.{Normal, Insert, Visual, Operator}
 

@@ -11,7 +11,6 @@ ghost use Rattle.textarea_script.specs.Words.{AskForNothing, AskForSession};
 mod asking;
 mod head;
 
-use crate::modal::{Modal, ModalStop};
 use crate::serve as script;
 use crate::serve::{DONE, OUT_OF_MEMORY, STREAM_FAILED};
 use crate::session::asking::{Asked, asked_for};
@@ -22,6 +21,7 @@ use std::io::{ErrorKind, Read, Write};
 use std::str::from_utf8;
 use std::string::ToString;
 use textarea_data::input::{Input, Key};
+use textarea_modal::{Modal, ModalStop};
 use textarea_report::printing::Report;
 use tui_textarea::TextArea;
 

@@ -1,12 +1,7 @@
-//! What worked cases can't hold. Of the text area: text areas of given lines and copies of them, more lines than a height counts,
-//! the program of README; and of calls, those that can't be made. Of scripts and sessions: streams that fail, words behind the
-//! program's name, bytes that are no text.
+//! What worked cases of the text area can't hold: text areas of given lines and copies of them, more lines than a height counts, the
+//! program of README.
 #![tactic(auto)]
 
-#[cfg(test)]
-mod broken;
-#[cfg(test)]
-mod calls;
 #[cfg(test)]
 mod given;
 #[cfg(test)]
@@ -14,14 +9,6 @@ mod many_lines;
 #[cfg(test)]
 mod quick_start;
 #[cfg(test)]
-mod reading;
-#[cfg(test)]
-mod served;
-#[cfg(test)]
-mod streams;
-#[cfg(test)]
 mod texts;
 #[cfg(test)]
 mod trial;
-#[cfg(test)]
-mod words;

@@ -12,11 +12,7 @@ fn many_lines(rt: HostRuntime) -> Result<(), Fail> {
 
 /// 70,000 lines.
 pub fn lines_of_x(alloc: Global) -> Result<Vec<String>, AllocError> {
-    let mut lines = Vec::new(alloc);
-    for _ in 0..70_000 {
-        lines.push(String::from_str(alloc, "x")?)?;
-    }
-    Ok(lines)
+    vec![in alloc; String::from_str(alloc, "x")?; 70_000]
 }
 
 /// Many lines are selected, drawn and scrolled: whether all is where it must be.
@@ -28,7 +24,9 @@ pub fn are_shown_and_scrolled(alloc: Global, area: &mut TextArea<'_>) -> Result<
 
 fn draw(alloc: Global, area: &mut TextArea<'_>) -> Result<(), AllocError> {
     let mut buffer = Buffer::empty(alloc, Rect::new(0, 0, 10, 5))?;
-    area.render(Rect::new(0, 0, 10, 5), &mut buffer)
+    let drawn = area.render(Rect::new(0, 0, 10, 5), &mut buffer);
+    drop(buffer);
+    drawn
 }
 
 const HEIGHT: TextAreaMeasure = TextAreaMeasure {

@@ -5,8 +5,8 @@
 //! the last run ended, the text area, and what was yanked.
 use std::alloc::{AllocError, Global};
 use textarea_data::input::{Input, Key};
+use textarea_modal::{Modal, ModalEnd};
 use textarea_report::printing::Report;
-use textarea_script::modal::{Modal, ModalEnd};
 use textarea_words::lines::keys_and_rest;
 use textarea_words::stop::{Stop, compare};
 use tui_textarea::{Buffer, Rect, TextArea};

@@ -2,8 +2,8 @@
 ghost use Rattle.std.specs.Prelude.{◌≡◌, IfOk, string_bytes};
 ghost use Rattle.textarea_script.specs.Session.{head, mode_name, stop_name};
 
-use crate::modal::{ModalEnd, ModalStop};
 use std::alloc::{AllocError, Global};
+use textarea_modal::{ModalEnd, ModalStop};
 use textarea_modal_keys::mode::Mode;
 
 // A line each for the mode, for how many inputs were used, and for why that was all.

@@ -1,6 +1,6 @@
 use Rattle.std.proofs.Common.{◌≢◌, subst}
-use Rattle.textarea_run.specs.declared.kind.Kind.{Kind}
-use Rattle.textarea_run.specs.declared.kind.Kind.TheVariants.{Draws}
+use Rattle.textarea_calls.specs.declared.kind.Kind.{Kind}
+use Rattle.textarea_calls.specs.declared.kind.Kind.TheVariants.{Draws}
 use Rattle.textarea_run.proofs.Undrawn.{undrawn_shown, undrawn_spared}
 use Rattle.textarea_run.proofs.perform.perform.Goals as goal
 

@@ -6,7 +6,7 @@ use Rattle.textarea_atomic.specs.declared.range.RejectedAtomicRange.{RejectedAto
 use Rattle.textarea_ranges.specs.Rejected.{AreRefused}
 use Rattle.textarea_ranges.specs.Valid.{AreValid}
 use Rattle.textarea_ranges.proofs.RejectedLemmas.{accepted_if_valid}
-use Rattle.textarea_run.specs.Calls.{ranges_answer, rejected_ranges, with_ranges_if}
+use Rattle.textarea_outcomes.specs.Calls.{ranges_answer, rejected_ranges, with_ranges_if}
 use Rattle.textarea_run.proofs.Refusals.{with_rejected}
 use Rattle.textarea_run.proofs.perform.set_ranges.Goals as goal
 

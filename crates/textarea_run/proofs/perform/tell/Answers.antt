@@ -3,8 +3,8 @@ use Rattle.textarea_surround.specs.declared.surround.measure.TextAreaMeasure.{Te
 use Rattle.textarea_calls.specs.declared.answer.Answer.{Answer}
 use Rattle.textarea_calls.specs.declared.answer.Answer.TheVariants as answer
 use Rattle.textarea_calls.specs.declared.call.Call.{Call}
-use Rattle.textarea_run.specs.Outcomes.{IsAnswer}
-use Rattle.textarea_run.specs.Said.{said}
+use Rattle.textarea_outcomes.specs.Outcomes.{IsAnswer}
+use Rattle.textarea_outcomes.specs.Said.{said}
 use Rattle.textarea_run.proofs.Told.{mapped}
 use Rattle.textarea_run.proofs.perform.tell.Goals as goal
 

@@ -1,12 +1,12 @@
 use Rattle.std.proofs.Common.{◌≡◌, ◌+◌, ◌<◌, ◌∷◌, [], ◌++◌, ◌∙◌, ap, cond, inr, length, map, refl, sym, subst, take, take_all, List, arith, is_ok, rules, true, vec_len, vec_capacity}
 use Rattle.std.proofs.lemmas.Option.{slice_get_read}
-use Rattle.textarea_run.specs.Goes.{AllStemInRun}
-use Rattle.textarea_run.specs.Run.{Leads}
-use Rattle.textarea_run.specs.Said.{said}
+use Rattle.textarea_outcomes.specs.Goes.{AllStemInRun}
+use Rattle.textarea_outcomes.specs.Run.{Leads}
+use Rattle.textarea_outcomes.specs.Said.{said}
 use Rattle.textarea_calls.specs.declared.answer.Answer.{Answer}
 use Rattle.textarea_calls.specs.declared.call.Call.{Call}
-use Rattle.textarea_run.proofs.Going.{stem_at_start, stem_counted, stem_left, stem_next}
-use Rattle.textarea_run.proofs.Runs.{leads_more}
+use Rattle.textarea_outcomes.proofs.Going.{stem_at_start, stem_counted, stem_left, stem_next}
+use Rattle.textarea_outcomes.proofs.Runs.{leads_more}
 use Rattle.textarea_run.proofs.run.make_all.Goals as goal
 
 pub loop-index-init : goal.loop-index-init

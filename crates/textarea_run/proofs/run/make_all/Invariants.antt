@@ -1,7 +1,7 @@
 use Rattle.std.proofs.Common.{◌≡◌, ◌≤◌, map, take, length, vec_len, vec_capacity}
-use Rattle.textarea_run.specs.Goes.{AllStemInRun}
-use Rattle.textarea_run.specs.Run.{Leads}
-use Rattle.textarea_run.specs.Said.{said}
+use Rattle.textarea_outcomes.specs.Goes.{AllStemInRun}
+use Rattle.textarea_outcomes.specs.Run.{Leads}
+use Rattle.textarea_outcomes.specs.Said.{said}
 use Rattle.textarea_run.proofs.run.make_all.Given as goal
 
 abbrev pub invariant-loop-index : goal.invariant-loop-index

@@ -1,5 +1,5 @@
 use Rattle.std.proofs.Common.{◌+◌, ◌<◌, ◌∙◌, arith, inl, length, refl, sym, vec_capacity, vec_len}
-use Rattle.textarea_run.proofs.Going.{stem_at_first}
+use Rattle.textarea_outcomes.proofs.Going.{stem_at_first}
 use Rattle.textarea_run.proofs.Told.{so_of_refused}
 use Rattle.textarea_run.proofs.run.run.Goals as goal
 

@@ -1,0 +1,106 @@
+//! Frames, and what is promised of their carets.
+ghost use Rattle.textarea_calls.specs.Made.{CanBeMade};
+
+use crate::caret::{is_caret_promised, is_wide_row};
+use crate::tally::{Tally, count};
+use std::alloc::{AllocError, Global};
+use textarea_calls::Call;
+use textarea_run::perform::perform;
+use tui_textarea::{Buffer, Position, Rect, TextArea};
+
+/// The columns of the buffer: those of the longest tab and of what stands beside it.
+const COLUMNS: u16 = 300;
+
+/// The rows of the buffer.
+const ROWS: u16 = 8;
+
+/// What draws and judges frames of one text.
+#[derive(Drop)]
+pub struct Judge {
+    buffer: Buffer,
+    // The columns of the text's widest cluster that isn't a tab.
+    widest: usize,
+    tally: Tally,
+}
+
+impl Judge {
+    /// Nothing is counted. The text's widest cluster that isn't a tab has so many columns.
+    pub fn new(alloc: Global, widest: usize) -> Result<Judge, AllocError> {
+        Ok(Judge {
+            buffer: Buffer::empty(alloc, Rect::new(0, 0, COLUMNS, ROWS))?,
+            widest,
+            tally: Tally::default(),
+        })
+    }
+
+    /// What was counted.
+    pub fn tally(&self) -> Tally {
+        self.tally
+    }
+
+    /// Makes a call that writes the text. It isn't counted.
+    pub fn write(&mut self, area: &mut TextArea<'_>, call: Call<'_>) -> Result<(), AllocError>
+        requires { CanBeMade call }
+    {
+        make(area, call, &mut self.buffer)
+    }
+
+    /// Makes a call, which may not fail, if it can be made.
+    pub fn make_call(&mut self, area: &mut TextArea<'_>, call: Call<'_>) {
+        if !call.can_be_made() {
+            return;
+        }
+        count(&mut self.tally.calls);
+        if make(area, call, &mut self.buffer).is_err() {
+            count(&mut self.tally.failed);
+        }
+    }
+
+    /// Draws the text area into the place, which may not fail, and judges its caret.
+    pub fn draw_frame(&mut self, area: &mut TextArea<'_>, place: Rect) {
+        count(&mut self.tally.frames);
+        if area.render(place, &mut self.buffer).is_err() {
+            count(&mut self.tally.failed);
+            return;
+        }
+        let inner = match area.block() {
+            Some(block) => block.inner(place),
+            None => place,
+        };
+        self.judge_caret(area, inner);
+    }
+
+    // The caret has to be where it is promised.
+    fn judge_caret(&mut self, area: &TextArea<'_>, inner: Rect) {
+        let is_promised = is_caret_promised(area, inner, self.widest);
+        if is_promised {
+            count(&mut self.tally.promised);
+        }
+        match area.rendered_cursor_position() {
+            Some(cell) => self.judge_cell(area, inner, cell),
+            None if is_promised => count(&mut self.tally.missing),
+            None => {}
+        }
+    }
+
+    // The cell of a caret has to lie in the inner area and to be hit back to the cursor or, where the cursor's row has a character
+    // of display width 0, to some place.
+    fn judge_cell(&mut self, area: &TextArea<'_>, inner: Rect, cell: Position) {
+        count(&mut self.tally.shown);
+        let found = area.cursor_at_position(cell).unwrap_or(None);
+        if found == Some(area.cursor()) && inner.contains(cell) {
+            count(&mut self.tally.hit_back);
+        } else if found.is_none() || !inner.contains(cell) || is_wide_row(area, inner.width()) {
+            count(&mut self.tally.astray);
+        }
+    }
+}
+
+// Makes a call, and lets its answer go.
+fn make(area: &mut TextArea<'_>, call: Call<'_>, buffer: &mut Buffer) -> Result<(), AllocError>
+    requires { CanBeMade call }
+{
+    let answer = perform(area, call, buffer)?;
+    drop(answer);
+    Ok(())
+}

@@ -1,0 +1,176 @@
+//! A text in all settings and areas, behind all calls and at all tab lengths.
+use crate::asked::{calls_of, lent, script_of};
+use crate::caret::has_tab;
+use crate::judge::Judge;
+use crate::setting::Setting;
+use crate::tally::Tally;
+use std::alloc::{AllocError, Global};
+use textarea_calls::Call;
+use textarea_commands::commands::{Command, read};
+use textarea_words::end::Stop;
+use textarea_words::words::Lent;
+use tui_textarea::{CursorMove, Rect, TextArea};
+
+/// The frames in each area, the cursor at another place in each.
+const FRAMES: usize = 4;
+
+/// The area behind calls.
+const BEHIND_CALLS: Rect = Rect {
+    x: 1,
+    y: 1,
+    width: 11,
+    height: 4,
+};
+
+/// Judges the text that the lines of a script make, whose widest cluster that isn't a tab has so many columns, and makes the
+/// calls of other lines on it, each a line of a script or words.
+pub fn tour(alloc: Global, lines: &str, widest: usize, asked: &str) -> Result<Tally, Stop> {
+    let mut judge = Judge::new(alloc, widest)?;
+    let judged = judge_lines(alloc, lines, asked, &mut judge);
+    let tally = judge.tally();
+    drop(judge);
+    judged?;
+    Ok(tally)
+}
+
+// Judges a text in all settings, behind the calls of lines too.
+fn judge_lines(alloc: Global, lines: &str, asked: &str, judge: &mut Judge) -> Result<(), Stop> {
+    let lent = lent(alloc)?;
+    let judged = judge_lent(alloc, lines, (asked, &lent), judge);
+    drop(lent);
+    judged
+}
+
+// Judges a text in all settings, behind the calls of lines too, for which this is lent.
+fn judge_lent(
+    alloc: Global,
+    lines: &str,
+    (asked, lent): (&str, &Lent),
+    judge: &mut Judge,
+) -> Result<(), Stop> {
+    let script = script_of(alloc, asked, lent)?;
+    let commands = read(alloc, script.as_bytes())?;
+    judge_commands(alloc, lines, (asked, commands.as_slice(), lent), judge)
+}
+
+// Judges a text in all settings, behind the calls of lines too, where the commands are those of the lines that are no words.
+fn judge_commands(
+    alloc: Global,
+    lines: &str,
+    (asked, commands, lent): (&str, &[Command], &Lent),
+    judge: &mut Judge,
+) -> Result<(), Stop> {
+    let asked = calls_of(alloc, asked, commands, lent)?;
+    let judged = judge_settings(alloc, lines, asked.as_slice(), judge);
+    drop(asked);
+    judged
+}
+
+// Judges a text in all settings, behind these calls too.
+fn judge_settings(
+    alloc: Global,
+    lines: &str,
+    asked: &[Call<'_>],
+    judge: &mut Judge,
+) -> Result<(), Stop> {
+    for number in 0..Setting::COUNT {
+        judge_text(alloc, lines, Setting::numbered(number), asked, judge)?;
+    }
+    Ok(())
+}
+
+// Judges the text that the lines of a script make, in a setting.
+fn judge_text(
+    alloc: Global,
+    lines: &str,
+    setting: Setting,
+    asked: &[Call<'_>],
+    judge: &mut Judge,
+) -> Result<(), Stop> {
+    let mut area = TextArea::try_default(alloc)?;
+    let judged = judge_area(&mut area, lines, setting, asked, judge);
+    drop(area);
+    judged
+}
+
+// Judges an empty text area, once the lines of a script and the setting are put into it.
+fn judge_area(
+    area: &mut TextArea<'_>,
+    lines: &str,
+    setting: Setting,
+    asked: &[Call<'_>],
+    judge: &mut Judge,
+) -> Result<(), Stop> {
+    write(judge, area, lines)?;
+    setting.put(area)?;
+    draw_areas(judge, area);
+    draw_tabs(judge, area)?;
+    make_calls(judge, area, asked);
+    Ok(())
+}
+
+// Makes the calls of a script on a text area.
+fn write(judge: &mut Judge, area: &mut TextArea<'_>, script: &str) -> Result<(), Stop> {
+    let alloc = *area.lines()[0].allocator();
+    let commands = read(alloc, script.as_bytes())?;
+    let written = write_commands(judge, area, commands.as_slice());
+    drop(commands);
+    Ok(written?)
+}
+
+// Makes the calls of the commands one after another.
+fn write_commands(
+    judge: &mut Judge,
+    area: &mut TextArea<'_>,
+    commands: &[Command],
+) -> Result<(), AllocError> {
+    for command in commands {
+        judge.write(area, command.call())?;
+    }
+    Ok(())
+}
+
+// Frames of each width and height, the cursor at one place behind another.
+fn draw_areas(judge: &mut Judge, area: &mut TextArea<'_>) {
+    for width in 0..=12 {
+        for height in 0..=4 {
+            for _ in 0..FRAMES {
+                judge.draw_frame(area, Rect::new(1, 1, width, height));
+                go_on(area);
+            }
+        }
+    }
+}
+
+// The cursor goes on by one place, and from the text's end back to its start.
+fn go_on(area: &mut TextArea<'_>) {
+    let place = area.cursor();
+    area.move_cursor(CursorMove::Forward);
+    if area.cursor() == place {
+        area.move_cursor(CursorMove::Top);
+        area.move_cursor(CursorMove::Head);
+    }
+}
+
+// Where the text has a tab, frames at each tab length: one where a tab fits, and one where longer ones don't.
+fn draw_tabs(judge: &mut Judge, area: &mut TextArea<'_>) -> Result<(), AllocError> {
+    if !has_tab(area) {
+        return Ok(());
+    }
+    let before = area.tab_length();
+    for length in 0..=255 {
+        area.set_tab_length(length)?;
+        judge.draw_frame(area, Rect::new(1, 1, u16::from(length) + 6, 3));
+        judge.draw_frame(area, Rect::new(1, 1, 9, 4));
+        go_on(area);
+    }
+    area.set_tab_length(before)
+}
+
+// Makes each of the calls, with a frame behind it.
+fn make_calls(judge: &mut Judge, area: &mut TextArea<'_>, calls: &[Call<'_>]) {
+    for call in calls {
+        judge.make_call(area, *call);
+        judge.draw_frame(area, BEHIND_CALLS);
+    }
+}

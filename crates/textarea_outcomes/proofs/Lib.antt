@@ -1,0 +1,4 @@
+mod Worked
+pub mod Cuts
+pub mod Going
+pub mod Runs

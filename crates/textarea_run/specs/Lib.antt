@@ -1,8 +1,0 @@
-pub mod Calls
-pub mod Cuts
-pub mod Goes
-pub mod Kinds
-pub mod Outcomes
-pub mod Patterns
-pub mod Run
-pub mod Said

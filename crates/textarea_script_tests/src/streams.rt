@@ -1,0 +1,216 @@
+// Scripts and sessions over streams that fail.
+use crate::broken::{BrokenReader, BrokenWriter};
+use crate::texts::{strings, text_of};
+use std::process::Abort;
+use std::test::Fail;
+use textarea_script::serve::{DONE, LINE_NOT_READ, STREAM_FAILED};
+use textarea_script::session::{NOT_READ, serve_words};
+
+const SCRIPT: &[u8] = b"insert_char a
+insert_newline
+set_search_pattern a
+search_back false
+set_wrap_mode Glyph
+measure 2
+ranges 0 0 2
+set_yank_text b
+yank_text
+render 0 0 3 2
+undo
+";
+
+const SCRIPT_PRINTED: &str = "1 ok
+2 ok
+3 ok
+4 true
+5 ok
+6 2 2 1 65535
+7 rejected 0:0..2 ColumnOutOfBounds
+8 ok
+9 text b
+10 ok
+11 true
+lines 1
+|a
+cursor 0 1
+selection none
+screen 2
+|a  |
+|   |
+";
+
+// A character of three bytes is one key.
+const KEYS: &[u8] = b"i\xe7\x8a\xacb\n\x1bkA!\x1b0vl";
+
+const KEYS_PRINTED: &str = "mode visual
+taken 12
+end
+lines 2
+|\u{72ac}b!
+|
+cursor 0 1
+selection 0 0 0 1
+";
+
+/// Words behind the program's name, what is read, the status, what is printed and what is told of errors.
+struct Row {
+    words: &'static [&'static str],
+    given: &'static [u8],
+    status: u8,
+    printed: &'static str,
+    told: &'static str,
+}
+
+static ROWS: [Row; 4] = [
+    Row {
+        words: &[],
+        given: SCRIPT,
+        status: DONE,
+        printed: SCRIPT_PRINTED,
+        told: "",
+    },
+    Row {
+        words: &["modal"],
+        given: KEYS,
+        status: DONE,
+        printed: KEYS_PRINTED,
+        told: "",
+    },
+    Row {
+        words: &[],
+        given: b"nothing",
+        status: LINE_NOT_READ,
+        printed: "",
+        told: "line 1: not read\n",
+    },
+    Row {
+        words: &["modal"],
+        given: b"i\xff",
+        status: NOT_READ,
+        printed: "",
+        told: "not read\n",
+    },
+];
+
+#[test]
+fn streams_that_fail(rt: HostRuntime) -> Result<(), Fail> {
+    for row in &ROWS {
+        let words = strings(rt.alloc(), row.words)?;
+        read_in_pieces(&rt, words.as_slice(), row);
+        write_in_pieces(&rt, words.as_slice(), row);
+        drop(words);
+    }
+    Ok(())
+}
+
+// A reader that fails at each read in turn, and at none.
+fn read_in_pieces(rt: &(impl Abort + AllocGlobal), words: &[String], row: &Row) {
+    let given = row.given;
+    for (piece, is_interrupted) in [(1, false), (1, true), (7, false), (64, true)] {
+        for reads in 0..given.len() + 2 {
+            let mut reader = BrokenReader::new(given, piece, is_interrupted, reads);
+            read_from(rt, words, &mut reader, row);
+            // As many reads as bytes, and one that tells the end.
+            assert!(rt; piece != 1 || reader.has_failed() == (reads <= given.len()));
+        }
+    }
+}
+
+// Where a read fails nothing is printed.
+fn read_from(
+    rt: &(impl Abort + AllocGlobal),
+    words: &[String],
+    reader: &mut BrokenReader<'_>,
+    row: &Row,
+) {
+    let mut output = Vec::new(rt.alloc());
+    let mut errors = Vec::new(rt.alloc());
+    let status = serve_words(rt.alloc(), words, reader, &mut output, &mut errors);
+    let found = (
+        status,
+        text_of(output.as_slice()),
+        text_of(errors.as_slice()),
+    );
+    let wanted = match reader.has_failed() {
+        true => (STREAM_FAILED, "", ""),
+        false => (row.status, row.printed, row.told),
+    };
+    assert_eq!(rt; found, wanted);
+}
+
+/// How many bytes a write of what is printed takes, how many such writes there are, and how many bytes are told.
+#[derive(Clone, Copy)]
+struct Limits {
+    piece: usize,
+    writes: usize,
+    told: usize,
+}
+
+// Writers that fail at each write in turn, and at none: where it is printed, and then where errors are told.
+fn write_in_pieces(rt: &(impl Abort + AllocGlobal), words: &[String], row: &Row) {
+    let told = usize::MAX;
+    for piece in [1, 7, 64] {
+        let all = row.printed.len().div_ceil(piece);
+        for writes in 0..all + 2 {
+            // One write more than the text takes is left for the flush.
+            let is_written = row.printed.is_empty() || writes > all;
+            let status = if is_written {
+                row.status
+            } else {
+                STREAM_FAILED
+            };
+            let limits = Limits {
+                piece,
+                writes,
+                told,
+            };
+            write_to(rt, words, row, limits, status);
+        }
+    }
+    // Errors that fail change no status.
+    for told in 0..20 {
+        let (piece, writes) = (64, usize::MAX);
+        let limits = Limits {
+            piece,
+            writes,
+            told,
+        };
+        write_to(rt, words, row, limits, row.status);
+    }
+}
+
+// Whatever fails, what it took is a beginning.
+fn write_to(
+    rt: &(impl Abort + AllocGlobal),
+    words: &[String],
+    row: &Row,
+    limits: Limits,
+    status: u8,
+) {
+    let Limits {
+        piece,
+        writes,
+        told,
+    } = limits;
+    let mut reader = row.given;
+    let mut output = BrokenWriter::new(rt.alloc(), piece, writes);
+    let mut errors = BrokenWriter::new(rt.alloc(), 1, told);
+    let ended = serve_words(rt.alloc(), words, &mut reader, &mut output, &mut errors);
+    let found = (ended, output.text(), errors.text());
+    let wanted = (
+        status,
+        beginning(row.printed, writes.saturating_mul(piece)),
+        beginning(row.told, told),
+    );
+    assert_eq!(rt;
+        found,
+        wanted,
+        "{writes} writes of {piece} bytes, {told} told"
+    );
+}
+
+// As many bytes of a text, or all.
+fn beginning(text: &str, count: usize) -> &[u8] {
+    let bytes = text.as_bytes();
+    &bytes[..count.min(bytes.len())]
+}
