@@ -1,13 +1,15 @@
 // Loaded into a program by LD_PRELOAD: refuses each request for memory of a run in turn.
 //
 // At each request the process is copied. The copy has this request refused and no other (or so many in a row as REFUSALS_IN_A_ROW
-// says), and goes on to its end; what it writes to standard output and standard error goes into memory. The process waits for it, and goes on with the request granted.
+// says), and goes on to its end; what it writes to standard output and standard error goes into memory. The process waits for it,
+// and goes on with the request granted. Where REFUSALS_ALIKE is set, of more requests than that for the same number of bytes, with
+// no other request between, only each 1,000th of the others is refused to a copy.
 // Standard input has to be a file, so that a copy can read on for itself. Where REFUSALS_ERRORS_FAIL is set, each write of a copy
 // to standard error fails.
 //
-// The file that REFUSALS_FILE names gets a record for each request, in their order: a line with the copy's exit status (128 and
-// the signal's number, where one ended it), the number of requests that it made, and the lengths of what it wrote to the two
-// streams, and these behind it. The last line is `end`, with the numbers of requests before the first read of standard input,
+// The file that REFUSALS_FILE names gets a record for each request that a copy was refused, in their order: a line with the
+// request's number, from 1, the copy's exit status (128 and the signal's number, where one ended it), the number of requests that
+// it made, and the lengths of what it wrote to the two streams, and these behind it. The last line is `end`, with the numbers of requests before the first read of standard input,
 // before the last one, before the first write to standard output or standard error, and in all.
 #define _GNU_SOURCE
 #include <errno.h>
@@ -29,12 +31,18 @@ extern void *__libc_memalign(size_t alignment, size_t size);
 // The seconds that a copy has.
 enum { MOST_SECONDS = 60 };
 
+// Of requests that are alike, behind the first ones each of this number is refused.
+enum { STEP = 1000 };
+
 static int records = -1;
 static int is_copy;
 // What is written down asks for memory too, which is no request of the program.
 static int is_recording;
 // The last request that the copy is refused.
 static unsigned long last_refused;
+// How many requests for as many bytes came directly before, and how many of these are each refused; 0 for all.
+static size_t last_size;
+static unsigned long alike, most_alike;
 static unsigned long requests, before_first_read, before_last_read, before_first_write;
 static int has_read, has_written;
 // The number of requests of the copy, which the process reads when it has ended.
@@ -46,6 +54,8 @@ __attribute__((constructor)) static void begin(void) {
     if (name && requests_of_copy != MAP_FAILED) {
         records = open(name, O_WRONLY | O_CREAT | O_TRUNC , 0600);
     }
+    const char *most = getenv("REFUSALS_ALIKE");
+    most_alike = most ? strtoul(most, NULL, 10) : 0;
     requests = 0;
 }
 
@@ -84,13 +94,20 @@ static void record(pid_t copy, int output, int errors) {
     waitpid(copy, &ended, 0);
     int status = WIFEXITED(ended) ? WEXITSTATUS(ended) : 128 + WTERMSIG(ended);
     off_t output_length = length_of(output), errors_length = length_of(errors);
-    dprintf(records, "%d %lu %ld %ld\n", status, *requests_of_copy, (long)output_length, (long)errors_length);
+    dprintf(records, "%lu %d %lu %ld %ld\n", requests, status, *requests_of_copy, (long)output_length, (long)errors_length);
     append(output, output_length);
     append(errors, errors_length);
 }
 
-// Whether this process is the copy whose request is refused.
-static int is_refused(void) {
+// Whether no copy is made for a request of so many bytes, since requests like it came before.
+static int is_passed_over(size_t size) {
+    alike = size == last_size ? alike + 1 : 0;
+    last_size = size;
+    return most_alike && alike >= most_alike && alike % STEP != 0;
+}
+
+// Whether this process is the copy whose request of so many bytes is refused.
+static int is_refused(size_t size) {
     if (is_recording) {
         return 0;
     }
@@ -103,7 +120,7 @@ static int is_refused(void) {
         }
         return 0;
     }
-    if (records < 0) {
+    if (records < 0 || is_passed_over(size)) {
         return 0;
     }
     is_recording = 1;
@@ -131,23 +148,23 @@ static int is_refused(void) {
 }
 
 void *malloc(size_t size) {
-    return is_refused() ? NULL : __libc_malloc(size);
+    return is_refused(size) ? NULL : __libc_malloc(size);
 }
 
 void *calloc(size_t count, size_t size) {
-    return is_refused() ? NULL : __libc_calloc(count, size);
+    return is_refused(count * size) ? NULL : __libc_calloc(count, size);
 }
 
 void *realloc(void *block, size_t size) {
-    return is_refused() ? NULL : __libc_realloc(block, size);
+    return is_refused(size) ? NULL : __libc_realloc(block, size);
 }
 
 void *aligned_alloc(size_t alignment, size_t size) {
-    return is_refused() ? NULL : __libc_memalign(alignment, size);
+    return is_refused(size) ? NULL : __libc_memalign(alignment, size);
 }
 
 int posix_memalign(void **block, size_t alignment, size_t size) {
-    void *given = is_refused() ? NULL : __libc_memalign(alignment, size);
+    void *given = is_refused(size) ? NULL : __libc_memalign(alignment, size);
     if (!given) {
         return ENOMEM;
     }

@@ -2,8 +2,8 @@
 use std::alloc::{AllocError, Global};
 use std::slice::Iter;
 use textarea_calls::Call;
-use textarea_commands::commands::Command;
-use textarea_words::words::{Lent, call_of, character, lines_in, titled};
+use textarea_calls::commands::Command;
+use textarea_cases::words::{Lent, call_of, character, lines_in, titled};
 use tui_textarea::{Borders, Color, Style};
 
 /// A block with a title, a placeholder of one line, and a key.

@@ -1,6 +1,6 @@
 //! What is promised of the caret of a frame, reckoned anew from what the text area tells of itself.
+use textarea_wrap::wrap::columns::display_column_behind;
 use tui_textarea::layout::LayoutMetrics;
-use tui_textarea::wrap::columns::display_column_behind;
 use tui_textarea::wrap::{WrapCount, line_ranges};
 use tui_textarea::{Alignment, Rect, TextArea, WrapMode};
 

@@ -1,7 +1,7 @@
 //! Draws frames of hostile texts, in many areas and settings and behind each call, and judges them.
 //!
 //! Standard input has blocks of lines, with an empty line between each two. The first block has the calls that are made on each
-//! text, with a frame behind each, as lines of a script or as words (`textarea_words`). Each further block is a text: its first line
+//! text, with a frame behind each, as lines of a script or as words (`textarea_cases`). Each further block is a text: its first line
 //! is a name and, behind a space, the columns of the widest cluster that isn't a tab; the lines behind it are a script that makes the
 //! text. A line is printed for each text: how many frames were drawn and calls made, how many carets were shown, had to be shown and
 //! were hit back, and what was wrong.

@@ -6,9 +6,9 @@ use crate::setting::Setting;
 use crate::tally::Tally;
 use std::alloc::{AllocError, Global};
 use textarea_calls::Call;
-use textarea_commands::commands::{Command, read};
-use textarea_words::end::Stop;
-use textarea_words::words::Lent;
+use textarea_calls::commands::{Command, read};
+use textarea_cases::end::Stop;
+use textarea_cases::words::Lent;
 use tui_textarea::{CursorMove, Rect, TextArea};
 
 /// The frames in each area, the cursor at another place in each.

@@ -1,12 +1,15 @@
 //! The steps of a row with ample memory, made one after another on texts of all sizes.
+use crate::lent::lent_and_rest;
 use crate::script::run_script;
 use crate::step::{Step, make};
 use crate::words::{script_of, step_of};
 use std::alloc::{AllocError, Global};
-use textarea_words::end::{Difference, End, Stop};
-use textarea_words::expand::{counted, expanded, repeated};
-use textarea_words::tally::Tally;
-use textarea_words::words::Lent;
+use textarea_calls::Answer;
+use textarea_cases::end::{Difference, End, Stop, same};
+use textarea_cases::expand::{counted, expanded, repeated};
+use textarea_cases::parts::told_answer;
+use textarea_cases::tally::Tally;
+use textarea_cases::words::Lent;
 use tui_textarea::{Buffer, Rect, TextArea};
 
 /// The columns of the buffer that the steps draw into.
@@ -15,11 +18,16 @@ const COLUMNS: u16 = 220;
 /// The rows of that buffer.
 const ROWS: u16 = 50;
 
+/// The calls that are made on clones.
+const CALLS: &str = "list each_call";
+
 /// What the steps draw into, and what they answered.
 #[derive(Drop)]
 pub struct Told {
     buffer: Buffer,
     pub tally: Tally,
+    /// The last answer of the last line.
+    last: String,
 }
 
 impl Told {
@@ -28,7 +36,14 @@ impl Told {
         Ok(Told {
             buffer: Buffer::empty(alloc, Rect::new(0, 0, COLUMNS, ROWS))?,
             tally: Tally::default(),
+            last: String::new(alloc),
         })
+    }
+
+    // Takes an answer in, as the last one.
+    fn take_last(&mut self, alloc: Global, answer: &Answer) -> Result<(), Stop> {
+        self.last = told_answer(alloc, answer)?;
+        self.tally.take(answer)
     }
 }
 
@@ -42,7 +57,7 @@ pub fn make_row(alloc: Global, rows: &str, row: &str, told: &mut Told) -> End {
 }
 
 fn make_lines(alloc: Global, rows: &str, row: &str, told: &mut Told) -> Result<(), Stop> {
-    let lent = Lent::new(alloc)?;
+    let (lent, row) = lent_and_rest(alloc, row)?;
     let made = make_text(alloc, rows, row, &lent, told);
     drop(lent);
     made
@@ -70,14 +85,70 @@ fn make_all(
     told: &mut Told,
 ) -> Result<(), Stop> {
     for line in row.lines() {
-        match line.strip_prefix("row ") {
-            Some(name) => make_each(area, row_of(rows, name)?, lent, told)?,
-            None => make_line(area, line, lent, told)?,
-        }
+        make_line_or_row(area, rows, line, lent, told)?;
     }
     told.tally.lines = area.lines().len();
     told.tally.cursor = area.cursor();
     Ok(())
+}
+
+fn make_line_or_row(
+    area: &mut TextArea<'_>,
+    rows: &str,
+    line: &str,
+    lent: &Lent,
+    told: &mut Told,
+) -> Result<(), Stop> {
+    match line.split_once(' ') {
+        Some(("row", name)) => make_each(area, row_of(rows, name)?, lent, told),
+        Some(("apart", name)) => {
+            let alloc = *area.lines()[0].allocator();
+            make_apart(alloc, row_of(rows, name)?, row_of(rows, CALLS)?, lent, told)
+        }
+        _ => make_line(area, line, lent, told),
+    }
+}
+
+// Makes lines on a text area of its own, and each of the calls on a clone of that.
+fn make_apart(
+    alloc: Global,
+    lines: &str,
+    calls: &str,
+    lent: &Lent,
+    told: &mut Told,
+) -> Result<(), Stop> {
+    let mut area = TextArea::try_default(alloc)?;
+    let made = make_on_clones(&mut area, lines, calls, lent, told);
+    drop(area);
+    made
+}
+
+fn make_on_clones(
+    area: &mut TextArea<'_>,
+    lines: &str,
+    calls: &str,
+    lent: &Lent,
+    told: &mut Told,
+) -> Result<(), Stop> {
+    make_each(area, lines, lent, told)?;
+    for call in calls.lines() {
+        make_on_clone(area, call, lent, told)?;
+    }
+    Ok(())
+}
+
+fn make_on_clone(
+    area: &TextArea<'_>,
+    call: &str,
+    lent: &Lent,
+    told: &mut Told,
+) -> Result<(), Stop> {
+    let Ok(mut clone) = area.clone() else {
+        return Err(Stop::Wrong(Difference::Memory));
+    };
+    let made = make_line(&mut clone, call, lent, told);
+    drop(clone);
+    made
 }
 
 // The lines of the row of this name.
@@ -104,7 +175,23 @@ fn make_each(
     Ok(())
 }
 
+// Makes the calls of a line, the last of which must answer so, if that is said.
 fn make_line(
+    area: &mut TextArea<'_>,
+    line: &str,
+    lent: &Lent,
+    told: &mut Told,
+) -> Result<(), Stop> {
+    match line.split_once(" => ") {
+        Some((words, wanted)) => {
+            make_words(area, words, lent, told)?;
+            same(told.last.as_str() == wanted, Difference::Answer)
+        }
+        None => make_words(area, line, lent, told),
+    }
+}
+
+fn make_words(
     area: &mut TextArea<'_>,
     line: &str,
     lent: &Lent,
@@ -143,9 +230,10 @@ fn make_step(
     times: usize,
     told: &mut Told,
 ) -> Result<(), Stop> {
+    let alloc = *area.lines()[0].allocator();
     for _ in 0..times {
         match make(area, step, &mut told.buffer) {
-            Ok(answer) => told.tally.take(&answer)?,
+            Ok(answer) => told.take_last(alloc, &answer)?,
             Err(_) => return Err(Stop::Wrong(Difference::Memory)),
         }
     }
@@ -157,6 +245,9 @@ fn make_script(area: &mut TextArea<'_>, script: &str, told: &mut Told) -> Result
     let end = run_script(area, script, &mut told.buffer)?;
     for answer in end.answers.as_slice() {
         told.tally.take(answer)?;
+    }
+    if let Some(answer) = end.answers.last() {
+        told.last = told_answer(*area.lines()[0].allocator(), answer)?;
     }
     match end.refused {
         Some(_) => Err(Stop::Wrong(Difference::Memory)),

@@ -2,17 +2,19 @@
 ghost use Rattle.std.specs.Prelude.{All};
 ghost use Rattle.textarea_calls.specs.Made.{CanBeMade};
 
+use crate::keys::{Made, judge_keys};
 use crate::script::run_unseen;
 use crate::step::{Step, make};
 use crate::words::{script_of, step_of};
 use std::alloc::{AllocError, Global};
+use textarea_calls::commands::{Command, calls, read};
 use textarea_calls::{Answer, Call};
-use textarea_commands::commands::{Command, calls, read};
-use textarea_report::compare::{are_alike_outside, compare, compare_shown};
+use textarea_cases::compare::{are_alike_outside, compare, compare_shown};
+use textarea_cases::end::{Difference, End, Stop, same};
+use textarea_cases::expand::expanded;
+use textarea_cases::words::Lent;
 use textarea_run::RunEnd;
 use textarea_run::run::run;
-use textarea_words::end::{Difference, End, Stop, same};
-use textarea_words::words::Lent;
 use tui_textarea::{Buffer, Rect, TextArea};
 
 /// The area of the buffer that the calls of a row draw into.
@@ -69,9 +71,14 @@ pub fn judge_row(alloc: Global, row: &str) -> End {
 
 fn judge_lines(alloc: Global, row: &str, judge: &mut Judge) -> Result<(), Stop> {
     let lent = Lent::new(alloc)?;
-    let judged = judge_text(alloc, row, &lent, judge);
+    let judged = judge_expanded(alloc, row, &lent, judge);
     drop(lent);
     judged
+}
+
+fn judge_expanded(alloc: Global, row: &str, lent: &Lent, judge: &mut Judge) -> Result<(), Stop> {
+    let row = expanded(alloc, row)?;
+    judge_text(alloc, row.as_str(), lent, judge)
 }
 
 fn judge_text(alloc: Global, row: &str, lent: &Lent, judge: &mut Judge) -> Result<(), Stop> {
@@ -107,10 +114,20 @@ fn judge_line(
     if let Some(script) = script_of(line) {
         return make_script(area, script, judge);
     }
+    if let Some(words) = line.strip_prefix("keys ") {
+        return judge_all_keys(*area.lines()[0].allocator(), words, judge);
+    }
     match step_of(line, lent) {
         Some(step) => judge_step(area, step, judge),
         None => judge_script(area, line, judge),
     }
+}
+
+fn judge_all_keys(alloc: Global, words: &str, judge: &mut Judge) -> Result<(), Stop> {
+    let mut made = Made::default();
+    let judged = judge_keys(alloc, words, &mut made);
+    judge.count(made.calls);
+    judged
 }
 
 // Makes the calls of a script, and draws nowhere.
@@ -158,8 +175,9 @@ fn judge_beside(
     step: Step<'_>,
     judge: &mut Judge,
 ) -> Result<(), Stop> {
-    match make_or_refuse(area, step, &mut judge.buffer) {
+    match make(area, step, &mut judge.buffer) {
         Err(_) => judge_refused(area, other, step, judge),
+        Ok(Answer::PatternRefused) => judge_pattern(area, other, step, judge),
         Ok(answer) => {
             let judged = judge_answer(&answer, other, step, judge);
             drop(answer);
@@ -168,6 +186,32 @@ fn judge_beside(
             compare_shown(area, other)
         }
     }
+}
+
+// A pattern was rejected: for want of memory if a clone takes it, and else because it has no reading. Nothing has changed.
+fn judge_pattern(
+    area: &mut TextArea<'_>,
+    other: &mut TextArea<'_>,
+    step: Step<'_>,
+    judge: &mut Judge,
+) -> Result<(), Stop> {
+    if is_rejected(other, step, judge)? {
+        judge.count(1);
+        return compare_shown(area, other);
+    }
+    judge_refused(area, other, step, judge)
+}
+
+// Whether a clone rejects the pattern too.
+fn is_rejected(
+    other: &TextArea<'_>,
+    step: Step<'_>,
+    judge: &mut Judge,
+) -> Result<bool, AllocError> {
+    let mut clone = other.clone()?;
+    let answer = make(&mut clone, step, &mut judge.other);
+    drop(clone);
+    Ok(answer? == Answer::PatternRefused)
 }
 
 // Makes a step. The error that `regex` may have of its own for want of memory is a refusal too.

@@ -5,10 +5,13 @@
 //! as a line of a script or as a word of `words`. Its calls are judged (`judge`), and whoever starts the program has requests
 //! for memory refused (`tools/refused-memory`).
 //!
-//! A row whose name begins with `ample ` is made without judgement, on small texts and on large ones (`ample`). There `<N TEXT>`
-//! in a line stands for so many times the text, in which `#` is the number of the time, from 0, and `;` a line's end;
-//! `times N LINE` makes a line so many times, by one run if it is a script's; and `row NAME` makes the lines of another row. A row
-//! whose name begins with `list ` isn't made by itself.
+//! `<N TEXT>` in a line stands for so many times the text, in which `#` is the number of the time, from 0, and `;` a line's end.
+//!
+//! A row whose name begins with `ample ` is made without judgement, on small texts and on large ones (`ample`). There
+//! `times N LINE` makes a line so many times, by one run if it is a script's; `row NAME` makes the lines of another row;
+//! `apart NAME` makes them on a text area of its own, and then each line of the row `list each_call` on a clone of that;
+//! `lent COLUMNS LINES`, as the first line, lends a block with a title of so many columns and a placeholder of so many lines; and
+//! what a line's last call must answer may be behind it, after ` => `. A row whose name begins with `list ` isn't made by itself.
 //!
 //! A line is printed for each row. A line that isn't read fails its row; and so does, where memory is ample, a call that is out of
 //! memory or whose pattern is refused.
@@ -19,6 +22,9 @@
 
 mod ample;
 mod judge;
+mod keys;
+mod lent;
+mod parts;
 mod script;
 mod step;
 mod words;

@@ -1,8 +1,8 @@
 //! The calls of a script, made by one run.
-use textarea_commands::commands::{Command, calls, read};
+use textarea_calls::commands::{Command, calls, read};
+use textarea_cases::end::Stop;
 use textarea_run::RunEnd;
 use textarea_run::run::run;
-use textarea_words::end::Stop;
 use tui_textarea::{Buffer, Rect, TextArea};
 
 /// Makes the calls of a script by one run, which draws into the buffer.

@@ -1,8 +1,9 @@
 //! A call, or what else is made of a text area and may be refused.
+use crate::parts::{matches_of, spans_of};
 use std::alloc::AllocError;
 use textarea_calls::{Answer, Call};
-use textarea_pieces::given::copy_pieces;
 use textarea_run::perform::perform;
+use textarea_text::given::copy_pieces;
 use tui_textarea::{Buffer, Input, Key, TextArea};
 
 /// What is made in one step.
@@ -22,6 +23,10 @@ pub enum Step<'a> {
     FromStrs,
     /// `TextArea::from_strings`, of copies of the lines.
     FromStrings,
+    /// A row with highlights, as spans.
+    Spans,
+    /// The matches of a pattern in a line.
+    Matches,
 }
 
 impl Step<'_> {
@@ -62,6 +67,8 @@ pub fn make(
     match step {
         Step::Call(call) => make_call(area, call, buffer),
         Step::SetAtomicRanges => set_atomic_ranges(area),
+        Step::Spans => Ok(Answer::Text(spans_of(*area.lines()[0].allocator())?)),
+        Step::Matches => Ok(Answer::Text(matches_of(*area.lines()[0].allocator())?)),
         _ => lines_of_another(area, step),
     }
 }

@@ -1,6 +1,6 @@
 //! What a row may say besides the lines of scripts: the calls that no script makes, as words, and what makes text areas.
 use crate::step::Step;
-use textarea_words::words::{Lent, call_of};
+use textarea_cases::words::{Lent, call_of};
 
 /// A text with edits of all kinds behind it, of which two are undone: calls that are made by one run.
 const EDITED: &str = r"insert_str one two\nthree four\n\nfive
@@ -45,6 +45,8 @@ pub fn step_of<'a>(words: &'a str, lent: &'a Lent) -> Option<Step<'a>> {
         "new" => Step::New,
         "from_strs" => Step::FromStrs,
         "from_strings" => Step::FromStrings,
+        "spans" => Step::Spans,
+        "matches" => Step::Matches,
         _ => Step::Call(call_of(words, lent)?),
     })
 }

@@ -4,7 +4,7 @@
 
 /// Texts that are given, and pieces of them.
 pub mod given {
-    pub use textarea_pieces::given::{copy_pieces, join_with_line_feeds, pieces_of};
+    pub use textarea_text::given::{copy_pieces, join_with_line_feeds, pieces_of};
 }
 
 /// The history of a text's edits, and the laws of undo and redo.
@@ -31,22 +31,22 @@ pub mod inside {
 
 /// Laws of edits.
 pub mod laws {
-    pub use textarea_edit::laws::{lines_are_the_text, undo_takes_back};
+    pub use textarea_history::laws::{lines_are_the_text, undo_takes_back};
 }
 
-/// Layout numbers, and the digits of a number.
+/// Layout numbers.
 pub mod layout {
-    pub use textarea_wrap::layout::{LayoutMetrics, num_digits};
+    pub use textarea_wrap::layout::LayoutMetrics;
 }
 
 /// The part of a text between two places.
 pub mod part {
-    pub use textarea_pieces::part::between;
+    pub use textarea_text::part::between;
 }
 
 /// Places counted through a text.
 pub mod places {
-    pub use textarea_pieces::places::{
+    pub use textarea_text::places::{
         ahead, clip, end_of, last_row, line_end, line_length, line_of, text_end,
     };
 }
@@ -69,7 +69,7 @@ pub mod screen {
 
 /// Amounts of scrolling.
 pub mod scroll {
-    pub use textarea_scroll::scroll::Scrolling;
+    pub use textarea_data::scroll::Scrolling;
 }
 
 /// Searches for a pattern, and its matches in lines.
@@ -81,17 +81,18 @@ pub mod search {
 
 /// Tab stops.
 pub mod tab {
-    pub use textarea_pieces::tab::spaces_to_stop;
+    pub use textarea_text::tab::spaces_to_stop;
 }
 
-/// Positions, and runs of spaces.
+/// Positions, runs of spaces, and the digits of a number.
 pub mod util {
     pub use textarea_text::util::{Pos, spaces};
+    pub use textarea_wrap::layout::num_digits;
 }
 
 /// Classes of characters, and searches for the words of a line.
 pub mod word {
-    pub use textarea_word::word::{
+    pub use textarea_text::word::{
         CharKind, find_word_exclusive_end_forward, find_word_inclusive_end_forward,
         find_word_start_backward, find_word_start_forward,
     };
@@ -100,12 +101,4 @@ pub mod word {
 /// The rows of one line at a width.
 pub mod wrap {
     pub use textarea_wrap::wrap::{Rows, WrapCount, WrapMode, is_short, line_ranges};
-
-    /// Columns of characters and texts.
-    pub mod columns {
-        pub use textarea_wrap::wrap::columns::{
-            column_behind, column_behind_text, display_column_behind, display_column_behind_text,
-            fits_width, plain_columns,
-        };
-    }
 }

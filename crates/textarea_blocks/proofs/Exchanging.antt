@@ -1,8 +1,8 @@
 -- Rows that take the place of others in two steps.
 use Rattle.std.proofs.Common.{◌≡◌, ℕ, ◌+◌, ◌≤◌, List, [], ◌++◌, length, take, drop, sym, ap, ◌∙◌, arith}
 use Rattle.std.proofs.lemmas.List.{append_assoc, drop_at, drop-drop, length-take-le, take-append-drop, take-append-le, take-take}
-use Rattle.textarea_replace.specs.Replaced.{replaced}
-use Rattle.textarea_replace.proofs.Replacing.{drop_two, take_two}
+use Rattle.textarea_util.specs.Replaced.{replaced}
+use Rattle.textarea_util.proofs.Replacing.{drop_two, take_two}
 
 -- first the first of the lines that go, then those behind them
 pub rest_removed : {X : Type 0} (items new : List X) (row first rest : ℕ) → row ≤ length items → replaced (replaced items row first new) (row + length new) rest [] ≡ replaced items row (first + rest) new

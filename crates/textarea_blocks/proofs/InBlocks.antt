@@ -4,8 +4,8 @@ use Rattle.std.specs.Result.{IsOk, is_ok}
 use Rattle.std.proofs.lemmas.Bool.{cases_lt}
 use Rattle.std.proofs.lemmas.List.{append-nil, append_assoc, drop-append-le, drop_all, drop_at, drop-drop, drop_more, get_or-append-add, get_or_append_left, get_or-map, get_or-set_same, length-append, length-drop, length-map, map-append, length-set, map-set, set_split, take_all, take-append-drop, take-append-le, take-map, take_more, take_more_set, take-set-le, drop-map, drop-set-lt}
 use Rattle.std.proofs.Math.Seq.{take-add, take-append-add}
-use Rattle.textarea_rows.specs.RowsView.{RowsView}
-use Rattle.textarea_replace.specs.Replaced.{replaced}
+use Rattle.textarea_wrap.specs.RowsView.{RowsView}
+use Rattle.textarea_util.specs.Replaced.{replaced}
 use Rattle.textarea_blocks.specs.Blocks.{IsBlockOf, IsEdge, all_rows, lines_before, rows_of_each, spare_of_each}
 use Rattle.textarea_blocks.specs.Sums.{ranges_at, row_total}
 use Rattle.textarea_blocks.proofs.Numbers.{row_total-append}

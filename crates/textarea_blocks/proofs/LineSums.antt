@@ -1,8 +1,8 @@
 -- Sums over lines, of their rows and of their sizes, as lines give place to others.
 use Rattle.std.proofs.Common.{◌≡◌, ℕ, ◌+◌, ◌-◌, ◌<◌, ◌≤◌, List, [], ◌∷◌, ◌++◌, length, take, drop, get_or, sym, ap, ◌∙◌, arith}
 use Rattle.std.proofs.lemmas.List.{take_more, take-append-drop, drop-drop}
-use Rattle.textarea_rows.specs.RowsView.{RowsView}
-use Rattle.textarea_replace.specs.Replaced.{replaced}
+use Rattle.textarea_wrap.specs.RowsView.{RowsView}
+use Rattle.textarea_util.specs.Replaced.{replaced}
 use Rattle.textarea_blocks.specs.Sums.{line_bytes, row_total, size_total}
 use Rattle.textarea_blocks.proofs.Numbers.{row_total-append}
 

@@ -4,9 +4,9 @@ use Rattle.std.proofs.lemmas.List.{append_assoc, length-append, take_all, take_m
 use Rattle.std.proofs.lemmas.Bool.{cases_lt}
 use Rattle.std.proofs.lemmas.List.Sums.{sum_by-cons}
 use Rattle.std.proofs.Math.Seq.{take-add, take-append-add}
-use Rattle.textarea_rows.specs.RowsView.{RowsView}
+use Rattle.textarea_wrap.specs.RowsView.{RowsView}
 use Rattle.textarea_blocks.specs.Sums.{row_total}
-use Rattle.textarea_replace.specs.Replaced.{replaced}
+use Rattle.textarea_util.specs.Replaced.{replaced}
 
 pub row_total-append : (rows more : List RowsView) → row_total (rows ++ more) ≡ row_total rows + row_total more
 row_total-append [] more = omega arith

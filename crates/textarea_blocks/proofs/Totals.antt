@@ -3,9 +3,9 @@ use Rattle.std.proofs.Common.{◌≡◌, ℕ, ◌+◌, ◌-◌, ◌<◌, ◌≤�
 use Rattle.std.proofs.lemmas.Bool.{cases_lt}
 use Rattle.std.proofs.lemmas.List.{drop-set-lt, get_or-append-add, get_or-append_right, get_or_append_left, get_or-drop, get_or-set_same, get_or-take, length-append, length-set, length-take-le, take-append-le, take-set-le, take-take}
 use Rattle.std.proofs.Math.Seq.{take-append-add}
-use Rattle.textarea_rows.specs.RowsView.{RowsView}
-use Rattle.textarea_replace.specs.Replaced.{replaced}
-use Rattle.textarea_replace.proofs.Replacing.{length-replaced}
+use Rattle.textarea_wrap.specs.RowsView.{RowsView}
+use Rattle.textarea_util.specs.Replaced.{replaced}
+use Rattle.textarea_util.proofs.Replacing.{length-replaced}
 use Rattle.textarea_blocks.specs.declared.blocks.numbers.Exchanged.{Exchanged}
 use Rattle.textarea_blocks.specs.Blocks.{all_rows}
 use Rattle.textarea_blocks.specs.Numbered.{AreExchanged, AreTotals}

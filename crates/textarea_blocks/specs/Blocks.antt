@@ -1,6 +1,6 @@
 -- Rows of lines that stand in blocks of lines, one block behind the other.
 use Rattle.std.specs.Prelude.{◌≡◌, ℕ, ◌+◌, ◌-◌, ◌<◌, ◌≤◌, min, List, [], ◌∷◌, ◌++◌, Vec, length, map, take, get_or, vec_len, vec_capacity}
-use Rattle.textarea_rows.specs.RowsView.{RowsView}
+use Rattle.textarea_wrap.specs.RowsView.{RowsView}
 
 -- the rows of the lines of each block, how many lines more each block can take without memory, and how many blocks more can stand
 -- beside these without memory

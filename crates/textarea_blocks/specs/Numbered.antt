@@ -1,7 +1,7 @@
 -- The numbers that are kept beside blocks of rows.
 use Rattle.std.specs.Prelude.{◌≡◌, ℕ, ◌+◌, ◌-◌, ◌*◌, ◌<◌, ◌≤◌, List, length, take, get_or}
-use Rattle.textarea_size.specs.Limit.{size_limit}
-use Rattle.textarea_rows.specs.RowsView.{RowsView}
+use Rattle.textarea_util.specs.Limit.{size_limit}
+use Rattle.textarea_wrap.specs.RowsView.{RowsView}
 use Rattle.textarea_blocks.specs.declared.blocks.numbers.Exchanged.{Exchanged}
 use Rattle.textarea_blocks.specs.Blocks.{all_rows}
 use Rattle.textarea_blocks.specs.Sums.{row_total}

@@ -1,7 +1,7 @@
 -- How many rows lines have, and how large they are by their rows.
 use Rattle.std.specs.Prelude.{ℕ, ◌+◌, ◌-◌, ◌≤◌, List, [], ◌∷◌, map, length, get_or}
-use Rattle.textarea_size.specs.Limit.{size_limit}
-use Rattle.textarea_rows.specs.RowsView.{RowsView}
+use Rattle.textarea_util.specs.Limit.{size_limit}
+use Rattle.textarea_wrap.specs.RowsView.{RowsView}
 
 -- how many rows these lines have in all
 abbrev pub row_total : List RowsView → ℕ

@@ -10,8 +10,8 @@ use self::numbers::Numbers;
 use crate::sums::count_rows;
 use std::alloc::{AllocError, Global};
 use std::marker::Model;
-use textarea_rows::rows::Rows;
-use textarea_size::limit::within_limit;
+use textarea_util::limit::within_limit;
+use textarea_wrap::rows::Rows;
 
 mod change;
 mod look_up;

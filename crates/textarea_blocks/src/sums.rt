@@ -2,7 +2,7 @@
 ghost use Rattle.std.specs.Prelude.{◌≡◌, min};
 ghost use Rattle.textarea_blocks.specs.Sums.{line_bytes, row_total, size_total};
 
-use textarea_rows::rows::Rows;
+use textarea_wrap::rows::Rows;
 
 /// How many rows these are in all, or the greatest `usize` where that is less.
 pub fn count_rows(rows: &[Rows]) -> usize

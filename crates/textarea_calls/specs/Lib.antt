@@ -1,2 +1,13 @@
 pub mod Kinds
 pub mod Made
+pub mod Arguments
+pub mod Commands
+pub mod Escapes
+pub mod FirstLine
+pub mod Inputs
+pub mod Lent
+pub mod Ranges
+pub mod Script
+pub mod Answer
+pub mod Table
+pub mod Keys

@@ -1,8 +1,8 @@
 //! What calls answer.
-use textarea_atomic::range::{AtomicRange, RejectedAtomicRange};
-use textarea_look::look::CursorRenderMode;
+use textarea_data::range::{AtomicRange, RejectedAtomicRange};
 use textarea_screen::screen::{Alignment, Position, Style};
-use textarea_surround::TextAreaMeasure;
+use textarea_view::TextAreaMeasure;
+use textarea_view::look::CursorRenderMode;
 use textarea_wrap::wrap::WrapMode;
 
 /// What a call answered.

@@ -3,12 +3,12 @@ ghost use Rattle.std.specs.Prelude.{◌↔◌, IsTrue};
 ghost use Rattle.textarea_calls.specs.Made.{CanBeMade};
 
 use std::time::Duration;
-use textarea_atomic::range::{AtomicCursorBias, AtomicDeleteDirection, AtomicRange};
 use textarea_data::cursor::CursorMove;
 use textarea_data::input::Input;
-use textarea_look::look::CursorRenderMode;
+use textarea_data::range::{AtomicCursorBias, AtomicDeleteDirection, AtomicRange};
+use textarea_data::scroll::Scrolling;
 use textarea_screen::screen::{Alignment, Block, Position, Rect, Style, Text};
-use textarea_scroll::scroll::Scrolling;
+use textarea_view::look::CursorRenderMode;
 use textarea_wrap::wrap::WrapMode;
 
 /// One call on a text area, with its arguments.

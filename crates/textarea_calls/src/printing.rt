@@ -1,7 +1,7 @@
 //! The text that is printed of an answer.
 use crate::answer::Answer;
 use std::fmt;
-use textarea_atomic::range::{AtomicRange, AtomicRangeRejectReason};
+use textarea_data::range::{AtomicRange, AtomicRangeRejectReason};
 
 impl fmt::Display for Answer {
     fn fmt<W: fmt::Write>(&self, f: &mut fmt::Formatter<W>) -> fmt::Result {

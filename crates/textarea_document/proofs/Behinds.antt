@@ -11,12 +11,12 @@ use Rattle.textarea_text.specs.Text.{Symbol, Character, Break, joined, lines, li
 use Rattle.textarea_text.specs.Place.{Place, IsPlace, IsPlaceOf, IsSymbolBefore, StandsAt, index_of, line_end}
 use Rattle.textarea_text.proofs.Befores.{break_stands, character_stands}
 use Rattle.textarea_text.specs.Splice.{Fits}
-use Rattle.textarea_edit.specs.Edit.{inserts_of, splice_of, symbols_of}
-use Rattle.textarea_edit.specs.declared.edit.EditKind.{EditKind}
+use Rattle.textarea_history.specs.Edit.{inserts_of, splice_of, symbols_of}
+use Rattle.textarea_history.specs.declared.edit.EditKind.{EditKind}
 use Rattle.textarea_document.specs.State.{DocumentState}
 use Rattle.textarea_document.specs.Outcomes.{edited, unanchored}
 use Rattle.textarea_document.specs.Edits.{IsSymbolBehind, break_removal, symbol_removal, symbol_removed_before, symbol_removed_behind}
-use Rattle.textarea_text.proofs.Places.{joined-lines, place_of-index}
+use Rattle.textarea_text.proofs.TextPlaces.{joined-lines, place_of-index}
 use Rattle.std.proofs.lemmas.Bool.Decides.{nat_tests}
 
 -- an index at which a symbol stands is not the text's end

@@ -7,13 +7,13 @@ use Rattle.textarea_text.specs.Text.{Symbol, lines}
 use Rattle.textarea_text.specs.Place.{Place, end}
 use Rattle.textarea_text.specs.Splice.{CanApply, Fits, Splice, StoodBefore, applied, applied_all, inverse}
 use Rattle.textarea_history.specs.Log.{newest, next}
-use Rattle.textarea_atomic.specs.declared.range.AtomicRange.{AtomicRange}
+use Rattle.textarea_data.specs.declared.range.AtomicRange.{AtomicRange}
 use Rattle.textarea_ranges.specs.Held.{IsBeside, IsInside, IsWithin, Overlaps}
 use Rattle.textarea_ranges.specs.Moved.{CoversTheSame, DisturbsBy, moved_range, moved_ranges}
 use Rattle.textarea_ranges.specs.Valid.{AreValid, IsPart}
 use Rattle.textarea_ranges.proofs.Moving.{covers_the_same, dropped, valid_moved}
 use Rattle.textarea_document.specs.Edits.{IsMade, Step, splice_of, stepped}
-use Rattle.textarea_document.specs.Goes.{AllStemFrom, CutNone, Goes, GoesOver, GoesUncut, StemsFrom, carried_over, moved_over}
+use Rattle.textarea_document.specs.Goes.{AllStayOrAreDropped, AllStemFrom, CutNone, GoesOver, GoesUncut, IsDroppedBy, StemsFrom, carried_over, moved_over}
 use Rattle.textarea_document.specs.Ranges.{CutsNone, CutsNoneBy}
 use Rattle.textarea_document.specs.Outcomes.{redone, redone_by, undone, undone_by}
 use Rattle.textarea_document.specs.Sound.{IsSound}
@@ -26,10 +26,10 @@ use Rattle.textarea_document.proofs.StepLaw.{step_kept}
 one : (old : DocumentState) (splice : Splice) (new : DocumentState) → Fits old.text splice → new.text ≡ applied old.text splice → new.ranges ≡ moved_ranges old.ranges splice → GoesOver old (splice ∷ []) new
 one old splice new fits text ranges = record { text = record { can = (fits, tt); leads = sym text }; ranges = ranges }
 
-pub stepped_goes : (document : DocumentState) (step : Step) (typed : Bool) (now : ℕ) → IsSound document → IsMade document step → GoesUncut document (stepped document step typed now)
+pub stepped_goes : (document : DocumentState) (step : Step) (typed : Bool) (now : ℕ) → IsSound document → IsMade document step → GoesUncut document (splice_of document step ∷ []) (stepped document step typed now)
 stepped_goes document step typed now sound made =
     let kept = step_kept document step sound made in
-    (splice_of document step ∷ [], one document (splice_of document step) (stepped document step typed now) kept.0 refl refl, (kept.1, tt))
+    (one document (splice_of document step) (stepped document step typed now) kept.0 refl refl, (kept.1, tt))
 
 pub undone_goes : (document : DocumentState) (splice : Splice) → IsSound document → newest document.log ≡ Some splice → GoesOver document (inverse splice ∷ []) (undone document)
 undone_goes document splice sound is =
@@ -65,25 +65,21 @@ CutNone-append : (ranges : List AtomicRange) (first second : List Splice) → Cu
 CutNone-append ranges [] second h k = k
 CutNone-append ranges (splice ∷ first) second h k = (h.0, CutNone-append (moved_ranges ranges splice) first second h.1 k)
 
-goes_on : (old between new : DocumentState) (first second : List Splice) → GoesOver old first between → GoesOver between second new → GoesOver old (first ++ second) new
+pub goes_on : (old between new : DocumentState) (first second : List Splice) → GoesOver old first between → GoesOver between second new → GoesOver old (first ++ second) new
 goes_on old between new first second h k = record {
   text = stood_on old.text between.text new.text first second h.text k.text;
   ranges = k.ranges ∙ ap (λ (r : List AtomicRange). moved_over r second) h.ranges ∙ sym (moved_over-append old.ranges first second);
 }
 
 -- text and ranges stay
-pub stays : (old new : DocumentState) → new.text ≡ old.text → new.ranges ≡ old.ranges → GoesUncut old new
-stays old new text ranges = ([], record { text = record { can = tt; leads = sym text }; ranges = ranges }, tt)
+pub stays : (old new : DocumentState) → new.text ≡ old.text → new.ranges ≡ old.ranges → GoesUncut old [] new
+stays old new text ranges = (record { text = record { can = tt; leads = sym text }; ranges = ranges }, tt)
 
-pub goes_uncut_on : (old between new : DocumentState) → GoesUncut old between → GoesUncut between new → GoesUncut old new
-goes_uncut_on old between new h k = (
-  h.0 ++ k.0,
-  goes_on old between new h.0 k.0 h.1 k.1,
-  CutNone-append old.ranges h.0 k.0 h.2 (subst (λ (r : List AtomicRange). CutNone r k.0) h.1.ranges k.2),
+pub goes_uncut_on : (old between new : DocumentState) (first second : List Splice) → GoesUncut old first between → GoesUncut between second new → GoesUncut old (first ++ second) new
+goes_uncut_on old between new first second h k = (
+  goes_on old between new first second h.0 k.0,
+  CutNone-append old.ranges first second h.1 (subst (λ (r : List AtomicRange). CutNone r second) h.0.ranges k.1),
 )
-
-pub goes : (old new : DocumentState) → GoesUncut old new → Goes old new
-goes old new h = (h.0, h.1)
 
 -- ---- each range stems from one that was held
 
@@ -129,44 +125,61 @@ origin_over text ranges (splice ∷ rest) range valid can h =
       covers = record { part = later.covers.part; same = later.covers.same ∙ covers.same };
     }
 
-pub stems_from : (old new : DocumentState) → IsSound old → Goes old new → (range : AtomicRange) → Contains new.ranges range → StemsFrom old new range
-stems_from old new sound h range held =
-    let found = origin_over old.text old.ranges h.0 range sound.ranges h.1.text.can (subst (λ (r : List AtomicRange). Contains r range) h.1.ranges held) in
+pub stems_from : (old new : DocumentState) (splices : List Splice) → IsSound old → GoesOver old splices new → (range : AtomicRange) → Contains new.ranges range → StemsFrom old splices new range
+stems_from old new splices sound h range held =
+    let found = origin_over old.text old.ranges splices range sound.ranges h.text.can (subst (λ (r : List AtomicRange). Contains r range) h.ranges held) in
     record {
       origin = found.origin;
       held = found.held;
-      splices = h.0;
-      led = h.1.text;
       carried = found.carried;
-      covers = subst (λ t. CoversTheSame old.text t found.origin range) h.1.text.leads found.covers;
+      covers = subst (λ t. CoversTheSame old.text t found.origin range) h.text.leads found.covers;
     }
 
-pub all_stem : (old new : DocumentState) → IsSound old → Goes old new → AllStemFrom old new
-all_stem old new sound h k d within = stems_from old new sound h (get_or new.ranges k d) (Contains-get_or new.ranges k d within)
+pub all_stem : (old new : DocumentState) (splices : List Splice) → IsSound old → GoesOver old splices new → AllStemFrom old splices new
+all_stem old new splices sound h k d within = stems_from old new splices sound h (get_or new.ranges k d) (Contains-get_or new.ranges k d within)
 
-carried_over-none : (splices : List Splice) (range : AtomicRange) → carried_over None splices ≡ Some range → ⊥
-carried_over-none splices range e = absurd cc
+-- ---- each range that was held is carried on, or one splice disturbs it
 
-carried_over-append : (found : Option AtomicRange) (first second : List Splice) (between : AtomicRange) → carried_over found first ≡ Some between → carried_over found (first ++ second) ≡ carried_over (Some between) second
-carried_over-append None first second between e = absurd (carried_over-none first between e)
-carried_over-append (Some range) [] second between e = ap (λ (o : Option AtomicRange). carried_over o second) e
-carried_over-append (Some range) (splice ∷ first) second between e = carried_over-append (moved_range splice range) first second between e
+contains_behind : {Y : Type 0} (found : Option Y) (ys : List Y) (y : Y) → Contains ys y → Contains (cons_option found ys) y
+contains_behind None ys y h = h
+contains_behind (Some z) ys y h = (suc h.0, suc-le-suc h.1, h.2)
 
-pub stems_on : (one two three : DocumentState) (between range : AtomicRange) → StemsFrom one two between → (later : StemsFrom two three range) → later.origin ≡ between → StemsFrom one three range
-stems_on one two three between range earlier later same =
-    let here = subst (CoversTheSame one.text two.text earlier.origin) (sym same) earlier.covers in
-    record {
-      origin = earlier.origin;
-      held = earlier.held;
-      splices = earlier.splices ++ later.splices;
-      led = stood_on one.text two.text three.text earlier.splices later.splices earlier.led later.led;
-      carried = carried_over-append (Some earlier.origin) earlier.splices later.splices between earlier.carried
-          ∙ ap (λ (r : AtomicRange). carried_over (Some r) later.splices) (sym same) ∙ later.carried;
-      covers = record {
-        part = later.covers.part;
-        same = later.covers.same ∙ here.same;
-      };
-    }
+contains_first : {Y : Type 0} (found : Option Y) (ys : List Y) (y : Y) → found ≡ Some y → Contains (cons_option found ys) y
+contains_first found ys y e = subst (λ o. Contains (cons_option o ys) y) (sym e) (zero, omega arith, refl)
+
+to_list : {X Y : Type 0} (f : X → Option Y) (xs : List X) (x : X) (y : Y) → Contains xs x → f x ≡ Some y → Contains (filter_map f xs) y
+to_list f [] x y h e = absurd (omega (arith, h.1))
+to_list f (first ∷ xs) x y (zero, within, is) e = contains_first (f first) (filter_map f xs) y (ap f is ∙ e)
+to_list f (first ∷ xs) x y (suc k, within, is) e = contains_behind (f first) (filter_map f xs) y (to_list f xs x y (k, omega arith, is) e)
+
+to_moved : (ranges : List AtomicRange) (splice : Splice) (range new : AtomicRange) → Contains ranges range → moved_range splice range ≡ Some new → Contains (moved_ranges ranges splice) new
+unfolding moved_ranges
+to_moved ranges splice range new h e = to_list (moved_range splice) ranges range new h e
+
+abbrev StaysOrIsDropped : List AtomicRange → List Splice → AtomicRange → Type 0
+StaysOrIsDropped ranges splices range =
+    ((carried : AtomicRange) × (carried_over (Some range) splices ≡ Some carried) × Contains (moved_over ranges splices) carried) ⊎ IsDroppedBy range splices
+
+over_first : (ranges : List AtomicRange) (splice : Splice) (rest : List Splice) (range : AtomicRange) (found : Option AtomicRange) → Contains ranges range → moved_range splice range ≡ found → ((next : AtomicRange) → Contains (moved_ranges ranges splice) next → StaysOrIsDropped (moved_ranges ranges splice) rest next) → StaysOrIsDropped ranges (splice ∷ rest) range
+over_first ranges splice rest range None h e later = inr (inl ((dropped splice range).0 e))
+over_first ranges splice rest range (Some next) h e later =
+    elim (later next (to_moved ranges splice range next h e)) [
+      | inl on ↦ inl (on.0, ap (λ (o : Option AtomicRange). carried_over o rest) e ∙ on.1, on.2)
+      | inr gone ↦ inr (inr (next, e, gone))
+    ]
+
+stays_or_dropped : (ranges : List AtomicRange) (splices : List Splice) (range : AtomicRange) → Contains ranges range → StaysOrIsDropped ranges splices range
+stays_or_dropped ranges [] range h = inl (range, refl, h)
+stays_or_dropped ranges (splice ∷ rest) range h =
+    over_first ranges splice rest range (moved_range splice range) h refl (stays_or_dropped (moved_ranges ranges splice) rest)
+
+pub all_stay_or_are_dropped : (old new : DocumentState) (splices : List Splice) → GoesOver old splices new → AllStayOrAreDropped old splices new
+all_stay_or_are_dropped old new splices h k d within =
+    let range = get_or old.ranges k d in
+    elim (stays_or_dropped old.ranges splices range (Contains-get_or old.ranges k d within)) [
+      | inl on ↦ inl (on.0, on.1, subst (λ (r : List AtomicRange). Contains r on.0) (sym h.ranges) on.2)
+      | inr gone ↦ inr gone
+    ]
 
 -- ---- which ranges an edit drops
 

@@ -6,9 +6,9 @@ use Rattle.textarea_text.proofs.EmptyTexts.{empty_text}
 use Rattle.textarea_text.specs.Text.{Symbol, text_of}
 use Rattle.textarea_text.specs.Place.{Place, IsPlace}
 use Rattle.textarea_text.specs.Splice.{Fits, Splice}
-use Rattle.textarea_edit.specs.Edit.{inserts_of, splice_of, symbols_of}
-use Rattle.textarea_edit.specs.declared.edit.EditKind.{EditKind}
-use Rattle.textarea_atomic.specs.declared.range.AtomicRange.{AtomicRange}
+use Rattle.textarea_history.specs.Edit.{inserts_of, splice_of, symbols_of}
+use Rattle.textarea_history.specs.declared.edit.EditKind.{EditKind}
+use Rattle.textarea_data.specs.declared.range.AtomicRange.{AtomicRange}
 use Rattle.textarea_ranges.specs.Held.{IsInside}
 use Rattle.textarea_document.specs.State.{DocumentState}
 use Rattle.textarea_document.specs.Edits.{Insert, insertion, is_filled, stepped, symbols_inserted}

@@ -11,3 +11,6 @@ pub mod Cuts
 pub mod Failures
 pub mod Moves
 pub mod Going
+pub mod Steps
+pub mod Rows
+pub mod Cases

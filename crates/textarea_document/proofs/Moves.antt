@@ -1,9 +1,9 @@
 -- Ranges of a document that go with its text.
 use Rattle.std.proofs.Common.{◌≤◌, ◌<◌, List, All, get_or, arith}
-use Rattle.textarea_size.specs.Limit.{size_limit}
+use Rattle.textarea_util.specs.Limit.{size_limit}
 use Rattle.textarea_text.specs.Text.{Symbol, lines}
 use Rattle.textarea_text.specs.Place.{IsPlace, Place}
-use Rattle.textarea_atomic.specs.declared.range.AtomicRange.{AtomicRange}
+use Rattle.textarea_data.specs.declared.range.AtomicRange.{AtomicRange}
 use Rattle.textarea_ranges.specs.Held.{range_end}
 use Rattle.textarea_ranges.specs.Moved.{IsMovable}
 use Rattle.textarea_ranges.specs.Valid.{AreValid}

@@ -6,10 +6,10 @@ use Rattle.std.proofs.Math.Seq.{take-add}
 use Rattle.textarea_text.specs.Text.{Symbol, text_of}
 use Rattle.textarea_text.specs.Place.{Place, IsPlace, StandsAt, end, index_of}
 use Rattle.textarea_text.specs.Splice.{Splice, Fits}
-use Rattle.textarea_text.proofs.Places.{index_within, place_of-index}
+use Rattle.textarea_text.proofs.TextPlaces.{index_within, place_of-index}
 use Rattle.textarea_text.proofs.Splices.{end-append}
-use Rattle.textarea_edit.specs.Edit.{Stored, IsWellFormed}
-use Rattle.textarea_pieces.specs.Part.{part}
+use Rattle.textarea_history.specs.Edit.{Stored, IsWellFormed}
+use Rattle.textarea_text.specs.Part.{part}
 use Rattle.textarea_document.specs.Edits.{removal}
 
 length-part : (text : List Symbol) (from to : Place) → IsPlace text to → index_of text from ≤ index_of text to → length (part text from to) ≡ index_of text to - index_of text from

@@ -11,13 +11,13 @@ use Rattle.textarea_text.specs.Text.{Symbol, Character, Break, lines}
 use Rattle.textarea_text.specs.Place.{Place, IsPlace, IsSymbolBefore, IsUpTo, StandsAt, end, index_of, is_same_place}
 use Rattle.textarea_text.specs.Splice.{Fits}
 use Rattle.textarea_text.proofs.Befores.{character_stands}
-use Rattle.textarea_text.proofs.Places.{index_within, joined-lines}
-use Rattle.textarea_pieces.proofs.PartLemmas.{up_to_from_index as up_to_in_lines}
-use Rattle.textarea_atomic.specs.declared.range.AtomicRange.{AtomicRange}
-use Rattle.textarea_atomic.specs.declared.range.AtomicCursorBias.TheVariants.{Backward}
-use Rattle.textarea_atomic.specs.declared.range.AtomicDeleteDirection.{AtomicDeleteDirection}
+use Rattle.textarea_text.proofs.TextPlaces.{index_within, joined-lines}
+use Rattle.textarea_text.proofs.PartLemmas.{up_to_from_index as up_to_in_lines}
+use Rattle.textarea_data.specs.declared.range.AtomicRange.{AtomicRange}
+use Rattle.textarea_data.specs.declared.range.AtomicCursorBias.TheVariants.{Backward}
+use Rattle.textarea_data.specs.declared.range.AtomicDeleteDirection.{AtomicDeleteDirection}
 use Rattle.textarea_document.specs.Ranges.{CutsNone, anchor_out, unless_empty}
-use Rattle.textarea_atomic.specs.declared.range.AtomicDeleteDirection.TheVariants.{Backward as DeleteBackward, Forward as DeleteForward}
+use Rattle.textarea_data.specs.declared.range.AtomicDeleteDirection.TheVariants.{Backward as DeleteBackward, Forward as DeleteForward}
 use Rattle.textarea_ranges.specs.Held.{IsHit, IsInside, TakesWhole, hit, moved_out, range_start, range_end}
 use Rattle.textarea_ranges.specs.Valid.{AreValid, IsPart}
 use Rattle.textarea_ranges.proofs.HeldLemmas.{IsPlaceOf-moved_out, MatchOption-hit, taken}

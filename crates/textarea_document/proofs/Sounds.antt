@@ -4,11 +4,11 @@ use Rattle.std.specs.Result.{OnErr, OnOk}
 use Rattle.textarea_text.specs.Text.{Symbol, lines}
 use Rattle.textarea_text.specs.Place.{Place, IsPlace}
 use Rattle.textarea_text.specs.Splice.{Splice, Fits, applied, inverse, place_after}
-use Rattle.textarea_text.proofs.Places.{IsPlace-end, takes_back}
+use Rattle.textarea_text.proofs.TextPlaces.{IsPlace-end, takes_back}
 use Rattle.textarea_history.specs.Log.{Log, empty_log, made_again, newest, next, recorded, taken_back}
 use Rattle.textarea_history.specs.Law.{IsSound as LogIsSound}
 use Rattle.textarea_history.proofs.LogLaws.{each_fits, newest_back, sound_redone_by, sound_undone_by, sound_edited as log_edited}
-use Rattle.textarea_atomic.specs.declared.range.AtomicRange.{AtomicRange}
+use Rattle.textarea_data.specs.declared.range.AtomicRange.{AtomicRange}
 use Rattle.textarea_ranges.specs.Moved.{moved_ranges}
 use Rattle.textarea_ranges.specs.Order.{AreInOrder}
 use Rattle.textarea_ranges.proofs.Moving.{in_order_moved, valid_moved}

@@ -5,10 +5,10 @@ use Rattle.std.proofs.Math.Seq.{take-add}
 use Rattle.textarea_text.specs.Text.{Symbol, Break, lines}
 use Rattle.textarea_text.specs.Place.{IsPlace, StandsAt, end, index_of, line_end, place_of}
 use Rattle.textarea_text.specs.Splice.{Fits}
-use Rattle.textarea_text.proofs.Places.{IsPlace-end, index_of-end, index_within, place_of-index}
+use Rattle.textarea_text.proofs.TextPlaces.{IsPlace-end, index_of-end, index_within, place_of-index}
 use Rattle.textarea_text.proofs.Splices.{end-append}
-use Rattle.textarea_atomic.specs.declared.range.AtomicCursorBias.TheVariants.{Backward, Forward}
-use Rattle.textarea_atomic.specs.declared.range.AtomicDeleteDirection.TheVariants.{Forward as DeleteForward}
+use Rattle.textarea_data.specs.declared.range.AtomicCursorBias.TheVariants.{Backward, Forward}
+use Rattle.textarea_data.specs.declared.range.AtomicDeleteDirection.TheVariants.{Forward as DeleteForward}
 use Rattle.textarea_ranges.specs.Held.{TakesWhole, hit, widened}
 use Rattle.textarea_ranges.proofs.HeldLemmas.{IsPlaceOf-moved_out, IsWidened-widened, outside-moved_out}
 use Rattle.textarea_document.specs.State.{DocumentState}

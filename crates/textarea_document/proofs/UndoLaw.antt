@@ -9,7 +9,7 @@ use Rattle.textarea_text.specs.Text.{Symbol}
 use Rattle.textarea_text.specs.Splice.{Splice, Fits, place_after, place_before, StoodBefore}
 use Rattle.textarea_text.specs.Place.{Place, end}
 use Rattle.textarea_text.proofs.Splices.{end-append}
-use Rattle.textarea_edit.specs.Run.{merged}
+use Rattle.textarea_history.specs.Run.{merged}
 use Rattle.textarea_history.specs.Log.{Log, Logged, done_after, grown, is_typed, joins, kept, newest, next, with_done}
 use Rattle.textarea_history.specs.Log.{redone as text_redone, redone_by as text_redone_by, undone as text_undone, undone_by as text_undone_by}
 use Rattle.textarea_history.specs.Law.{IsSame, times}

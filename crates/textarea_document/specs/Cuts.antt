@@ -1,5 +1,5 @@
 -- Which lines an edit of a document cuts: what the count grows by, and which rows stay.
-use Rattle.std.specs.Prelude.{ℕ, ◌≤◌, List, length}
+use Rattle.std.specs.Prelude.{List}
 use Rattle.textarea_lines.specs.Cuts.{AreSpliced, CutsAllLines, CutsNoLine, IsSetTo, IsSpliced, IsWidened}
 use Rattle.textarea_lines.specs.declared.settings.LayoutSettings.{LayoutSettings}
 use Rattle.textarea_text.specs.Splice.{Splice}
@@ -10,11 +10,10 @@ use Rattle.textarea_document.specs.State.{DocumentState}
 abbrev pub SplicesBy : DocumentState → Splice → DocumentState → Type 0
 SplicesBy old splice new = IsSpliced (laid_out_of old) splice (laid_out_of new)
 
--- at most so many splices, one after another, lead from the document's text and its rows to the other's, and each cuts the lines
--- that a splice cuts
-abbrev pub SplicesUpTo : ℕ → DocumentState → DocumentState → Type 0
-SplicesUpTo limit old new =
-    (splices : List Splice) × (length splices ≤ limit) × AreSpliced (laid_out_of old) splices (laid_out_of new)
+-- the splices, one after another, lead from the document's text and its rows to the other's, and each cuts the lines that a splice
+-- cuts
+abbrev pub SplicedBy : DocumentState → List Splice → DocumentState → Type 0
+SplicedBy old splices new = AreSpliced (laid_out_of old) splices (laid_out_of new)
 
 -- no line is cut: count and ticks stay
 abbrev pub CutsNothing : DocumentState → DocumentState → Type 0

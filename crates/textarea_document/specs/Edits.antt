@@ -3,11 +3,11 @@ use Rattle.std.specs.Prelude.{◌≡◌, ◌≢◌, ◌<◌, Bool, true, false, 
 use Rattle.textarea_text.specs.Text.{Symbol, Character, Break, lines}
 use Rattle.textarea_text.specs.Place.{Place, IsPlace, end, index_of, line_end, place_of}
 use Rattle.textarea_text.specs.Splice.{Splice}
-use Rattle.textarea_pieces.specs.Part.{part}
-use Rattle.textarea_atomic.specs.declared.range.AtomicRange.{AtomicRange}
-use Rattle.textarea_atomic.specs.declared.range.AtomicCursorBias.TheVariants.{Forward}
-use Rattle.textarea_atomic.specs.declared.range.AtomicDeleteDirection.{AtomicDeleteDirection}
-use Rattle.textarea_atomic.specs.declared.range.AtomicDeleteDirection.TheVariants.{Backward as DeleteBackward, Forward as DeleteForward}
+use Rattle.textarea_text.specs.Part.{part}
+use Rattle.textarea_data.specs.declared.range.AtomicRange.{AtomicRange}
+use Rattle.textarea_data.specs.declared.range.AtomicCursorBias.TheVariants.{Forward}
+use Rattle.textarea_data.specs.declared.range.AtomicDeleteDirection.{AtomicDeleteDirection}
+use Rattle.textarea_data.specs.declared.range.AtomicDeleteDirection.TheVariants.{Backward as DeleteBackward, Forward as DeleteForward}
 use Rattle.textarea_ranges.specs.Held.{hit, moved_out, range_start, range_end, widened}
 use Rattle.textarea_document.specs.State.{DocumentState}
 use Rattle.textarea_document.specs.Outcomes.{edited, unanchored}

@@ -8,3 +8,5 @@ pub mod Cuts
 pub mod Law
 pub mod Sound
 pub mod Goes
+pub mod Splices
+pub mod Target

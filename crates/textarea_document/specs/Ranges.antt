@@ -3,10 +3,10 @@ use Rattle.std.specs.Prelude.{ℕ, Bool, true, false, List, [], All, Option, Non
 use Rattle.textarea_text.specs.Text.{lines}
 use Rattle.textarea_text.specs.Place.{Place, end, is_same_place}
 use Rattle.textarea_text.specs.Splice.{Splice}
-use Rattle.textarea_pieces.specs.Part.{clip}
-use Rattle.textarea_atomic.specs.declared.range.AtomicRange.{AtomicRange}
-use Rattle.textarea_atomic.specs.declared.range.AtomicCursorBias.{AtomicCursorBias}
-use Rattle.textarea_atomic.specs.declared.range.AtomicCursorBias.TheVariants.{Backward, Forward}
+use Rattle.textarea_text.specs.Part.{clip}
+use Rattle.textarea_data.specs.declared.range.AtomicRange.{AtomicRange}
+use Rattle.textarea_data.specs.declared.range.AtomicCursorBias.{AtomicCursorBias}
+use Rattle.textarea_data.specs.declared.range.AtomicCursorBias.TheVariants.{Backward, Forward}
 use Rattle.textarea_ranges.specs.Held.{IsInside, TakesWhole, moved_out, range_start, range_end}
 use Rattle.textarea_ranges.specs.Order.{in_order}
 use Rattle.textarea_document.specs.State.{DocumentState}

@@ -2,7 +2,7 @@
 use Rattle.std.specs.Prelude.{Bool, ℕ, List, Option, Some, None, unwrap_or, if◌then◌else◌}
 use Rattle.textarea_text.specs.Text.{Symbol}
 use Rattle.textarea_text.specs.Place.{Place, is_before}
-use Rattle.textarea_pieces.specs.Part.{part}
+use Rattle.textarea_text.specs.Part.{part}
 use Rattle.textarea_document.specs.State.{DocumentState}
 use Rattle.textarea_document.specs.Edits.{part_removed, taken_symbols}
 

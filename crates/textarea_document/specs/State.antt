@@ -5,7 +5,7 @@ use Rattle.textarea_text.specs.Place.{Place}
 use Rattle.textarea_history.specs.Log.{Log, Logged, empty_log}
 use Rattle.textarea_lines.specs.declared.settings.LayoutSettings.{LayoutSettings}
 use Rattle.textarea_lines.specs.Layout.{LaidOut, Layout, all_cut}
-use Rattle.textarea_atomic.specs.declared.range.AtomicRange.{AtomicRange}
+use Rattle.textarea_data.specs.declared.range.AtomicRange.{AtomicRange}
 
 -- the text as one flat list of symbols; its layout, with the ticks of its lines' rows; where the cursor stands; where
 -- the selection began, if there is one; the atomic ranges; and the changes made and taken back

@@ -9,14 +9,14 @@ mod selection;
 
 ghost use Rattle.std.specs.Prelude.{◌≡◌, ◌<◌, ◌≤◌, ◌+◌, ◌↔◌, length, OnOk, OnErr, IsOk, IfOk, IfSome, None, IsTrue, is_some, [], vec_len};
 ghost use Rattle.std.specs.Duration.{as_nanos};
-ghost use Rattle.textarea_size.specs.Limit.{size_limit};
+ghost use Rattle.textarea_util.specs.Limit.{size_limit};
 ghost use Rattle.textarea_text.specs.Text.{lines, lines_of, text_of};
 ghost use Rattle.textarea_text.specs.Place.{IsPlace, Place};
 ghost use Rattle.textarea_text.specs.Size.{size_of};
 ghost use Rattle.textarea_text.specs.Splice.{Fits, place_after};
-ghost use Rattle.textarea_edit.specs.Edit.{IsWellFormed};
+ghost use Rattle.textarea_history.specs.Edit.{IsWellFormed};
 ghost use Rattle.textarea_history.specs.Log.{empty_log, newest, next, recorded};
-ghost use Rattle.textarea_pieces.specs.Part.{clip};
+ghost use Rattle.textarea_text.specs.Part.{clip};
 ghost use Rattle.textarea_document.specs.State.{new_document, fresh_document};
 ghost use Rattle.textarea_document.specs.Outcomes.{edited, moved, redone, run_ended, undone};
 ghost use Rattle.textarea_lines.specs.Layout.{applied_to};
@@ -27,13 +27,13 @@ ghost use Rattle.textarea_document.specs.Ranges.{CutsNone};
 use std::alloc::{AllocError, Global};
 use std::marker::Model;
 use std::time::Duration;
-use textarea_atomic::range::AtomicRange;
-use textarea_edit::edit::{Change, Edit};
+use textarea_data::range::AtomicRange;
+use textarea_history::edit::{Change, Edit};
 use textarea_history::history::History;
 use textarea_lines::laid_out::LaidOutLines;
 use textarea_lines::settings::LayoutSettings;
-use textarea_pieces::places::clip;
 use textarea_ranges::moved::move_ranges;
+use textarea_text::places::clip;
 
 /// Lines of text, a cursor, the place where a selection began, atomic ranges, and a history of edits.
 ///

@@ -2,7 +2,7 @@
 ghost use Rattle.std.specs.Prelude.{◌≡◌, ℕ, Bool, false, List, [], ◌∷◌, Contains, None, Option, Some};
 ghost use Rattle.textarea_history.specs.Log.{newest, next};
 ghost use Rattle.textarea_lines.specs.declared.settings.LayoutSettings.{LayoutSettings};
-ghost use Rattle.textarea_atomic.specs.declared.range.AtomicRange.{AtomicRange};
+ghost use Rattle.textarea_data.specs.declared.range.AtomicRange.{AtomicRange};
 ghost use Rattle.textarea_ranges.specs.Held.{IsWithin};
 ghost use Rattle.textarea_ranges.specs.Moved.{moved_range};
 ghost use Rattle.textarea_text.specs.Place.{Place, end};
@@ -10,7 +10,7 @@ ghost use Rattle.textarea_text.specs.Splice.{Fits, Splice, inverse};
 ghost use Rattle.textarea_text.specs.Text.{Symbol};
 ghost use Rattle.textarea_document.specs.Cuts.{CutsAll, CutsBySettings, CutsByWidth, SplicesBy};
 ghost use Rattle.textarea_document.specs.Edits.{IsMade, Step, splice_of, stepped};
-ghost use Rattle.textarea_document.specs.Goes.{AllStemFrom, Goes, GoesOver, GoesUncut};
+ghost use Rattle.textarea_document.specs.Goes.{AllStayOrAreDropped, AllStemFrom, GoesOver, GoesUncut};
 ghost use Rattle.textarea_document.specs.Outcomes.{edited, redone, undone};
 ghost use Rattle.textarea_document.specs.Ranges.{CutsNone};
 ghost use Rattle.textarea_document.specs.Rows.{HasRowsAt, IsAboveCursor, IsBelowCursor, with_inner_width, with_layout_settings};
@@ -36,7 +36,7 @@ pub fn one_row_count()
         HasRowsAt document inner_width count → HasRowsAt document inner_width other →
         count ≡ other }
 {
-    textarea_map::laws::one_row_count();
+    textarea_screen_map::laws::one_row_count();
 }
 
 /// What each edit of a document cuts, one that is made, taken back or made again: the lines that its splice touches where it leaves
@@ -73,21 +73,24 @@ pub fn layouts_cut()
     settings_cut();
 }
 
-/// The ranges of a document go with its text: over each of the five things that a call which inserts or removes can do to the text,
-/// none of which cuts a range, and over an undo and a redo. Where they go so, each range that is held then stems from one that was
-/// held before: it covers the same characters, all in one line.
+/// The ranges of a document go with its text: over the splice of each of the five steps, which cuts no range, and over that of an
+/// undo or a redo. Where they go so over splices, each range that is held then stems from one that was held before, and covers the
+/// same characters, all in one line; and a range that was held before is held then, as the splices carry it, or one of them disturbs
+/// it: nothing else drops a range.
 pub fn ranges_go_along()
     ensures stepped { (document : DocumentState) (step : Step) (typed : Bool) (now : ℕ) →
         IsSound document → IsMade document step →
-        GoesUncut document (stepped document step typed now) }
+        GoesUncut document (splice_of document step ∷ []) (stepped document step typed now) }
     ensures undone { (document : DocumentState) (splice : Splice) →
         IsSound document → newest document.log ≡ Some splice →
         GoesOver document (inverse splice ∷ []) (undone document) }
     ensures redone { (document : DocumentState) (splice : Splice) →
         IsSound document → next document.log ≡ Some splice →
         GoesOver document (splice ∷ []) (redone document) }
-    ensures stem { (old new : DocumentState) →
-        IsSound old → Goes old new → AllStemFrom old new }
+    ensures stem { (old new : DocumentState) (splices : List Splice) →
+        IsSound old → GoesOver old splices new → AllStemFrom old splices new }
+    ensures dropped { (old new : DocumentState) (splices : List Splice) →
+        GoesOver old splices new → AllStayOrAreDropped old splices new }
 {
     ranges_go_with_the_text();
 }

@@ -1,7 +1,11 @@
-//! A document: lines of text, a cursor, an anchor, and a history, proved against one flat text.
+//! A document: lines with a cursor, an anchor, atomic ranges and a history; where a move leads in it; and the one function that makes every edit.
 #![tactic(auto)]
 
 pub mod document;
+pub mod ends;
 pub mod laws;
+mod paragraphs;
+pub mod target;
+mod words;
 
 pub use document::Document;

@@ -8,32 +8,32 @@ use Rattle.textarea_drawing.proofs.OneHit.{BeginsOnce, lies_once, some_same, wan
 use Rattle.textarea_drawing.proofs.Rects.{last_area_once}
 use Rattle.textarea_drawing.specs.Back.{IsHitBack}
 use Rattle.textarea_drawing.specs.Frame.{Parts, frame_of}
-use Rattle.textarea_frame.specs.Frame.{FrameState, has_lines, number_width, shows_placeholder}
+use Rattle.textarea_view.specs.Frame.{FrameState, has_lines, number_width, shows_placeholder}
 use Rattle.textarea_drawing.specs.Hit.{IsLastArea}
-use Rattle.textarea_frame.specs.Hit.{IsHitBy, IsHitInRows, IsHitOf, IsHitWith, IsNear, greatest_at}
-use Rattle.textarea_frame.specs.Placed.{IsPlaced, IsPlacedInRows, IsPlacedWith, LiesAs, Placing, corner_caret, row_view}
+use Rattle.textarea_view.specs.Hit.{IsHitBy, IsHitInRows, IsHitOf, IsHitWith, IsNear, greatest_at}
+use Rattle.textarea_view.specs.Placed.{IsPlaced, IsPlacedInRows, IsPlacedWith, LiesAs, Placing, corner_caret, row_view}
 use Rattle.textarea_drawing.specs.Rendered.{IsRendered, at_inner_width, drawn_into}
 use Rattle.textarea_lines.specs.Layout.{LaidOut, at_width, laid_out_with}
-use Rattle.textarea_map.specs.Lent.{LentRows}
+use Rattle.textarea_screen_map.specs.Lent.{LentRows}
 use Rattle.textarea_lines.specs.View.{IsViewOf}
 use Rattle.textarea_lines.specs.declared.settings.LayoutSettings.{LayoutSettings}
-use Rattle.textarea_map.specs.Layout.{AreRowsOf}
+use Rattle.textarea_screen_map.specs.Layout.{AreRowsOf}
 use Rattle.textarea_blocks.specs.Sums.{row_total}
-use Rattle.textarea_map.specs.Rows.{greatest_column, row_at}
-use Rattle.textarea_map.specs.Seen.{HasNoZeroWidth, IsPlaceAt, IsVisualPosition}
-use Rattle.textarea_map.specs.declared.layout.Wrapping.{Wrapping}
-use Rattle.textarea_scene.specs.Scene.{SceneState}
+use Rattle.textarea_screen_map.specs.Rows.{greatest_column, row_at}
+use Rattle.textarea_screen_map.specs.Seen.{HasNoZeroWidth, IsPlaceAt, IsVisualPosition}
+use Rattle.textarea_screen_map.specs.declared.layout.Wrapping.{Wrapping}
+use Rattle.textarea_view.specs.Scene.{SceneState}
 use Rattle.textarea_screen.specs.Rect.{contains}
 use Rattle.textarea_screen.specs.declared.screen.alignment.Alignment.{Alignment}
 use Rattle.textarea_screen.specs.declared.screen.alignment.Alignment.TheVariants.{Left, Center, Right}
 use Rattle.textarea_screen.specs.declared.screen.rect.Rect.{Rect}
 use Rattle.textarea_text.specs.Place.{IsPlace, Place}
 use Rattle.textarea_text.specs.Text.{Symbol}
-use Rattle.textarea_viewport.specs.Caret.{caret_at, hit_column, hit_row, left_view}
-use Rattle.textarea_viewport.specs.Shown.{at_start}
-use Rattle.textarea_viewport.specs.Viewport.{ViewportState}
-use Rattle.textarea_viewport.specs.declared.row_view.RowView.{RowView}
-use Rattle.textarea_rows.specs.RowsView.{RowsView}
+use Rattle.textarea_view.specs.Caret.{caret_at, hit_column, hit_row, left_view}
+use Rattle.textarea_view.specs.Shown.{at_start}
+use Rattle.textarea_view.specs.Viewport.{ViewportState}
+use Rattle.textarea_view.specs.declared.row_view.RowView.{RowView}
+use Rattle.textarea_wrap.specs.RowsView.{RowsView}
 
 -- ---- what the laws of the caret and of the map say
 

@@ -7,7 +7,7 @@ use Rattle.textarea_drawing.specs.Hit.{IsLastArea}
 use Rattle.textarea_drawing.specs.State.{DrawingState}
 use Rattle.textarea_screen.specs.Block.{ShownBlock}
 use Rattle.textarea_screen.specs.declared.screen.rect.Rect.{Rect}
-use Rattle.textarea_surround.specs.Inner.{IsInner}
+use Rattle.textarea_view.specs.Inner.{IsInner}
 
 -- with these numbers it is that rectangle, whatever says that its edges are at most 65535
 abbrev IsThen : Rect → ℕ → ℕ → ℕ → ℕ → Type 0

@@ -4,16 +4,16 @@ use Rattle.textarea_document.specs.Rows.{laid_out_of, with_inner_width}
 use Rattle.textarea_document.specs.State.{DocumentState}
 use Rattle.textarea_drawing.proofs.Widths.{frame_at_width}
 use Rattle.textarea_drawing.specs.Frame.{Parts, frame_of}
-use Rattle.textarea_frame.specs.Frame.{FrameState}
-use Rattle.textarea_frame.specs.Placed.{Placing}
+use Rattle.textarea_view.specs.Frame.{FrameState}
+use Rattle.textarea_view.specs.Placed.{Placing}
 use Rattle.textarea_drawing.specs.Rendered.{IsDrawn, IsRendered, at_inner_width, drawn_into}
 use Rattle.textarea_drawing.specs.State.{DrawingState}
 use Rattle.textarea_drawing.specs.Steps.{IsDrawnAt}
-use Rattle.textarea_frame.specs.Drawn.{IsFrameDrawn}
+use Rattle.textarea_view.specs.FrameDrawn.{IsFrameDrawn}
 use Rattle.textarea_lines.specs.View.{IsViewOf}
 use Rattle.textarea_screen.specs.declared.screen.buffer.Buffer.{Buffer}
 use Rattle.textarea_screen.specs.declared.screen.rect.Rect.{Rect}
-use Rattle.textarea_surround.specs.Inner.{IsInner}
+use Rattle.textarea_view.specs.Inner.{IsInner}
 
 -- the parts, with another document and another drawing
 abbrev pub with_both : Parts → DocumentState → DrawingState → Parts

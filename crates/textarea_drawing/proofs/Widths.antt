@@ -5,10 +5,10 @@ use Rattle.textarea_document.specs.Rows.{laid_out_of}
 use Rattle.textarea_document.specs.Selection.{selection, selection_by}
 use Rattle.textarea_document.specs.State.{DocumentState}
 use Rattle.textarea_drawing.specs.Frame.{Parts, frame_of, scene_of}
-use Rattle.textarea_frame.specs.Frame.{FrameState}
+use Rattle.textarea_view.specs.Frame.{FrameState}
 use Rattle.textarea_drawing.specs.Rendered.{at_inner_width}
 use Rattle.textarea_lines.specs.Layout.{LaidOut, Layout, at_width, laid_out_anew, stays_cut}
-use Rattle.textarea_map.specs.Lent.{LentRows}
+use Rattle.textarea_screen_map.specs.Lent.{LentRows}
 use Rattle.textarea_lines.specs.declared.settings.LayoutSettings.{LayoutSettings}
 use Rattle.textarea_text.specs.Place.{Place}
 

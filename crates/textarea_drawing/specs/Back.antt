@@ -4,10 +4,10 @@ use Rattle.textarea_document.specs.Rows.{laid_out_of}
 use Rattle.textarea_drawing.specs.Frame.{Parts}
 use Rattle.textarea_drawing.specs.Hit.{IsHit}
 use Rattle.textarea_drawing.specs.Rendered.{IsRendered}
-use Rattle.textarea_map.specs.Lent.{LentRows}
+use Rattle.textarea_screen_map.specs.Lent.{LentRows}
 use Rattle.textarea_lines.specs.View.{IsViewOf}
-use Rattle.textarea_map.specs.Rows.{row_at}
-use Rattle.textarea_map.specs.Seen.{HasNoZeroWidth, IsVisualPosition}
+use Rattle.textarea_screen_map.specs.Rows.{row_at}
+use Rattle.textarea_screen_map.specs.Seen.{HasNoZeroWidth, IsVisualPosition}
 use Rattle.textarea_screen.specs.declared.screen.rect.Rect.{Rect}
 use Rattle.textarea_text.specs.Place.{Place}
 

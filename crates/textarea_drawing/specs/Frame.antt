@@ -4,10 +4,10 @@ use Rattle.textarea_document.specs.Edits.{is_filled}
 use Rattle.textarea_document.specs.Selection.{selection}
 use Rattle.textarea_document.specs.State.{DocumentState}
 use Rattle.textarea_drawing.specs.State.{DrawingState}
-use Rattle.textarea_frame.specs.Frame.{FrameState}
-use Rattle.textarea_map.specs.Lent.{LentRows}
-use Rattle.textarea_scene.specs.Scene.{SceneState}
-use Rattle.textarea_surround.specs.State.{SurroundState}
+use Rattle.textarea_view.specs.Frame.{FrameState}
+use Rattle.textarea_screen_map.specs.Lent.{LentRows}
+use Rattle.textarea_view.specs.Scene.{SceneState}
+use Rattle.textarea_view.specs.State.{SurroundState}
 
 -- the parts of a text area that are drawn: the document, the pattern that is searched for, if there is one, the surround, and how it
 -- is drawn

@@ -4,14 +4,14 @@ use Rattle.textarea_document.specs.Rows.{laid_out_of}
 use Rattle.textarea_document.specs.State.{DocumentState}
 use Rattle.textarea_drawing.specs.Frame.{Parts, frame_of}
 use Rattle.textarea_drawing.specs.State.{DrawingState}
-use Rattle.textarea_frame.specs.Hit.{IsHitOf, IsNear, greatest_at}
-use Rattle.textarea_map.specs.Lent.{LentRows}
+use Rattle.textarea_view.specs.Hit.{IsHitOf, IsNear, greatest_at}
+use Rattle.textarea_screen_map.specs.Lent.{LentRows}
 use Rattle.textarea_lines.specs.View.{IsViewOf}
 use Rattle.textarea_blocks.specs.Sums.{row_total}
-use Rattle.textarea_map.specs.Seen.{IsVisualPosition}
+use Rattle.textarea_screen_map.specs.Seen.{IsVisualPosition}
 use Rattle.textarea_screen.specs.declared.screen.rect.Rect.{Rect}
 use Rattle.textarea_text.specs.Place.{Place, is_same_place}
-use Rattle.textarea_viewport.specs.Viewport.{ViewportState, clamped}
+use Rattle.textarea_view.specs.Viewport.{ViewportState, clamped}
 
 -- ---- hits
 

@@ -1,17 +1,17 @@
 -- What a drawing leaves of the parts of a text area, and in a buffer.
 use Rattle.std.specs.Prelude.{◌≡◌, ℕ, List}
 use Rattle.textarea_document.specs.Rows.{laid_out_of, with_inner_width}
-use Rattle.textarea_frame.specs.Cells.{AreLinesOf, frame_change}
+use Rattle.textarea_view.specs.Cells.{AreLinesOf, frame_change}
 use Rattle.textarea_drawing.specs.Frame.{Parts, frame_of}
-use Rattle.textarea_frame.specs.Placed.{IsPlaced, Placing}
+use Rattle.textarea_view.specs.Placed.{IsPlaced, Placing}
 use Rattle.textarea_drawing.specs.State.{DrawingState}
-use Rattle.textarea_map.specs.Lent.{LentRows}
+use Rattle.textarea_screen_map.specs.Lent.{LentRows}
 use Rattle.textarea_lines.specs.View.{IsViewOf}
 use Rattle.textarea_screen.specs.Buffer.{Changes, area_of}
 use Rattle.textarea_screen.specs.Text.{ShownLine}
 use Rattle.textarea_screen.specs.declared.screen.buffer.Buffer.{Buffer}
 use Rattle.textarea_screen.specs.declared.screen.rect.Rect.{Rect}
-use Rattle.textarea_surround.specs.Inner.{IsInner}
+use Rattle.textarea_view.specs.Inner.{IsInner}
 
 -- the same parts, the text laid out for an inner area of this many columns
 abbrev pub at_inner_width : Parts → ℕ → Parts

@@ -1,9 +1,9 @@
 -- How a text area is drawn, and what of it was drawn last.
 use Rattle.std.specs.Prelude.{ℕ, List, [], Option, None}
-use Rattle.textarea_look.specs.Look.{default_look}
-use Rattle.textarea_look.specs.declared.look.CustomHighlight.{CustomHighlight}
-use Rattle.textarea_look.specs.declared.look.Look.{Look}
-use Rattle.textarea_viewport.specs.Viewport.{ViewportState, initial_viewport}
+use Rattle.textarea_view.specs.Look.{default_look}
+use Rattle.textarea_view.specs.declared.look.CustomHighlight.{CustomHighlight}
+use Rattle.textarea_view.specs.declared.look.Look.{Look}
+use Rattle.textarea_view.specs.Viewport.{ViewportState, initial_viewport}
 
 -- how it looks; highlights of the caller's own, in the order in which they were added; the part of the visual rows that is shown;
 -- where the inner area of the last drawing began, by column and row, and how high it was, while its width is a part of the layout;

@@ -2,9 +2,9 @@
 use Rattle.std.specs.Prelude.{ℕ}
 use Rattle.textarea_document.specs.Rows.{laid_out_of, with_inner_width}
 use Rattle.textarea_drawing.specs.Frame.{Parts, frame_of}
-use Rattle.textarea_frame.specs.Drawn.{IsFrameDrawn}
-use Rattle.textarea_frame.specs.Placed.{Placing}
-use Rattle.textarea_map.specs.Lent.{LentRows}
+use Rattle.textarea_view.specs.FrameDrawn.{IsFrameDrawn}
+use Rattle.textarea_view.specs.Placed.{Placing}
+use Rattle.textarea_screen_map.specs.Lent.{LentRows}
 use Rattle.textarea_lines.specs.View.{IsViewOf}
 use Rattle.textarea_screen.specs.declared.screen.buffer.Buffer.{Buffer}
 use Rattle.textarea_screen.specs.declared.screen.rect.Rect.{Rect}

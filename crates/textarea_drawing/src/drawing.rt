@@ -7,16 +7,16 @@ mod render;
 ghost use Rattle.std.specs.Prelude.{◌≡◌, [], ◌∷◌, ◌++◌, OnErr, OnOk};
 ghost use Rattle.std.specs.Option.{option_map};
 ghost use Rattle.textarea_drawing.specs.State.{for_other_lines, new_drawing, with_look, with_viewport};
-ghost use Rattle.textarea_frame.specs.Placed.{cell_of_position};
-ghost use Rattle.textarea_viewport.specs.Scrolled.{scrolled_by};
+ghost use Rattle.textarea_view.specs.Placed.{cell_of_position};
+ghost use Rattle.textarea_view.specs.Scrolled.{scrolled_by};
 
 use std::alloc::{AllocError, Global};
 use std::marker::Model;
-use textarea_look::look::{CustomHighlight, Look};
+use textarea_data::scroll::Scrolling;
 use textarea_screen::screen::Position;
-use textarea_scroll::scroll::Scrolling;
 use textarea_search::search::KeptMatches;
-use textarea_viewport::Viewport;
+use textarea_view::Viewport;
+use textarea_view::look::{CustomHighlight, Look};
 
 /// A look, highlights of the caller's own, which part of the visual rows is shown, and where the last drawing was. It keeps the
 /// matches in the lines that were drawn last, of which contracts see nothing.
@@ -34,7 +34,7 @@ pub struct Drawing {
 impl Model for Drawing {
     ghost use Rattle.std.specs.Option.{option_map};
     ghost use Rattle.textarea_drawing.specs.State.{DrawingState};
-    ghost use Rattle.textarea_frame.specs.Placed.{cell_of_position};
+    ghost use Rattle.textarea_view.specs.Placed.{cell_of_position};
 
     ghost Value = { DrawingState };
 

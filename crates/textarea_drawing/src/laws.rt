@@ -1,6 +1,6 @@
 //! Laws of what is drawn, each the contract of a function that does nothing.
 ghost use Rattle.std.specs.Prelude.{◌≡◌, ◌<◌, ◌^◌, ℕ, Option, is_some};
-ghost use Rattle.textarea_size.specs.Limit.{size_limit};
+ghost use Rattle.textarea_util.specs.Limit.{size_limit};
 ghost use Rattle.textarea_document.specs.State.{DocumentState};
 ghost use Rattle.textarea_drawing.specs.Back.{IsHitBack};
 ghost use Rattle.textarea_drawing.specs.Frame.{Parts};
@@ -13,14 +13,14 @@ ghost use Rattle.textarea_screen.specs.declared.screen.buffer.Buffer.{Buffer};
 ghost use Rattle.textarea_screen.specs.declared.screen.rect.Rect.{Rect};
 ghost use Rattle.textarea_text.specs.Place.{IsPlace, Place};
 ghost use Rattle.textarea_text.specs.Size.{weight};
-ghost use Rattle.textarea_viewport.specs.Viewport.{ViewportState};
+ghost use Rattle.textarea_view.specs.Viewport.{ViewportState};
 
 use textarea_lines::laws::{one_view, settings_stay};
-use textarea_map::laws::{
+use textarea_screen_map::laws::{
     cursors_within_width, few_columns, few_rows, found_again, one_place, seen_once, seen_within,
 };
-use textarea_scene::laws::{one_filling, one_row_start};
-use textarea_viewport::laws::{
+use textarea_view::scene::laws::{one_filling, one_row_start};
+use textarea_view::viewport::laws::{
     placeholder_has_its_caret_in_the_corner, shown_caret_is_hit_back, wrapped_caret_is_shown,
 };
 
@@ -100,6 +100,6 @@ pub fn caret_is_shown()
     few_columns();
     few_rows();
     settings_stay();
-    textarea_viewport::laws::caret_is_shown();
+    textarea_view::viewport::laws::caret_is_shown();
     wrapped_caret_is_shown();
 }

@@ -1,6 +1,7 @@
 -- Where the highlights of a row start and end, and the order of these borders.
-use Rattle.std.specs.Prelude.{ℕ, List, [], ◌∷◌, ◌++◌, length, min, nat_lt, All, IsCharBoundary, IsPermutation, if◌then◌else◌}
+use Rattle.std.specs.Prelude.{ℕ, ◌≤◌, Option, Some, List, [], ◌∷◌, ◌++◌, length, min, nat_lt, All, IsCharBoundary, IsPermutation, if◌then◌else◌}
 use Rattle.std.specs.Fmt.Cut.{floor_char_boundary}
+use Rattle.std.specs.Iterator.{YieldsThen}
 use Rattle.std.specs.declared.cmp.Ordering.{Ordering}
 use Rattle.std.specs.Ordering.{nat_cmp, ordering_then}
 use Rattle.std.specs.List.Sorted.{IsSortedByKey, IsStableByKey}
@@ -31,6 +32,15 @@ abbrev pub match_borders : List ℕ → List (ℕ × ℕ) → Style → List Bor
 match_borders row [] style = []
 match_borders row (found ∷ others) style =
     highlight_borders row found.0 found.1 style search_rank ++ match_borders row others style
+
+-- between the two places of a highlight lies no character of the row, so that it has no borders
+abbrev pub IsEmptyAt : List ℕ → ℕ → ℕ → Type 0
+IsEmptyAt row from to = rounded_down row to ≤ rounded_down row from
+
+-- each match that an iterator gives, call after call, lies on no character of the row
+abbrev pub MarkNothing : {S : Type 0} → (S → Option (ℕ × ℕ) → S → Type 0) → S → List ℕ → Type 0
+MarkNothing {S} steps matches row =
+    (before : List (ℕ × ℕ)) (found : ℕ × ℕ) (rest : S) → YieldsThen steps matches before (Some found) rest → IsEmptyAt row found.0 found.1
 
 -- where a border stands, and its rank there
 abbrev pub place_of : Border → ℕ × ℕ

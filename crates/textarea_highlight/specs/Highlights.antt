@@ -1,5 +1,5 @@
 -- What a highlighter holds, and what each call adds.
-use Rattle.std.specs.Prelude.{ℕ, ◌+◌, Bool, false, ◌&&◌, ◌||◌, ◌==◌, nat_le, nat_lt, if◌then◌else◌, List, [], ◌∷◌, ◌++◌, length, take, Option, None, Some, encode_utf8_all, codes}
+use Rattle.std.specs.Prelude.{◌≡◌, ℕ, ◌+◌, ◌≤◌, ◌⊎◌, Bool, false, ◌&&◌, ◌||◌, ◌==◌, nat_le, nat_lt, if◌then◌else◌, List, [], ◌∷◌, ◌++◌, length, take, Option, None, Some, encode_utf8_all, codes}
 use Rattle.std.specs.Str.{chars}
 use Rattle.textarea_screen.specs.declared.screen.style.Style.{Style}
 use Rattle.textarea_screen.specs.Style.{empty_style}
@@ -8,7 +8,7 @@ use Rattle.textarea_screen.specs.Text.ShownContent.{Lent}
 use Rattle.textarea_highlight.specs.declared.highlight.borders.Border.{Border}
 use Rattle.textarea_highlight.specs.declared.highlight.highlighter.CursorCellRender.{CursorCellRender}
 use Rattle.textarea_highlight.specs.declared.highlight.highlighter.CursorCellRender.TheVariants.{Draw, Hidden}
-use Rattle.textarea_highlight.specs.Borders.{highlight_borders, match_borders}
+use Rattle.textarea_highlight.specs.Borders.{IsEmptyAt, highlight_borders, match_borders}
 use Rattle.textarea_highlight.specs.Numbers.{number_span, placeholder_span}
 
 pub record Highlights : Type 0 where
@@ -84,6 +84,10 @@ with_cursor_line h column style = record h {
   cursor_at_end = h.cursor_at_end || nat_le (length (chars h.row)) column;
 }
 
+-- the cursor is highlighted in no cell of the row: its cell is hidden, or its column is past the row's characters
+abbrev pub AddsNoCursor : Highlights → ℕ → Type 0
+AddsNoCursor h column = (h.cursor_cell ≡ Hidden) ⊎ (length (chars h.row) ≤ column)
+
 abbrev pub with_matches : Highlights → List (ℕ × ℕ) → Style → Highlights
 with_matches h pairs style = record h { borders = h.borders ++ match_borders h.row pairs style }
 
@@ -116,6 +120,11 @@ with_range h current range style rank = record h {
   borders = h.borders ++ range_borders h.row current range style rank;
   break_is_selected = h.break_is_selected || goes_on current range;
 }
+
+-- the range marks no character of the row: it has no part in the row, or none with a character
+abbrev pub AddsNoRange : Highlights → ℕ → Range → Type 0
+AddsNoRange h current range =
+    (is_in_range current range ≡ false) ⊎ IsEmptyAt h.row (part_start current range) (part_end h.row current range)
 
 abbrev pub with_selection : Highlights → ℕ → Range → Highlights
 with_selection h current range = with_range h current range h.select_style selection_rank

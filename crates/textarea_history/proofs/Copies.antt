@@ -5,7 +5,7 @@ use Rattle.std.specs.Option.{IfSome}
 use Rattle.std.proofs.lemmas.List.Elements.{AllZip-get_or, length_all_zip}
 use Rattle.textarea_text.specs.Place.{end}
 use Rattle.textarea_text.specs.Splice.{Splice}
-use Rattle.textarea_edit.specs.Edit.{Stored, IsCopyOfEdit, IsWellFormed}
+use Rattle.textarea_history.specs.Edit.{Stored, IsCopyOfEdit, IsWellFormed}
 use Rattle.textarea_history.specs.Log.{edge_of}
 use Rattle.textarea_history.specs.Store.{splice_in, IsRun, RunIs, IsStore}
 

@@ -1,3 +1,7 @@
+mod Runs
+mod Weights
+mod Changes
+mod Offsets
 pub mod Joins
 mod Stores
 pub mod LogLaws

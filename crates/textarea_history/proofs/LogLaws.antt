@@ -6,8 +6,8 @@ use Rattle.std.proofs.lemmas.Option.{get_or_from_slice_get, slice_get_within, sl
 use Rattle.textarea_text.specs.Text.{Symbol}
 use Rattle.textarea_text.specs.Place.{Place}
 use Rattle.textarea_text.specs.Splice.{Splice, Fits, applied, inverse, place_after, CanApply, CanTakeBack, StoodBefore}
-use Rattle.textarea_text.proofs.Places.{takes_back}
-use Rattle.textarea_edit.specs.Run.{merged}
+use Rattle.textarea_text.proofs.TextPlaces.{takes_back}
+use Rattle.textarea_history.specs.Run.{merged}
 use Rattle.textarea_history.specs.Log.{Log, Logged, Redoes, Undoes, done_after, grown, is_typed, joins, kept, newest, next, redone, redone_by, undone, undone_by, with_done}
 use Rattle.textarea_history.specs.Law.{EachFits, GivesBack, IsRedone, IsSame, IsSound, edited, times}
 use Rattle.textarea_history.proofs.Joins.{joins_newest}

@@ -10,9 +10,9 @@ use Rattle.std.proofs.lemmas.Bool.Decides.{nat_tests}
 use Rattle.textarea_text.specs.Text.{Symbol, Character, Break}
 use Rattle.textarea_text.specs.Place.{Place}
 use Rattle.textarea_text.specs.Splice.{Splice, place_before, place_after}
-use Rattle.textarea_edit.specs.Edit.{Stored, IsWellFormed}
+use Rattle.textarea_history.specs.Edit.{Stored, IsWellFormed}
 use Rattle.textarea_history.specs.Log.{Log, with_done, kept, typed_character, newest, next, taken_back, made_again, joins, continues, continues_newest, is_same_direction, is_empty, is_typed, done_joined, grown, edge_of, pause}
-use Rattle.textarea_edit.specs.Run.{character_of, merged}
+use Rattle.textarea_history.specs.Run.{character_of, merged}
 use Rattle.textarea_history.proofs.Joins.{left_of, right_of, same_direction, same_place}
 use Rattle.textarea_history.specs.Store.{log_at, splice_in, spare_in, room_at, IsRun, RunIs, IsStore}
 

@@ -4,9 +4,9 @@ use Rattle.std.proofs.lemmas.List.{append_assoc, length-append, take-append-drop
 use Rattle.textarea_text.specs.Text.{Symbol}
 use Rattle.textarea_text.specs.Place.{Place, IsPlace, StandsAt, end, inserted, removed}
 use Rattle.textarea_text.specs.Splice.{Splice, Fits, applied, inverse, place_before, place_after, CanApply, CanTakeBack, applied_all}
-use Rattle.textarea_edit.specs.Run.{merged}
+use Rattle.textarea_history.specs.Run.{merged}
 use Rattle.textarea_text.proofs.Splices.{end-append, inserted_at, removed_at, stands_at}
-use Rattle.textarea_text.proofs.Places.{parted, standing, place_parted, index_parted}
+use Rattle.textarea_text.proofs.TextPlaces.{parted, standing, place_parted, index_parted}
 
 pub inverse-inverse : (splice : Splice) → inverse (inverse splice) ≡ splice
 inverse-inverse splice = ap (λ (b : Bool). record splice { inserts = b }) (not-not splice.inserts)

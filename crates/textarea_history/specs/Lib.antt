@@ -1,3 +1,7 @@
+pub mod Change
+pub mod Edit
+pub mod Run
+pub mod EditLaw
 pub mod Law
 pub mod Log
 pub mod Store

@@ -4,8 +4,8 @@ use Rattle.std.specs.Char.{is_whitespace}
 use Rattle.textarea_text.specs.Text.{Symbol, Character, Break, text_of}
 use Rattle.textarea_text.specs.Place.{Place}
 use Rattle.textarea_text.specs.Splice.{Splice, applied, inverse, place_before, place_after}
-use Rattle.textarea_word.specs.Words.{class_of, is_same}
-use Rattle.textarea_edit.specs.Run.{character_of, merged}
+use Rattle.textarea_text.specs.Words.{class_of, is_same}
+use Rattle.textarea_history.specs.Run.{character_of, merged}
 
 -- the changes made, the newest last; those taken back, the next to be made again first; how many it holds at most;
 -- whether the newest change is a run of typing that may go on; and the moment of the last change, in nanoseconds

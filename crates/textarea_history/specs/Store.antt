@@ -2,7 +2,7 @@
 use Rattle.std.specs.Prelude.{◌≡◌, ◌<◌, ◌≤◌, ◌-◌, ℕ, Bool, true, cond, nat_lt, List, length, take, drop, Option, Some, None, slice_get, IfSome, All}
 use Rattle.textarea_text.specs.Text.{Character}
 use Rattle.textarea_text.specs.Splice.{Splice}
-use Rattle.textarea_edit.specs.Edit.{Stored, IsWellFormed}
+use Rattle.textarea_history.specs.Edit.{Stored, IsWellFormed}
 use Rattle.textarea_history.specs.Log.{Log, edge_of}
 
 abbrev pub splice_in : Stored → Splice

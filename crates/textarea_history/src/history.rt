@@ -4,17 +4,18 @@ pub mod laws;
 ghost use Rattle.std.specs.VecDeque.{deque_capacity};
 ghost use Rattle.std.specs.Prelude.{drop, ◌≡◌, ◌<◌, ◌≤◌, ◌+◌, length, OnOk, OnErr, IfOk, IfSome, IsSome, IsOk, MatchOption, Some, ◌∷◌, [], vec_len, true, false};
 ghost use Rattle.std.specs.Duration.{as_nanos};
-ghost use Rattle.textarea_text.specs.Text.{Character, text_of};
-ghost use Rattle.textarea_text.specs.Splice.{Splice, Fits, inverse};
-ghost use Rattle.textarea_edit.specs.Edit.{IsWellFormed};
+ghost use Rattle.textarea_text.specs.Text.{Character};
+ghost use Rattle.textarea_text.specs.Splice.{Splice, inverse};
+ghost use Rattle.textarea_history.specs.Change.{FitsLines};
+ghost use Rattle.textarea_history.specs.Edit.{IsWellFormed};
 ghost use Rattle.textarea_history.specs.Log.{continues, edge_of, empty_log, recorded, joins, typed_character, with_done, done_joined, done_appended, is_typed, kept, logged_of, Undoes, Redoes, newest, next, taken_back, made_again};
 
+pub use crate::edit::{Edit, EditKind};
 use std::alloc::{AllocError, Global};
 use std::collections::VecDeque;
 use std::marker::Model;
 use std::time::Duration;
-pub use textarea_edit::edit::{Edit, EditKind};
-use textarea_word::word::CharKind;
+use textarea_text::word::CharKind;
 
 /// The pause after which typing begins a new run, in nanoseconds.
 const PAUSE: u128 = 500_000_000;
@@ -246,9 +247,8 @@ impl History {
 
     /// Takes back the newest edit, and says where the cursor goes; with nothing to take back nothing changes.
     pub fn undo(&mut self, lines: &mut Vec<String>) -> Result<Option<(usize, usize)>, AllocError>
-        requires nonempty { IsSome (newest self.old.log) → 0 < vec_len lines.old }
-        requires fits { IfSome (newest self.old.log)
-            (λ splice. Fits (text_of lines.old.items) (inverse splice)) }
+        requires { IfSome (newest self.old.log)
+            (λ splice. FitsLines lines.old.items (inverse splice)) }
         ensures ok { IfOk result (Undoes (logged_of lines.old.items self.old.log)
             (logged_of lines.new.items self.new.log)) }
         ensures err { OnErr result (self.new.log ≡ self.old.log) }
@@ -269,8 +269,7 @@ impl History {
     /// Makes again the edit that was undone last, and says where the cursor goes; with nothing to make again nothing
     /// changes.
     pub fn redo(&mut self, lines: &mut Vec<String>) -> Result<Option<(usize, usize)>, AllocError>
-        requires nonempty { IsSome (next self.old.log) → 0 < vec_len lines.old }
-        requires fits { IfSome (next self.old.log) (Fits (text_of lines.old.items)) }
+        requires { IfSome (next self.old.log) (FitsLines lines.old.items) }
         ensures ok { IfOk result (Redoes (logged_of lines.old.items self.old.log)
             (logged_of lines.new.items self.new.log)) }
         ensures err { OnErr result (self.new.log ≡ self.old.log) }

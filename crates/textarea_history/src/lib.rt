@@ -1,4 +1,7 @@
-//! The history of a text's edits, with a greatest number and runs of typing.
+//! The edits of a text, and their history with runs of typing, undo and redo.
 #![tactic(auto)]
 
+pub mod edit;
 pub mod history;
+pub mod laws;
+mod texts;

@@ -1,21 +1,21 @@
 -- Lines with their rows, after some of them gave place to others.
 use Rattle.std.proofs.Common.{◌≡◌, ℕ, ◌+◌, ◌-◌, ◌≤◌, ◌<◌, Bool, true, false, cond, List, length, sym, ap, ◌∙◌, arith, String}
 use Rattle.std.proofs.lemmas.List.{length-map}
-use Rattle.textarea_size.specs.Limit.{size_limit}
+use Rattle.textarea_util.specs.Limit.{size_limit}
 use Rattle.textarea_text.specs.Place.{inserted, removed}
-use Rattle.textarea_replace.specs.Replaced.{replaced}
+use Rattle.textarea_util.specs.Replaced.{replaced}
 use Rattle.textarea_text.specs.Size.{weight}
 use Rattle.textarea_text.specs.Splice.{Splice, Allows, Fits, applied}
 use Rattle.textarea_text.specs.Text.{Symbol, characters_of, joined, lines, lines_of, text_of}
 use Rattle.textarea_text.specs.Touched.{IsReplacementFor}
 use Rattle.textarea_text.specs.declared.rows.Replacement.{Replacement}
 use Rattle.std.specs.declared.alloc.Global.{Global}
-use Rattle.textarea_replace.proofs.Replacing.{length-replaced}
+use Rattle.textarea_util.proofs.Replacing.{length-replaced}
 use Rattle.textarea_text.proofs.Sizes.{size_of_text, weight_inserted, weight_removed}
-use Rattle.textarea_rows.specs.RowsView.{RowsView}
-use Rattle.textarea_map.specs.declared.layout.Wrapping.{Wrapping}
-use Rattle.textarea_map.specs.Layout.{AreRowsOf, ticks_behind, ticks_of, with_tab_len}
-use Rattle.textarea_map.specs.Map.{MapView}
+use Rattle.textarea_wrap.specs.RowsView.{RowsView}
+use Rattle.textarea_screen_map.specs.declared.layout.Wrapping.{Wrapping}
+use Rattle.textarea_screen_map.specs.Layout.{AreRowsOf, ticks_behind, ticks_of, with_tab_len}
+use Rattle.textarea_screen_map.specs.Map.{MapView}
 use Rattle.textarea_lines.specs.declared.settings.LayoutSettings.{LayoutSettings}
 use Rattle.textarea_lines.specs.Layout.{LaidOut, applied_to, laid_out_anew, after_replacement, replaced_in, wrapping_of}
 use Rattle.textarea_lines.specs.Stored.{IsStored, HoldsRows}

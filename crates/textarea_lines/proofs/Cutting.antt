@@ -4,8 +4,8 @@ use Rattle.std.proofs.lemmas.Bool.{eqb-true}
 use Rattle.textarea_text.specs.Splice.{Splice, Fits, applied}
 use Rattle.textarea_text.specs.Text.{Symbol, lines}
 use Rattle.textarea_text.specs.Touched.{lines_coming, lines_going}
-use Rattle.textarea_map.specs.Layout.{AreRowsOf}
-use Rattle.textarea_map.specs.declared.layout.Wrapping.{Wrapping}
+use Rattle.textarea_screen_map.specs.Layout.{AreRowsOf}
+use Rattle.textarea_screen_map.specs.declared.layout.Wrapping.{Wrapping}
 use Rattle.textarea_lines.specs.declared.settings.LayoutSettings.{LayoutSettings}
 use Rattle.textarea_lines.specs.Cuts.{AreSpliced, CutsAllLines, CutsNoLine, CutsTouchedLines, IsSetTo, IsSpliced, IsWidened, map_width, width_for}
 use Rattle.textarea_lines.specs.Layout.{LaidOut, Layout, all_cut, applied_to, at_width, laid_out_anew, laid_out_with, some_cut, stays_cut, wrapping_of}

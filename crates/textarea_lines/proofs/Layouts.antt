@@ -1,12 +1,12 @@
 -- Rows of lines and their ticks, as lines give place to others.
 use Rattle.std.proofs.Common.{◌≡◌, ℕ, ◌+◌, List, [], ◌++◌, length, take, drop, map, ap, ◌∙◌, arith, String}
 use Rattle.std.proofs.lemmas.List.{append_assoc, append-nil, drop_all, map-append, take-map, drop-map}
-use Rattle.textarea_replace.specs.Replaced.{replaced}
+use Rattle.textarea_util.specs.Replaced.{replaced}
 use Rattle.textarea_text.specs.Text.{lines_of}
-use Rattle.textarea_rows.specs.RowsView.{RowsView}
-use Rattle.textarea_map.specs.declared.layout.Wrapping.{Wrapping}
-use Rattle.textarea_map.specs.Layout.{AreRowsOf, ticks_behind}
-use Rattle.textarea_map.proofs.Layouts.{ticks_append}
+use Rattle.textarea_wrap.specs.RowsView.{RowsView}
+use Rattle.textarea_screen_map.specs.declared.layout.Wrapping.{Wrapping}
+use Rattle.textarea_screen_map.specs.Layout.{AreRowsOf, ticks_behind}
+use Rattle.textarea_screen_map.proofs.Layouts.{ticks_append}
 
 -- ---- items that take the place of others
 

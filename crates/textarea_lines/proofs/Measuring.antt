@@ -2,9 +2,9 @@
 use Rattle.std.proofs.Common.{◌≡◌, ◌∙◌, ℕ, true, List, length, String, Option, Some, ap, subst, sym}
 use Rattle.std.specs.Option.{IfSome}
 use Rattle.textarea_text.specs.Text.{lines, lines_of}
-use Rattle.textarea_map.specs.declared.layout.Wrapping.{Wrapping}
+use Rattle.textarea_screen_map.specs.declared.layout.Wrapping.{Wrapping}
 use Rattle.textarea_blocks.specs.Sums.{row_total}
-use Rattle.textarea_map.specs.Map.{IsRowCount, MapView}
+use Rattle.textarea_screen_map.specs.Map.{IsRowCount, MapView}
 use Rattle.textarea_lines.specs.declared.measured.Measured.{Measured}
 use Rattle.textarea_lines.specs.declared.settings.LayoutSettings.{LayoutSettings}
 use Rattle.textarea_lines.specs.Layout.{LaidOut, wrapping_of}

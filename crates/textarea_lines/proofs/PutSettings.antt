@@ -4,7 +4,7 @@ use Rattle.std.proofs.Math.Dec.{eqb-suc-zero}
 use Rattle.textarea_text.specs.Text.{lines}
 use Rattle.textarea_wrap.specs.declared.wrap.WrapMode.{WrapMode}
 use Rattle.textarea_wrap.specs.declared.wrap.WrapMode.TheVariants as mode
-use Rattle.textarea_map.specs.declared.layout.Wrapping.{Wrapping}
+use Rattle.textarea_screen_map.specs.declared.layout.Wrapping.{Wrapping}
 use Rattle.textarea_lines.specs.Layout.{LaidOut, at_width, laid_out_anew, laid_out_with, stays_cut, wrapping_at, wrapping_of}
 use Rattle.textarea_lines.specs.Wrappings.{cut_at_width, is_same, is_same_mode, whole_lines, wrapping_for, wraps}
 use Rattle.textarea_lines.specs.declared.settings.LayoutSettings.{LayoutSettings}

@@ -1,12 +1,12 @@
 -- Lines that are cut in one way are cut in the other, where both ways are the same.
 use Rattle.std.proofs.Common.{◌≡◌, ℕ, Bool, true, false, ◌==◌, not, cond, List, ap, sym, ◌∙◌, refl}
 use Rattle.std.proofs.lemmas.Bool.{and_parts, eqb-true}
-use Rattle.textarea_rows.specs.RowsView.{RowsView}
+use Rattle.textarea_wrap.specs.RowsView.{RowsView}
 use Rattle.textarea_wrap.specs.declared.wrap.WrapMode.{WrapMode}
 use Rattle.textarea_wrap.specs.declared.wrap.WrapMode.TheVariants as mode
-use Rattle.textarea_map.specs.declared.layout.Wrapping.{Wrapping}
-use Rattle.textarea_map.specs.Layout.{AreRowsOf, with_tab_len}
-use Rattle.textarea_map.proofs.Layouts.{whole_anywhere}
+use Rattle.textarea_screen_map.specs.declared.layout.Wrapping.{Wrapping}
+use Rattle.textarea_screen_map.specs.Layout.{AreRowsOf, with_tab_len}
+use Rattle.textarea_screen_map.proofs.Layouts.{whole_anywhere}
 use Rattle.textarea_lines.specs.declared.settings.LayoutSettings.{LayoutSettings}
 use Rattle.textarea_lines.specs.Wrappings.{cut_at_width, is_same, is_same_mode, is_wrapped, whole_lines, wrapping_for, wraps}
 

@@ -2,14 +2,14 @@
 use Rattle.std.proofs.Common.{◌≡◌, ℕ, suc, zero, ◌+◌, ◌<◌, ◌≤◌, List, [], ◌∷◌, length, take, drop, map, ap, refl, sym, subst, ◌∙◌, arith}
 use Rattle.std.proofs.lemmas.List.{drop-map, length-map, take-map}
 use Rattle.std.specs.List.{AllByRecursion, range_with_len}
-use Rattle.textarea_replace.specs.Replaced.{replaced}
+use Rattle.textarea_util.specs.Replaced.{replaced}
 use Rattle.textarea_text.specs.Splice.{Splice, applied}
 use Rattle.textarea_text.specs.Text.{Symbol, lines}
 use Rattle.textarea_text.specs.Touched.{lines_coming, lines_going}
-use Rattle.textarea_rows.specs.RowsView.{RowsView}
-use Rattle.textarea_map.specs.Layout.{AreRowsOf, ticks_behind, ticks_of}
-use Rattle.textarea_map.specs.declared.layout.Wrapping.{Wrapping}
-use Rattle.textarea_map.proofs.Layouts.{AreRowsOf-drop, AreRowsOf-take, length-AreRowsOf}
+use Rattle.textarea_wrap.specs.RowsView.{RowsView}
+use Rattle.textarea_screen_map.specs.Layout.{AreRowsOf, ticks_behind, ticks_of}
+use Rattle.textarea_screen_map.specs.declared.layout.Wrapping.{Wrapping}
+use Rattle.textarea_screen_map.proofs.Layouts.{AreRowsOf-drop, AreRowsOf-take, length-AreRowsOf}
 use Rattle.textarea_lines.specs.Cuts.{KeepsOtherRows, touched_rows}
 use Rattle.textarea_lines.proofs.OneList.{rows_same}
 use Rattle.textarea_lines.proofs.Splicing.{SplicesLines, drop-replaced, middle-replaced, take-replaced}

@@ -3,12 +3,12 @@ use Rattle.std.proofs.Common.{◌≡◌, ℕ, ◌+◌, ◌-◌, ◌<◌, ◌≤�
 use Rattle.std.proofs.Math.Seq.{drop-append-add, drop-append_seam, take-append_seam}
 use Rattle.std.proofs.lemmas.List.{length-append, length-take-le}
 use Rattle.textarea_text.specs.Place.{Place, IsPlaceOf, changed, end}
-use Rattle.textarea_replace.specs.Replaced.{replaced}
+use Rattle.textarea_util.specs.Replaced.{replaced}
 use Rattle.textarea_text.specs.Splice.{Splice, Allows, Fits, applied}
 use Rattle.textarea_text.specs.Text.{Symbol, Character, Break, characters, lines, on_first}
 use Rattle.textarea_text.specs.Touched.{breaks_of, lines_coming, lines_going}
-use Rattle.textarea_text.proofs.Places.{joined-lines}
-use Rattle.textarea_replace.proofs.Replacing.{length-replaced}
+use Rattle.textarea_text.proofs.TextPlaces.{joined-lines}
+use Rattle.textarea_util.proofs.Replacing.{length-replaced}
 use Rattle.textarea_text.proofs.Splices.{lines-joined}
 use Rattle.textarea_text.proofs.StringRows.{changed_by_none, rows_replaced, stands_until}
 use Rattle.textarea_text.proofs.Touching.{breaks_of-append, breaks_of-characters, end_row}

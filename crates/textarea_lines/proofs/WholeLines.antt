@@ -2,29 +2,29 @@
 use Rattle.std.proofs.Common.{◌≡◌, ℕ, zero, suc, ◌+◌, ◌-◌, ◌<◌, ◌≤◌, Bool, true, false, not, cond, List, [], ◌∷◌, ◌++◌, length, take, drop, get_or, encode_utf8_all, sym, ap, refl, ◌∙◌, arith, subst, String, Result, Ok, Err, is_ok}
 use Rattle.std.specs.Result.{IsOk}
 use Rattle.std.proofs.lemmas.List.{get_or-append_right, length-map, length-take-le}
-use Rattle.textarea_size.specs.Limit.{size_limit}
+use Rattle.textarea_util.specs.Limit.{size_limit}
 use Rattle.textarea_text.specs.Place.{end}
-use Rattle.textarea_replace.specs.Replaced.{replaced}
+use Rattle.textarea_util.specs.Replaced.{replaced}
 use Rattle.textarea_text.specs.Size.{weight}
 use Rattle.textarea_text.specs.Splice.{Splice, Fits, applied, place_before}
 use Rattle.textarea_text.specs.Text.{characters, characters_of, following, lines, lines_of, text_of}
 use Rattle.textarea_text.specs.Touched.{breaks_of, lines_coming, lines_going}
-use Rattle.textarea_replace.proofs.Replacing.{length-replaced}
+use Rattle.textarea_util.proofs.Replacing.{length-replaced}
 use Rattle.textarea_text.proofs.Sizes.{length-le-size_of, size_of_text, weight-append, weight-characters, weight_of_following}
 use Rattle.textarea_text.proofs.Splices.{following-append}
 use Rattle.textarea_text.proofs.Touching.{ChangesLine, changes_line, end_row}
 use Rattle.textarea_wrap.specs.Cutting.{ranges_from}
-use Rattle.textarea_rows.specs.RowsView.{RowsView}
+use Rattle.textarea_wrap.specs.RowsView.{RowsView}
 use Rattle.textarea_wrap.specs.Wrapped.{IsWrapped}
 use Rattle.textarea_wrap.specs.declared.wrap.WrapMode.TheVariants as mode
-use Rattle.textarea_map.specs.declared.layout.Wrapping.{Wrapping}
-use Rattle.textarea_map.specs.Layout.{AreRowsOf, AreRowsOfLine, ticks_of}
+use Rattle.textarea_screen_map.specs.declared.layout.Wrapping.{Wrapping}
+use Rattle.textarea_screen_map.specs.Layout.{AreRowsOf, AreRowsOfLine, ticks_of}
 use Rattle.textarea_blocks.specs.Sums.{line_bytes, ranges_at, row_total, size_total}
-use Rattle.textarea_map.specs.Map.{MapView}
-use Rattle.textarea_map.proofs.Layouts.{AreRowsOf-drop, AreRowsOf-replaced, AreRowsOf-take, length-AreRowsOf}
+use Rattle.textarea_screen_map.specs.Map.{MapView}
+use Rattle.textarea_screen_map.proofs.Layouts.{AreRowsOf-drop, AreRowsOf-replaced, AreRowsOf-take, length-AreRowsOf}
 use Rattle.textarea_blocks.proofs.Numbers.{row_total-replaced}
 use Rattle.textarea_blocks.proofs.LineSums.{size_total-append}
-use Rattle.textarea_map.proofs.RowSizes.{size_of_lines}
+use Rattle.textarea_screen_map.proofs.RowSizes.{size_of_lines}
 use Rattle.textarea_lines.specs.declared.settings.LayoutSettings.{LayoutSettings}
 use Rattle.textarea_lines.specs.Rows.{CanStayWhole, HasWholeLine, line_size}
 use Rattle.textarea_lines.specs.Layout.{Layout, applied_to, after_replacement, some_cut}

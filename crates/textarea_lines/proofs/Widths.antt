@@ -2,17 +2,17 @@
 use Rattle.std.proofs.Common.{◌≡◌, ℕ, ◌+◌, ◌<◌, ◌≤◌, Bool, true, false, cond, List, Option, Some, None, length, sym, ap, ◌∙◌, refl, subst, String}
 use Rattle.std.specs.Option.{IfSome}
 use Rattle.std.proofs.lemmas.List.{length-map}
-use Rattle.textarea_size.specs.Limit.{size_limit}
+use Rattle.textarea_util.specs.Limit.{size_limit}
 use Rattle.textarea_text.specs.Text.{Symbol, characters_of, lines, lines_of}
-use Rattle.textarea_rows.specs.RowsView.{RowsView}
-use Rattle.textarea_map.specs.declared.layout.Wrapping.{Wrapping}
-use Rattle.textarea_map.specs.Layout.{AreRowsOf, ticks_behind, ticks_of, with_tab_len}
-use Rattle.textarea_map.specs.Map.{MapView}
+use Rattle.textarea_wrap.specs.RowsView.{RowsView}
+use Rattle.textarea_screen_map.specs.declared.layout.Wrapping.{Wrapping}
+use Rattle.textarea_screen_map.specs.Layout.{AreRowsOf, ticks_behind, ticks_of, with_tab_len}
+use Rattle.textarea_screen_map.specs.Map.{MapView}
 use Rattle.textarea_lines.specs.declared.cut.CutAnew.{CutAnew}
 use Rattle.textarea_lines.specs.declared.settings.LayoutSettings.{LayoutSettings}
 use Rattle.textarea_lines.specs.Layout.{LaidOut, at_width, laid_out_anew, laid_out_with, stays_cut, wrapping_of}
 use Rattle.textarea_lines.specs.Stored.{HoldsRows, IsNextCut}
-use Rattle.textarea_map.specs.Lent.{IsLent, lent_rows}
+use Rattle.textarea_screen_map.specs.Lent.{IsLent, lent_rows}
 use Rattle.textarea_lines.specs.View.{IsCutFor, IsCutWhereOther, IsViewOf, IsWholeCut}
 use Rattle.textarea_lines.specs.Wrappings.{is_same, is_wrapped, wrapping_for}
 use Rattle.textarea_lines.proofs.Changes.{Reviewing, holds_whole, holds_wrapped, test_is}

@@ -6,8 +6,8 @@ use Rattle.textarea_text.specs.Splice.{Splice, applied}
 use Rattle.textarea_text.specs.Text.{lines}
 use Rattle.textarea_text.specs.Touched.{lines_coming, lines_going}
 use Rattle.textarea_wrap.specs.Layout.{columns_for_rows, line_number_columns}
-use Rattle.textarea_rows.specs.RowsView.{RowsView}
-use Rattle.textarea_map.specs.Layout.{ticks_behind, ticks_of}
+use Rattle.textarea_wrap.specs.RowsView.{RowsView}
+use Rattle.textarea_screen_map.specs.Layout.{ticks_behind, ticks_of}
 use Rattle.textarea_lines.specs.declared.settings.LayoutSettings.{LayoutSettings}
 use Rattle.textarea_lines.specs.Layout.{LaidOut, stays_cut}
 use Rattle.textarea_lines.specs.Rows.{IsLaidOutAs}

@@ -1,17 +1,17 @@
 -- The rows behind what clauses see of a text.
 use Rattle.std.specs.Prelude.{◌≡◌, ℕ, ◌+◌, ◌<◌, ◌≤◌, true, List, Option, MatchOption, String, [], ◌∷◌, encode_utf8_all, get_or, length, take, drop}
 use Rattle.std.specs.Str.{all_scalars}
-use Rattle.textarea_size.specs.Limit.{size_limit}
+use Rattle.textarea_util.specs.Limit.{size_limit}
 use Rattle.textarea_text.specs.Place.{Place}
-use Rattle.textarea_replace.specs.Replaced.{replaced}
+use Rattle.textarea_util.specs.Replaced.{replaced}
 use Rattle.textarea_text.specs.Text.{lines, lines_of}
-use Rattle.textarea_rows.specs.RowsView.{RowsView}
+use Rattle.textarea_wrap.specs.RowsView.{RowsView}
 use Rattle.textarea_wrap.specs.Wrapped.{IsWrapped}
 use Rattle.textarea_wrap.specs.declared.wrap.WrapMode.TheVariants as mode
-use Rattle.textarea_map.specs.Layout.{AreRowsOf, ticks_of}
+use Rattle.textarea_screen_map.specs.Layout.{AreRowsOf, ticks_of}
 use Rattle.textarea_blocks.specs.Sums.{ranges_at, row_total, size_total}
-use Rattle.textarea_map.specs.Map.{IsRowCount}
-use Rattle.textarea_map.specs.Seen.{IsAbove, IsBelow, IsInFirstRow, IsInLastRow}
+use Rattle.textarea_screen_map.specs.Map.{IsRowCount}
+use Rattle.textarea_screen_map.specs.Seen.{IsAbove, IsBelow, IsInFirstRow, IsInLastRow}
 use Rattle.textarea_lines.specs.Layout.{LaidOut, wrapping_at, wrapping_of}
 
 -- these are right rows of the text as it stands, cut when the layout says

@@ -1,18 +1,18 @@
 -- What holds of all lines with their rows.
 use Rattle.std.specs.Prelude.{◌≡◌, ℕ, ◌+◌, ◌-◌, ◌<◌, ◌≤◌, List, length, String, Option, IfSome, if◌then◌else◌}
-use Rattle.textarea_size.specs.Limit.{size_limit}
+use Rattle.textarea_util.specs.Limit.{size_limit}
 use Rattle.textarea_text.specs.declared.util.Pos.{Pos}
 use Rattle.textarea_text.specs.Offset.{offset_at}
 use Rattle.textarea_text.specs.Place.{IsPlaceOf}
 use Rattle.textarea_text.specs.Text.{lines_of}
 use Rattle.textarea_text.specs.Size.{size_of, weight}
 use Rattle.textarea_text.specs.Splice.{Splice}
-use Rattle.textarea_map.specs.Layout.{AreRowsOf, ticks_behind, ticks_of}
+use Rattle.textarea_screen_map.specs.Layout.{AreRowsOf, ticks_behind, ticks_of}
 use Rattle.textarea_lines.specs.declared.cut.CutAnew.{CutAnew}
 use Rattle.textarea_lines.specs.declared.settings.LayoutSettings.{LayoutSettings}
 use Rattle.textarea_lines.specs.declared.measured.Measured.{Measured}
 use Rattle.textarea_lines.specs.Wrappings.{wrapping_for}
-use Rattle.textarea_map.specs.Map.{IsRowCount, MapView}
+use Rattle.textarea_screen_map.specs.Map.{IsRowCount, MapView}
 
 -- there is a line; the bytes and the lines, summed, are the size that is kept, and at most 2^48
 pub record IsStored {Z : Type 0} (lines : List (String Z)) (size : ℕ) : Type 0 where

@@ -1,19 +1,19 @@
 //! Rows of some lines, cut one after the other.
 ghost use Rattle.std.specs.Prelude.{◌≡◌, ◌≢◌, ◌+◌, ◌-◌, ◌^◌, ◌<◌, ◌≤◌, ◌++◌, List, ℕ, [], encode_utf8_all, get_or, length, vec_capacity, vec_len, IfNone, IfOk, IfSome, None, OnOk, Some};
 ghost use Rattle.textarea_text.specs.Text.{lines_of};
-ghost use Rattle.textarea_map.specs.Layout.{AreRowsOf, ticks_behind, ticks_of};
+ghost use Rattle.textarea_screen_map.specs.Layout.{AreRowsOf, ticks_behind, ticks_of};
 ghost use Rattle.textarea_blocks.specs.Blocks.{all_rows};
 ghost use Rattle.textarea_blocks.specs.Sums.{row_total};
-ghost use Rattle.textarea_map.specs.Prepared.{IsReady, rows_in, rows_with};
+ghost use Rattle.textarea_screen_map.specs.Prepared.{IsReady, rows_in, rows_with};
 ghost use Rattle.textarea_lines.specs.Rows.{CanStayWhole, HasWholeLine};
 ghost use Rattle.textarea_lines.specs.Layout.{after_replacement, count_after, layout_of, lines_after};
 ghost use Rattle.textarea_lines.specs.Wrappings.{wrapping_for};
 
 use crate::settings::{LayoutSettings, is_same, wrapping_for};
 use std::alloc::{AllocError, Global};
-use textarea_map::blocks::{RowBlocks, push_lines};
-use textarea_map::layout::Wrapping;
-use textarea_map::screen_map::{NewRows, PreparedRows, ScreenMap};
+use textarea_screen_map::blocks::{RowBlocks, push_lines};
+use textarea_screen_map::layout::Wrapping;
+use textarea_screen_map::screen_map::{NewRows, PreparedRows, ScreenMap};
 use textarea_text::rows::Replacement;
 use textarea_wrap::wrap::{Rows, WrapCount, WrapMode, line_ranges};
 

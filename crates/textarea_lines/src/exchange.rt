@@ -1,16 +1,16 @@
 //! Lines that change with their rows: all memory is taken before the first change.
 ghost use Rattle.std.specs.Prelude.{◌≡◌, ◌+◌, ◌^◌, ◌<◌, ◌≤◌, [], get_or, length, vec_capacity, vec_len, IfOk, OnErr, OnOk};
-ghost use Rattle.textarea_size.specs.Limit.{size_limit};
+ghost use Rattle.textarea_util.specs.Limit.{size_limit};
 ghost use Rattle.textarea_text.specs.Offset.{offset_at};
 ghost use Rattle.textarea_text.specs.Place.{IsPlaceOf};
-ghost use Rattle.textarea_replace.specs.Replaced.{replaced};
+ghost use Rattle.textarea_util.specs.Replaced.{replaced};
 ghost use Rattle.textarea_text.specs.Size.{size_of, weight};
 ghost use Rattle.textarea_text.specs.Splice.{Fits, applied};
 ghost use Rattle.textarea_text.specs.Text.{lines_of, text_of};
 ghost use Rattle.textarea_text.specs.Touched.{breaks_of};
 ghost use Rattle.textarea_wrap.specs.declared.wrap.WrapMode.TheVariants as mode;
-ghost use Rattle.textarea_map.specs.Layout.{AreRowsOf};
-ghost use Rattle.textarea_map.specs.Prepared.{IsReady, rows_with};
+ghost use Rattle.textarea_screen_map.specs.Layout.{AreRowsOf};
+ghost use Rattle.textarea_screen_map.specs.Prepared.{IsReady, rows_with};
 ghost use Rattle.textarea_lines.specs.Layout.{after_replacement, count_after, layout_of, lines_after};
 ghost use Rattle.textarea_lines.specs.Rows.{HasWholeLine};
 ghost use Rattle.textarea_lines.specs.Wrappings.{wrapping_for};
@@ -18,8 +18,8 @@ ghost use Rattle.textarea_lines.specs.Wrappings.{wrapping_for};
 use crate::cut::{prepare_rows, put_whole_line};
 use crate::settings::LayoutSettings;
 use std::alloc::AllocError;
-use textarea_edit::edit::Change;
-use textarea_map::screen_map::{PreparedRows, ScreenMap};
+use textarea_history::edit::Change;
+use textarea_screen_map::screen_map::{PreparedRows, ScreenMap};
 use textarea_text::rows::Replacement;
 use textarea_wrap::wrap::WrapCount;
 

@@ -2,7 +2,7 @@
 mod width;
 
 ghost use Rattle.std.specs.Prelude.{◌≡◌, ◌+◌, ◌-◌, ◌<◌, ◌≤◌, ◌↔◌, [], length, vec_len, false, true, IfOk, IfSome, IsOk, IsTrue, OnErr, OnOk, if◌then◌else◌};
-ghost use Rattle.textarea_size.specs.Limit.{size_limit};
+ghost use Rattle.textarea_util.specs.Limit.{size_limit};
 ghost use Rattle.textarea_text.specs.Offset.{offset_at};
 ghost use Rattle.textarea_text.specs.Place.{Place, IsPlace};
 ghost use Rattle.textarea_text.specs.Size.{size_of, weight};
@@ -10,8 +10,8 @@ ghost use Rattle.textarea_text.specs.Splice.{Fits, applied};
 ghost use Rattle.textarea_text.specs.Text.{lines, lines_of, text_of};
 ghost use Rattle.textarea_text.specs.Touched.{breaks_of};
 ghost use Rattle.textarea_blocks.specs.Sums.{row_total};
-ghost use Rattle.textarea_map.specs.Map.{IsRowCount};
-ghost use Rattle.textarea_map.specs.Seen.{IsVisualPosition};
+ghost use Rattle.textarea_screen_map.specs.Map.{IsRowCount};
+ghost use Rattle.textarea_screen_map.specs.Seen.{IsVisualPosition};
 ghost use Rattle.textarea_lines.specs.Rows.{IsFoundAbove, IsFoundBelow, IsRowCountAt, OfRows};
 ghost use Rattle.textarea_lines.specs.Layout.{applied_to, is_cut_at, laid_out_anew, laid_out_with, stays_cut, with_replacement};
 ghost use Rattle.textarea_lines.specs.Stored.{size_after};
@@ -23,12 +23,12 @@ use crate::measured::Measured;
 use crate::settings::{LayoutSettings, is_same, is_wrapped, wrapping_at, wrapping_for};
 use std::alloc::{AllocError, Global};
 use std::marker::Model;
-use textarea_edit::edit::Change;
-use textarea_map::layout::{Wrapping, rows_in};
-use textarea_map::screen_map::ScreenMap;
-use textarea_size::limit::within_limit;
+use textarea_history::edit::Change;
+use textarea_screen_map::layout::{Wrapping, rows_in};
+use textarea_screen_map::screen_map::ScreenMap;
 use textarea_text::rows::{Replacement, byte_offset, byte_offset_from, size_within_limit};
 use textarea_text::util::Pos;
+use textarea_util::limit::within_limit;
 use textarea_wrap::wrap::WrapCount;
 pub use width::PreparedWidth;
 

@@ -3,15 +3,15 @@ ghost use Rattle.std.specs.Prelude.{◌≡◌, ◌<◌, ◌≤◌, ℕ, List, Op
 ghost use Rattle.textarea_text.specs.Place.{Place};
 ghost use Rattle.textarea_text.specs.Splice.{Fits, Splice};
 ghost use Rattle.textarea_text.specs.Text.{Symbol};
-ghost use Rattle.textarea_rows.specs.RowsView.{RowsView};
+ghost use Rattle.textarea_wrap.specs.RowsView.{RowsView};
 ghost use Rattle.textarea_lines.specs.Rows.{IsFoundAbove, IsFoundBelow, IsLaidOutAs};
 ghost use Rattle.textarea_lines.specs.Cuts.{AreSpliced, CutsAllLines, IsSetTo, IsSpliced, IsWidened};
 ghost use Rattle.textarea_lines.specs.Layout.{LaidOut, applied_to, at_width, laid_out_anew, laid_out_with, wrapping_at, wrapping_of};
-ghost use Rattle.textarea_map.specs.Lent.{LentRows};
+ghost use Rattle.textarea_screen_map.specs.Lent.{LentRows};
 ghost use Rattle.textarea_lines.specs.View.{IsViewOf};
 ghost use Rattle.textarea_lines.specs.declared.settings.LayoutSettings.{LayoutSettings};
 
-use textarea_map::laws::{one_map, seen_once};
+use textarea_screen_map::laws::{one_map, seen_once};
 
 /// A text as it is laid out has one list of right rows: what is seen of it decides all of them. So a contract
 /// that speaks of right rows, as that of `row_count`, speaks of one list.

@@ -1,5 +1,5 @@
 //! What was measured last.
-use textarea_map::layout::Wrapping;
+use textarea_screen_map::layout::Wrapping;
 
 // How many rows the lines have in all where they are cut so.
 #[derive(Clone, Copy, Debug, PartialEq, Eq)]

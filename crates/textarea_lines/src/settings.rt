@@ -2,7 +2,7 @@
 ghost use Rattle.std.specs.Prelude.{◌≡◌};
 ghost use Rattle.textarea_lines.specs.Wrappings.{cut_at_width, is_same, is_wrapped, wrapping_for};
 
-use textarea_map::layout::Wrapping;
+use textarea_screen_map::layout::Wrapping;
 use textarea_wrap::layout::LayoutMetrics;
 use textarea_wrap::wrap::WrapMode;
 

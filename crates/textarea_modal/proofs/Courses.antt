@@ -4,8 +4,8 @@ use Rattle.std.proofs.lemmas.Bool.{false≢true}
 use Rattle.textarea_data.specs.declared.input.Input.{Input}
 use Rattle.textarea_calls.specs.declared.call.Call.{Call}
 use Rattle.textarea_modal.specs.Course.{Course, before, course, stays, unless}
-use Rattle.textarea_modal_keys.specs.Table.{Step, step}
-use Rattle.textarea_modal_keys.specs.declared.mode.Mode.{Mode}
+use Rattle.textarea_modal.specs.Table.{Step, step}
+use Rattle.textarea_modal.specs.declared.mode.Mode.{Mode}
 
 -- the later course behind the earlier one
 abbrev pub joined : Course → Course → Course

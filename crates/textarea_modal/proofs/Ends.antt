@@ -6,8 +6,8 @@ use Rattle.textarea_calls.specs.declared.call.Call.{Call}
 use Rattle.tui_textarea.specs.State.{State}
 use Rattle.textarea_modal.specs.Course.{Course, course, unless}
 use Rattle.textarea_modal.specs.Runs.{AllMade, Finishes, OneRefused, RefusedAt, RunsOut}
-use Rattle.textarea_modal_keys.specs.Table.{step}
-use Rattle.textarea_modal_keys.specs.declared.mode.Mode.{Mode}
+use Rattle.textarea_modal.specs.Table.{step}
+use Rattle.textarea_modal.specs.declared.mode.Mode.{Mode}
 use Rattle.textarea_modal.proofs.Courses.{alone, course-append, course-end, course-more, joined}
 use Rattle.textarea_modal.proofs.Runs.{made_behind, refused_behind}
 

@@ -4,18 +4,18 @@ use Rattle.std.proofs.Math.Seq.{take-append-add}
 use Rattle.std.proofs.lemmas.List.{map-append, take-append-le, get_or-append-add, get_or_append_left}
 use Rattle.std.proofs.lemmas.Option.{slice_get_read, get_or_from_slice_get}
 use Rattle.textarea_screen.specs.declared.screen.buffer.Buffer.{Buffer}
-use Rattle.textarea_outcomes.proofs.Runs.{leads_more}
-use Rattle.textarea_outcomes.specs.Calls.{Refused}
-use Rattle.textarea_outcomes.specs.Outcomes.{IsAnswer, IsBehind, IsShown, IsSpared}
-use Rattle.textarea_outcomes.specs.Run.{Leads, StopsAt}
-use Rattle.textarea_outcomes.specs.Said.{Said, said}
+use Rattle.tui_textarea.proofs.Runs.{leads_more}
+use Rattle.tui_textarea.specs.Calls.{Refused}
+use Rattle.tui_textarea.specs.Outcomes.{IsAnswer, IsBehind, IsShown, IsSpared}
+use Rattle.tui_textarea.specs.Run.{Leads, StopsAt}
+use Rattle.tui_textarea.specs.Said.{Said, said}
 use Rattle.textarea_calls.specs.declared.answer.Answer.{Answer}
 use Rattle.textarea_calls.specs.declared.call.Call.{Call}
 use Rattle.tui_textarea.specs.State.{State}
-use Rattle.textarea_modal_keys.specs.Calls.{call_of}
+use Rattle.textarea_modal.specs.Calls.{call_of}
 use Rattle.textarea_modal.specs.Runs.{AllMade, OneRefused, RefusedAt}
-use Rattle.textarea_modal_keys.specs.declared.calls.KeyCall.{KeyCall}
-use Rattle.textarea_modal_keys.specs.declared.calls.KeyCall.TheVariants as key
+use Rattle.textarea_modal.specs.declared.calls.KeyCall.{KeyCall}
+use Rattle.textarea_modal.specs.declared.calls.KeyCall.TheVariants as key
 
 -- ---- calls that draw nothing
 

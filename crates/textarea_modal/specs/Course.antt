@@ -2,8 +2,8 @@
 use Rattle.std.specs.Prelude.{ℕ, ◌+◌, Bool, true, false, List, [], ◌∷◌, ◌++◌}
 use Rattle.textarea_data.specs.declared.input.Input.{Input}
 use Rattle.textarea_calls.specs.declared.call.Call.{Call}
-use Rattle.textarea_modal_keys.specs.declared.mode.Mode.{Mode}
-use Rattle.textarea_modal_keys.specs.Table.{Step, step}
+use Rattle.textarea_modal.specs.declared.mode.Mode.{Mode}
+use Rattle.textarea_modal.specs.Table.{Step, step}
 
 -- the calls, the mode behind them, how many inputs are used, the one that quits included, and whether one quits
 pub record Course : Type 0 where

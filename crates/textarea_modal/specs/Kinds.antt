@@ -1,8 +1,8 @@
 -- The kinds of calls of keys, by how they answer.
 use Rattle.textarea_modal.specs.declared.modal.kind.Kind.{Kind}
 use Rattle.textarea_modal.specs.declared.modal.kind.Kind.TheVariants.{Goes, Writes, Edits, Finds}
-use Rattle.textarea_modal_keys.specs.declared.calls.KeyCall.{KeyCall}
-use Rattle.textarea_modal_keys.specs.declared.calls.KeyCall.TheVariants.{Move, Scroll, StartSelection, CancelSelection, InsertNewline, DeleteNextChar, DeleteLineByEnd, Cut, Copy, Paste, Undo, Redo, SearchForward, SearchBack}
+use Rattle.textarea_modal.specs.declared.calls.KeyCall.{KeyCall}
+use Rattle.textarea_modal.specs.declared.calls.KeyCall.TheVariants.{Move, Scroll, StartSelection, CancelSelection, InsertNewline, DeleteNextChar, DeleteLineByEnd, Cut, Copy, Paste, Undo, Redo, SearchForward, SearchBack}
 
 -- the kind of the call: it moves, scrolls, or begins or drops a selection; it writes, and has nothing to say; it removes or inserts; or it
 -- looks for an edit to take back or to make again, or for a match

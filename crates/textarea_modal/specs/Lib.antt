@@ -1,3 +1,5 @@
+pub mod Calls
+pub mod Table
 pub mod Course
 pub mod Kinds
 pub mod Runs

@@ -2,12 +2,12 @@
 use Rattle.std.specs.Prelude.{◌≡◌, ◌≤◌, ◌<◌, ℕ, ◌+◌, Bool, true, false, List, length, take, None}
 use Rattle.textarea_data.specs.declared.input.Input.{Input}
 use Rattle.textarea_screen.specs.declared.screen.buffer.Buffer.{Buffer}
-use Rattle.textarea_outcomes.specs.Run.{Run, StopsAt}
+use Rattle.tui_textarea.specs.Run.{Run, StopsAt}
 use Rattle.textarea_calls.specs.declared.answer.Answer.{Answer}
 use Rattle.textarea_calls.specs.declared.call.Call.{Call}
 use Rattle.tui_textarea.specs.State.{State}
 use Rattle.textarea_modal.specs.Course.{course}
-use Rattle.textarea_modal_keys.specs.declared.mode.Mode.{Mode}
+use Rattle.textarea_modal.specs.declared.mode.Mode.{Mode}
 use Rattle.textarea_modal.specs.declared.modal.ModalStop.{ModalStop}
 use Rattle.textarea_modal.specs.declared.modal.ModalStop.TheVariants.{End, Quit, Memory}
 

@@ -1,8 +1,10 @@
-//! A modal editor on the calls of a text area, and runs of inputs.
+//! A modal editor on the calls of a text area: what each key does in each mode, by one table, and runs of keys.
 #![tactic(auto)]
 
+pub mod calls;
 pub mod modal;
+pub mod mode;
+pub mod steps;
 
+pub use crate::mode::{Mode, Op};
 pub use modal::{Modal, ModalEnd, ModalStop};
-pub use textarea_modal_keys::mode;
-pub use textarea_modal_keys::mode::{Mode, Op};

@@ -1,17 +1,17 @@
 //! A modal editor, and runs of inputs.
 ghost use Rattle.std.specs.Prelude.{◌≡◌, IfOk, OnErr, OnOk};
 ghost use Rattle.textarea_modal.specs.Runs.{AllMade, EndsAs, OneRefused};
-ghost use Rattle.textarea_modal_keys.specs.Table.{step};
+ghost use Rattle.textarea_modal.specs.Table.{step};
 
 mod kind;
 mod making;
 
 use crate::modal::making::{hand_on, make_all};
+use crate::mode::Mode;
+use crate::steps::step;
 use std::alloc::AllocError;
 use std::marker::Model;
 use textarea_data::input::Input;
-use textarea_modal_keys::mode::Mode;
-use textarea_modal_keys::steps::step;
 use tui_textarea::TextArea;
 
 /// Why a run of inputs ended.
@@ -41,7 +41,7 @@ pub struct Modal {
 }
 
 impl Model for Modal {
-    ghost use Rattle.textarea_modal_keys.specs.declared.mode.Mode.{Mode};
+    ghost use Rattle.textarea_modal.specs.declared.mode.Mode.{Mode};
 
     ghost Value = { Mode };
 

@@ -3,5 +3,6 @@ mod CellLemmas
 mod ClusterLemmas
 mod ColumnLemmas
 mod RowAreaLemmas
+mod FrontLemmas
 mod PlainLemmas
 mod RowLemmas

@@ -1,5 +1,5 @@
 -- A row that is drawn cluster by cluster, and the clusters that fit it.
-use Rattle.std.proofs.Common.{◌≡◌, ℕ, ◌+◌, ◌-◌, ◌<◌, ◌≤◌, min, List, [], ◌∷◌, filter, refl, sym, ap, ◌∙◌, arith}
+use Rattle.std.proofs.Common.{◌≡◌, ℕ, suc, ◌+◌, ◌-◌, ◌<◌, ◌≤◌, min, List, [], ◌∷◌, length, filter, refl, sym, ap, ◌∙◌, arith}
 use Rattle.std.proofs.lemmas.Bool.Decides.{nat_tests}
 use Rattle.std.proofs.lemmas.List.Sums.{sum_by-cons}
 use Rattle.textarea_screen.specs.Buffer.{area_of, Changes, KeepsOutside}
@@ -11,6 +11,7 @@ use Rattle.textarea_paint.specs.Columns.{columns_of}
 use Rattle.textarea_paint.specs.Row.{front_within, is_narrow, fitting, row_width}
 use Rattle.textarea_paint.specs.declared.paint.cells.Pen.{Pen}
 use Rattle.textarea_paint.specs.declared.paint.cells.RowCells.{RowCells}
+use Rattle.textarea_paint.proofs.FrontLemmas.{front-fits, front-full}
 use Rattle.textarea_paint.proofs.CellLemmas.{contains_right, row_change-cons, row_change-nil, row_change-past, row_change-outside}
 
 -- ---- a row that is drawn so far
@@ -74,13 +75,22 @@ pub fitting_ahead-wide : (width room : ℕ) (cluster : Cluster) (clusters : List
     fitting_ahead width room (cluster ∷ clusters) ≡ fitting_ahead width room clusters
 fitting_ahead-wide width room cluster clusters wide = grind (arith, nat_tests)
 
+-- a cluster that is no wider than the area stays
+narrow_stays : (width : ℕ) (cluster : Cluster) (clusters : List Cluster) → columns_of cluster.text ≤ width →
+    filter (is_narrow width) (cluster ∷ clusters) ≡ cluster ∷ filter (is_narrow width) clusters
+narrow_stays width cluster clusters narrow = grind (arith, nat_tests)
+
 pub fitting_ahead-full : (width room : ℕ) (cluster : Cluster) (clusters : List Cluster) → columns_of cluster.text ≤ width → room < columns_of cluster.text →
     fitting_ahead width room (cluster ∷ clusters) ≡ []
-fitting_ahead-full width room cluster clusters narrow full = grind (arith, nat_tests)
+fitting_ahead-full width room cluster clusters narrow full =
+    let others = filter (is_narrow width) clusters in
+    ap (front_within room) (narrow_stays width cluster clusters narrow) ∙ front-full room (suc (length others)) cluster others full
 
 pub fitting_ahead-fits : (width room : ℕ) (cluster : Cluster) (clusters : List Cluster) → columns_of cluster.text ≤ width → columns_of cluster.text ≤ room →
     fitting_ahead width room (cluster ∷ clusters) ≡ cluster ∷ fitting_ahead width (room - columns_of cluster.text) clusters
-fitting_ahead-fits width room cluster clusters narrow fits = grind (arith, nat_tests)
+fitting_ahead-fits width room cluster clusters narrow fits =
+    let others = filter (is_narrow width) clusters in
+    ap (front_within room) (narrow_stays width cluster clusters narrow) ∙ front-fits room (length others) cluster others fits
 
 -- ---- their columns
 

@@ -1,5 +1,5 @@
 -- A line drawn in a row of an area.
-use Rattle.std.specs.Prelude.{ℕ, ◌-◌, ◌/◌, Bool, nat_le, List, [], ◌∷◌, filter, sum_by, if◌then◌else◌}
+use Rattle.std.specs.Prelude.{◌≡◌, ℕ, zero, suc, ◌≤◌, ◌-◌, ◌/◌, Bool, nat_le, List, [], length, take, filter, sum_by, if◌then◌else◌}
 use Rattle.textarea_screen.specs.Buffer.{Change}
 use Rattle.textarea_screen.specs.Rect.{is_in_row}
 use Rattle.textarea_screen.specs.Text.{ShownLine}
@@ -14,23 +14,33 @@ use Rattle.textarea_paint.specs.declared.paint.row.RowArea.{RowArea}
 
 -- ---- the clusters that are drawn in the middle or at the right
 
--- as many clusters from the first on as there is room for
+-- the columns of clusters together
+abbrev pub row_width : List Cluster → ℕ
+row_width clusters = sum_by (λ cluster. columns_of cluster.text) clusters
+
+-- the longest front of the clusters, of at most so many of them, whose widths sum to at most the room
+abbrev pub longest_front : ℕ → ℕ → List Cluster → List Cluster
+longest_front room zero clusters = []
+longest_front room (suc most) clusters =
+    if nat_le (row_width (take (suc most) clusters)) room then take (suc most) clusters else longest_front room most clusters
+
+-- the longest front of all
 abbrev pub front_within : ℕ → List Cluster → List Cluster
-front_within room [] = []
-front_within room (cluster ∷ clusters) =
-    if nat_le (columns_of cluster.text) room then cluster ∷ front_within (room - columns_of cluster.text) clusters else []
+front_within room clusters = longest_front room (length clusters) clusters
+
+-- a front of the clusters whose widths sum to at most the room, and the longest one
+pub record IsLongestFront (room : ℕ) (clusters front : List Cluster) : Type 0 where
+  pub is_front : front ≡ take (length front) clusters
+  pub fits : row_width front ≤ room
+  pub longest : (count : ℕ) → count ≤ length clusters → row_width (take count clusters) ≤ room → count ≤ length front
 
 -- the cluster is no wider than the area
 abbrev pub is_narrow : ℕ → Cluster → Bool
 is_narrow width cluster = nat_le (columns_of cluster.text) width
 
--- each cluster that is wider than the area is skipped, and the first of the others that finds no room ends the row
+-- of the clusters that are no wider than the area, the longest front whose widths sum to at most the area's
 abbrev pub fitting : ℕ → List Cluster → List Cluster
 fitting width clusters = front_within width (filter (is_narrow width) clusters)
-
--- the columns of clusters together
-abbrev pub row_width : List Cluster → ℕ
-row_width clusters = sum_by (λ cluster. columns_of cluster.text) clusters
 
 -- ---- where they stand
 

@@ -2,12 +2,12 @@
 use Rattle.std.proofs.Common.{◌≡◌, ℕ, true, false, List, [], ◌∷◌, refl, Some, None}
 use Rattle.textarea_text.specs.Text.{Symbol, Break, Character}
 use Rattle.textarea_text.specs.Splice.{Splice}
-use Rattle.textarea_atomic.specs.declared.range.AtomicRange.{AtomicRange}
-use Rattle.textarea_atomic.specs.declared.range.RejectedAtomicRange.{RejectedAtomicRange}
-use Rattle.textarea_atomic.specs.declared.range.AtomicCursorBias.TheVariants.{Backward, Forward}
-use Rattle.textarea_atomic.specs.declared.range.AtomicDeleteDirection.TheVariants.{Backward as DeleteBackward, Forward as DeleteForward}
-use Rattle.textarea_atomic.specs.declared.range.AtomicRangeRejectReason.{AtomicRangeRejectReason}
-use Rattle.textarea_atomic.specs.declared.range.AtomicRangeRejectReason.TheVariants.{Empty, RowOutOfBounds, ColumnOutOfBounds, OverlapsPrevious}
+use Rattle.textarea_data.specs.declared.range.AtomicRange.{AtomicRange}
+use Rattle.textarea_data.specs.declared.range.RejectedAtomicRange.{RejectedAtomicRange}
+use Rattle.textarea_data.specs.declared.range.AtomicCursorBias.TheVariants.{Backward, Forward}
+use Rattle.textarea_data.specs.declared.range.AtomicDeleteDirection.TheVariants.{Backward as DeleteBackward, Forward as DeleteForward}
+use Rattle.textarea_data.specs.declared.range.AtomicRangeRejectReason.{AtomicRangeRejectReason}
+use Rattle.textarea_data.specs.declared.range.AtomicRangeRejectReason.TheVariants.{Empty, RowOutOfBounds, ColumnOutOfBounds, OverlapsPrevious}
 use Rattle.textarea_ranges.specs.Held.{hit, moved_out, widened}
 use Rattle.textarea_ranges.specs.Moved.{moved_ranges}
 use Rattle.textarea_ranges.specs.Order.{in_order}

@@ -5,11 +5,11 @@ use Rattle.std.proofs.lemmas.List.{get_or_default}
 use Rattle.std.proofs.lemmas.Bool.Decides.{nat_tests}
 use Rattle.std.proofs.lemmas.List.Elements.{All-contains}
 use Rattle.textarea_text.specs.Place.{Place, IsBefore, IsPlaceOf, IsUpTo}
-use Rattle.textarea_atomic.specs.declared.range.AtomicRange.{AtomicRange}
-use Rattle.textarea_atomic.specs.declared.range.AtomicCursorBias.{AtomicCursorBias}
-use Rattle.textarea_atomic.specs.declared.range.AtomicCursorBias.TheVariants.{Backward, Forward}
-use Rattle.textarea_atomic.specs.declared.range.AtomicDeleteDirection.{AtomicDeleteDirection}
-use Rattle.textarea_atomic.specs.declared.range.AtomicDeleteDirection.TheVariants.{Backward as DeleteBackward, Forward as DeleteForward}
+use Rattle.textarea_data.specs.declared.range.AtomicRange.{AtomicRange}
+use Rattle.textarea_data.specs.declared.range.AtomicCursorBias.{AtomicCursorBias}
+use Rattle.textarea_data.specs.declared.range.AtomicCursorBias.TheVariants.{Backward, Forward}
+use Rattle.textarea_data.specs.declared.range.AtomicDeleteDirection.{AtomicDeleteDirection}
+use Rattle.textarea_data.specs.declared.range.AtomicDeleteDirection.TheVariants.{Backward as DeleteBackward, Forward as DeleteForward}
 use Rattle.textarea_ranges.specs.Held.{IsHit, hit, is_hit, IsInside, is_inside, range_start, range_end, inside, border, border_or, moved_out, IsWithin, IsBeside, Overlaps, TakesWhole, widened, IsWidened}
 use Rattle.textarea_ranges.specs.Valid.{IsPart, AreDisjoint, AreValid}
 use Rattle.textarea_ranges.proofs.Finds.{Found, Found-find, fails-find}

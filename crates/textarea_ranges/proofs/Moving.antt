@@ -10,9 +10,9 @@ use Rattle.textarea_text.specs.Place.{Place, IsUpTo, end, line_of}
 use Rattle.textarea_text.specs.Splice.{Splice, Fits, applied, place_after, place_before}
 use Rattle.textarea_text.specs.Carried.{is_up_to, shifted}
 use Rattle.textarea_text.proofs.Splices.{characters-append, end-append, end_of_front, end-characters, joined-append, lines-joined}
-use Rattle.textarea_text.proofs.Places.{Parted, cut, joined-lines, part_rows}
+use Rattle.textarea_text.proofs.TextPlaces.{Parted, cut, joined-lines, part_rows}
 use Rattle.textarea_text.proofs.Carrying.{back_stays, end_from, front_stays}
-use Rattle.textarea_atomic.specs.declared.range.AtomicRange.{AtomicRange}
+use Rattle.textarea_data.specs.declared.range.AtomicRange.{AtomicRange}
 use Rattle.textarea_ranges.specs.Held.{range_end, range_start}
 use Rattle.textarea_ranges.specs.Moved.{CoversTheSame, Disturbs, DisturbsBy, covered, moved_range, moved_ranges, shifted_range}
 use Rattle.textarea_ranges.specs.Order.{AreInOrder, is_before}

@@ -6,7 +6,7 @@ use Rattle.std.proofs.lemmas.List.Sorted.{IsPermutation-cons, IsPermutation-midd
 use Rattle.std.specs.List.{AllByRecursion}
 use Rattle.std.specs.Cmp.{IsStrictWeakOrder, nat_cmp_total, on_total, then_total}
 use Rattle.std.specs.List.Sorted.{IsStableBy, ties}
-use Rattle.textarea_atomic.specs.declared.range.AtomicRange.{AtomicRange}
+use Rattle.textarea_data.specs.declared.range.AtomicRange.{AtomicRange}
 use Rattle.textarea_ranges.specs.Order.{AreInOrder, IsInOrder, in_order, is_before, insert_among}
 use Rattle.textarea_ranges.proofs.Lists.{EachLater}
 use Rattle.textarea_ranges.proofs.Sorts.{NotBefore, IsSortedBy-later, each_from_put, each_put, later-IsSortedBy, later_from_put, later_put, put, same_sorted, sorted_put, stable_put}

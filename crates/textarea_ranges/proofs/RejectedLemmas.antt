@@ -5,9 +5,9 @@ use Rattle.std.proofs.lemmas.List.{append_assoc, drop_more, get_or_past, length-
 use Rattle.std.proofs.lemmas.List.Elements.{All-from_recursion, recursion_from_All}
 use Rattle.std.specs.declared.alloc.Global.{Global}
 use Rattle.std.specs.List.{AllByRecursion}
-use Rattle.textarea_atomic.specs.declared.range.AtomicRange.{AtomicRange}
-use Rattle.textarea_atomic.specs.declared.range.RejectedAtomicRange.{RejectedAtomicRange}
-use Rattle.textarea_atomic.specs.declared.range.AtomicRangeRejectReason.{AtomicRangeRejectReason}
+use Rattle.textarea_data.specs.declared.range.AtomicRange.{AtomicRange}
+use Rattle.textarea_data.specs.declared.range.RejectedAtomicRange.{RejectedAtomicRange}
+use Rattle.textarea_data.specs.declared.range.AtomicRangeRejectReason.{AtomicRangeRejectReason}
 use Rattle.textarea_text.specs.Place.{line_of}
 use Rattle.textarea_text.specs.Text.{characters_of, lines_of}
 use Rattle.textarea_ranges.specs.Order.{AreInOrder, in_order, is_before}

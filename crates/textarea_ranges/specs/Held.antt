@@ -1,11 +1,11 @@
 -- Look-ups in a list of atomic ranges: which of them holds a place, which is hit, and what a removal takes.
 use Rattle.std.specs.Prelude.{◌≡◌, ◌<◌, ◌≤◌, ◌==◌, nat_lt, nat_le, ◌&&◌, ◌⊎◌, Bool, List, find, All, Option, Some, None}
 use Rattle.textarea_text.specs.Place.{Place, IsBefore, IsUpTo}
-use Rattle.textarea_atomic.specs.declared.range.AtomicRange.{AtomicRange}
-use Rattle.textarea_atomic.specs.declared.range.AtomicCursorBias.{AtomicCursorBias}
-use Rattle.textarea_atomic.specs.declared.range.AtomicCursorBias.TheVariants.{Backward, Forward}
-use Rattle.textarea_atomic.specs.declared.range.AtomicDeleteDirection.{AtomicDeleteDirection}
-use Rattle.textarea_atomic.specs.declared.range.AtomicDeleteDirection.TheVariants.{Backward as DeleteBackward, Forward as DeleteForward}
+use Rattle.textarea_data.specs.declared.range.AtomicRange.{AtomicRange}
+use Rattle.textarea_data.specs.declared.range.AtomicCursorBias.{AtomicCursorBias}
+use Rattle.textarea_data.specs.declared.range.AtomicCursorBias.TheVariants.{Backward, Forward}
+use Rattle.textarea_data.specs.declared.range.AtomicDeleteDirection.{AtomicDeleteDirection}
+use Rattle.textarea_data.specs.declared.range.AtomicDeleteDirection.TheVariants.{Backward as DeleteBackward, Forward as DeleteForward}
 
 -- the place of the range's first character
 abbrev pub range_start : AtomicRange → Place

@@ -1,11 +1,11 @@
 -- Where atomic ranges go with the text that they stand in.
 use Rattle.std.specs.Prelude.{◌≡◌, ℕ, ◌≤◌, ◌-◌, Bool, true, false, List, filter_map, take, drop, Option, Some, None, if◌then◌else◌}
-use Rattle.textarea_size.specs.Limit.{size_limit}
+use Rattle.textarea_util.specs.Limit.{size_limit}
 use Rattle.textarea_text.specs.Text.{Symbol, lines}
 use Rattle.textarea_text.specs.Place.{Place, end, line_of}
 use Rattle.textarea_text.specs.Splice.{Splice, place_after, place_before}
 use Rattle.textarea_text.specs.Carried.{is_up_to, shifted}
-use Rattle.textarea_atomic.specs.declared.range.AtomicRange.{AtomicRange}
+use Rattle.textarea_data.specs.declared.range.AtomicRange.{AtomicRange}
 use Rattle.textarea_ranges.specs.Held.{IsInside, Overlaps, range_end, range_start}
 use Rattle.textarea_ranges.specs.Valid.{IsPart}
 

@@ -2,7 +2,7 @@
 use Rattle.std.specs.Prelude.{◌≡◌, Bool, List, [], ◌∷◌, if◌then◌else◌}
 use Rattle.std.specs.Ordering.{is_lt, nat_cmp, ordering_then}
 use Rattle.std.specs.List.Sorted.{IsPermutation, IsSortedBy, IsStableBy}
-use Rattle.textarea_atomic.specs.declared.range.AtomicRange.{AtomicRange}
+use Rattle.textarea_data.specs.declared.range.AtomicRange.{AtomicRange}
 
 -- the one range has the smaller row, or, in one row, the smaller start
 abbrev pub is_before : AtomicRange → AtomicRange → Bool

@@ -1,9 +1,9 @@
 -- Which ranges of a list are rejected, and why.
 use Rattle.std.specs.Prelude.{◌≡◌, ◌≢◌, ℕ, ◌==◌, nat_lt, nat_le, ◌||◌, List, [], ◌∷◌, ◌++◌, length, Option, Some, None, if◌then◌else◌}
-use Rattle.textarea_atomic.specs.declared.range.AtomicRange.{AtomicRange}
-use Rattle.textarea_atomic.specs.declared.range.RejectedAtomicRange.{RejectedAtomicRange}
-use Rattle.textarea_atomic.specs.declared.range.AtomicRangeRejectReason.{AtomicRangeRejectReason}
-use Rattle.textarea_atomic.specs.declared.range.AtomicRangeRejectReason.TheVariants.{Empty, RowOutOfBounds, ColumnOutOfBounds, OverlapsPrevious}
+use Rattle.textarea_data.specs.declared.range.AtomicRange.{AtomicRange}
+use Rattle.textarea_data.specs.declared.range.RejectedAtomicRange.{RejectedAtomicRange}
+use Rattle.textarea_data.specs.declared.range.AtomicRangeRejectReason.{AtomicRangeRejectReason}
+use Rattle.textarea_data.specs.declared.range.AtomicRangeRejectReason.TheVariants.{Empty, RowOutOfBounds, ColumnOutOfBounds, OverlapsPrevious}
 use Rattle.textarea_text.specs.Place.{line_of}
 use Rattle.textarea_ranges.specs.Order.{AreInOrder, in_order}
 use Rattle.textarea_ranges.specs.Valid.{AreValid}

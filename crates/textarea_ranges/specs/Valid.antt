@@ -1,7 +1,7 @@
 -- Which lists of atomic ranges are valid for some lines.
 use Rattle.std.specs.Prelude.{◌≡◌, ℕ, ◌<◌, ◌≤◌, ◌⊎◌, List, length, All, AllPairs}
 use Rattle.textarea_text.specs.Place.{line_of}
-use Rattle.textarea_atomic.specs.declared.range.AtomicRange.{AtomicRange}
+use Rattle.textarea_data.specs.declared.range.AtomicRange.{AtomicRange}
 
 -- the range is a part of a line, with a character at least: its row exists, it starts before its end, and ends within
 -- its line

@@ -5,7 +5,7 @@ ghost use Rattle.textarea_text.specs.Place.{IsPlaceOf, IsUpTo};
 ghost use Rattle.textarea_ranges.specs.Held.{IsInside, IsWidened, border, hit, inside, is_hit, is_inside, moved_out, widened};
 ghost use Rattle.textarea_ranges.specs.Valid.{AreValid};
 
-use textarea_atomic::range::{AtomicCursorBias, AtomicDeleteDirection, AtomicRange};
+use textarea_data::range::{AtomicCursorBias, AtomicDeleteDirection, AtomicRange};
 
 /// The range that strictly holds the place: it starts before the place and ends behind it. None where no range does.
 pub fn inside(ranges: &[AtomicRange], place: (usize, usize)) -> Option<AtomicRange>

@@ -3,8 +3,8 @@ ghost use Rattle.std.specs.Prelude.{◌≡◌, ◌↔◌, ℕ, List, [], All, Co
 ghost use Rattle.textarea_text.specs.Text.{Symbol, lines};
 ghost use Rattle.textarea_text.specs.Place.{Place};
 ghost use Rattle.textarea_text.specs.Splice.{Fits, Splice, applied};
-ghost use Rattle.textarea_atomic.specs.declared.range.AtomicDeleteDirection.{AtomicDeleteDirection};
-ghost use Rattle.textarea_atomic.specs.declared.range.AtomicRange.{AtomicRange};
+ghost use Rattle.textarea_data.specs.declared.range.AtomicDeleteDirection.{AtomicDeleteDirection};
+ghost use Rattle.textarea_data.specs.declared.range.AtomicRange.{AtomicRange};
 ghost use Rattle.textarea_ranges.specs.Held.{IsHit, IsInside, hit, inside};
 ghost use Rattle.textarea_ranges.specs.Moved.{CoversTheSame, Disturbs, moved_range, moved_ranges};
 ghost use Rattle.textarea_ranges.specs.Order.{AreInOrder, IsInOrder, in_order};

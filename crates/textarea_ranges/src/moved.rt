@@ -1,9 +1,9 @@
 //! Ranges that go with the text that they stand in.
 ghost use Rattle.std.specs.Prelude.{◌≡◌, ◌≤◌, All, filter_map, length, take};
-ghost use Rattle.textarea_size.specs.Limit.{size_limit};
+ghost use Rattle.textarea_util.specs.Limit.{size_limit};
 ghost use Rattle.textarea_ranges.specs.Moved.{IsMovable, moved_by};
 
-use textarea_atomic::range::AtomicRange;
+use textarea_data::range::AtomicRange;
 use textarea_text::carried::{is_up_to, shift};
 
 /// Moves the ranges with the text, which changes from `start` up to `old`, and in which what stood behind `old` stands behind

@@ -3,7 +3,7 @@ ghost use Rattle.std.specs.Prelude.{◌≡◌, IfOk};
 ghost use Rattle.textarea_ranges.specs.Order.{in_order};
 
 use std::alloc::AllocError;
-use textarea_atomic::range::AtomicRange;
+use textarea_data::range::AtomicRange;
 
 /// The ranges by row and start. Those that start at one place keep their order. Only out of memory does it fail.
 pub fn in_order(mut ranges: Vec<AtomicRange>) -> Result<Vec<AtomicRange>, AllocError>

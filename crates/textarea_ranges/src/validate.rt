@@ -6,7 +6,7 @@ ghost use Rattle.textarea_ranges.specs.Rejected.{AreAccepted, AreRefused, free_f
 
 use crate::order::in_order;
 use std::alloc::{AllocError, Global};
-use textarea_atomic::range::{
+use textarea_data::range::{
     AtomicRange, AtomicRangeError, AtomicRangeRejectReason, RejectedAtomicRange,
 };
 use textarea_text::rows::column_count;

@@ -1,15 +1,15 @@
 -- What a refused pattern, and refused atomic ranges, come to.
 use Rattle.std.proofs.Common.{◌≡◌, ◌≢◌, ℕ, List, [], ◌∷◌, Some, Result, Ok, Err, IfErr, IfOk, IsOk, true, false, refl, subst, sym}
-use Rattle.textarea_atomic.specs.declared.range.AtomicRange.{AtomicRange}
-use Rattle.textarea_atomic.specs.declared.range.RejectedAtomicRange.{RejectedAtomicRange}
-use Rattle.textarea_pattern.specs.Failures.{IsCarried, IsPatternFailure}
-use Rattle.textarea_pattern.specs.declared.error.SearchError.{SearchError}
-use Rattle.textarea_pattern.specs.declared.error.SearchError.TheVariants.{Memory, Pattern}
+use Rattle.textarea_data.specs.declared.range.AtomicRange.{AtomicRange}
+use Rattle.textarea_data.specs.declared.range.RejectedAtomicRange.{RejectedAtomicRange}
+use Rattle.textarea_search.specs.Failures.{IsCarried, IsPatternFailure}
+use Rattle.textarea_search.specs.declared.error.SearchError.{SearchError}
+use Rattle.textarea_search.specs.declared.error.SearchError.TheVariants.{Memory, Pattern}
 use Rattle.tui_textarea.specs.State.{State}
-use Rattle.textarea_outcomes.specs.Calls.{with_ranges_if}
-use Rattle.textarea_outcomes.specs.Outcomes.{IsPatternAnswer}
-use Rattle.textarea_outcomes.specs.Patterns.{IsToldAs}
-use Rattle.textarea_outcomes.specs.Said.{said}
+use Rattle.tui_textarea.specs.Calls.{with_ranges_if}
+use Rattle.tui_textarea.specs.Outcomes.{IsPatternAnswer}
+use Rattle.tui_textarea.specs.Patterns.{IsToldAs}
+use Rattle.tui_textarea.specs.Said.{said}
 use Rattle.textarea_calls.specs.declared.answer.Answer.{Answer}
 
 -- where ranges are rejected, none is set

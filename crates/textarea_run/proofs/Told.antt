@@ -4,9 +4,9 @@ use Rattle.std.specs.Result.{IsOkAnd, MatchResult, OnErr, OnOk, is_err}
 use Rattle.tui_textarea.specs.State.{State}
 use Rattle.textarea_calls.specs.declared.answer.Answer.{Answer}
 use Rattle.textarea_calls.specs.declared.call.Call.{Call}
-use Rattle.textarea_outcomes.specs.Calls.{IsLeft, MayRefuse, Refused}
-use Rattle.textarea_outcomes.specs.Outcomes.{IsAnswer, IsBehind}
-use Rattle.textarea_outcomes.specs.Said.{Said, Done, Flag}
+use Rattle.tui_textarea.specs.Calls.{IsLeft, MayRefuse, Refused}
+use Rattle.tui_textarea.specs.Outcomes.{IsAnswer, IsBehind}
+use Rattle.tui_textarea.specs.Said.{Said, Done, Flag}
 
 -- a call that may only be refused where something isn't so
 pub refused_unless : {A T E : Type 0} (outcome : Result T E) (value other : A) → (value ≡ other → IsOk outcome) → OnErr outcome (value ≢ other)

@@ -6,7 +6,7 @@ use Rattle.tui_textarea.specs.State.{State}
 use Rattle.textarea_calls.specs.declared.call.Call.{Call}
 use Rattle.textarea_calls.specs.declared.call.Call.TheVariants.{Render}
 use Rattle.textarea_calls.specs.Kinds.{kind_of}
-use Rattle.textarea_outcomes.specs.Outcomes.{IsShown, IsSpared}
+use Rattle.tui_textarea.specs.Outcomes.{IsShown, IsSpared}
 use Rattle.textarea_calls.specs.declared.kind.Kind.TheVariants.{Draws}
 
 shown : (call : Call) (state : State) (buffer : Buffer) → kind_of call ≢ Draws → IsShown call state buffer buffer

@@ -1,8 +1,8 @@
 // Calls that read the cursor, the selection or a setting.
 ghost use Rattle.std.specs.Prelude.{◌≡◌};
 ghost use Rattle.textarea_calls.specs.Kinds.{kind_of};
-ghost use Rattle.textarea_outcomes.specs.Outcomes.{IsAnswer, IsBehind};
-ghost use Rattle.textarea_outcomes.specs.Said.{said};
+ghost use Rattle.tui_textarea.specs.Outcomes.{IsAnswer, IsBehind};
+ghost use Rattle.tui_textarea.specs.Said.{said};
 ghost use Rattle.textarea_calls.specs.declared.kind.Kind.TheVariants.{Asks, AsksSettings};
 
 use textarea_calls::{Answer, Call};

@@ -1,9 +1,9 @@
 // Calls that draw, and those for how it is drawn.
 ghost use Rattle.std.specs.Prelude.{◌≡◌, OnErr, OnOk};
-ghost use Rattle.textarea_outcomes.specs.Calls.{Refused};
+ghost use Rattle.tui_textarea.specs.Calls.{Refused};
 ghost use Rattle.textarea_calls.specs.Kinds.{kind_of};
-ghost use Rattle.textarea_outcomes.specs.Outcomes.{IsAnswer, IsBehind, IsShown, IsSpared};
-ghost use Rattle.textarea_outcomes.specs.Said.{said, Done};
+ghost use Rattle.tui_textarea.specs.Outcomes.{IsAnswer, IsBehind, IsShown, IsSpared};
+ghost use Rattle.tui_textarea.specs.Said.{said, Done};
 ghost use Rattle.textarea_calls.specs.declared.kind.Kind.TheVariants.{Draws, Looks, Reads, Styles};
 
 use std::alloc::AllocError;

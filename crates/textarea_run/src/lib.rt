@@ -6,6 +6,7 @@ mod drawing;
 mod memory;
 pub mod perform;
 mod pressing;
+pub mod printing;
 pub mod run;
 
 pub use run::RunEnd;

@@ -4,11 +4,11 @@ ghost use Rattle.textarea_screen.specs.Block.{shown_block};
 ghost use Rattle.textarea_screen.specs.Text.{shown_text};
 ghost use Rattle.tui_textarea.specs.Measure.{with_surround};
 ghost use Rattle.textarea_calls.specs.Made.{CanBeMade};
-ghost use Rattle.textarea_outcomes.specs.Calls.{ranges_answer, rejected_ranges, with_lines, with_ranges_if, Refused};
+ghost use Rattle.tui_textarea.specs.Calls.{ranges_answer, rejected_ranges, with_lines, with_ranges_if, Refused};
 ghost use Rattle.textarea_calls.specs.Kinds.{changes, kind_of, puts, tries};
-ghost use Rattle.textarea_outcomes.specs.Outcomes.{behind_pattern, IsAnswer, IsBehind, IsPatternAnswer, IsShown, IsSpared};
-ghost use Rattle.textarea_outcomes.specs.Patterns.{IsNewPattern, IsToldAs};
-ghost use Rattle.textarea_outcomes.specs.Said.{said, Done, Flag};
+ghost use Rattle.tui_textarea.specs.Outcomes.{behind_pattern, IsAnswer, IsBehind, IsPatternAnswer, IsShown, IsSpared};
+ghost use Rattle.tui_textarea.specs.Patterns.{IsNewPattern, IsToldAs};
+ghost use Rattle.tui_textarea.specs.Said.{said, Done, Flag};
 ghost use Rattle.textarea_calls.specs.declared.kind.Kind.TheVariants.{Deletes, DeletesFar, Draws, Edits, Goes, LaysOut, Ranges, Searches, Sets, Shows, Surrounds, Tells, Writes};
 
 use crate::asking::{ask, ask_setting};
@@ -16,12 +16,12 @@ use crate::drawing::{draw, look, read, style};
 use crate::memory::allocator;
 use crate::pressing::press;
 use std::alloc::{AllocError, Global};
-use textarea_atomic::range::AtomicRange;
 use textarea_calls::kind::{Kind, kind_of};
 use textarea_calls::{Answer, Call};
-use textarea_pieces::given::copy_pieces;
+use textarea_data::range::AtomicRange;
 use textarea_screen::screen::{Block, Buffer, Text};
 use textarea_search::search::SearchError;
+use textarea_text::given::copy_pieces;
 use tui_textarea::TextArea;
 
 /// Makes one call, and hands out its answer; that a pattern is refused is an answer. It answers out of

@@ -1,9 +1,9 @@
 // Calls of keys.
 ghost use Rattle.std.specs.Prelude.{◌≡◌, IfOk, OnErr};
-ghost use Rattle.textarea_outcomes.specs.Calls.{Refused};
+ghost use Rattle.tui_textarea.specs.Calls.{Refused};
 ghost use Rattle.textarea_calls.specs.Kinds.{kind_of};
-ghost use Rattle.textarea_outcomes.specs.Outcomes.{IsAnswer, IsBehind};
-ghost use Rattle.textarea_outcomes.specs.Said.{Flag};
+ghost use Rattle.tui_textarea.specs.Outcomes.{IsAnswer, IsBehind};
+ghost use Rattle.tui_textarea.specs.Said.{Flag};
 ghost use Rattle.textarea_calls.specs.declared.kind.Kind.TheVariants.{Presses};
 
 use std::alloc::AllocError;

@@ -3,19 +3,20 @@ ghost use Rattle.std.specs.Prelude.{◌≡◌, ◌≤◌, [], length, vec_capaci
 ghost use Rattle.textarea_document.specs.Goes.{GoesUncut};
 ghost use Rattle.textarea_document.specs.Sound.{IsSound};
 ghost use Rattle.textarea_calls.specs.Made.{CanBeMade};
-ghost use Rattle.textarea_outcomes.specs.Calls.{Refused};
-ghost use Rattle.textarea_outcomes.specs.Goes.{AllStem, GoesByCall};
-ghost use Rattle.textarea_outcomes.specs.Outcomes.{IsSpared};
-ghost use Rattle.textarea_outcomes.specs.Run.{Makes, Run};
-ghost use Rattle.textarea_outcomes.specs.Said.{said};
+ghost use Rattle.tui_textarea.specs.Calls.{Refused};
+ghost use Rattle.tui_textarea.specs.CallGoes.{GoesByCall, RangesOfRun};
+ghost use Rattle.tui_textarea.specs.Outcomes.{IsSpared};
+ghost use Rattle.tui_textarea.specs.Run.{Makes, Run};
+ghost use Rattle.tui_textarea.specs.Said.{said};
+ghost use Rattle.tui_textarea.specs.CallSplices.{OfLeft};
 
 use crate::memory::allocator;
 use crate::perform::perform;
 use std::alloc::AllocError;
 use textarea_calls::{Answer, Call};
-use textarea_outcomes::laws::ranges_go_with_each_call;
 use textarea_screen::screen::Buffer;
 use tui_textarea::TextArea;
+use tui_textarea::outcomes::laws::ranges_go_with_each_call;
 
 /// How a run of calls ended.
 #[derive(Drop)]
@@ -35,8 +36,9 @@ pub struct RunEnd {
 /// visual rows, measured height, drawn cells, caret and hit tests are those of a layout computed
 /// anew from text, cursor, highlights, settings, viewport and last area.
 ///
-/// After any list of calls each range that is held stems from the last ranges that a call of the list set, or without one from the
-/// ranges at the start, and covers the same characters as then, all in one line.
+/// After any list of calls the ranges are those that a call of the list gave last, or without one those at the start, as they go with
+/// the text over the splices of the later calls: each that is held stems from one of these, and covers the same characters as then, all
+/// in one line; and each of these is still held, or one of those splices inserted strictly inside of it or removed a character of it.
 ///
 /// It asks that each `Call::SetLines` holds a line. Room for the answers is reserved first. Where that
 /// is refused, no call is made and the refused index is 0.
@@ -44,7 +46,7 @@ pub fn run(area: &mut TextArea<'_>, calls: &[Call<'_>], buffer: &mut Buffer) -> 
     requires { All CanBeMade calls.now }
     ensures led { Run area.old buffer.old calls.now result.answers.items result.refused area.new
         buffer.new }
-    ensures ranges { AllStem area.old buffer.old calls.now result.answers.items area.new }
+    ensures ranges { RangesOfRun area.old buffer.old calls.now result.answers.items area.new }
 {
     area.is_sound();
     let mut answers = Vec::new(allocator(area));
@@ -70,7 +72,7 @@ fn make_all(
     requires sound { IsSound area.old.document }
     ensures led { Run area.old buffer.old calls.now result.answers.items result.refused area.new
         buffer.new }
-    ensures ranges { AllStem area.old buffer.old calls.now result.answers.items area.new }
+    ensures ranges { RangesOfRun area.old buffer.old calls.now result.answers.items area.new }
 {
     for (index, call) in calls.iter().enumerate() {
         match make(area, *call, buffer) {
@@ -100,7 +102,8 @@ fn make(area: &mut TextArea<'_>, call: Call<'_>, buffer: &mut Buffer) -> Result<
         GoesByCall area.old call.entry (said answer) area.new) }
     ensures err { OnErr result (Refused area.old call.entry area.new) }
     ensures spared { OnErr result (IsSpared call.entry buffer.old buffer.new) }
-    ensures left { OnErr result (GoesUncut area.old.document area.new.document) }
+    ensures left { OnErr result (OfLeft area.old (λ splices.
+        GoesUncut area.old.document splices area.new.document)) }
     ensures before { IsSound area.old.document }
     ensures behind { IsSound area.new.document }
 {

@@ -2,12 +2,12 @@
 use std::alloc::{AllocError, Global};
 use std::collections::HashMap;
 use std::test::Fail;
+use textarea_calls::action::Action;
+use textarea_calls::action::Action::*;
+use textarea_calls::keys::{action_of, action_without_shortcuts};
 use textarea_data::cursor::CursorMove::*;
 use textarea_data::input::{Input, Key};
-use textarea_keys::action::Action;
-use textarea_keys::action::Action::*;
-use textarea_keys::keys::{action_of, action_without_shortcuts};
-use textarea_scroll::scroll::Scrolling;
+use textarea_data::scroll::Scrolling;
 
 /// Whether Ctrl and Alt are held.
 type Held = (bool, bool);

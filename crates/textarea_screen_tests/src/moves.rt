@@ -2,7 +2,7 @@
 use crate::written::first_wrong;
 use std::alloc::Global;
 use textarea_data::cursor::CursorMove;
-use textarea_scroll::scroll::Scrolling;
+use textarea_data::scroll::Scrolling;
 use textarea_wrap::wrap::WrapMode;
 
 static MOVES: [(CursorMove, &str); 16] = [

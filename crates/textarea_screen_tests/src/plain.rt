@@ -4,7 +4,7 @@ use std::fmt::Debug;
 use std::test::Fail;
 use textarea_data::cursor::DataCursor;
 use textarea_data::input::{Input, Key};
-use textarea_scroll::scroll::Scrolling;
+use textarea_data::scroll::Scrolling;
 
 #[test]
 fn defaults(rt: HostRuntime) -> Result<(), Fail> {

@@ -1,7 +1,7 @@
 // The forms of atomic ranges, and of what is said of them.
 use crate::written::{first_read, first_wrong, wrong_form};
 use std::alloc::{AllocError, Global};
-use textarea_atomic::range::{
+use textarea_data::range::{
     AtomicCursorBias, AtomicDeleteDirection, AtomicRange, AtomicRangeError,
     AtomicRangeRejectReason, RejectedAtomicRange,
 };

@@ -4,7 +4,7 @@ use crate::blocks::{ALL, Sides, TITLED, block, push_line, push_spans};
 use std::alloc::{AllocError, Global};
 use std::test::Fail;
 use textarea_screen::screen::{Borders, Color, Line, Modifier, Style, Text};
-use textarea_surround::Surround;
+use textarea_view::Surround;
 
 const GRAY: Style = Style {
     fg: Some(Color::DarkGray),

@@ -1,9 +1,9 @@
 //! The viewport, the caret and the hit test, as numbers.
 
+use textarea_data::scroll::Scrolling;
+use textarea_data::scroll::Scrolling::{Delta, HalfPageDown, HalfPageUp, PageDown, PageUp};
 use textarea_screen::screen::{Position, Rect};
-use textarea_scroll::scroll::Scrolling;
-use textarea_scroll::scroll::Scrolling::{Delta, HalfPageDown, HalfPageUp, PageDown, PageUp};
-use textarea_viewport::{RowView, Viewport};
+use textarea_view::{RowView, Viewport};
 
 /// A height, ways to scroll, and the first and the last row that are shown then.
 type Scrolled = (u16, &'static [Scrolling], usize, usize);

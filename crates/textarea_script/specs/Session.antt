@@ -10,8 +10,8 @@ use Rattle.tui_textarea.specs.State.{State, new_state}
 use Rattle.textarea_modal.specs.Runs.{EndsAs}
 use Rattle.textarea_modal.specs.declared.modal.ModalStop.{ModalStop}
 use Rattle.textarea_modal.specs.declared.modal.ModalStop.TheVariants.{End, Quit, Memory}
-use Rattle.textarea_modal_keys.specs.declared.mode.Mode.{Mode}
-use Rattle.textarea_modal_keys.specs.declared.mode.Mode.TheVariants.{Normal, Insert, Visual, Operator}
+use Rattle.textarea_modal.specs.declared.mode.Mode.{Mode}
+use Rattle.textarea_modal.specs.declared.mode.Mode.TheVariants.{Normal, Insert, Visual, Operator}
 
 -- ---- what is read
 

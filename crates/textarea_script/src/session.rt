@@ -22,7 +22,7 @@ use std::str::from_utf8;
 use std::string::ToString;
 use textarea_data::input::{Input, Key};
 use textarea_modal::{Modal, ModalStop};
-use textarea_report::printing::Report;
+use textarea_run::printing::Report;
 use tui_textarea::TextArea;
 
 /// The input isn't UTF-8, or the words aren't understood.

@@ -10,8 +10,8 @@ use Rattle.std.proofs.lemmas.List.{take-append-drop, take_at, length-append, len
 use Rattle.std.proofs.lemmas.List.Elements.{All-weaker}
 use Rattle.std.proofs.lemmas.Option.{slice_get-map}
 use Rattle.std.proofs.lemmas.Str.{chars-append, encodes-append, encodes-chars, IsUtf8-take, length-encode, len_utf8_bounds, cons_from_encodes, length-le-encodes}
-use Rattle.textarea_pattern.specs.Columns.{column_at}
-use Rattle.textarea_pattern.specs.Starts.{is_ahead_in_line}
+use Rattle.textarea_search.specs.Columns.{column_at}
+use Rattle.textarea_search.specs.Starts.{is_ahead_in_line}
 use Rattle.textarea_search.proofs.ListedLemmas.{LiesFrom, starts_before}
 use Rattle.textarea_search.proofs.StartLemmas.{find-map, find-same, find-first, map_reverse, All-reverse}
 

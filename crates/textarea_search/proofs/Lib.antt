@@ -1,3 +1,5 @@
+mod FailureLemmas
+mod PatternLemmas
 mod ColumnLemmas
 mod ListedLemmas
 mod PlaceLemmas

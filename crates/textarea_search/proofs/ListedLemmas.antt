@@ -21,8 +21,8 @@ use Rattle.regex.specs.Strings.{match_span}
 use Rattle.regex.specs.declared.string.matcher.Match as found_match
 use Rattle.regex.proofs.SearchLemmas.{next_same, next_later, next_within, leftmost_within, matches_after_none, matches_after_some}
 use Rattle.regex.proofs.Utf8Lemmas.{IsCharBoundary-of_test}
-use Rattle.textarea_pattern.specs.Spans.{spans_after}
-use Rattle.textarea_pattern.specs.Starts.{is_ahead_in_line}
+use Rattle.textarea_search.specs.Spans.{spans_after}
+use Rattle.textarea_search.specs.Starts.{is_ahead_in_line}
 use Rattle.textarea_search.proofs.StartLemmas.{find-none, All-reverse}
 
 none_of_map : {A B : Type 0} (f : A → B) (o : Option A) → option_map f o ≡ None → o ≡ None

@@ -3,7 +3,7 @@ use Rattle.std.proofs.Common.{◌≡◌, ℕ, ◌+◌, ◌-◌, ◌<◌, ◌≤�
 use Rattle.std.specs.Prelude.{String}
 use Rattle.std.specs.Str.{chars}
 use Rattle.std.proofs.lemmas.List.{get_or-map, get_or-take, get_or-drop, take-map, drop-map, length-take-le, length-drop, take_rest}
-use Rattle.textarea_pattern.specs.Starts.{IsPlaceFrom, IsPlaceIn}
+use Rattle.textarea_search.specs.Starts.{IsPlaceFrom, IsPlaceIn}
 
 abbrev texts_of : List (String Global) → List (List ℕ)
 texts_of = map (λ line. chars (string_bytes line))

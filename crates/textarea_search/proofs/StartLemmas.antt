@@ -9,7 +9,7 @@ use Rattle.std.proofs.lemmas.List.{drop_more, take_more, append-nil, append_asso
 use Rattle.std.proofs.lemmas.List.Elements.{All-nil, All-head, All-tail, All-append, All-map, All-weaker}
 use Rattle.std.proofs.lemmas.List.Folds.{find-append}
 use Rattle.std.proofs.lemmas.Option.{slice_get-map}
-use Rattle.textarea_pattern.specs.Starts.{starts_from, is_ahead_in_line, is_ahead, is_behind, find_or_first, next_start, previous_start}
+use Rattle.textarea_search.specs.Starts.{starts_from, is_ahead_in_line, is_ahead, is_behind, find_or_first, next_start, previous_start}
 
 -- ---- a search in a list of three parts
 

@@ -1,4 +1,6 @@
-//! Search for a pattern in the lines of a text.
+//! Patterns that are built of a text, and searches for them in lines.
 #![tactic(auto)]
 
+pub mod error;
+pub mod pattern;
 pub mod search;

@@ -1,13 +1,20 @@
-//! What worked cases of the text area can't hold: text areas of given lines and copies of them, more lines than a height counts, the
-//! program of README.
+//! Tests of the text area and of scripts that worked cases can't hold.
 #![tactic(auto)]
 
+#[cfg(test)]
+mod broken;
+#[cfg(test)]
+mod byte_texts;
 #[cfg(test)]
 mod given;
 #[cfg(test)]
 mod many_lines;
 #[cfg(test)]
 mod quick_start;
+#[cfg(test)]
+mod served;
+#[cfg(test)]
+mod streams;
 #[cfg(test)]
 mod texts;
 #[cfg(test)]

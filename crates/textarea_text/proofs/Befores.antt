@@ -11,7 +11,7 @@ use Rattle.textarea_text.specs.Place.{Place, IsPlace, IsPlaceOf, IsSymbolBefore,
 use Rattle.textarea_text.proofs.Splices.{lines-joined}
 use Rattle.textarea_text.proofs.RowEdits.{rows_around, cut_line, rows_stand}
 use Rattle.textarea_text.proofs.StringRows.{line_at}
-use Rattle.textarea_text.proofs.Places.{is_before}
+use Rattle.textarea_text.proofs.TextPlaces.{is_before}
 
 -- a place of the lines is one of the text that they hold
 pub text_place : {Z : Type 0} (items : List (String Z)) (place : Place) → IsPlaceOf (lines_of items) place → IsPlace (text_of items) place

@@ -7,7 +7,7 @@ use Rattle.textarea_text.specs.Place.{Place, IsBefore, IsPlace, IsUpTo, end, ind
 use Rattle.textarea_text.specs.Splice.{Splice, Allows, Fits, applied, place_after, place_before}
 use Rattle.textarea_text.specs.Carried.{GoesAlong, Stays, carried, carried_index, shifted}
 use Rattle.textarea_text.proofs.Splices.{end-append, inserted_at, removed_at}
-use Rattle.textarea_text.proofs.Places.{Parted, index_parted, parted, place_parted, standing}
+use Rattle.textarea_text.proofs.TextPlaces.{Parted, index_parted, parted, place_parted, standing}
 
 -- ---- a splice as the parts of the text: what stands before it, what goes, what comes, and what stands behind
 

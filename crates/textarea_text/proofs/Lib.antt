@@ -1,7 +1,7 @@
 pub mod Columns
 pub mod Splices
 pub mod RowEdits
-pub mod Places
+pub mod TextPlaces
 pub mod StringRows
 pub mod Sizes
 pub mod Befores
@@ -10,3 +10,10 @@ pub mod Touching
 pub mod EmptyTexts
 pub mod Copies
 pub mod Carrying
+pub mod GivenLemmas
+pub mod PartLemmas
+pub mod PlaceLemmas
+pub mod TabLemmas
+pub mod Cases
+pub mod NearestLemmas
+mod WordLemmas

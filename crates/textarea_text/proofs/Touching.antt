@@ -3,7 +3,7 @@ use Rattle.std.proofs.Common.{◌≡◌, ℕ, ◌+◌, ◌<◌, Bool, true, fals
 use Rattle.std.proofs.lemmas.List.{append-nil, length-append}
 use Rattle.textarea_text.specs.Text.{Symbol, Character, Break, characters, following, joined, lines}
 use Rattle.textarea_text.specs.Place.{Place, IsPlace, IsPlaceOf, changed, end, inserted, removed}
-use Rattle.textarea_replace.specs.Replaced.{replaced}
+use Rattle.textarea_util.specs.Replaced.{replaced}
 use Rattle.textarea_text.specs.Splice.{Splice, Allows, Fits, applied}
 use Rattle.textarea_text.specs.Touched.{breaks_of}
 use Rattle.textarea_text.proofs.Splices.{characters-append, lines-joined}

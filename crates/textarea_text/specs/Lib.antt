@@ -5,3 +5,9 @@ pub mod Size
 pub mod Touched
 pub mod Carried
 pub mod Offset
+pub mod Given
+pub mod Part
+pub mod Tab
+pub mod Nearest
+pub mod Paragraphs
+pub mod Words

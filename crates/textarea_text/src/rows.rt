@@ -1,17 +1,17 @@
 //! Lines that take the place of others: made ready while the old lines stand, and put there without memory.
 ghost use Rattle.std.specs.Prelude.{◌≡◌, ◌+◌, ◌-◌, ◌<◌, ◌≤◌, ◌++◌, ◌∷◌, ◌↔◌, [], length, string_bytes, take, drop, MatchOption, encode_utf8_all, vec_len, vec_capacity, min, IfOk, IsOk, OnOk, OnErr};
 ghost use Rattle.std.specs.Str.{chars};
-ghost use Rattle.textarea_size.specs.Limit.{size_limit};
+ghost use Rattle.textarea_util.specs.Limit.{size_limit};
 ghost use Rattle.textarea_text.specs.Text.{characters, following, joined, lines_of, symbol_in, text_of};
 ghost use Rattle.textarea_text.specs.Offset.{offset_at};
 ghost use Rattle.textarea_text.specs.Place.{IsPlaceOf, IsSymbolBefore, ReplacesRows, changed, index_of};
-ghost use Rattle.textarea_replace.specs.Replaced.{replaced};
+ghost use Rattle.textarea_util.specs.Replaced.{replaced};
 ghost use Rattle.textarea_text.specs.Size.{size_of};
 ghost use Rattle.textarea_text.specs.Touched.{ReplacesPart};
 
 use std::alloc::{AllocError, Global};
-use textarea_replace::replace::replace_items;
-use textarea_size::limit::within_limit;
+use textarea_util::limit::within_limit;
+use textarea_util::replace::replace_items;
 
 /// The byte at which the column of a line begins; a column counts characters, and the line's length is one. The line is
 /// not walked where the column is its length in bytes, since then each character is one byte.

@@ -1,12 +1,12 @@
 -- The rows of lines, counted line by line.
 use Rattle.std.proofs.Common.{◌≡◌, ◌∙◌, ℕ, ◌+◌, List, ◌++◌, String, ap, drop, length, map, subst, sym, take}
 use Rattle.std.proofs.lemmas.List.{drop-map, length-map, map-append, take-map}
-use Rattle.textarea_replace.specs.Replaced.{replaced}
+use Rattle.textarea_util.specs.Replaced.{replaced}
 use Rattle.textarea_text.specs.Text.{characters_of, lines_of}
-use Rattle.textarea_rows.specs.RowsView.{RowsView}
-use Rattle.textarea_map.specs.declared.layout.Wrapping.{Wrapping}
-use Rattle.textarea_map.specs.Layout.{AreRowsOf}
-use Rattle.textarea_map.proofs.Layouts.{AreRowsOf-replaced, length-AreRowsOf}
+use Rattle.textarea_wrap.specs.RowsView.{RowsView}
+use Rattle.textarea_screen_map.specs.declared.layout.Wrapping.{Wrapping}
+use Rattle.textarea_screen_map.specs.Layout.{AreRowsOf}
+use Rattle.textarea_screen_map.proofs.Layouts.{AreRowsOf-replaced, length-AreRowsOf}
 
 pub one_list_a_line : {Z : Type 0} (w : Wrapping) (lines : List (String Z)) (rows : List RowsView) → AreRowsOf w (lines_of lines) rows → length rows ≡ length lines
 one_list_a_line w lines rows h = length-AreRowsOf w (lines_of lines) rows h ∙ length-map lines characters_of

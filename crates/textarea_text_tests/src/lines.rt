@@ -4,18 +4,18 @@ ghost use Rattle.std.specs.Prelude.{◌≡◌, ◌+◌, ◌<◌, false, length, 
 ghost use Rattle.textarea_text.specs.Place.{IsPlace, IsPlaceOf};
 ghost use Rattle.textarea_text.specs.Splice.{Fits};
 ghost use Rattle.textarea_text.specs.Text.{lines};
-ghost use Rattle.textarea_edit.specs.Edit.{IsWellFormed};
+ghost use Rattle.textarea_history.specs.Edit.{IsWellFormed};
 ghost use Rattle.textarea_lines.specs.Layout.{at_width, stays_cut};
 ghost use Rattle.textarea_lines.specs.Wrappings.{is_wrapped};
 
 use crate::texts::{Place, strings};
 use std::alloc::{AllocError, Global};
 use std::test::Fail;
-use textarea_edit::edit::{Edit, EditKind};
+use textarea_history::edit::{Edit, EditKind};
 use textarea_lines::laid_out::LaidOutLines;
 use textarea_lines::settings::{LayoutSettings, is_wrapped};
-use textarea_map::view::LaidOutView;
-use textarea_pieces::given::copy_pieces;
+use textarea_screen_map::view::LaidOutView;
+use textarea_text::given::copy_pieces;
 use textarea_text::rows::column_count;
 use textarea_wrap::wrap::WrapMode;
 

@@ -2,13 +2,13 @@
 ghost use Rattle.std.specs.Prelude.{◌≡◌, ◌+◌, ◌<◌, ◌≤◌, length, vec_len, IfOk, IsTrue, OnOk};
 ghost use Rattle.textarea_text.specs.Text.{lines_of};
 ghost use Rattle.textarea_text.specs.Place.{IsPlaceOf};
-ghost use Rattle.textarea_map.specs.Layout.{AreRowsOf};
+ghost use Rattle.textarea_screen_map.specs.Layout.{AreRowsOf};
 
 use crate::texts::{Place, strings};
 use std::alloc::{AllocError, Global};
 use std::test::Fail;
-use textarea_map::layout::Wrapping;
-use textarea_map::screen_map::{RowText, ScreenMap};
+use textarea_screen_map::layout::Wrapping;
+use textarea_screen_map::screen_map::{RowText, ScreenMap};
 use textarea_text::rows::{Replacement, column_count};
 use textarea_wrap::wrap::{WrapCount, WrapMode};
 

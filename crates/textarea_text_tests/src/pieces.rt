@@ -4,11 +4,11 @@ ghost use Rattle.std.specs.Prelude.{◌<◌, length};
 use crate::texts::Place;
 use std::alloc::{AllocError, Global};
 use std::test::Fail;
-use textarea_pieces::given::{copy_pieces, join_with_line_feeds, pieces_of};
-use textarea_pieces::part::between;
-use textarea_pieces::places::clip;
-use textarea_pieces::tab::spaces_to_stop;
+use textarea_text::given::{copy_pieces, join_with_line_feeds, pieces_of};
+use textarea_text::part::between;
+use textarea_text::places::clip;
 use textarea_text::rows::column_count;
+use textarea_text::tab::spaces_to_stop;
 
 /// What is written of pieces.
 #[derive(Clone, Copy)]

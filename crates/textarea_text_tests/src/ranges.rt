@@ -2,7 +2,7 @@
 use crate::texts::strings;
 use std::alloc::{AllocError, Global};
 use std::test::Fail;
-use textarea_atomic::range::{AtomicRange, AtomicRangeRejectReason, RejectedAtomicRange};
+use textarea_data::range::{AtomicRange, AtomicRangeRejectReason, RejectedAtomicRange};
 use textarea_ranges::validate::validate;
 
 fn part(row: usize, start_col: usize, end_col: usize) -> AtomicRange {

@@ -2,6 +2,7 @@
 ghost use Rattle.std.specs.Prelude.{◌<◌, length};
 
 use crate::texts::{Place, strings};
+use regex::Regex;
 use std::alloc::{AllocError, Global};
 use std::test::Fail;
 use textarea_search::search::{KeptMatches, LineMatcher, Matches, Search, SearchError};
@@ -448,5 +449,50 @@ fn settings() -> &'static [Setting] {
 #[test]
 fn patterns(rt: HostRuntime) -> Result<(), Fail> {
     assert_eq!(rt; first_unlike(rt.alloc(), settings())?, None);
+    Ok(())
+}
+
+/// Texts that `regex` builds no pattern of: seven without a reading, and one that nests deeper than 250.
+static NO_PATTERNS: [&str; 8] = [
+    "(hello",
+    "hello)",
+    "[a",
+    "a{2,1}",
+    "*",
+    "(?<n>a)(?<n>b)",
+    "\\",
+    "(((((((((((((((((((((((((((((((((((((((((((((((((((((((((((((((((((((((((((((((((((((((((((((((((((((((((((((((((((((((((((((((((((((((((((((((((((((((((((((((((((((((((((((((((((((((((((((((((((((((((((((((((((((((((((((((((((((((((((((((((((((((((((a)))))))))))))))))))))))))))))))))))))))))))))))))))))))))))))))))))))))))))))))))))))))))))))))))))))))))))))))))))))))))))))))))))))))))))))))))))))))))))))))))))))))))))))))))))))))))))))))))))))))))))))))))))))))))))))))))))))))))))))))))))))))))))",
+];
+
+// Whether a search gives the very error that `regex` gives for the text.
+fn is_carried(alloc: Global, pattern: &str) -> bool {
+    let mut search = Search::default();
+    let outcome = search.set_pattern(alloc, pattern);
+    let built = Regex::new(alloc, pattern);
+    let answer = match (&outcome, &built) {
+        (Err(SearchError::Pattern(error)), Err(wanted)) => {
+            error == wanted && *error != regex::Error::OutOfMemory
+        }
+        _ => false,
+    };
+    drop(built);
+    drop(outcome);
+    drop(search);
+    answer
+}
+
+fn first_not_carried(alloc: Global, patterns: &[&str]) -> Option<usize> {
+    patterns
+        .iter()
+        .position(|pattern| !is_carried(alloc, pattern))
+}
+
+fn no_patterns() -> &'static [&'static str] {
+    &NO_PATTERNS
+}
+
+#[test]
+fn errors_of_regex(rt: HostRuntime) -> Result<(), Fail> {
+    assert_eq!(rt; first_not_carried(rt.alloc(), no_patterns()), None);
     Ok(())
 }

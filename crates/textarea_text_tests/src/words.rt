@@ -1,5 +1,5 @@
 //! The classes of characters, and the words of lines, by hand from the rules.
-use textarea_word::word::{
+use textarea_text::word::{
     CharKind, find_word_exclusive_end_forward, find_word_inclusive_end_forward,
     find_word_start_backward, find_word_start_forward,
 };

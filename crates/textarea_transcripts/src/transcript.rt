@@ -1,7 +1,7 @@
 //! Transcripts: calls and what they answer, and the text area on the way.
 //!
-//! A line `CALL => ANSWER` is a call, as a line of a script or as words (`textarea_words`), and what it answers; `*` stands for any
-//! answer. `input_without_shortcuts` has the words of `input`, and other words tell what no call answers (`textarea_report::told`).
+//! A line `CALL => ANSWER` is a call, as a line of a script or as words (`textarea_cases`), and what it answers; `*` stands for any
+//! answer. `input_without_shortcuts` has the words of `input`, and other words tell what no call answers (`textarea_cases::told`).
 //! The inputs of a line `input HELD KEY | HELD KEY .. => ANSWER` are tried one after another, each in a text area of its own.
 //!
 //! Any other line is as `tascript` prints it of the text area at that place: its lines, its cursor, its selection, its screen; what
@@ -13,15 +13,15 @@ ghost use Rattle.textarea_calls.specs.Made.{CanBeMade};
 use std::alloc::{AllocError, Global};
 use std::mem::replace;
 use textarea_calls::Call;
-use textarea_commands::commands::{Command, read};
-use textarea_report::printing::{Report, Screen};
-use textarea_report::told::told_of;
+use textarea_calls::commands::{Command, read};
+use textarea_cases::lines::unescaped;
+use textarea_cases::parts::told_answer;
+use textarea_cases::shown::{Script, Shown};
+use textarea_cases::stop::{Stop, compare};
+use textarea_cases::told::told_of;
+use textarea_cases::words::{Lent, call_of, character, lines_in, titled};
 use textarea_run::perform::perform;
-use textarea_words::lines::unescaped;
-use textarea_words::shown::{Script, Shown};
-use textarea_words::stop::{Stop, compare};
-use textarea_words::told::told_answer;
-use textarea_words::words::{Lent, call_of, character, lines_in, titled};
+use textarea_run::printing::{Report, Screen};
 use tui_textarea::{Borders, Buffer, Color, Rect, Style, TextArea};
 
 /// The script of a transcript's calls, of which `tascript` has still to be asked.

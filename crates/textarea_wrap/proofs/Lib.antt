@@ -12,3 +12,4 @@ pub mod OneRowLemmas
 pub mod RestLemmas
 pub mod RowLemmas
 pub mod WordLemmas
+mod TallyWalks

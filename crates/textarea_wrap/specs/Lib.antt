@@ -5,3 +5,4 @@ pub mod Layout
 pub mod Units
 pub mod WordWalk
 pub mod Wrapped
+pub mod RowsView

@@ -1,18 +1,18 @@
 //! The rows of one line.
 ghost use Rattle.std.specs.Prelude.{◌≡◌, ◌+◌, ◌<◌, ◌≤◌, ◌↔◌, max, length, IsTrue, IsOk, IfOk, OnOk};
-ghost use Rattle.textarea_size.specs.Limit.{size_limit};
+ghost use Rattle.textarea_util.specs.Limit.{size_limit};
 ghost use Rattle.textarea_wrap.specs.Wrapped.{HasFewestRows, IsWrapped, TakesOneRow};
 
 use self::columns::fits_width;
 use self::glyphs::push_glyph_rows;
 use self::units::collect_units;
 use self::words::push_word_rows;
+pub use crate::count::WrapCount;
+use crate::rows::Ranges;
+pub use crate::rows::Rows;
 use serde::{Deserialize, Serialize};
 use std::alloc::{AllocError, Global};
-pub use textarea_rows::count::WrapCount;
-use textarea_rows::rows::Ranges;
-pub use textarea_rows::rows::Rows;
-use textarea_size::limit::MAX_SIZE;
+use textarea_util::limit::MAX_SIZE;
 
 pub mod columns;
 mod glyphs;

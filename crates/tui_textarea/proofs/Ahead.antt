@@ -5,7 +5,7 @@ use Rattle.textarea_text.specs.Text.{Symbol, lines}
 use Rattle.textarea_text.specs.Place.{Place, IsPlace, IsPlaceOf, index_of, place_of}
 use Rattle.textarea_document.specs.State.{DocumentState}
 use Rattle.textarea_text.proofs.Befores.{pair_is}
-use Rattle.textarea_text.proofs.Places.{index_within, place_of-index}
+use Rattle.textarea_text.proofs.TextPlaces.{index_within, place_of-index}
 
 -- at the cursor: there are none
 pub none_ahead : (text : List Symbol) (cursor to : Place) (count : ℕ) → index_of text to ≡ min (index_of text cursor + count) (length text) → to.0 ≡ cursor.0 → to.1 ≡ cursor.1 → nat_lt (index_of text cursor) (min (index_of text cursor + count) (length text)) ≡ false

@@ -5,8 +5,8 @@ use Rattle.std.proofs.lemmas.List.{length-drop, length-take-le}
 use Rattle.std.proofs.lemmas.Bool.Decides.{nat_tests}
 use Rattle.textarea_text.specs.Text.{Symbol}
 use Rattle.textarea_text.specs.Place.{Place, IsPlace, end, index_of, inserted, is_before}
-use Rattle.textarea_text.proofs.Places.{index_within}
-use Rattle.textarea_pieces.specs.Part.{part}
+use Rattle.textarea_text.proofs.TextPlaces.{index_within}
+use Rattle.textarea_text.specs.Part.{part}
 use Rattle.textarea_document.specs.State.{DocumentState}
 use Rattle.textarea_document.specs.Outcomes.{unanchored}
 use Rattle.textarea_document.specs.Edits.{insertion_place, is_filled, part_removed}

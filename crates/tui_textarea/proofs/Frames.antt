@@ -1,5 +1,5 @@
 -- What a drawing, a move and a scroll leave of how the text is laid out, and what is measured of it.
-use Rattle.std.proofs.Common.{◌≡◌, ℕ, ◌<◌, ◌&&◌, Bool, true, false, not, List, [], ◌∷◌, Option, None, Some, length, ap, refl, subst, sym, ◌∙◌}
+use Rattle.std.proofs.Common.{◌≡◌, ℕ, ◌<◌, ◌&&◌, Bool, true, false, not, List, [], ◌∷◌, Option, None, Some, length, inl, inr, ap, refl, subst, sym, ◌∙◌}
 use Rattle.textarea_text.specs.Place.{Place}
 use Rattle.textarea_text.specs.Text.{Symbol, lines}
 use Rattle.textarea_data.specs.declared.cursor.CursorMove.{CursorMove}
@@ -7,22 +7,24 @@ use Rattle.textarea_document.specs.Edits.{is_filled}
 use Rattle.textarea_document.specs.Rows.{HasRowsAt, laid_out_of, with_inner_width}
 use Rattle.textarea_document.specs.State.{DocumentState}
 use Rattle.textarea_drawing.specs.Frame.{Parts, frame_of}
-use Rattle.textarea_frame.specs.Frame.{has_lines, shows_placeholder}
+use Rattle.textarea_view.specs.Frame.{has_lines, shows_placeholder}
 use Rattle.textarea_lines.specs.Layout.{LaidOut, Layout, at_width, laid_out_with, wrapping_at, wrapping_of}
-use Rattle.textarea_map.specs.Lent.{LentRows}
+use Rattle.textarea_screen_map.specs.Lent.{LentRows}
+use Rattle.textarea_screen_map.specs.Map.{IsRowCount}
 use Rattle.textarea_lines.specs.View.{IsViewOf}
+use Rattle.textarea_lines.specs.Wrappings.{cut_at_width}
 use Rattle.textarea_lines.specs.declared.settings.LayoutSettings.{LayoutSettings}
-use Rattle.textarea_map.specs.Layout.{AreRowsOf}
+use Rattle.textarea_screen_map.specs.Layout.{AreRowsOf}
 use Rattle.textarea_blocks.specs.Sums.{row_total}
-use Rattle.textarea_map.specs.declared.layout.Wrapping.{Wrapping}
+use Rattle.textarea_screen_map.specs.declared.layout.Wrapping.{Wrapping}
 use Rattle.textarea_screen.specs.Text.{ShownLine}
 use Rattle.textarea_screen.specs.declared.screen.rect.Rect.{Rect}
-use Rattle.textarea_surround.specs.Measure.{rows_shown, saturated, width_inside}
-use Rattle.textarea_surround.specs.State.{SurroundState}
-use Rattle.textarea_surround.specs.declared.surround.measure.TextAreaMeasure.{TextAreaMeasure}
+use Rattle.textarea_view.specs.Measure.{measure_of, rows_shown, saturated, width_inside}
+use Rattle.textarea_view.specs.State.{SurroundState}
+use Rattle.textarea_view.specs.declared.surround.measure.TextAreaMeasure.{TextAreaMeasure}
 use Rattle.tui_textarea.specs.Drawing.{IsRendered, parts_of}
 use Rattle.tui_textarea.specs.Frames.{IsLaidOutFor}
-use Rattle.tui_textarea.specs.Measure.{IsMeasured}
+use Rattle.tui_textarea.specs.Measure.{IsMeasured, IsMeasuredAround}
 use Rattle.tui_textarea.specs.Moves.{IsMovedWith, moved_by, pushed}
 use Rattle.tui_textarea.specs.State.{State}
 
@@ -139,3 +141,29 @@ measured_placeholder old new area measure rows m h e =
     content old area.width measure m
     ∙ ap saturated (rows_with old.surround.placeholder.lines m.rows (not (is_filled old.document.text)) (shown_before old new area rows true h e))
     ∙ ap (λ (s : SurroundState). saturated (length s.placeholder.lines)) (sym (drawn_surround old new area h))
+
+-- ---- a measure after a drawing
+
+same_rows : (puts : PutsSettings) (document : DocumentState) (inner width count : ℕ) → HasRowsAt (with_inner_width document inner) width count → HasRowsAt document width count
+unfolding HasRowsAt
+same_rows puts document inner width count rows =
+    let laid = laid_out_of document in
+    subst (λ (s : LayoutSettings). IsRowCount (cut_at_width s width (length (lines document.text))) (lines document.text) count) (puts laid (at_width laid inner)) rows
+
+measured_after : (puts : PutsSettings) (old new : State) (area : Rect) (width : ℕ) (measure : TextAreaMeasure) → IsRendered old area new → IsMeasured new width measure → IsMeasured old width measure
+measured_after puts old new area width measure drawn m =
+    let document = drawn_document old new area drawn in
+    let surround = drawn_surround old new area drawn in
+    record {
+      rows = m.rows;
+      rows_are = same_rows puts old.document (width_inside old.surround.block area.width) (width_inside old.surround.block width) m.rows
+          (subst (λ (d : DocumentState). HasRowsAt d (width_inside old.surround.block width) m.rows) document
+          (subst (λ (s : SurroundState). HasRowsAt new.document (width_inside s.block width) m.rows) surround m.rows_are));
+      measure_is = m.measure_is
+          ∙ ap (λ (s : SurroundState). measure_of s m.rows (not (is_filled new.document.text))) surround
+          ∙ ap (λ (d : DocumentState). measure_of old.surround m.rows (not (is_filled d.text))) document;
+    }
+
+-- a measure before a drawing or after it is one before it
+pub measured_around : (puts : PutsSettings) (old new : State) (area : Rect) (measure : TextAreaMeasure) → IsRendered old area new → IsMeasuredAround old new area.width measure → IsMeasured old area.width measure
+measured_around puts old new area measure drawn m = elim m [ inl before ↦ before | inr after ↦ measured_after puts old new area area.width measure drawn after ]

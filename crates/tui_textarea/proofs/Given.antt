@@ -6,7 +6,7 @@ use Rattle.std.proofs.lemmas.Str.{IsUtf8-string_bytes, chars-nil, encode_ascii, 
 use Rattle.std.proofs.lemmas.Bool.{eqb-true}
 use Rattle.textarea_text.specs.Text.{Symbol, Character, Break, characters, characters_of, text_of}
 use Rattle.textarea_text.proofs.Columns.{chars_from_bytes}
-use Rattle.textarea_pieces.specs.Given.{begins_with_line_feed, given}
+use Rattle.textarea_text.specs.Given.{begins_with_line_feed, given}
 use Rattle.textarea_document.specs.Edits.{is_filled}
 use Rattle.textarea_history.proofs.Joins.{right_of}
 

@@ -15,3 +15,7 @@ mod WorkedCounts
 mod Lifted
 mod Unselected
 mod CursorLine
+mod CallWorked
+pub mod CallCuts
+pub mod CallGoing
+pub mod Runs

@@ -2,8 +2,8 @@
 use Rattle.std.proofs.Common.{◌≡◌, Bool, is_some, sym, ◌∙◌}
 use Rattle.textarea_data.specs.declared.cursor.CursorMove.{CursorMove}
 use Rattle.textarea_data.specs.declared.cursor.CursorMove.TheVariants as move
-use Rattle.textarea_keys.specs.declared.action.Action.{Action}
-use Rattle.textarea_keys.specs.declared.action.Action.TheVariants as action
+use Rattle.textarea_calls.specs.declared.action.Action.{Action}
+use Rattle.textarea_calls.specs.declared.action.Action.TheVariants as action
 use Rattle.tui_textarea.specs.Drawing.{viewport_scrolled}
 use Rattle.tui_textarea.specs.Input.{IsActed}
 use Rattle.tui_textarea.specs.Moves.{IsMovedWith}

@@ -6,9 +6,9 @@ use Rattle.textarea_data.specs.declared.cursor.CursorMove.{CursorMove}
 use Rattle.textarea_data.specs.declared.cursor.CursorMove.TheVariants as move
 use Rattle.textarea_document.specs.Rows.{IsAboveCursor, IsBelowCursor}
 use Rattle.textarea_document.specs.State.{DocumentState}
-use Rattle.textarea_target.specs.Target.{VisualTargets, is_visual, target}
+use Rattle.textarea_document.specs.Target.{VisualTargets, is_visual, target}
 use Rattle.textarea_drawing.specs.Hit.{IsInside}
-use Rattle.textarea_viewport.specs.Viewport.{ViewportState}
+use Rattle.textarea_view.specs.Viewport.{ViewportState}
 use Rattle.tui_textarea.specs.Moves.{IsTarget}
 use Rattle.tui_textarea.specs.State.{State}
 

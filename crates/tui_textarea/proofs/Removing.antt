@@ -6,12 +6,12 @@ use Rattle.std.proofs.lemmas.List.{length-take-le, take-append-drop}
 use Rattle.std.specs.Option.{IfSome, option_or}
 use Rattle.textarea_text.specs.Place.{Place, IsPlace, end, index_of, is_before, place_of}
 use Rattle.textarea_text.specs.Text.{Symbol}
-use Rattle.textarea_text.proofs.Places.{IsPlace-end, index_of-end}
-use Rattle.textarea_word.specs.Nearest.{greatest_below, least_below, passing}
-use Rattle.textarea_word.specs.Words.{is_behind_word, is_earlier_word_start, is_later_behind_word, is_word_start, next_behind_word, previous_word_start}
+use Rattle.textarea_text.proofs.TextPlaces.{IsPlace-end, index_of-end}
+use Rattle.textarea_text.specs.Nearest.{greatest_below, least_below, passing}
+use Rattle.textarea_text.specs.Words.{is_behind_word, is_earlier_word_start, is_later_behind_word, is_word_start, next_behind_word, previous_word_start}
 use Rattle.textarea_ranges.specs.Held.{range_end, range_start}
-use Rattle.textarea_atomic.specs.declared.range.AtomicDeleteDirection.{AtomicDeleteDirection}
-use Rattle.textarea_atomic.specs.declared.range.AtomicRange.{AtomicRange}
+use Rattle.textarea_data.specs.declared.range.AtomicDeleteDirection.{AtomicDeleteDirection}
+use Rattle.textarea_data.specs.declared.range.AtomicRange.{AtomicRange}
 use Rattle.textarea_document.specs.Edits.{IsMade, Remove, cursor_index, hit_at_cursor}
 use Rattle.textarea_document.specs.Selection.{is_selected, origin, selection_end, selection_start}
 use Rattle.textarea_document.specs.Sound.{IsSound}
@@ -19,7 +19,7 @@ use Rattle.textarea_document.specs.State.{DocumentState}
 use Rattle.textarea_document.proofs.Orders.{index_before}
 use Rattle.textarea_document.proofs.Ranges.{IsHeld, hit_is_held}
 use Rattle.textarea_document.proofs.Sounds.{start_is_place}
-use Rattle.textarea_target.specs.Target.{word_end_after, word_start_before}
+use Rattle.textarea_document.specs.Target.{word_end_after, word_start_before}
 use Rattle.tui_textarea.specs.Removals.{cursor_line, in_line, index_ahead, is_at_line_end}
 
 -- ---- what is selected

@@ -5,8 +5,8 @@ use Rattle.std.proofs.lemmas.Str.{IsUtf8-string_bytes, encodes-chars}
 use Rattle.std.proofs.lemmas.List.{length-map}
 use Rattle.textarea_text.specs.Text.{Symbol, characters_of, lines, lines_of}
 use Rattle.textarea_text.specs.Place.{Place, IsPlace, IsPlaceOf}
-use Rattle.textarea_pattern.specs.Matches.{match_columns}
-use Rattle.textarea_pattern.specs.Starts.{IsPlaceIn, starts_from, starts_of}
+use Rattle.textarea_search.specs.Matches.{match_columns}
+use Rattle.textarea_search.specs.Starts.{IsPlaceIn, starts_from, starts_of}
 use Rattle.textarea_document.specs.State.{DocumentState}
 use Rattle.tui_textarea.specs.Search.{starts_in}
 

@@ -3,8 +3,8 @@ use Rattle.std.proofs.Common.{◌≡◌, ◌||◌, Bool, true, false, Option, No
 use Rattle.std.proofs.lemmas.Bool.{cond-false, cond-true, or_left, or_parts, or_right}
 use Rattle.std.proofs.lemmas.Result.{IfOk-weaker}
 use Rattle.std.specs.Result.{IfOk, OnOk}
-use Rattle.textarea_atomic.specs.declared.range.AtomicRange.{AtomicRange}
-use Rattle.textarea_atomic.specs.declared.range.AtomicDeleteDirection.{AtomicDeleteDirection}
+use Rattle.textarea_data.specs.declared.range.AtomicRange.{AtomicRange}
+use Rattle.textarea_data.specs.declared.range.AtomicDeleteDirection.{AtomicDeleteDirection}
 use Rattle.textarea_document.specs.Edits.{hit_at_cursor, hit_removed, range_removed_or}
 use Rattle.textarea_document.specs.Selection.{is_selected, selected_removed}
 use Rattle.textarea_document.specs.State.{DocumentState}

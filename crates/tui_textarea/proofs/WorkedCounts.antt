@@ -10,11 +10,11 @@ use Rattle.textarea_lines.specs.Cuts.{map_width}
 use Rattle.textarea_lines.specs.Layout.{Layout}
 use Rattle.textarea_screen.specs.declared.screen.rect.Rect.{Rect}
 use Rattle.textarea_screen.specs.declared.screen.style.Style.{Style}
-use Rattle.textarea_surround.specs.Measure.{width_inside}
-use Rattle.textarea_surround.specs.State.{SurroundState}
+use Rattle.textarea_view.specs.Measure.{width_inside}
+use Rattle.textarea_view.specs.State.{SurroundState}
 use Rattle.textarea_text.specs.Place.{Place, last_row, line_end}
 use Rattle.textarea_text.specs.Text.{lines}
-use Rattle.textarea_pieces.specs.Part.{clip}
+use Rattle.textarea_text.specs.Part.{clip}
 use Rattle.textarea_wrap.specs.declared.wrap.WrapMode.{WrapMode}
 use Rattle.textarea_wrap.specs.declared.wrap.WrapMode.TheVariants as mode
 use Rattle.tui_textarea.specs.Drawing.{IsRendered}

@@ -4,7 +4,7 @@ use Rattle.textarea_text.specs.Text.{Symbol, Character, lines}
 use Rattle.textarea_document.specs.State.{DocumentState}
 use Rattle.textarea_document.specs.Edits.{insertion_place, is_filled, break_inserted, character_inserted, symbols_inserted}
 use Rattle.textarea_document.specs.Selection.{is_selected}
-use Rattle.textarea_pieces.specs.Tab.{width_of}
+use Rattle.textarea_text.specs.Tab.{width_of}
 use Rattle.tui_textarea.specs.State.{State, with_document}
 use Rattle.tui_textarea.specs.Selection.{selection_cancelled, unselected}
 use Rattle.tui_textarea.specs.Layout.{tab_length}

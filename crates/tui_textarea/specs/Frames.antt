@@ -1,6 +1,6 @@
 -- The width that stays from one drawing to the next.
 use Rattle.std.specs.Prelude.{◌≡◌, ℕ}
-use Rattle.textarea_surround.specs.Measure.{width_inside}
+use Rattle.textarea_view.specs.Measure.{width_inside}
 use Rattle.tui_textarea.specs.State.{State}
 
 -- the text is laid out for the width that is left inside of the block of an area of this width

@@ -6,11 +6,11 @@ use Rattle.textarea_document.specs.Edits.{is_filled}
 use Rattle.textarea_document.specs.Outcomes.{redone, undone}
 use Rattle.textarea_document.specs.Selection.{is_selected}
 use Rattle.textarea_history.specs.Log.{newest, next}
-use Rattle.textarea_keys.specs.Answer.{answer_of, told}
-use Rattle.textarea_keys.specs.Keys.{keys, keys_without_shortcuts}
-use Rattle.textarea_keys.specs.Table.{action_by}
-use Rattle.textarea_keys.specs.declared.action.Action.{Action}
-use Rattle.textarea_keys.specs.declared.action.Action.TheVariants.{Nothing, InsertChar, InsertNewline, InsertTab, DeleteChar, DeleteNextChar, DeleteLineByEnd, DeleteLineByHead, DeleteWord, DeleteNextWord, Undo, Redo, Paste, Cut, Copy, MoveWithShift, ScrollWithShift, Scroll}
+use Rattle.textarea_calls.specs.Answer.{answer_of, told}
+use Rattle.textarea_calls.specs.Keys.{keys, keys_without_shortcuts}
+use Rattle.textarea_calls.specs.Table.{action_by}
+use Rattle.textarea_calls.specs.declared.action.Action.{Action}
+use Rattle.textarea_calls.specs.declared.action.Action.TheVariants.{Nothing, InsertChar, InsertNewline, InsertTab, DeleteChar, DeleteNextChar, DeleteLineByEnd, DeleteLineByHead, DeleteWord, DeleteNextWord, Undo, Redo, Paste, Cut, Copy, MoveWithShift, ScrollWithShift, Scroll}
 use Rattle.tui_textarea.specs.Edits.{char_inserted, inserts_tab, inserts_text, newline_inserted, str_inserted, tab_inserted}
 use Rattle.tui_textarea.specs.Moves.{IsMovedWith, IsScrolled, IsScrolledWith}
 use Rattle.tui_textarea.specs.Removals.{has_before, has_behind, has_line_before, has_line_behind, has_word_before, has_word_behind, line_end_removed, line_head_removed, removes_or, symbol_before_removed, symbol_behind_removed, unselected_or, word_before_removed, word_behind_removed}

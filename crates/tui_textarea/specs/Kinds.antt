@@ -1,6 +1,6 @@
 -- The kinds of actions, by how they answer.
-use Rattle.textarea_keys.specs.declared.action.Action.{Action}
-use Rattle.textarea_keys.specs.declared.action.Action.TheVariants.{Nothing, InsertChar, InsertNewline, InsertTab, DeleteChar, DeleteNextChar, DeleteLineByEnd, DeleteLineByHead, DeleteWord, DeleteNextWord, Undo, Redo, Paste, Cut, Copy, MoveWithShift, ScrollWithShift, Scroll}
+use Rattle.textarea_calls.specs.declared.action.Action.{Action}
+use Rattle.textarea_calls.specs.declared.action.Action.TheVariants.{Nothing, InsertChar, InsertNewline, InsertTab, DeleteChar, DeleteNextChar, DeleteLineByEnd, DeleteLineByHead, DeleteWord, DeleteNextWord, Undo, Redo, Paste, Cut, Copy, MoveWithShift, ScrollWithShift, Scroll}
 use Rattle.tui_textarea.specs.declared.textarea.input.Kind.{Kind}
 use Rattle.tui_textarea.specs.declared.textarea.input.Kind.TheVariants.{Plain, Deletes, Edits, Goes}
 

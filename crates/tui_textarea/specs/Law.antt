@@ -1,11 +1,16 @@
--- What one call behind another comes to, and what the visual rows are at any time.
-use Rattle.std.specs.Prelude.{◌≡◌, List, true}
-use Rattle.textarea_text.specs.Place.{end, inserted}
+-- What one call after another does, and what the visual rows are at any time.
+use Rattle.std.specs.Prelude.{◌≡◌, ◌<◌, ℕ, List, true, encode_utf8_all, length, max}
+use Rattle.textarea_text.specs.Place.{end, inserted, line_of}
+use Rattle.textarea_text.specs.Text.{lines}
+use Rattle.textarea_blocks.specs.Sums.{ranges_at}
+use Rattle.textarea_wrap.specs.Wrapped.{IsWrapped}
+use Rattle.textarea_screen_map.specs.declared.layout.Wrapping.{Wrapping}
 use Rattle.textarea_document.specs.Edits.{insertion_place, is_filled}
 use Rattle.textarea_document.specs.Rows.{laid_out_of}
 use Rattle.textarea_document.specs.Selection.{selected}
+use Rattle.textarea_lines.specs.Layout.{wrapping_of}
 use Rattle.textarea_lines.specs.Rows.{IsLaidOutAs}
-use Rattle.textarea_rows.specs.RowsView.{RowsView}
+use Rattle.textarea_wrap.specs.RowsView.{RowsView}
 use Rattle.tui_textarea.specs.State.{State}
 use Rattle.tui_textarea.specs.Edits.{str_inserted}
 use Rattle.tui_textarea.specs.Selection.{selection_copied}
@@ -24,7 +29,20 @@ pub record PastesCopy (state : State) : Type 0 where
       ≡ end (insertion_place state.document) (selected state.document)
   pub answer : is_filled (selection_copied state).yank ≡ true
 
--- The visual rows that are kept are those of a layout anew: for each line of the text as it stands its rows, cut by nothing but that
--- line, the mode, the tab stops, and the width that is left beside line numbers; and each line was cut when the state says.
-abbrev pub HasRowsAnew : State → Type 0
-HasRowsAnew state = (rows : List RowsView) × IsLaidOutAs (laid_out_of state.document) rows
+-- The ranges are those that `line_ranges` returns for this line, given by its characters, in that mode, at that width and with such tab
+-- stops: the right ones, of which there are no others.
+abbrev pub AreLineRanges : Wrapping → List ℕ → List (ℕ × ℕ) → Type 0
+AreLineRanges wrapping line ranges = IsWrapped wrapping.mode wrapping.tab_len (max wrapping.width 1) (encode_utf8_all line) ranges
+
+-- The visual rows of a text as it stands, from scratch. There is one list of them, and whatever a clause says of right rows it says of
+-- this list: each line has the rows that `line_ranges` returns for it, in the mode, with the tab stops and at the width that is left
+-- beside line numbers, and no others; and each line was cut when the state says.
+pub record HasRowsAnew (state : State) : Type 0 where
+  pub rows : List RowsView
+  pub right : IsLaidOutAs (laid_out_of state.document) rows
+  pub only : (others : List RowsView) → IsLaidOutAs (laid_out_of state.document) others → others ≡ rows
+  pub of_lines : (index : ℕ) → index < length (lines state.document.text)
+      → AreLineRanges (wrapping_of (laid_out_of state.document)) (line_of (lines state.document.text) index) (ranges_at rows index)
+  pub of_lines_only : (index : ℕ) (ranges : List (ℕ × ℕ)) → index < length (lines state.document.text)
+      → AreLineRanges (wrapping_of (laid_out_of state.document)) (line_of (lines state.document.text) index) ranges
+      → ranges_at rows index ≡ ranges

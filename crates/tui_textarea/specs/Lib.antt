@@ -12,6 +12,14 @@ pub mod Layout
 pub mod Measure
 pub mod Law
 pub mod Frames
-pub mod Cuts
+pub mod Splices
 pub mod Worked
 pub mod Goes
+pub mod Calls
+pub mod CallCuts
+pub mod CallGoes
+pub mod Outcomes
+pub mod Patterns
+pub mod Run
+pub mod CallSplices
+pub mod Said

@@ -1,12 +1,12 @@
 -- The height that is measured.
-use Rattle.std.specs.Prelude.{◌≡◌, ℕ, Bool, not}
+use Rattle.std.specs.Prelude.{◌≡◌, ◌⊎◌, ℕ, Bool, not}
 use Rattle.textarea_lines.specs.Layout.{is_cut_at}
-use Rattle.textarea_surround.specs.Measure.{measure_of, width_inside}
-use Rattle.textarea_surround.specs.declared.surround.measure.TextAreaMeasure.{TextAreaMeasure}
+use Rattle.textarea_view.specs.Measure.{measure_of, width_inside}
+use Rattle.textarea_view.specs.declared.surround.measure.TextAreaMeasure.{TextAreaMeasure}
 use Rattle.textarea_document.specs.Edits.{is_filled}
 use Rattle.textarea_document.specs.Rows.{HasRowsAt, laid_out_of}
 use Rattle.tui_textarea.specs.State.{State}
-use Rattle.textarea_surround.specs.State.{SurroundState}
+use Rattle.textarea_view.specs.State.{SurroundState}
 
 -- the measure of an area of this width: that of the surround, for as many rows as the text has where it is laid out anew
 -- inside of the block
@@ -14,6 +14,10 @@ pub record IsMeasured (state : State) (width : ℕ) (measure : TextAreaMeasure) 
   pub rows : ℕ
   pub rows_are : HasRowsAt state.document (width_inside state.surround.block width) rows
   pub measure_is : measure ≡ measure_of state.surround rows (not (is_filled state.document.text))
+
+-- it is that of an area of this width before a change of the state, or after it
+abbrev pub IsMeasuredAround : State → State → ℕ → TextAreaMeasure → Type 0
+IsMeasuredAround old new width measure = IsMeasured old width measure ⊎ IsMeasured new width measure
 
 -- the surround changes, and all else stays
 abbrev pub with_surround : State → SurroundState → State

@@ -3,16 +3,16 @@ use Rattle.std.specs.Prelude.{◌≡◌, Bool, true, false, List, Option, Some, 
 use Rattle.textarea_text.specs.Place.{Place}
 use Rattle.textarea_data.specs.declared.cursor.CursorMove.{CursorMove}
 use Rattle.textarea_data.specs.declared.cursor.CursorMove.TheVariants as move
-use Rattle.textarea_scroll.specs.declared.scroll.Scrolling.{Scrolling}
-use Rattle.textarea_atomic.specs.declared.range.AtomicRange.{AtomicRange}
-use Rattle.textarea_atomic.specs.declared.range.AtomicCursorBias.{AtomicCursorBias}
-use Rattle.textarea_atomic.specs.declared.range.AtomicCursorBias.TheVariants.{Backward, Forward}
+use Rattle.textarea_data.specs.declared.scroll.Scrolling.{Scrolling}
+use Rattle.textarea_data.specs.declared.range.AtomicRange.{AtomicRange}
+use Rattle.textarea_data.specs.declared.range.AtomicCursorBias.{AtomicCursorBias}
+use Rattle.textarea_data.specs.declared.range.AtomicCursorBias.TheVariants.{Backward, Forward}
 use Rattle.textarea_ranges.specs.Held.{moved_out}
 use Rattle.textarea_document.specs.Outcomes.{moved}
 use Rattle.textarea_document.specs.State.{DocumentState}
 use Rattle.textarea_document.specs.Rows.{IsAboveCursor, IsBelowCursor}
 use Rattle.textarea_drawing.specs.Hit.{IsInside}
-use Rattle.textarea_target.specs.Target.{VisualTargets, target}
+use Rattle.textarea_document.specs.Target.{VisualTargets, target}
 use Rattle.tui_textarea.specs.Drawing.{viewport_scrolled}
 use Rattle.tui_textarea.specs.State.{State, with_document}
 

@@ -1,8 +1,8 @@
 -- What the calls for atomic ranges make of the state.
 use Rattle.std.specs.Prelude.{List}
-use Rattle.textarea_atomic.specs.declared.range.AtomicRange.{AtomicRange}
-use Rattle.textarea_atomic.specs.declared.range.AtomicCursorBias.{AtomicCursorBias}
-use Rattle.textarea_atomic.specs.declared.range.AtomicDeleteDirection.{AtomicDeleteDirection}
+use Rattle.textarea_data.specs.declared.range.AtomicRange.{AtomicRange}
+use Rattle.textarea_data.specs.declared.range.AtomicCursorBias.{AtomicCursorBias}
+use Rattle.textarea_data.specs.declared.range.AtomicDeleteDirection.{AtomicDeleteDirection}
 use Rattle.textarea_document.specs.Edits.{hit_at_cursor}
 use Rattle.textarea_document.specs.Ranges.{accepted, normalized, range_removed, ranges_forgotten}
 use Rattle.tui_textarea.specs.State.{State, with_document}

@@ -5,9 +5,9 @@ use Rattle.textarea_text.specs.Place.{Place, place_of}
 use Rattle.textarea_document.specs.State.{DocumentState}
 use Rattle.textarea_document.specs.Edits.{cursor_index, hit_before, hit_behind, is_at_end, is_at_start, is_filled, taken_symbols, removed_before, removed_behind, break_removed, part_removed}
 use Rattle.textarea_document.specs.Selection.{is_selected}
-use Rattle.textarea_atomic.specs.declared.range.AtomicRange.{AtomicRange}
+use Rattle.textarea_data.specs.declared.range.AtomicRange.{AtomicRange}
 use Rattle.textarea_ranges.specs.Held.{range_start, range_end}
-use Rattle.textarea_target.specs.Target.{word_end_after, word_start_before}
+use Rattle.textarea_document.specs.Target.{word_end_after, word_start_before}
 use Rattle.tui_textarea.specs.State.{State, with_document}
 use Rattle.tui_textarea.specs.Selection.{selection_cancelled, unselected}
 

@@ -3,8 +3,8 @@ use Rattle.std.specs.Prelude.{ℕ, Bool, List, [], ◌∷◌, map, Option, Some,
 use Rattle.std.specs.Str.{encode_utf8_all}
 use Rattle.textarea_text.specs.Text.{Symbol, lines}
 use Rattle.textarea_text.specs.Place.{Place}
-use Rattle.textarea_pattern.specs.Matches.{match_columns}
-use Rattle.textarea_pattern.specs.Starts.{next_start, previous_start, starts_from}
+use Rattle.textarea_search.specs.Matches.{match_columns}
+use Rattle.textarea_search.specs.Starts.{next_start, previous_start, starts_from}
 use Rattle.textarea_document.specs.Outcomes.{moved}
 use Rattle.tui_textarea.specs.State.{State, with_document}
 

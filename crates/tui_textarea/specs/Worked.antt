@@ -3,7 +3,7 @@ use Rattle.std.specs.Prelude.{ℕ, List, [], ◌∷◌, replicate}
 use Rattle.std.specs.List.{range_with_len}
 use Rattle.textarea_data.specs.declared.cursor.CursorMove.TheVariants.{Bottom, End}
 use Rattle.textarea_document.specs.Outcomes.{redone, undone}
-use Rattle.textarea_pieces.specs.Given.{given}
+use Rattle.textarea_text.specs.Given.{given}
 use Rattle.textarea_screen.specs.declared.screen.style.Style.{Style}
 use Rattle.textarea_text.specs.Text.{Symbol, joined}
 use Rattle.textarea_wrap.specs.declared.wrap.WrapMode.{WrapMode}

@@ -1,34 +1,34 @@
 //! Laws of text areas and their visual rows, each the contract of a function that does nothing.
-ghost use Rattle.std.specs.Prelude.{◌≡◌, ◌<◌, ◌^◌, ℕ, Bool, List, true, false, length};
-ghost use Rattle.textarea_size.specs.Limit.{size_limit};
+ghost use Rattle.std.specs.Prelude.{◌≡◌, ◌<◌, ◌^◌, ℕ, Bool, List, [], true, false, length};
+ghost use Rattle.textarea_util.specs.Limit.{size_limit};
 ghost use Rattle.textarea_data.specs.declared.cursor.CursorMove.{CursorMove};
-ghost use Rattle.textarea_scroll.specs.declared.scroll.Scrolling.{Scrolling};
+ghost use Rattle.textarea_data.specs.declared.scroll.Scrolling.{Scrolling};
 ghost use Rattle.textarea_document.specs.Goes.{GoesUncut};
-ghost use Rattle.textarea_document.specs.Cuts.{CutsAll, CutsBySettings, CutsByWidth, SplicesUpTo};
+ghost use Rattle.textarea_document.specs.Cuts.{CutsAll, CutsBySettings, CutsByWidth, SplicedBy};
 ghost use Rattle.textarea_document.specs.Rows.{laid_out_of};
 ghost use Rattle.textarea_document.specs.Sound.{IsSound};
+ghost use Rattle.textarea_document.specs.Splices.{break_splices, hit_splices, selected_splices};
 ghost use Rattle.textarea_document.specs.State.{fresh_document};
 ghost use Rattle.textarea_drawing.specs.Back.{IsHitBack};
 ghost use Rattle.textarea_drawing.specs.Frame.{frame_of};
-ghost use Rattle.textarea_frame.specs.Frame.{shows_placeholder};
+ghost use Rattle.textarea_view.specs.Frame.{shows_placeholder};
 ghost use Rattle.textarea_drawing.specs.Shown.{IsCaretShown};
-ghost use Rattle.textarea_keys.specs.declared.action.Action.{Action};
+ghost use Rattle.textarea_calls.specs.declared.action.Action.{Action};
 ghost use Rattle.textarea_lines.specs.declared.settings.LayoutSettings.{LayoutSettings};
-ghost use Rattle.textarea_map.specs.Lent.{LentRows};
+ghost use Rattle.textarea_screen_map.specs.Lent.{LentRows};
 ghost use Rattle.textarea_lines.specs.View.{IsViewOf};
 ghost use Rattle.textarea_blocks.specs.Sums.{row_total};
-ghost use Rattle.textarea_atomic.specs.declared.range.AtomicDeleteDirection.{AtomicDeleteDirection};
+ghost use Rattle.textarea_data.specs.declared.range.AtomicDeleteDirection.{AtomicDeleteDirection};
 ghost use Rattle.textarea_screen.specs.declared.screen.rect.Rect.{Rect};
-ghost use Rattle.textarea_surround.specs.Measure.{saturated, width_inside};
-ghost use Rattle.textarea_surround.specs.declared.surround.measure.TextAreaMeasure.{TextAreaMeasure};
+ghost use Rattle.textarea_view.specs.Measure.{saturated, width_inside};
+ghost use Rattle.textarea_view.specs.declared.surround.measure.TextAreaMeasure.{TextAreaMeasure};
 ghost use Rattle.textarea_text.specs.Place.{Place};
 ghost use Rattle.textarea_text.specs.Size.{weight};
 ghost use Rattle.textarea_text.specs.Text.{Symbol};
-ghost use Rattle.tui_textarea.specs.Cuts.{CutsByAct};
 ghost use Rattle.tui_textarea.specs.Drawing.{IsRendered, parts_of};
 ghost use Rattle.tui_textarea.specs.Edits.{str_inserted};
 ghost use Rattle.tui_textarea.specs.Frames.{IsLaidOutFor};
-ghost use Rattle.tui_textarea.specs.Measure.{IsMeasured};
+ghost use Rattle.tui_textarea.specs.Measure.{IsMeasured, IsMeasuredAround};
 ghost use Rattle.tui_textarea.specs.Goes.{GoesByAct};
 ghost use Rattle.tui_textarea.specs.Input.{IsActed};
 ghost use Rattle.tui_textarea.specs.Layout.{with_layout};
@@ -36,6 +36,7 @@ ghost use Rattle.tui_textarea.specs.Moves.{IsMovedWith, IsScrolledWith};
 ghost use Rattle.tui_textarea.specs.Ranges.{hit_range_removed};
 ghost use Rattle.tui_textarea.specs.Removals.{break_before_removed, symbols_ahead_removed, text_cleared, unselected_or};
 ghost use Rattle.tui_textarea.specs.Selection.{unselected};
+ghost use Rattle.tui_textarea.specs.Splices.{ahead_splices, clear_splices, selected_splices_or, splices_by, str_splices};
 ghost use Rattle.tui_textarea.specs.State.{State, with_other_lines};
 
 use textarea_document::laws::{
@@ -70,18 +71,19 @@ pub fn one_measure()
     one_row_count();
 }
 
-/// What is measured for the width of an area is what a drawing into that area has, but 65535 at most: its visual rows, where a
-/// column is left inside of the block, or the lines of the placeholder, where these are shown in the place of the rows.
+/// What is measured for the width of an area, before a drawing into that area or after it, is what the drawing has, but 65535 at
+/// most: its visual rows, where a column is left inside of the block, or the lines of the placeholder, where these are shown
+/// instead of the rows.
 pub fn measured_as_drawn()
     ensures rows { (old new : State) (area : Rect) (measure : TextAreaMeasure) (view : LentRows) →
-        IsMeasured old area.width measure → IsRendered old area new →
+        IsMeasuredAround old new area.width measure → IsRendered old area new →
         0 < width_inside old.surround.block area.width →
         IsViewOf (laid_out_of new.document) view →
         shows_placeholder (frame_of (parts_of new) view) ≡ false →
         measure.content_rows ≡ saturated (row_total view.rows) }
     ensures placeholder { (old new : State) (area : Rect) (measure : TextAreaMeasure)
         (view : LentRows) →
-        IsMeasured old area.width measure → IsRendered old area new →
+        IsMeasuredAround old new area.width measure → IsRendered old area new →
         shows_placeholder (frame_of (parts_of new) view) ≡ true →
         measure.content_rows ≡ saturated (length new.surround.placeholder.lines) }
 {
@@ -135,34 +137,37 @@ pub fn frame_cuts_once()
     moves_cut_nothing();
 }
 
-/// What an input cuts, by what it asks for. An insertion makes at most two splices, since what is selected is removed first, as one
-/// of its own; a removal, an undo and a redo make at most one; each splice cuts what a splice cuts, and the count grows by just as
-/// much. All else that an input asks for leaves count and ticks.
+/// What an input cuts: its splices lead from the old text and its rows to the new ones, one after another, and each cuts the lines
+/// that a splice cuts, so that the count grows by just as many. What asks for no edit has no splice, and leaves text, rows and count.
 pub fn inputs_cut()
     ensures { (old new : State) (action : Action) → IsSound old.document →
-        IsActed old action new → CutsByAct action old.document new.document }
+        IsActed old action new →
+        SplicedBy old.document (splices_by old action) new.document }
 {
     edits_cut();
-    moves_cut_nothing();
 }
 
-/// What the calls cut that no input asks for and that edit the text: the insertion of a text makes at most two splices, and each of
-/// these removals at most one; and so does the removal of what is selected, which an insertion leaves that then runs out of memory.
+/// What the calls cut that no input asks for and that edit the text, and what the removal of what is selected cuts, which an
+/// insertion leaves that then runs out of memory: their splices do as those of an input.
 pub fn calls_cut()
     ensures text { (state : State) (symbols : List Symbol) → IsSound state.document →
-        SplicesUpTo 2 state.document (str_inserted state symbols).document }
+        SplicedBy state.document (str_splices state symbols) (str_inserted state symbols).document }
     ensures ahead { (state : State) (count : ℕ) → IsSound state.document →
-        SplicesUpTo 1 state.document
+        SplicedBy state.document
+        (selected_splices_or state.document (ahead_splices state.document count))
         (unselected_or state (symbols_ahead_removed state count)).document }
     ensures break_before { (state : State) → IsSound state.document →
-        SplicesUpTo 1 state.document (unselected_or state (break_before_removed state)).document }
+        SplicedBy state.document
+        (selected_splices_or state.document (break_splices state.document))
+        (unselected_or state (break_before_removed state)).document }
     ensures all { (state : State) → IsSound state.document →
-        SplicesUpTo 1 state.document (text_cleared state).document }
+        SplicedBy state.document (clear_splices state.document) (text_cleared state).document }
     ensures range { (state : State) (direction : AtomicDeleteDirection) →
         IsSound state.document →
-        SplicesUpTo 1 state.document (hit_range_removed state direction).document }
+        SplicedBy state.document (hit_splices state.document direction)
+        (hit_range_removed state direction).document }
     ensures selection { (state : State) → IsSound state.document →
-        SplicesUpTo 1 state.document (unselected state).document }
+        SplicedBy state.document (selected_splices state.document) (unselected state).document }
 {
     edits_cut();
 }
@@ -183,34 +188,39 @@ pub fn layouts_are_cut()
     layouts_cut();
 }
 
-/// The ranges go with the text behind an input, whatever it asks for: splices lead from the old text to the new one, none where
-/// nothing is edited, and the ranges go with it. Only an undo and a redo may cut one.
+/// The ranges go with the text over an input: over its splices, which lead from the old text to the new one. Only those of an undo
+/// and a redo may cut a range.
 pub fn ranges_go_behind_inputs()
     ensures { (old new : State) (action : Action) → IsSound old.document →
-        IsActed old action new → GoesByAct action old.document new.document }
+        IsActed old action new →
+        GoesByAct action old.document (splices_by old action) new.document }
 {
     ranges_go_along();
 }
 
-/// And so they do behind the calls that no input asks for and that edit the text, behind the removal of what is selected, which an
-/// insertion leaves that then runs out of memory, and behind a drawing. None of these cuts a range.
+/// And so they do over the calls that no input asks for and that edit the text, over the removal of what is selected, which an
+/// insertion leaves that then runs out of memory, and over a drawing, which has no splice. None of these splices cuts a range.
 pub fn ranges_go_behind_calls()
     ensures text { (state : State) (symbols : List Symbol) → IsSound state.document →
-        GoesUncut state.document (str_inserted state symbols).document }
+        GoesUncut state.document (str_splices state symbols) (str_inserted state symbols).document }
     ensures ahead { (state : State) (count : ℕ) → IsSound state.document →
         GoesUncut state.document
+        (selected_splices_or state.document (ahead_splices state.document count))
         (unselected_or state (symbols_ahead_removed state count)).document }
     ensures break_before { (state : State) → IsSound state.document →
-        GoesUncut state.document (unselected_or state (break_before_removed state)).document }
+        GoesUncut state.document
+        (selected_splices_or state.document (break_splices state.document))
+        (unselected_or state (break_before_removed state)).document }
     ensures all { (state : State) → IsSound state.document →
-        GoesUncut state.document (text_cleared state).document }
+        GoesUncut state.document (clear_splices state.document) (text_cleared state).document }
     ensures range { (state : State) (direction : AtomicDeleteDirection) →
         IsSound state.document →
-        GoesUncut state.document (hit_range_removed state direction).document }
+        GoesUncut state.document (hit_splices state.document direction)
+        (hit_range_removed state direction).document }
     ensures selection { (state : State) → IsSound state.document →
-        GoesUncut state.document (unselected state).document }
+        GoesUncut state.document (selected_splices state.document) (unselected state).document }
     ensures drawing { (old new : State) (area : Rect) → IsRendered old area new →
-        GoesUncut old.document new.document }
+        GoesUncut old.document [] new.document }
 {
     ranges_go_along();
 }

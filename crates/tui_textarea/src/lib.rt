@@ -1,28 +1,28 @@
-//! A multi-line text editor widget, proved against one flat text. Every name of the public surface stands here, or in a
-//! module that is listed here.
+//! The text area over one flat text, by groups of calls, and what each call does as definitions and laws.
 #![tactic(auto)]
 
 pub mod laws;
+pub mod outcomes;
 pub mod textarea;
 pub mod util;
 pub mod worked;
 
 pub use textarea::TextArea;
-pub use textarea_atomic::range::{
+pub use textarea_data::cursor::{CursorMove, DataCursor};
+pub use textarea_data::input::{Input, Key};
+pub use textarea_data::range::{
     AtomicCursorBias, AtomicDeleteDirection, AtomicRange, AtomicRangeError,
     AtomicRangeRejectReason, RejectedAtomicRange,
 };
-pub use textarea_data::cursor::{CursorMove, DataCursor};
-pub use textarea_data::input::{Input, Key};
-pub use textarea_look::look::CursorRenderMode;
-pub use textarea_map::layout::Wrapping;
+pub use textarea_data::scroll::Scrolling;
 pub use textarea_screen::screen::{
     Alignment, Block, Borders, Buffer, Cell, Color, Line, Modifier, Padding, Position, Rect, Span,
     SpanText, Style, Text,
 };
-pub use textarea_scroll::scroll::Scrolling;
-pub use textarea_surround::surround::measure::TextAreaMeasure;
-pub use textarea_viewport::Viewport;
+pub use textarea_screen_map::layout::Wrapping;
+pub use textarea_view::Viewport;
+pub use textarea_view::look::CursorRenderMode;
+pub use textarea_view::surround::measure::TextAreaMeasure;
 pub use textarea_wrap::wrap::WrapMode;
 
 /// The spans of a drawn row.
@@ -49,7 +49,9 @@ pub mod layout {
 
 /// The visual rows of all lines, kept line by line.
 pub mod screen_map {
-    pub use textarea_map::screen_map::{NewRows, PreparedRows, RowText, ScreenMap, new_rows};
+    pub use textarea_screen_map::screen_map::{
+        NewRows, PreparedRows, RowText, ScreenMap, new_rows,
+    };
 }
 
 /// Searches for a pattern, and its matches in lines.
@@ -61,7 +63,7 @@ pub mod search {
 
 /// Classes of characters, and searches for the words of a line.
 pub mod word {
-    pub use textarea_word::word::{
+    pub use textarea_text::word::{
         CharKind, find_word_exclusive_end_forward, find_word_inclusive_end_forward,
         find_word_start_backward, find_word_start_forward,
     };
@@ -70,12 +72,4 @@ pub mod word {
 /// The rows of one line at a width.
 pub mod wrap {
     pub use textarea_wrap::wrap::{Rows, WrapCount, WrapMode, is_short, line_ranges};
-
-    /// Columns of characters and texts.
-    pub mod columns {
-        pub use textarea_wrap::wrap::columns::{
-            column_behind, column_behind_text, display_column_behind, display_column_behind_text,
-            fits_width, plain_columns,
-        };
-    }
 }

@@ -17,13 +17,13 @@ pub mod settings;
 mod surround;
 
 ghost use Rattle.std.specs.Prelude.{◌≡◌, ◌<◌, ◌≤◌, ◌↔◌, length, OnErr, OnOk, IfOk, IsTrue, [], vec_len};
-ghost use Rattle.textarea_size.specs.Limit.{size_limit};
+ghost use Rattle.textarea_util.specs.Limit.{size_limit};
 ghost use Rattle.textarea_text.specs.Text.{lines, lines_of, text_of};
 ghost use Rattle.textarea_text.specs.Place.{IsPlace};
 ghost use Rattle.textarea_text.specs.Size.{size_of};
 ghost use Rattle.textarea_document.specs.State.{fresh_document};
-ghost use Rattle.textarea_pieces.specs.Given.{written};
-ghost use Rattle.textarea_pieces.specs.Part.{clip};
+ghost use Rattle.textarea_text.specs.Given.{written};
+ghost use Rattle.textarea_text.specs.Part.{clip};
 ghost use Rattle.tui_textarea.specs.State.{new_state, with_other_lines};
 
 use crate::textarea::settings::Settings;
@@ -34,7 +34,7 @@ use textarea_document::Document;
 use textarea_drawing::Drawing;
 use textarea_lines::settings::LayoutSettings;
 use textarea_search::search::Search;
-use textarea_surround::surround::Surround;
+use textarea_view::surround::Surround;
 use textarea_wrap::wrap::WrapMode;
 
 /// How many edits a new text area remembers.

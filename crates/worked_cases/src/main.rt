@@ -19,8 +19,8 @@ mod transcript;
 use std::alloc::Global;
 use std::io::Read;
 use std::process::ExitCode;
-use textarea_words::lines;
-use textarea_words::stop::Stop;
+use textarea_cases::lines;
+use textarea_cases::stop::Stop;
 
 const STREAM_FAILED: u8 = 1;
 

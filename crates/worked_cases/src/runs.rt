@@ -4,11 +4,11 @@
 //! columns and 4 rows. `^` holds Ctrl for the key behind it, and `~` Alt. The pattern is a small o. At the end is told the mode, how
 //! the last run ended, the text area, and what was yanked.
 use std::alloc::{AllocError, Global};
+use textarea_cases::lines::keys_and_rest;
+use textarea_cases::stop::{Stop, compare};
 use textarea_data::input::{Input, Key};
 use textarea_modal::{Modal, ModalEnd};
-use textarea_report::printing::Report;
-use textarea_words::lines::keys_and_rest;
-use textarea_words::stop::{Stop, compare};
+use textarea_run::printing::Report;
 use tui_textarea::{Buffer, Rect, TextArea};
 
 /// Runs keys, at whose end this must be told.

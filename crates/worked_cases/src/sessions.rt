@@ -1,9 +1,9 @@
 //! Sessions of the modal editor, and lines that are no scripts.
 use std::alloc::Global;
 use std::str::from_utf8;
+use textarea_cases::lines::keys_and_rest;
+use textarea_cases::stop::{Stop, compare};
 use textarea_script::{serve as script, session};
-use textarea_words::lines::keys_and_rest;
-use textarea_words::stop::{Stop, compare};
 
 /// Runs a session, of which this must be printed and nothing else.
 pub fn check(alloc: Global, case: &str) -> Result<(), Stop> {

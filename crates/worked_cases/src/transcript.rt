@@ -1,10 +1,10 @@
 //! Transcripts (`textarea_transcripts`), and the scripts that their calls are.
 use crate::sessions::check_script;
 use std::alloc::Global;
+use textarea_cases::stop::Stop;
+use textarea_cases::words::Lent;
 use textarea_script::serve::{COLUMNS, ROWS};
 use textarea_transcripts::transcript::{check_choice, choices, lent};
-use textarea_words::stop::Stop;
-use textarea_words::words::Lent;
 use tui_textarea::Rect;
 
 /// Makes the calls of a transcript, once for each of its inputs.

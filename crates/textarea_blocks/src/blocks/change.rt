@@ -1,8 +1,8 @@
 //! Changes of blocks: rows that take the place of others, in one block or by whole blocks, without memory, and what has to be made
 //! ready for them before.
 ghost use Rattle.std.specs.Prelude.{◌≡◌, ◌+◌, ◌-◌, ◌*◌, ◌<◌, ◌≤◌, ◌++◌, ◌∷◌, [], length, take, drop, get_or, set, vec_len, IfOk, OnErr, OnOk};
-ghost use Rattle.textarea_size.specs.Limit.{size_limit};
-ghost use Rattle.textarea_replace.specs.Replaced.{replaced};
+ghost use Rattle.textarea_util.specs.Limit.{size_limit};
+ghost use Rattle.textarea_util.specs.Replaced.{replaced};
 ghost use Rattle.textarea_blocks.specs.Blocks.{FitsInBlock, IsEdge, all_rows, lines_before};
 ghost use Rattle.textarea_blocks.specs.Sums.{row_total};
 
@@ -10,8 +10,8 @@ use super::RowBlocks;
 use super::numbers::Exchanged;
 use crate::sums::count_rows;
 use std::alloc::AllocError;
-use textarea_replace::replace::replace_items;
-use textarea_rows::rows::Rows;
+use textarea_util::replace::replace_items;
+use textarea_wrap::rows::Rows;
 
 /// How many lines a block gets at most where lines come into it, as long as it can be halved for them.
 const FULL: usize = 1024;

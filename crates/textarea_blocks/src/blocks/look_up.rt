@@ -5,7 +5,7 @@ ghost use Rattle.textarea_blocks.specs.Sums.{ranges_at, row_total, size_total};
 
 use super::RowBlocks;
 use crate::sums::{count_rows, size_of_rows};
-use textarea_rows::rows::Rows;
+use textarea_wrap::rows::Rows;
 
 impl RowBlocks {
     // How many lines the blocks before this one have.

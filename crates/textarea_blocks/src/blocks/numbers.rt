@@ -4,7 +4,7 @@ ghost use Rattle.textarea_blocks.specs.Numbered.{AreExchanged};
 
 use std::alloc::{AllocError, Global};
 use std::marker::Model;
-use textarea_replace::replace::replace_items;
+use textarea_util::replace::replace_items;
 
 /// For each block how many items stand before it. The numbers of all blocks from one on may have a difference that isn't added to
 /// them yet: such a number is its item with `more` added and `less` taken away. So where changes of one block follow one another, no

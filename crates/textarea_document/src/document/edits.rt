@@ -1,9 +1,9 @@
 //! Edits of what the calls hand in and cut out.
 ghost use Rattle.std.specs.Prelude.{◌≡◌, ◌<◌, ◌≤◌, ◌∷◌, [], false, vec_len, IfSome, None};
 ghost use Rattle.textarea_text.specs.Text.{symbol_in, text_of};
-ghost use Rattle.textarea_edit.specs.Edit.{inserts_of, pieces_of, symbols_of};
+ghost use Rattle.textarea_history.specs.Edit.{inserts_of, pieces_of, symbols_of};
 
-use textarea_edit::edit::{Edit, EditKind};
+use textarea_history::edit::{Edit, EditKind};
 
 // The edit that inserts the pieces between two places of the cursor, or removes what they hold from between them.
 pub(super) fn edit_of(

@@ -1,7 +1,7 @@
 //! Insertions at the cursor of a document, or at the end of the atomic range that strictly holds it.
 ghost use Rattle.std.specs.Prelude.{◌≡◌, ◌<◌, ◌≤◌, true, OnOk, OnErr, IsOk, IfOk, All, []};
 ghost use Rattle.std.specs.Duration.{as_nanos};
-ghost use Rattle.textarea_size.specs.Limit.{size_limit};
+ghost use Rattle.textarea_util.specs.Limit.{size_limit};
 ghost use Rattle.textarea_text.specs.Text.{text_of};
 ghost use Rattle.textarea_text.specs.Place.{IsPlace};
 ghost use Rattle.textarea_text.specs.Size.{size_of};
@@ -12,10 +12,10 @@ use crate::document::Document;
 use crate::document::edits::edit_of;
 use std::alloc::AllocError;
 use std::time::Duration;
-use textarea_atomic::range::AtomicCursorBias;
-use textarea_edit::edit::{Edit, EditKind};
-use textarea_pieces::places::end_of;
+use textarea_data::range::AtomicCursorBias;
+use textarea_history::edit::{Edit, EditKind};
 use textarea_ranges::held::move_out;
+use textarea_text::places::end_of;
 use textarea_text::rows;
 
 impl Document {

@@ -7,19 +7,19 @@ ghost use Rattle.textarea_ranges.specs.Held.{inside, range_start, range_end};
 ghost use Rattle.textarea_ranges.specs.Order.{AreInOrder};
 ghost use Rattle.textarea_ranges.specs.Rejected.{AreRefused};
 ghost use Rattle.textarea_ranges.specs.Valid.{AreValid};
-ghost use Rattle.textarea_atomic.specs.declared.range.AtomicDeleteDirection.TheVariants.{Backward, Forward};
+ghost use Rattle.textarea_data.specs.declared.range.AtomicDeleteDirection.TheVariants.{Backward, Forward};
 ghost use Rattle.textarea_document.specs.Edits.{hit_at_cursor, is_at_end, is_at_start};
 ghost use Rattle.textarea_document.specs.Ranges.{accepted, anchor_out, anchored, holding, normalized, unless_empty, range_removed, ranges_forgotten};
 
 use crate::document::Document;
 use std::alloc::AllocError;
 use std::time::Duration;
-use textarea_atomic::range::{
+use textarea_data::range::{
     AtomicCursorBias, AtomicDeleteDirection, AtomicRange, AtomicRangeError,
 };
-use textarea_pieces::places::clip;
 use textarea_ranges::held;
 use textarea_ranges::validate::validate;
+use textarea_text::places::clip;
 
 impl Document {
     /// The atomic ranges, by row and start: each has a character at least and lies in one line, and no two share one.

@@ -5,8 +5,8 @@ ghost use Rattle.std.specs.Duration.{as_nanos};
 ghost use Rattle.textarea_text.specs.Offset.{offset_at};
 ghost use Rattle.textarea_text.specs.Text.{lines_of, symbol_in, text_of};
 ghost use Rattle.textarea_text.specs.Place.{IsPlace, IsPlaceOf, index_of};
-ghost use Rattle.textarea_pieces.specs.Part.{part};
-ghost use Rattle.textarea_atomic.specs.declared.range.AtomicDeleteDirection.TheVariants.{Backward, Forward};
+ghost use Rattle.textarea_text.specs.Part.{part};
+ghost use Rattle.textarea_data.specs.declared.range.AtomicDeleteDirection.TheVariants.{Backward, Forward};
 ghost use Rattle.textarea_ranges.specs.Held.{TakesWhole, range_start, range_end, widened};
 ghost use Rattle.textarea_document.specs.Edits.{IsSymbolBehind, hit_at_cursor, hit_before, hit_behind, hit_removed, is_at_end, is_at_start, removal, taken_symbols, removed_before, removed_behind, break_removed, part_removed, symbol_removed_before, symbol_removed_behind};
 ghost use Rattle.textarea_document.specs.Outcomes.{edited};
@@ -15,12 +15,12 @@ use crate::document::Document;
 use crate::document::edits::{deletion_of, edit_of};
 use std::alloc::AllocError;
 use std::time::Duration;
-use textarea_atomic::range::{AtomicDeleteDirection, AtomicRange};
-use textarea_edit::edit::{Edit, EditKind};
-use textarea_pieces::given::copy_pieces;
-use textarea_pieces::part::between;
-use textarea_pieces::places::line_end;
+use textarea_data::range::{AtomicDeleteDirection, AtomicRange};
+use textarea_history::edit::{Edit, EditKind};
 use textarea_ranges::held;
+use textarea_text::given::copy_pieces;
+use textarea_text::part::between;
+use textarea_text::places::line_end;
 use textarea_text::rows;
 
 impl Document {

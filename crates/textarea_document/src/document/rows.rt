@@ -11,7 +11,7 @@ use crate::document::Document;
 use std::alloc::AllocError;
 use textarea_lines::laid_out::PreparedWidth;
 use textarea_lines::settings::LayoutSettings;
-use textarea_map::view::LaidOutView;
+use textarea_screen_map::view::LaidOutView;
 
 impl Document {
     /// What decides how the lines are cut and seen.

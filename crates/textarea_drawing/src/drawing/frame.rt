@@ -1,16 +1,16 @@
 //! The frame of a document.
 ghost use Rattle.std.specs.Prelude.{◌≡◌};
 ghost use Rattle.textarea_drawing.specs.Frame.{frame_of};
-ghost use Rattle.textarea_scene.specs.Scene.{HasPlaces};
+ghost use Rattle.textarea_view.specs.Scene.{HasPlaces};
 ghost use Rattle.textarea_text.specs.Text.{lines};
 
 use super::Drawing;
 use textarea_document::Document;
-use textarea_frame::frame::Frame;
-use textarea_map::view::LaidOutView;
-use textarea_scene::scene::Scene;
+use textarea_screen_map::view::LaidOutView;
 use textarea_search::search::Search;
-use textarea_surround::Surround;
+use textarea_view::Surround;
+use textarea_view::frame::Frame;
+use textarea_view::scene::Scene;
 
 impl Drawing {
     // The frame of the document's lines with these rows.

@@ -11,7 +11,7 @@ use std::alloc::AllocError;
 use textarea_document::Document;
 use textarea_screen::screen::{Position, Rect};
 use textarea_search::search::Search;
-use textarea_surround::Surround;
+use textarea_view::Surround;
 
 impl Drawing {
     /// The place of the text that a cell of the screen shows, in the inner area of the last drawing: of the text as it stands, in

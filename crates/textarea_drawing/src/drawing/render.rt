@@ -14,13 +14,12 @@ use super::caret::{caret_has_room, caret_leads_back};
 use std::alloc::{AllocError, Global};
 use std::mem::replace;
 use textarea_document::Document;
-use textarea_frame::frame::draw_frame;
-use textarea_frame::placing::Placing;
 use textarea_lines::laid_out::PreparedWidth;
 use textarea_screen::screen::{Buffer, Position, Rect};
 use textarea_search::search::{KeptMatches, Search};
-use textarea_surround::Surround;
-use textarea_viewport::Viewport;
+use textarea_view::frame::draw_frame;
+use textarea_view::placing::Placing;
+use textarea_view::{Surround, Viewport};
 
 impl Drawing {
     /// Draws the document with its surround and the pattern's matches into the area of a buffer. The text is laid out for the

@@ -2,7 +2,7 @@
 ghost use Rattle.std.specs.Prelude.{◌≡◌, [], ◌++◌, ℕ, List, IfOk, IsOk, OnOk, OnErr, IsCharBoundary, IsPermutation};
 ghost use Rattle.std.specs.Iterator.{IsFinite, Drains};
 ghost use Rattle.std.specs.List.Sorted.{IsSortedByKey, IsStableByKey};
-ghost use Rattle.textarea_highlight.specs.Borders.{ArePlaced, rounded_down, highlight_borders, match_borders, place_of, place_cmp};
+ghost use Rattle.textarea_highlight.specs.Borders.{ArePlaced, IsEmptyAt, MarkNothing, rounded_down, highlight_borders, match_borders, place_of, place_cmp};
 
 use std::alloc::{AllocError, Global};
 use textarea_screen::screen::Style;
@@ -42,6 +42,7 @@ pub fn push_highlight(
     ensures added { OnOk result (borders.new.items
         ≡ borders.old.items ++ highlight_borders row.now from to style rank) }
     ensures placed { ArePlaced row.now borders.old.items → ArePlaced row.now borders.new.items }
+    ensures nothing { IsEmptyAt row.now from to → IsOk result × (borders.new.items ≡ borders.old.items) }
     ensures err { OnErr result (borders.new.items ≡ borders.old.items) }
 {
     let start = round_down(row, from);
@@ -76,6 +77,8 @@ pub fn borders_of_matches<I: Iterator<Item = (usize, usize)> + Drop>(
         × Drains I.next_gives matches pairs
         × (borders.items ≡ match_borders row.now pairs style)) }
     ensures placed { IfOk result (λ borders. ArePlaced row.now borders.items) }
+    ensures nothing { MarkNothing I.next_gives matches row.now →
+        IsOk result × IfOk result (λ borders. borders.items ≡ []) }
 {
     let mut borders = Vec::new(alloc);
     for found in matches {

@@ -2,10 +2,11 @@
 ghost use Rattle.std.specs.Prelude.{◌≡◌, ◌+◌, ◌^◌, ◌<◌, ◌≤◌, ℕ, None, List, [], map, length, chars, IfOk, IfNone, IfSome, OnOk, OnErr, IsErr, IsOk};
 ghost use Rattle.std.specs.Fmt.{decimal};
 ghost use Rattle.std.specs.Iterator.{IsFinite, Drains};
-ghost use Rattle.textarea_size.specs.Limit.{size_limit};
+ghost use Rattle.textarea_util.specs.Limit.{size_limit};
 ghost use Rattle.textarea_screen.specs.Text.{shown_line, shown_span};
 ghost use Rattle.textarea_highlight.specs.Cut.{IsAscending};
-ghost use Rattle.textarea_highlight.specs.Highlights.{byte_of, plain_row, with_number, with_placeholder, with_base, with_cursor_line, with_matches, with_range, with_selection, with_segment, end_style};
+ghost use Rattle.textarea_highlight.specs.Borders.{IsEmptyAt, MarkNothing};
+ghost use Rattle.textarea_highlight.specs.Highlights.{AddsNoCursor, AddsNoRange, byte_of, plain_row, with_number, with_placeholder, with_base, with_cursor_line, with_matches, with_range, with_selection, with_segment, end_style};
 ghost use Rattle.textarea_highlight.specs.Row.{AddsRow, ShowsNothing, ShowsRow};
 
 use super::borders::{Border, borders_of_matches, push_highlight, sort};
@@ -164,6 +165,7 @@ impl<'a> LineHighlighter<'a> {
     /// cell is a highlight where the row has that character and the cell is drawn.
     pub fn cursor_line(&mut self, cursor_column: usize, style: Style) -> Result<(), AllocError>
         ensures ok { OnOk result (self.new ≡ with_cursor_line self.old cursor_column style) }
+        ensures nothing { AddsNoCursor self.old cursor_column → IsOk result }
         ensures unchanged { OnErr result (self.new ≡ self.old) }
     {
         match bytes_of_character(self.row, cursor_column) {
@@ -202,6 +204,7 @@ impl<'a> LineHighlighter<'a> {
         requires ends { IsFinite (I.remaining matches) }
         ensures ok { OnOk result ((pairs : List (ℕ × ℕ)) × Drains I.next_gives matches pairs
             × (self.new ≡ with_matches self.old pairs style)) }
+        ensures nothing { MarkNothing I.next_gives matches self.old.row → IsOk result }
         ensures unchanged { OnErr result (self.new ≡ self.old) }
     {
         let borders = borders_of_matches(self.alloc, self.row, matches, style)?;
@@ -220,6 +223,8 @@ impl<'a> LineHighlighter<'a> {
     ) -> Result<(), AllocError>
         ensures ok { OnOk result (self.new ≡ with_selection self.old current_row
             ((start_row, start_offset), (end_row, end_offset))) }
+        ensures nothing { AddsNoRange self.old current_row
+            ((start_row, start_offset), (end_row, end_offset)) → IsOk result }
         ensures unchanged { OnErr result (self.new ≡ self.old) }
     {
         let range = ((start_row, start_offset), (end_row, end_offset));
@@ -236,6 +241,7 @@ impl<'a> LineHighlighter<'a> {
     ) -> Result<(), AllocError>
         ensures ok { OnOk result
             (self.new ≡ with_segment self.old start_offset end_offset select_at_end) }
+        ensures nothing { IsEmptyAt self.old.row start_offset end_offset → IsOk result }
         ensures unchanged { OnErr result (self.new ≡ self.old) }
     {
         push_highlight(
@@ -263,6 +269,7 @@ impl<'a> LineHighlighter<'a> {
         priority: u8,
     ) -> Result<(), AllocError>
         ensures ok { OnOk result (self.new ≡ with_range self.old current_row range style priority) }
+        ensures nothing { AddsNoRange self.old current_row range → IsOk result }
         ensures unchanged { OnErr result (self.new ≡ self.old) }
     {
         self.add_range(current_row, range, style, priority)
@@ -276,6 +283,7 @@ impl<'a> LineHighlighter<'a> {
         rank: u8,
     ) -> Result<(), AllocError>
         ensures ok { OnOk result (self.new ≡ with_range self.old current_row range style rank) }
+        ensures nothing { AddsNoRange self.old current_row range → IsOk result }
         ensures unchanged { OnErr result (self.new ≡ self.old) }
     {
         let ((start_row, start_offset), (end_row, end_offset)) = range;

@@ -8,9 +8,9 @@ use crate::cut::{CutAnew, let_go, take_if_cut};
 use crate::settings::{LayoutSettings, is_same, is_wrapped, wrapping_for};
 use std::alloc::AllocError;
 use std::marker::Model;
-use textarea_map::layout::Wrapping;
-use textarea_map::screen_map::ScreenMap;
-use textarea_map::view::LaidOutView;
+use textarea_screen_map::layout::Wrapping;
+use textarea_screen_map::screen_map::{ScreenMap, set_tab_len};
+use textarea_screen_map::view::LaidOutView;
 
 /// An inner width for which lines are ready. It fits the lines only as they stand where it was made.
 #[derive(Drop)]
@@ -89,7 +89,7 @@ impl LaidOutLines {
             }
             None => {
                 if !is_wrapped(settings) {
-                    self.map.set_tab_len(settings.tab_len);
+                    set_tab_len(&mut self.map, settings.tab_len);
                 }
             }
         }

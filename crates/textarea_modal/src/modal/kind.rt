@@ -2,7 +2,7 @@
 ghost use Rattle.std.specs.Prelude.{◌≡◌};
 ghost use Rattle.textarea_modal.specs.Kinds.{kind_of};
 
-use textarea_modal_keys::calls::KeyCall;
+use crate::calls::KeyCall;
 
 // How a call of a key answers.
 #[derive(Drop)]

@@ -1,19 +1,19 @@
 // Calls of keys, made on a text area.
 ghost use Rattle.std.specs.Prelude.{◌≡◌, ◌∷◌, [], map, IfOk, OnErr, OnOk};
-ghost use Rattle.textarea_outcomes.specs.Calls.{Refused};
-ghost use Rattle.textarea_outcomes.specs.Outcomes.{IsAnswer, IsBehind};
-ghost use Rattle.textarea_outcomes.specs.Said.{said, Done, Flag};
-ghost use Rattle.textarea_modal_keys.specs.Calls.{call_of};
+ghost use Rattle.tui_textarea.specs.Calls.{Refused};
+ghost use Rattle.tui_textarea.specs.Outcomes.{IsAnswer, IsBehind};
+ghost use Rattle.tui_textarea.specs.Said.{said, Done, Flag};
+ghost use Rattle.textarea_modal.specs.Calls.{call_of};
 ghost use Rattle.textarea_modal.specs.Kinds.{kind_of};
 ghost use Rattle.textarea_modal.specs.Runs.{AllMade, OneRefused};
 ghost use Rattle.textarea_modal.specs.declared.modal.kind.Kind.TheVariants.{Goes, Writes, Edits, Finds};
-ghost use Rattle.textarea_modal_keys.specs.Table.{handed_on};
+ghost use Rattle.textarea_modal.specs.Table.{handed_on};
 
+use crate::calls::KeyCall;
 use crate::modal::kind::{Kind, kind_of};
 use std::alloc::AllocError;
 use textarea_calls::Answer;
 use textarea_data::input::Input;
-use textarea_modal_keys::calls::KeyCall;
 use tui_textarea::TextArea;
 
 // Makes the calls one after another, up to the first that runs out of memory.

@@ -3,8 +3,8 @@ ghost use Rattle.std.specs.Prelude.{◌≡◌, IfOk, string_bytes};
 ghost use Rattle.textarea_script.specs.Session.{head, mode_name, stop_name};
 
 use std::alloc::{AllocError, Global};
+use textarea_modal::mode::Mode;
 use textarea_modal::{ModalEnd, ModalStop};
-use textarea_modal_keys::mode::Mode;
 
 // A line each for the mode, for how many inputs were used, and for why that was all.
 pub fn head(alloc: Global, mode: Mode, end: ModalEnd) -> Result<String, AllocError>

@@ -1,6 +1,6 @@
 ghost use Rattle.std.specs.Prelude.{◌≡◌, [], IsOk, None, OnOk};
 ghost use Rattle.std.specs.Option.{option_map_or};
-ghost use Rattle.textarea_pattern.specs.Matches.{match_spans};
+ghost use Rattle.textarea_search.specs.Matches.{match_spans};
 
 use crate::search::kept_matches::KeptMatches;
 use crate::search::line_matcher::LineMatcher;

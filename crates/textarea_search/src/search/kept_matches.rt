@@ -1,5 +1,5 @@
 ghost use Rattle.std.specs.Prelude.{◌≡◌, IfOk, IfSome, string_bytes};
-ghost use Rattle.textarea_pattern.specs.Matches.{match_spans};
+ghost use Rattle.textarea_search.specs.Matches.{match_spans};
 
 use std::alloc::{AllocError, Global};
 use std::marker::Model;

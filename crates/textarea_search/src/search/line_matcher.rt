@@ -1,7 +1,7 @@
 ghost use Rattle.std.specs.Prelude.{◌≡◌, IfOk, OnOk};
 ghost use Rattle.regex.specs.Strings.{matcher_pattern};
-ghost use Rattle.textarea_pattern.specs.Matches.{match_spans};
-ghost use Rattle.textarea_pattern.specs.Spans.{ListsMatchesOf};
+ghost use Rattle.textarea_search.specs.Matches.{match_spans};
+ghost use Rattle.textarea_search.specs.Spans.{ListsMatchesOf};
 
 use crate::search::listed::{list_spans, listed_spans};
 use regex::Matcher;
@@ -19,7 +19,7 @@ pub struct LineMatcher<'a> {
 impl<'a> Model for LineMatcher<'a> {
     ghost use Rattle.std.specs.Prelude.{ℕ, List};
     ghost use Rattle.regex.specs.Strings.{matcher_pattern};
-    ghost use Rattle.textarea_pattern.specs.Spans.{ListsMatchesOf};
+    ghost use Rattle.textarea_search.specs.Spans.{ListsMatchesOf};
 
     ghost Value = { List ℕ };
 

@@ -1,7 +1,7 @@
 //! The way from a cursor to the next start of a match in a text, by one matcher for all lines.
 ghost use Rattle.std.specs.Prelude.{◌≡◌, ◌+◌, ◌^◌, ◌<◌, length, reverse, slice_get, IfSome};
 ghost use Rattle.regex.specs.Strings.{matcher_pattern};
-ghost use Rattle.textarea_pattern.specs.Starts.{starts_by, next_start, previous_start, IsPlaceFrom, IsPlaceIn};
+ghost use Rattle.textarea_search.specs.Starts.{starts_by, next_start, previous_start, IsPlaceFrom, IsPlaceIn};
 
 use crate::search::listed::{column_ahead, column_behind, first_column, last_column};
 use regex::Matcher;

@@ -3,9 +3,9 @@
 ghost use Rattle.std.specs.Prelude.{◌≡◌, ◌+◌, ◌≤◌, ◌<◌, [], ◌∷◌, length, take, find, reverse, slice_get, option_map, encode_utf8_all, IsCharBoundary, IsUtf8, IfOk, IfSome, MatchOption, OnOk};
 ghost use Rattle.std.specs.Str.{chars};
 ghost use Rattle.regex.specs.Strings.{matcher_pattern, match_span, match_haystack};
-ghost use Rattle.textarea_pattern.specs.Columns.{column_at};
-ghost use Rattle.textarea_pattern.specs.Spans.{spans_after, columns_in};
-ghost use Rattle.textarea_pattern.specs.Starts.{is_ahead_in_line};
+ghost use Rattle.textarea_search.specs.Columns.{column_at};
+ghost use Rattle.textarea_search.specs.Spans.{spans_after, columns_in};
+ghost use Rattle.textarea_search.specs.Starts.{is_ahead_in_line};
 
 use regex::{Match, Matcher};
 use std::alloc::{AllocError, Global};

@@ -7,9 +7,9 @@ mod listed;
 mod matches;
 mod state;
 
+pub use crate::error::SearchError;
 pub use keeping_matcher::KeepingMatcher;
 pub use kept_matches::KeptMatches;
 pub use line_matcher::LineMatcher;
 pub use matches::Matches;
 pub use state::Search;
-pub use textarea_pattern::error::SearchError;

@@ -1,9 +1,11 @@
 ghost use Rattle.std.specs.Prelude.{◌≡◌, ◌≢◌, ◌<◌, [], length, option_map, IsNone, IsOk, IfOk, IfErr, IfSome, OnOk, OnErr};
 ghost use Rattle.std.specs.Option.{option_copied};
-ghost use Rattle.textarea_pattern.specs.Failures.{IsPatternFailure, IsCarried};
-ghost use Rattle.textarea_pattern.specs.Matches.{match_spans};
-ghost use Rattle.textarea_pattern.specs.Starts.{starts_of, next_start, previous_start, IsPlaceIn};
+ghost use Rattle.textarea_search.specs.Failures.{IsPatternFailure, IsCarried, IsOwnFailure};
+ghost use Rattle.textarea_search.specs.Matches.{match_spans};
+ghost use Rattle.textarea_search.specs.Starts.{starts_of, next_start, previous_start, IsPlaceIn};
 
+use crate::error::SearchError;
+use crate::pattern::Pattern;
 use crate::search::keeping_matcher::KeepingMatcher;
 use crate::search::kept_matches::KeptMatches;
 use crate::search::line_matcher::LineMatcher;
@@ -11,8 +13,6 @@ use crate::search::lines::{next_start, previous_start};
 use crate::search::matches::Matches;
 use std::alloc::{AllocError, Global};
 use std::marker::Model;
-use textarea_pattern::error::SearchError;
-use textarea_pattern::pattern::Pattern;
 
 /// The pattern that is searched for, if there is one. Contracts see its text. Clones share what was built of it.
 #[derive(Drop)]
@@ -36,6 +36,7 @@ impl Search {
         ensures present { self.old ≡ Some pattern.now → IsOk result }
         ensures refused { IfErr result (IsPatternFailure pattern.now) }
         ensures carried { IfErr result (IsCarried pattern.now) }
+        ensures own { IfErr result (IsOwnFailure pattern.now) }
         ensures err { OnErr result (self.new ≡ self.old) }
     {
         if pattern.is_empty() {

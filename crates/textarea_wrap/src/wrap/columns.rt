@@ -1,6 +1,8 @@
 //! The columns that characters take, a tab reaching to the next tab stop. Columns count from 0 at the start of a row.
 //!
 //! Wrapping and drawing give a tab without tab stops no column; display columns, by which a cursor moves, give it one.
+//!
+//! These are calls between crates, which no facade passes on.
 ghost use Rattle.std.specs.Prelude.{◌≡◌, ◌+◌, ◌*◌, ◌^◌, ◌<◌, ◌≤◌, ◌↔◌, length, chars, IsTrue};
 ghost use Rattle.textarea_wrap.specs.Columns.{plain_width, column_after, end_column, display_column_after, display_end_column};
 

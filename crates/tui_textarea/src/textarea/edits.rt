@@ -5,15 +5,15 @@ ghost use Rattle.std.specs.Str.{chars};
 ghost use Rattle.textarea_text.specs.Text.{Character, text_of};
 ghost use Rattle.textarea_document.specs.Edits.{is_filled};
 ghost use Rattle.textarea_document.specs.Selection.{is_selected};
-ghost use Rattle.textarea_pieces.specs.Given.{given};
+ghost use Rattle.textarea_text.specs.Given.{given};
 ghost use Rattle.tui_textarea.specs.Edits.{inserts_tab, inserts_text, symbols_or_none_inserted, spaces_to_stop, char_inserted, char_or_break_inserted, newline_inserted, tab_inserted, tab_or_spaces_inserted, str_inserted};
 ghost use Rattle.tui_textarea.specs.Selection.{IsLeft, selection_cancelled, unselected};
 
 use crate::textarea::TextArea;
 use std::alloc::{AllocError, Global};
 use textarea_document::document::insertions::has_symbol;
-use textarea_pieces::given::{copy_pieces, pieces_of};
-use textarea_pieces::tab::spaces_to_stop;
+use textarea_text::given::{copy_pieces, pieces_of};
+use textarea_text::tab::spaces_to_stop;
 use textarea_text::util::spaces;
 
 impl TextArea<'_> {

@@ -1,4 +1,4 @@
-//! Keys: each input asks for one of the calls, by one of the two tables of `textarea_keys`.
+//! Keys: each input asks for one of the calls, by one of the two tables of `textarea_calls`.
 ghost use Rattle.std.specs.Prelude.{◌≡◌, false, IfOk, OnErr, OnOk};
 ghost use Rattle.tui_textarea.specs.Input.{IsActed, IsLeftBy, MayRefuseAct, acts, asked_by, asked_without_shortcuts};
 ghost use Rattle.tui_textarea.specs.Kinds.{kind_of};
@@ -6,9 +6,9 @@ ghost use Rattle.tui_textarea.specs.declared.textarea.input.Kind.TheVariants.{De
 
 use crate::textarea::TextArea;
 use std::alloc::AllocError;
+use textarea_calls::action::Action;
+use textarea_calls::keys::{action_of, action_without_shortcuts};
 use textarea_data::input::Input;
-use textarea_keys::action::Action;
-use textarea_keys::keys::{action_of, action_without_shortcuts};
 
 impl TextArea<'_> {
     /// Makes the call that the input asks for by the table of keys with shortcuts, and says whether the text was changed:

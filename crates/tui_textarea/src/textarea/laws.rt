@@ -2,15 +2,15 @@
 ghost use Rattle.std.specs.Prelude.{ℕ, ◌≡◌, ◌<◌, ◌≤◌, Bool, length, true, IfSome};
 ghost use Rattle.textarea_text.specs.Place.{IsPlace};
 ghost use Rattle.textarea_text.specs.Splice.{Fits, Splice};
-ghost use Rattle.textarea_document.specs.Edits.{IsMade, Step, splice_of};
 ghost use Rattle.textarea_document.specs.Law.{GivesAllBack, GivesBack, ListsFit};
 ghost use Rattle.textarea_document.specs.Outcomes.{edited};
-ghost use Rattle.textarea_document.specs.Ranges.{CutsNone};
 ghost use Rattle.textarea_document.specs.Selection.{is_selected};
 ghost use Rattle.textarea_document.specs.Sound.{IsSound};
 ghost use Rattle.tui_textarea.specs.Law.{HasRowsAnew, PastesCopy};
 
 use crate::textarea::TextArea;
+use textarea_lines::laws::one_list_of_rows;
+use textarea_wrap::laws::one_cutting;
 
 impl TextArea<'_> {
     /// The law of undo, for every text area: that many undos, at most as many as there are done edits, give the text
@@ -42,17 +42,6 @@ impl TextArea<'_> {
         self.document.edits_fit();
     }
 
-    /// The law of atomic ranges, for every text area: whatever a call that inserts or removes does to the text, it fits the
-    /// text, takes each range whole or not at all, and inserts nothing strictly inside one.
-    pub fn steps_cut_none(&self)
-        ensures fits { (step : Step) → IsMade self.now.document step
-            → Fits self.now.document.text (splice_of self.now.document step) }
-        ensures cuts_none { (step : Step) → IsMade self.now.document step
-            → CutsNone self.now.document.ranges (splice_of self.now.document step) }
-    {
-        self.document.steps_cut_none();
-    }
-
     /// The law of copying, for every text area in which a symbol is selected: a `paste` behind a `copy` inserts exactly the
     /// symbols that were selected, at the cursor or at the end of the atomic range that strictly holds it, and answers true.
     pub fn copy_then_paste(&self)
@@ -77,11 +66,14 @@ impl TextArea<'_> {
         let _ = (self.document.cursor(), self.document.anchor());
     }
 
-    /// The law of visual rows, for every text area: the rows that are kept are those of a layout of the text anew, as it
-    /// stands, by the settings.
+    /// The law of visual rows, for every text area: there is one list of right rows of the text as it stands, and it has for each line
+    /// those that `line_ranges` returns for that line, and no others. So whatever `measure`, `render`, `cursor_at_position` and the
+    /// moves up and down say of right rows, they say of these.
     pub fn rows_are_laid_out_anew(&self)
         ensures { HasRowsAnew self.now }
     {
         let _ = self.document.view();
+        one_list_of_rows();
+        one_cutting();
     }
 }

@@ -17,8 +17,8 @@ ghost use Rattle.tui_textarea.specs.Layout.{
 
 use crate::textarea::TextArea;
 use std::alloc::AllocError;
-use textarea_look::look::Look;
 use textarea_screen::screen::{Alignment, Style};
+use textarea_view::look::Look;
 use textarea_wrap::wrap::WrapMode;
 
 impl TextArea<'_> {

@@ -1,11 +1,11 @@
 //! The measured height.
 ghost use Rattle.std.specs.Prelude.{◌≡◌, ◌≤◌, IfOk, IsOk, true};
-ghost use Rattle.textarea_surround.specs.State.{AreBounds};
+ghost use Rattle.textarea_view.specs.State.{AreBounds};
 ghost use Rattle.tui_textarea.specs.Measure.{IsMeasured, reads_rows};
 
 use crate::textarea::TextArea;
 use std::alloc::AllocError;
-use textarea_surround::surround::measure::TextAreaMeasure;
+use textarea_view::surround::measure::TextAreaMeasure;
 
 impl TextArea<'_> {
     /// The height that an area of this width, in columns, needs for the block and all rows of the text, or of the

@@ -4,10 +4,10 @@ ghost use Rattle.textarea_text.specs.Place.{IsPlace};
 ghost use Rattle.tui_textarea.specs.Moves.{IsMoved, IsMovedWith, IsTarget, anchor_with, bias_of};
 
 use crate::textarea::TextArea;
-use textarea_atomic::range::AtomicCursorBias;
 use textarea_data::cursor::CursorMove;
+use textarea_data::range::AtomicCursorBias;
+use textarea_document::target::target;
 use textarea_ranges::held::move_out;
-use textarea_target::target::target;
 
 impl TextArea<'_> {
     /// Moves the cursor; an open selection is widened or narrowed by that, and a run of typing ends. Up and Down lead

@@ -10,7 +10,7 @@ ghost use Rattle.tui_textarea.specs.Ranges.{cursor_normalized, hit_range_removed
 
 use crate::textarea::TextArea;
 use std::alloc::AllocError;
-use textarea_atomic::range::{
+use textarea_data::range::{
     AtomicCursorBias, AtomicDeleteDirection, AtomicRange, AtomicRangeError,
 };
 

@@ -7,9 +7,9 @@ ghost use Rattle.tui_textarea.specs.Removals.{break_before_removed, text_cleared
 
 use crate::textarea::TextArea;
 use std::alloc::AllocError;
-use textarea_atomic::range::AtomicDeleteDirection;
-use textarea_pieces::places::{ahead, line_end, text_end};
-use textarea_target::ends::{word_end_after, word_start_before};
+use textarea_data::range::AtomicDeleteDirection;
+use textarea_document::ends::{word_end_after, word_start_before};
+use textarea_text::places::{ahead, line_end, text_end};
 
 impl TextArea<'_> {
     /// Removes the atomic range that ends at the cursor or strictly holds it, or else the character before the

@@ -5,7 +5,7 @@ ghost use Rattle.textarea_drawing.specs.Back.{IsCursorAtCaret, IsHitBack};
 ghost use Rattle.textarea_drawing.specs.Hit.{IsHit};
 ghost use Rattle.textarea_drawing.specs.Rendered.{IsDrawn};
 ghost use Rattle.textarea_drawing.specs.Shown.{IsCaretShown};
-ghost use Rattle.textarea_frame.specs.Placed.{cell_of_position};
+ghost use Rattle.textarea_view.specs.Placed.{cell_of_position};
 ghost use Rattle.textarea_screen.specs.Buffer.{KeepsOutside};
 ghost use Rattle.textarea_screen.specs.Rect.{contains};
 ghost use Rattle.textarea_screen.specs.declared.screen.alignment.Alignment.TheVariants.{Left};
@@ -16,9 +16,9 @@ ghost use Rattle.tui_textarea.specs.Moves.{IsScrolled, IsScrolledWith};
 use crate::textarea::TextArea;
 use std::alloc::AllocError;
 use textarea_data::cursor::CursorMove;
+use textarea_data::scroll::Scrolling;
 use textarea_screen::screen::{Buffer, Position, Rect};
-use textarea_scroll::scroll::Scrolling;
-use textarea_viewport::Viewport;
+use textarea_view::Viewport;
 
 impl TextArea<'_> {
     /// Draws the text area into an area of a buffer: the block, and inside of it the visual rows, or the placeholder where

@@ -2,7 +2,7 @@
 ghost use Rattle.std.specs.Prelude.{◌≡◌, [], Some, None, OnOk, OnErr, IsOk, IfOk, IfErr, IfSome, is_some};
 ghost use Rattle.std.specs.Option.{option_copied};
 ghost use Rattle.textarea_text.specs.Place.{IsPlace};
-ghost use Rattle.textarea_pattern.specs.Failures.{IsCarried, IsPatternFailure};
+ghost use Rattle.textarea_search.specs.Failures.{IsCarried, IsOwnFailure, IsPatternFailure};
 ghost use Rattle.tui_textarea.specs.Search.{next_match, previous_match, searched, with_pattern};
 
 use crate::textarea::TextArea;
@@ -19,6 +19,7 @@ impl TextArea<'_> {
         ensures present { self.old.pattern ≡ Some pattern.now → IsOk result }
         ensures refused { IfErr result (IsPatternFailure pattern.now) }
         ensures carried { IfErr result (IsCarried pattern.now) }
+        ensures own { IfErr result (IsOwnFailure pattern.now) }
     {
         let alloc = self.allocator();
         self.search.set_pattern(alloc, pattern)

@@ -3,14 +3,14 @@ ghost use Rattle.std.specs.Prelude.{◌≡◌, OnOk, OnErr, IsOk, IfOk, IfSome, 
 ghost use Rattle.std.specs.Str.{chars};
 ghost use Rattle.textarea_text.specs.Place.{IsPlace};
 ghost use Rattle.textarea_document.specs.Selection.{is_selected, selection};
-ghost use Rattle.textarea_pieces.specs.Given.{given, written};
+ghost use Rattle.textarea_text.specs.Given.{given, written};
 ghost use Rattle.tui_textarea.specs.Selection.{all_selected, selection_copied, selection_cut, selection_cancelled, selection_started, unselected};
 
 use crate::textarea::TextArea;
 use std::alloc::AllocError;
-use textarea_pieces::given::{join_with_line_feeds, pieces_of};
-use textarea_pieces::part::between;
-use textarea_pieces::places::text_end;
+use textarea_text::given::{join_with_line_feeds, pieces_of};
+use textarea_text::part::between;
+use textarea_text::places::text_end;
 
 impl TextArea<'_> {
     /// Begins a selection at the cursor, an empty one at first.

@@ -3,8 +3,8 @@ ghost use Rattle.std.specs.Prelude.{◌≡◌, [], IsOk, None, OnErr, OnOk, Some
 ghost use Rattle.std.specs.Option.{option_map};
 ghost use Rattle.textarea_screen.specs.Block.{shown_block};
 ghost use Rattle.textarea_screen.specs.Text.{shown_text};
-ghost use Rattle.textarea_surround.specs.State.{AreBounds, first_bytes, style_with_lines};
-ghost use Rattle.textarea_surround.specs.Outcomes.{with_max_rows, with_min_rows, with_placeholder_style, with_placeholder_text};
+ghost use Rattle.textarea_view.specs.State.{AreBounds, first_bytes, style_with_lines};
+ghost use Rattle.textarea_view.specs.Outcomes.{with_max_rows, with_min_rows, with_placeholder_style, with_placeholder_text};
 ghost use Rattle.tui_textarea.specs.Measure.{with_surround};
 
 use crate::textarea::TextArea;

@@ -2,7 +2,7 @@ use Rattle.std.proofs.Common.{◌≡◌, List, ap, arith, subst, sym}
 use Rattle.textarea_text.specs.Text.{Symbol}
 use Rattle.textarea_text.specs.Place.{IsPlace}
 use Rattle.textarea_text.specs.Splice.{applied, place_after}
-use Rattle.textarea_text.proofs.Places.{takes_back}
+use Rattle.textarea_text.proofs.TextPlaces.{takes_back}
 use Rattle.textarea_lines.specs.Layout.{LaidOut}
 use Rattle.textarea_document.proofs.document.change_lines.Goals as goal
 

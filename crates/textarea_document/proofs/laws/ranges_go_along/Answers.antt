@@ -1,4 +1,4 @@
-use Rattle.textarea_document.proofs.Going.{all_stem, redone_goes, stepped_goes, undone_goes}
+use Rattle.textarea_document.proofs.Going.{all_stay_or_are_dropped, all_stem, redone_goes, stepped_goes, undone_goes}
 use Rattle.textarea_document.proofs.laws.ranges_go_along.Goals as goal
 
 pub returns-clause-stepped : goal.returns-clause-stepped
@@ -12,3 +12,6 @@ returns-clause-redone c = redone_goes
 
 pub returns-clause-stem : goal.returns-clause-stem
 returns-clause-stem c = all_stem
+
+pub returns-clause-dropped : goal.returns-clause-dropped
+returns-clause-dropped c = all_stay_or_are_dropped

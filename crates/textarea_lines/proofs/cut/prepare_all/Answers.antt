@@ -1,7 +1,7 @@
 use Rattle.std.proofs.Common.{◌∙◌, List, ap, sym, subst}
 use Rattle.std.proofs.lemmas.Result.{IfOk-weaker}
-use Rattle.textarea_rows.specs.RowsView.{RowsView}
-use Rattle.textarea_map.specs.Layout.{AreRowsOf, ticks_of}
+use Rattle.textarea_wrap.specs.RowsView.{RowsView}
+use Rattle.textarea_screen_map.specs.Layout.{AreRowsOf, ticks_of}
 use Rattle.textarea_lines.specs.Layout.{lines_after}
 use Rattle.textarea_lines.proofs.cut.prepare_all.Goals as goal
 

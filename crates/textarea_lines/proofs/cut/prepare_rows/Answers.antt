@@ -2,8 +2,8 @@ use Rattle.std.proofs.Common.{◌≡◌, ◌+◌, ◌-◌, ◌∙◌, ap, refl, 
 use Rattle.std.proofs.lemmas.List.{length-map}
 use Rattle.std.proofs.lemmas.Result.{IfOk-weaker}
 use Rattle.textarea_text.specs.Text.{characters_of, lines_of}
-use Rattle.textarea_map.specs.Prepared.{rows_in}
-use Rattle.textarea_map.proofs.Layouts.{length-AreRowsOf}
+use Rattle.textarea_screen_map.specs.Prepared.{rows_in}
+use Rattle.textarea_screen_map.proofs.Layouts.{length-AreRowsOf}
 use Rattle.textarea_lines.specs.Layout.{count_after, lines_after}
 use Rattle.textarea_lines.specs.Wrappings.{is_same, wrapping_for}
 use Rattle.textarea_lines.proofs.Preparing.{IfOk-from_four, IfOk-from_four_on, rows_of_all, rows_of_some, screen_of_all, screen_of_some}

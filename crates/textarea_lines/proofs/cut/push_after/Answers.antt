@@ -2,9 +2,9 @@ use Rattle.std.proofs.Common.{◌≡◌, ◌+◌, ◌-◌, ◌++◌, ◌∙◌, 
 use Rattle.std.proofs.lemmas.List.{length-drop, length-take-le, take_rest}
 use Rattle.std.proofs.lemmas.Result.{on_ok_weaker}
 use Rattle.textarea_text.specs.Text.{lines_of}
-use Rattle.textarea_rows.specs.RowsView.{RowsView}
+use Rattle.textarea_wrap.specs.RowsView.{RowsView}
 use Rattle.textarea_blocks.specs.Blocks.{all_rows}
-use Rattle.textarea_map.specs.Layout.{AreRowsOf, ticks_behind, ticks_of}
+use Rattle.textarea_screen_map.specs.Layout.{AreRowsOf, ticks_behind, ticks_of}
 use Rattle.textarea_lines.proofs.Layouts.{rows_together, ticks_together}
 use Rattle.textarea_lines.proofs.cut.push_after.Goals as goal
 

@@ -4,13 +4,13 @@ use Rattle.std.proofs.lemmas.Result.{IfOk-at_ok}
 use Rattle.std.specs.Str.{all_scalars}
 use Rattle.std.proofs.lemmas.Str.{IsUtf8-string_bytes, scalars-chars}
 use Rattle.textarea_text.proofs.StringRows.{line_at}
-use Rattle.textarea_replace.specs.Replaced.{replaced}
+use Rattle.textarea_util.specs.Replaced.{replaced}
 use Rattle.textarea_text.specs.Text.{lines_of}
-use Rattle.textarea_map.specs.declared.layout.Wrapping.{Wrapping}
+use Rattle.textarea_screen_map.specs.declared.layout.Wrapping.{Wrapping}
 use Rattle.textarea_wrap.specs.Wrapped.{IsWrapped}
 use Rattle.textarea_wrap.specs.declared.wrap.WrapMode.TheVariants as mode
-use Rattle.textarea_map.proofs.Holding.{bytes_of_line}
-use Rattle.textarea_map.proofs.RowSizes.{size_of_line}
+use Rattle.textarea_screen_map.proofs.Holding.{bytes_of_line}
+use Rattle.textarea_screen_map.proofs.RowSizes.{size_of_line}
 use Rattle.textarea_lines.proofs.WholeLines.{pushed, size_of_one, total_of_one, whole_ranges}
 use Rattle.textarea_lines.proofs.cut.put_whole_line.Goals as goal
 

@@ -1,4 +1,4 @@
-use Rattle.textarea_map.specs.Seen.{IsAbove, IsBelow, IsInFirstRow, IsInLastRow}
+use Rattle.textarea_screen_map.specs.Seen.{IsAbove, IsBelow, IsInFirstRow, IsInLastRow}
 use Rattle.textarea_lines.proofs.Steps.{finds_once, none_above, none_below}
 use Rattle.textarea_lines.proofs.laws.one_place_up_and_down.Goals as goal
 

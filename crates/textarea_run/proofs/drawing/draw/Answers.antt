@@ -2,7 +2,7 @@ use Rattle.std.proofs.Common.{refl, subst, sym}
 use Rattle.std.specs.Result.{OnOk}
 use Rattle.textarea_calls.specs.declared.call.Call.{Call}
 use Rattle.textarea_calls.specs.declared.call.Call.TheVariants as call
-use Rattle.textarea_outcomes.specs.Outcomes.{IsShown, IsSpared}
+use Rattle.tui_textarea.specs.Outcomes.{IsShown, IsSpared}
 use Rattle.textarea_run.proofs.Told.{done_behind, done_told, refused, refused_in_any, so_refused}
 use Rattle.textarea_run.proofs.drawing.draw.Goals as goal
 

@@ -1,5 +1,5 @@
 use Rattle.std.proofs.Common.{refl}
-use Rattle.textarea_outcomes.specs.Said.{Done}
+use Rattle.tui_textarea.specs.Said.{Done}
 use Rattle.textarea_calls.specs.declared.call.Call.TheVariants as call
 use Rattle.textarea_run.proofs.Told.{behind, told}
 use Rattle.textarea_run.proofs.drawing.look.Goals as goal

@@ -1,7 +1,7 @@
 use Rattle.std.proofs.Common.{ap, refl}
 use Rattle.textarea_calls.specs.declared.answer.Answer.TheVariants as answer
 use Rattle.textarea_calls.specs.declared.call.Call.TheVariants as call
-use Rattle.textarea_outcomes.specs.Said as said
+use Rattle.tui_textarea.specs.Said as said
 use Rattle.textarea_run.proofs.Told.{behind, told}
 use Rattle.textarea_run.proofs.drawing.read.Goals as goal
 

@@ -1,6 +1,6 @@
 use Rattle.std.proofs.Common.{None, false, is_some, refl}
 use Rattle.std.specs.Str.{chars}
-use Rattle.textarea_pieces.specs.Given.{given}
+use Rattle.textarea_text.specs.Given.{given}
 use Rattle.textarea_history.specs.Log.{newest, next}
 use Rattle.textarea_document.specs.Edits.{is_filled}
 use Rattle.textarea_document.specs.Selection.{is_selected}

@@ -2,11 +2,11 @@ use Rattle.std.proofs.Common.{◌≡◌, ◌≢◌, ◌∙◌, [], List, ap, sub
 use Rattle.std.specs.Result.{MatchResult, OnErr, OnOk}
 use Rattle.tui_textarea.specs.Ranges.{ranges_accepted}
 use Rattle.textarea_text.specs.Text.{lines}
-use Rattle.textarea_atomic.specs.declared.range.RejectedAtomicRange.{RejectedAtomicRange}
+use Rattle.textarea_data.specs.declared.range.RejectedAtomicRange.{RejectedAtomicRange}
 use Rattle.textarea_ranges.specs.Rejected.{AreRefused}
 use Rattle.textarea_ranges.specs.Valid.{AreValid}
 use Rattle.textarea_ranges.proofs.RejectedLemmas.{accepted_if_valid}
-use Rattle.textarea_outcomes.specs.Calls.{ranges_answer, rejected_ranges, with_ranges_if}
+use Rattle.tui_textarea.specs.Calls.{ranges_answer, rejected_ranges, with_ranges_if}
 use Rattle.textarea_run.proofs.Refusals.{with_rejected}
 use Rattle.textarea_run.proofs.perform.set_ranges.Goals as goal
 

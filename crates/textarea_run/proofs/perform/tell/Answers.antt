@@ -1,10 +1,10 @@
 use Rattle.std.proofs.Common.{IfOk, subst, sym}
-use Rattle.textarea_surround.specs.declared.surround.measure.TextAreaMeasure.{TextAreaMeasure}
+use Rattle.textarea_view.specs.declared.surround.measure.TextAreaMeasure.{TextAreaMeasure}
 use Rattle.textarea_calls.specs.declared.answer.Answer.{Answer}
 use Rattle.textarea_calls.specs.declared.answer.Answer.TheVariants as answer
 use Rattle.textarea_calls.specs.declared.call.Call.{Call}
-use Rattle.textarea_outcomes.specs.Outcomes.{IsAnswer}
-use Rattle.textarea_outcomes.specs.Said.{said}
+use Rattle.tui_textarea.specs.Outcomes.{IsAnswer}
+use Rattle.tui_textarea.specs.Said.{said}
 use Rattle.textarea_run.proofs.Told.{mapped}
 use Rattle.textarea_run.proofs.perform.tell.Goals as goal
 

@@ -1,20 +1,19 @@
 use Rattle.std.proofs.Common.{◌≡◌, ◌+◌, ◌<◌, ◌∷◌, [], ◌++◌, ◌∙◌, ap, cond, inr, length, map, refl, sym, subst, take, take_all, List, arith, is_ok, rules, true, vec_len, vec_capacity}
 use Rattle.std.proofs.lemmas.Option.{slice_get_read}
-use Rattle.textarea_outcomes.specs.Goes.{AllStemInRun}
-use Rattle.textarea_outcomes.specs.Run.{Leads}
-use Rattle.textarea_outcomes.specs.Said.{said}
+use Rattle.tui_textarea.specs.Run.{Leads}
+use Rattle.tui_textarea.specs.Said.{said}
 use Rattle.textarea_calls.specs.declared.answer.Answer.{Answer}
 use Rattle.textarea_calls.specs.declared.call.Call.{Call}
-use Rattle.textarea_outcomes.proofs.Going.{stem_at_start, stem_counted, stem_left, stem_next}
-use Rattle.textarea_outcomes.proofs.Runs.{leads_more}
+use Rattle.tui_textarea.proofs.CallGoing.{SoFar, at_start, ranges_at_end, ranges_at_refused, so_far_next}
+use Rattle.tui_textarea.proofs.Runs.{leads_more}
 use Rattle.textarea_run.proofs.run.make_all.Goals as goal
 
 pub loop-index-init : goal.loop-index-init
 loop-index-init c =
     record {
       led = subst (λ (all : List Answer). Leads c.args.area.now c.args.buffer.now [] (map said all) c.args.area.now c.args.buffer.now) (sym c.requires.none) (refl, refl);
-      stem = subst (λ (all : List Answer). AllStemInRun c.args.area.now c.args.buffer.now [] (map said all) c.args.area.now) (sym c.requires.none)
-          (stem_at_start c.args.area.now c.args.buffer.now c.requires.sound);
+      ranges = subst (λ (all : List Answer). SoFar c.args.area.now c.args.buffer.now [] (map said all) c.args.area.now c.args.buffer.now) (sym c.requires.none)
+          (at_start c.args.area.now c.args.buffer.now c.requires.sound);
       counted = search rules;
       room = search rules;
     }
@@ -31,8 +30,8 @@ loop-index-preserved c =
     record {
       led = subst (λ (all : List Answer). Leads c.args.area.now c.args.buffer.now (take (c.loop-index.index + 1) c.args.calls.now) (map said all) c.make.new.area c.make.new.buffer) (sym items)
           (leads_more c.args.area.now c.loop-index.area c.make.new.area c.args.buffer.now c.loop-index.buffer c.make.new.buffer c.args.calls.now c.loop-index.answers.items c.loop-index.index c.index-calls-index.result c.in-Ok.answer within c.index-calls-index.is before.led did.made);
-      stem = subst (λ (all : List Answer). AllStemInRun c.args.area.now c.args.buffer.now (take (c.loop-index.index + 1) c.args.calls.now) (map said all) c.make.new.area) (sym items)
-          (stem_next c.args.area.now c.loop-index.area c.make.new.area c.args.buffer.now c.loop-index.buffer c.make.new.buffer c.args.calls.now c.loop-index.answers.items c.loop-index.index c.index-calls-index.result c.in-Ok.answer within c.index-calls-index.is did.before did.behind before.led did.made did.goes before.stem);
+      ranges = subst (λ (all : List Answer). SoFar c.args.area.now c.args.buffer.now (take (c.loop-index.index + 1) c.args.calls.now) (map said all) c.make.new.area c.make.new.buffer) (sym items)
+          (so_far_next c.args.area.now c.loop-index.area c.make.new.area c.args.buffer.now c.loop-index.buffer c.make.new.buffer c.args.calls.now c.loop-index.answers.items c.loop-index.index c.index-calls-index.result c.in-Ok.answer within c.index-calls-index.is did.behind before.led did.made did.goes before.ranges);
       counted = c.push.ensures.len ∙ ap (λ b. cond b (vec_len c.loop-index.answers + 1) (vec_len c.loop-index.answers)) pushed ∙ ap (λ n. n + 1) before.counted;
       room = omega (arith, before.room, c.push.ensures.capacity);
     }
@@ -53,10 +52,15 @@ pub returns-in-Err-clause-ranges : goal.returns-in-Err-clause-ranges
 returns-in-Err-clause-ranges c =
     let before = c.loop-index.invariant in
     let counted : length c.loop-index.answers.items ≡ c.loop-index.index = omega (arith, c.loop-index.answers.ok, before.counted) in
-    stem_counted c.args.area.now c.make.new.area c.args.buffer.now c.args.calls.now c.loop-index.answers.items c.loop-index.index counted
-    (stem_left c.args.area.now c.loop-index.area c.make.new.area c.args.buffer.now (take c.loop-index.index c.args.calls.now) (map said c.loop-index.answers.items) c.in-Err.ensures.before c.in-Err.ensures.left before.stem)
+    ranges_at_refused c.args.area.now c.loop-index.area c.make.new.area c.args.buffer.now c.loop-index.buffer c.args.calls.now c.loop-index.answers.items c.loop-index.index counted c.in-Err.ensures.left before.ranges
 
 pub returns-clause-led : goal.returns-clause-led
 returns-clause-led c =
     subst (λ (made : List Call). Leads c.args.area.now c.args.buffer.now made (map said c.loop-index.answers.items) c.loop-index.area c.loop-index.buffer)
     (take_all c.loop-index.index c.args.calls.now (omega (arith, c.loop-index-test.false))) c.loop-index.invariant.led
+
+pub returns-clause-ranges : goal.returns-clause-ranges
+returns-clause-ranges c =
+    let before = c.loop-index.invariant in
+    let counted : length c.loop-index.answers.items ≡ c.loop-index.index = omega (arith, c.loop-index.answers.ok, before.counted) in
+    ranges_at_end c.args.area.now c.loop-index.area c.args.buffer.now c.loop-index.buffer c.args.calls.now c.loop-index.answers.items c.loop-index.index counted before.ranges

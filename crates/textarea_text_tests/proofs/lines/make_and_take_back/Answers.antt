@@ -1,6 +1,6 @@
 use Rattle.std.proofs.Common.{ap, subst, sym}
 use Rattle.textarea_text.specs.Splice.{Fits, applied, inverse}
-use Rattle.textarea_text.proofs.Places.{takes_back}
+use Rattle.textarea_text.proofs.TextPlaces.{takes_back}
 use Rattle.textarea_lines.specs.Layout.{LaidOut}
 use Rattle.textarea_text_tests.proofs.lines.make_and_take_back.Goals as goal
 

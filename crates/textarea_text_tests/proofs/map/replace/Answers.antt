@@ -1,5 +1,5 @@
 use Rattle.std.proofs.Common.{arith}
-use Rattle.textarea_map.specs.Prepared.{rows_in}
+use Rattle.textarea_screen_map.specs.Prepared.{rows_in}
 use Rattle.textarea_text_tests.proofs.RowLists.{one_list_a_line, rows_replaced}
 use Rattle.textarea_text_tests.proofs.map.replace.Goals as goal
 

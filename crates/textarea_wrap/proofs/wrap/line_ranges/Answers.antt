@@ -1,6 +1,6 @@
 use Rattle.std.proofs.Common.{length, max, sym, subst, ◌≡◌, ◌↔◌, refl, List, Result, Ok, Err, ℕ}
 use Rattle.std.specs.Result.{IfOk, IsOk}
-use Rattle.textarea_rows.specs.RowsView.{RowsView}
+use Rattle.textarea_wrap.specs.RowsView.{RowsView}
 use Rattle.textarea_wrap.specs.Wrapped.{HasFewestRows}
 use Rattle.textarea_wrap.proofs.FewestRowLemmas.{HasFewestRows-wrapped}
 use Rattle.textarea_wrap.proofs.wrap.line_ranges.Goals as goal

@@ -1,6 +1,6 @@
 use Rattle.std.proofs.Common.{subst, sym}
 use Rattle.textarea_document.specs.Cuts.{CutsByWidth}
-use Rattle.textarea_surround.specs.Measure.{width_inside}
+use Rattle.textarea_view.specs.Measure.{width_inside}
 use Rattle.tui_textarea.proofs.Frames.{drawn_document}
 use Rattle.tui_textarea.proofs.laws.layouts_are_cut.Goals as goal
 

@@ -1,6 +1,6 @@
 use Rattle.std.proofs.Common.{ℕ, ap, not, sym, ◌∙◌}
 use Rattle.textarea_document.specs.Edits.{is_filled}
-use Rattle.textarea_surround.specs.Measure.{measure_of, width_inside}
+use Rattle.textarea_view.specs.Measure.{measure_of, width_inside}
 use Rattle.tui_textarea.proofs.laws.one_measure.Goals as goal
 
 pub returns : goal.returns

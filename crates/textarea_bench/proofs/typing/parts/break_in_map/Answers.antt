@@ -1,7 +1,7 @@
 use Rattle.std.proofs.Common.{arith, length}
 use Rattle.std.proofs.lemmas.List.{length-map}
 use Rattle.textarea_text.specs.Text.{characters_of, lines_of}
-use Rattle.textarea_map.proofs.Layouts.{length-AreRowsOf}
+use Rattle.textarea_screen_map.proofs.Layouts.{length-AreRowsOf}
 use Rattle.textarea_bench.proofs.typing.parts.break_in_map.Goals as goal
 
 pub break_rows-broken-requires : goal.break_rows-broken-requires

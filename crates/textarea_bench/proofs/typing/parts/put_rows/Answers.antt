@@ -1,9 +1,9 @@
 use Rattle.std.proofs.Common.{◌+◌, ◌≤◌, ap, arith, length}
 use Rattle.std.proofs.lemmas.List.{length-map}
 use Rattle.textarea_text.specs.Text.{characters_of, lines_of}
-use Rattle.textarea_replace.proofs.Replacing.{length-replaced}
-use Rattle.textarea_map.specs.Prepared.{rows_in}
-use Rattle.textarea_map.proofs.Layouts.{length-AreRowsOf}
+use Rattle.textarea_util.proofs.Replacing.{length-replaced}
+use Rattle.textarea_screen_map.specs.Prepared.{rows_in}
+use Rattle.textarea_screen_map.proofs.Layouts.{length-AreRowsOf}
 use Rattle.textarea_bench.proofs.typing.parts.put_rows.Goals as goal
 
 pub returns : goal.returns

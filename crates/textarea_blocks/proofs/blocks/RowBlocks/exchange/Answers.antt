@@ -1,7 +1,7 @@
 use Rattle.std.proofs.Common.{◌≡◌, ◌+◌, ◌<◌, ◌≤◌, ◌∙◌, List, [], ap, arith, get_or, length, set, ℕ}
-use Rattle.textarea_replace.specs.Replaced.{replaced}
-use Rattle.textarea_replace.proofs.Replacing.{length-replaced}
-use Rattle.textarea_rows.specs.RowsView.{RowsView}
+use Rattle.textarea_util.specs.Replaced.{replaced}
+use Rattle.textarea_util.proofs.Replacing.{length-replaced}
+use Rattle.textarea_wrap.specs.RowsView.{RowsView}
 use Rattle.textarea_blocks.specs.Blocks.{BlocksView, all_rows, rows_of_each}
 use Rattle.textarea_blocks.specs.Sums.{row_total}
 use Rattle.textarea_blocks.proofs.InBlocks.{before_more, before_ordered, before_within, block_count, blocks_set, lines_sum, rows_are, rows_sum}

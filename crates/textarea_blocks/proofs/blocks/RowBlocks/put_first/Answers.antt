@@ -1,4 +1,4 @@
-use Rattle.textarea_rows.specs.RowsView.{RowsView}
+use Rattle.textarea_wrap.specs.RowsView.{RowsView}
 use Rattle.textarea_blocks.proofs.InBlocks.{block_pushed, blocks_pushed, lines_sum, pushed, rows_sum}
 use Rattle.std.proofs.Common.{List, [], ap, arith, length, sym, ◌∙◌, ◌≡◌}
 use Rattle.textarea_blocks.specs.Blocks.{BlocksView, all_rows, rows_of_each}

@@ -1,6 +1,6 @@
 use Rattle.std.proofs.Common.{◌≡◌, ◌+◌, ◌-◌, ◌∙◌, [], ap, arith, length}
-use Rattle.textarea_replace.specs.Replaced.{replaced}
-use Rattle.textarea_replace.proofs.Replacing.{length-replaced}
+use Rattle.textarea_util.specs.Replaced.{replaced}
+use Rattle.textarea_util.proofs.Replacing.{length-replaced}
 use Rattle.textarea_blocks.specs.Blocks.{all_rows, lines_before}
 use Rattle.textarea_blocks.proofs.Exchanging.{rest_removed}
 use Rattle.textarea_blocks.proofs.InBlocks.{blocks_replaced, lines_sum}

@@ -1,8 +1,8 @@
 use Rattle.std.proofs.Common.{◌≡◌, ◌+◌, ◌-◌, ◌≤◌, ◌∷◌, ◌∙◌, List, [], ap, arith, drop, get_or, length, set, take, ℕ}
 use Rattle.std.proofs.lemmas.List.{append-nil, length-drop, length-set, length-take-le}
-use Rattle.textarea_replace.specs.Replaced.{replaced}
-use Rattle.textarea_replace.proofs.Replacing.{length-replaced}
-use Rattle.textarea_rows.specs.RowsView.{RowsView}
+use Rattle.textarea_util.specs.Replaced.{replaced}
+use Rattle.textarea_util.proofs.Replacing.{length-replaced}
+use Rattle.textarea_wrap.specs.RowsView.{RowsView}
 use Rattle.textarea_blocks.specs.Blocks.{BlocksView, all_rows, lines_before}
 use Rattle.textarea_blocks.specs.Sums.{row_total}
 use Rattle.textarea_blocks.proofs.InBlocks.{behind_set, block_count, block_split, lines_sum, rows_sum}

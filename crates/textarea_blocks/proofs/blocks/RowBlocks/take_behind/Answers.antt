@@ -1,6 +1,6 @@
 use Rattle.std.proofs.Common.{◌≡◌, ◌+◌, ◌<◌, ◌≤◌, ◌∙◌, List, [], ap, arith, drop, get_or, length, set, take, ℕ}
 use Rattle.std.proofs.lemmas.List.{length-drop, length-take-le}
-use Rattle.textarea_rows.specs.RowsView.{RowsView}
+use Rattle.textarea_wrap.specs.RowsView.{RowsView}
 use Rattle.textarea_blocks.specs.Blocks.{BlocksView, rows_of_each}
 use Rattle.textarea_blocks.specs.Sums.{row_total}
 use Rattle.textarea_blocks.proofs.InBlocks.{before_more, before_ordered, before_within, block_count, blocks_set, lines_sum, rows_are, rows_sum}

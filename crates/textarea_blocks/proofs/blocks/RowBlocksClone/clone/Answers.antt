@@ -1,6 +1,6 @@
 use Rattle.std.proofs.Common.{◌≡◌, ◌∷◌, ◌∙◌, List, [], Vec, ap, refl, vec_len}
 use Rattle.std.specs.List.{AllZip}
-use Rattle.textarea_rows.specs.RowsView.{RowsView}
+use Rattle.textarea_wrap.specs.RowsView.{RowsView}
 use Rattle.textarea_blocks.specs.Blocks.{BlocksView, rows_of_each}
 use Rattle.textarea_blocks.proofs.blocks.RowBlocksClone.clone.Goals as goal
 

@@ -2,8 +2,8 @@ use Rattle.std.proofs.Common.{◌∙◌, List, Option, ap, sym, subst}
 use Rattle.std.specs.Option.{IfSome}
 use Rattle.textarea_text.specs.Text.{lines}
 use Rattle.textarea_text.specs.Place.{IsPlace, Place}
-use Rattle.textarea_atomic.specs.declared.range.AtomicRange.{AtomicRange}
-use Rattle.textarea_atomic.specs.declared.range.AtomicCursorBias.TheVariants.{Forward}
+use Rattle.textarea_data.specs.declared.range.AtomicRange.{AtomicRange}
+use Rattle.textarea_data.specs.declared.range.AtomicCursorBias.TheVariants.{Forward}
 use Rattle.textarea_ranges.specs.Held.{moved_out}
 use Rattle.textarea_ranges.specs.Valid.{AreValid}
 use Rattle.textarea_document.specs.Ranges.{anchor_out, holding, unless_empty}

@@ -1,6 +1,6 @@
 use Rattle.std.proofs.Common.{◌≡◌, ◌≤◌, ◌∙◌, ◌∷◌, ℕ, Global, List, String, [], ap, arith, false, refl, subst, sym, true}
 use Rattle.std.specs.Duration.{as_nanos}
-use Rattle.textarea_size.specs.Limit.{size_limit}
+use Rattle.textarea_util.specs.Limit.{size_limit}
 use Rattle.textarea_text.specs.Text.{Symbol, text_of}
 use Rattle.textarea_text.specs.Place.{Place, end}
 use Rattle.textarea_text.specs.Size.{size_of}

@@ -3,7 +3,7 @@ use Rattle.std.specs.Duration.{as_nanos}
 use Rattle.std.specs.Option.{IfSome}
 use Rattle.std.specs.Result.{IfOk}
 use Rattle.std.proofs.lemmas.Result.{on_ok_weaker}
-use Rattle.textarea_atomic.specs.declared.range.AtomicRange.{AtomicRange}
+use Rattle.textarea_data.specs.declared.range.AtomicRange.{AtomicRange}
 use Rattle.textarea_document.specs.Edits.{hit_before, is_at_start, range_removed_or, removed_before, symbol_removed_before}
 use Rattle.textarea_document.specs.State.{DocumentState}
 use Rattle.textarea_document.proofs.document.Document.remove_before.Goals as goal

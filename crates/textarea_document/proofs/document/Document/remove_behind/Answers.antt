@@ -2,7 +2,7 @@ use Rattle.std.proofs.Common.{◌≡◌, ◌∙◌, Bool, Option, ap, not, subst
 use Rattle.std.specs.Duration.{as_nanos}
 use Rattle.std.specs.Result.{IfOk}
 use Rattle.std.proofs.lemmas.Result.{on_ok_weaker}
-use Rattle.textarea_atomic.specs.declared.range.AtomicRange.{AtomicRange}
+use Rattle.textarea_data.specs.declared.range.AtomicRange.{AtomicRange}
 use Rattle.textarea_document.specs.Edits.{is_at_end, range_removed_or, removed_behind, symbol_removed_behind}
 use Rattle.textarea_document.specs.State.{DocumentState}
 use Rattle.textarea_document.proofs.document.Document.remove_behind.Goals as goal

@@ -2,7 +2,7 @@ use Rattle.std.proofs.Common.{◌∙◌, List, ap, false}
 use Rattle.std.specs.Duration.{as_nanos}
 use Rattle.textarea_text.specs.Text.{Symbol, joined, text_of}
 use Rattle.textarea_text.specs.Place.{Place}
-use Rattle.textarea_pieces.specs.Part.{part}
+use Rattle.textarea_text.specs.Part.{part}
 use Rattle.textarea_document.specs.Edits.{part_removed, removal}
 use Rattle.textarea_document.specs.Outcomes.{edited}
 use Rattle.textarea_document.proofs.document.Document.take.Goals as goal

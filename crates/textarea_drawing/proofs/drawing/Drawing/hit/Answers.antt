@@ -1,6 +1,6 @@
 use Rattle.std.proofs.Common.{refl}
 use Rattle.textarea_drawing.specs.Frame.{Parts}
-use Rattle.textarea_frame.proofs.Layers.{if_ok}
+use Rattle.textarea_view.proofs.Layers.{if_ok}
 use Rattle.textarea_drawing.proofs.drawing.Drawing.hit.Goals as goal
 
 pub returns-clause-back : goal.returns-clause-back

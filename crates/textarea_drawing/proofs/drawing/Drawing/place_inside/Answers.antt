@@ -1,5 +1,5 @@
 use Rattle.std.proofs.Common.{sym, subst, ◌∙◌}
-use Rattle.textarea_map.specs.Seen.{IsVisualPosition}
+use Rattle.textarea_screen_map.specs.Seen.{IsVisualPosition}
 use Rattle.textarea_text.specs.Place.{Place}
 use Rattle.textarea_drawing.specs.Hit.{IsReached}
 use Rattle.textarea_drawing.proofs.drawing.Drawing.place_inside.Goals as goal

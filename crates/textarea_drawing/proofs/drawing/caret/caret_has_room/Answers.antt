@@ -1,5 +1,5 @@
 use Rattle.std.proofs.Common.{ap, arith, subst, sym, ◌<◌, ◌^◌}
-use Rattle.textarea_size.specs.Limit.{size_limit}
+use Rattle.textarea_util.specs.Limit.{size_limit}
 use Rattle.textarea_document.specs.State.{DocumentState}
 use Rattle.textarea_lines.specs.declared.settings.LayoutSettings.{LayoutSettings}
 use Rattle.textarea_text.proofs.Sizes.{size_of_text}

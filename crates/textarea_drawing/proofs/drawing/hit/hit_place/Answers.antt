@@ -1,10 +1,10 @@
 use Rattle.std.proofs.Common.{ap, subst}
 use Rattle.textarea_drawing.specs.Frame.{Parts, frame_of}
-use Rattle.textarea_frame.specs.Frame.{FrameState}
-use Rattle.textarea_frame.specs.Hit.{IsHitOf}
+use Rattle.textarea_view.specs.Frame.{FrameState}
+use Rattle.textarea_view.specs.Hit.{IsHitOf}
 use Rattle.textarea_drawing.specs.State.{DrawingState}
-use Rattle.textarea_viewport.specs.Viewport.{ViewportState}
-use Rattle.textarea_frame.proofs.Layers.{if_ok}
+use Rattle.textarea_view.specs.Viewport.{ViewportState}
+use Rattle.textarea_view.proofs.Layers.{if_ok}
 use Rattle.textarea_drawing.proofs.drawing.hit.hit_place.Goals as goal
 
 pub returns-clause-hit : goal.returns-clause-hit

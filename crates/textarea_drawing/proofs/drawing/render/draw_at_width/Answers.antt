@@ -1,10 +1,10 @@
 use Rattle.std.proofs.Common.{ap, subst}
 use Rattle.textarea_drawing.specs.Frame.{Parts, frame_of}
-use Rattle.textarea_frame.specs.Frame.{FrameState}
+use Rattle.textarea_view.specs.Frame.{FrameState}
 use Rattle.textarea_drawing.specs.State.{DrawingState}
-use Rattle.textarea_frame.specs.Drawn.{IsFrameDrawn}
-use Rattle.textarea_viewport.specs.Viewport.{ViewportState}
-use Rattle.textarea_frame.proofs.Layers.{if_ok}
+use Rattle.textarea_view.specs.FrameDrawn.{IsFrameDrawn}
+use Rattle.textarea_view.specs.Viewport.{ViewportState}
+use Rattle.textarea_view.proofs.Layers.{if_ok}
 use Rattle.textarea_drawing.proofs.drawing.render.draw_at_width.Goals as goal
 
 pub returns-clause-ok : goal.returns-clause-ok

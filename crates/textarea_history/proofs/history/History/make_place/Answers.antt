@@ -2,7 +2,7 @@ use Rattle.std.proofs.Common.{◌≡◌, ◌∙◌, ◌-◌, ◌≤◌, ◌<◌,
 use Rattle.std.specs.List.{All}
 use Rattle.std.proofs.lemmas.List.{length-take-le, length-drop}
 use Rattle.std.proofs.lemmas.List.Elements.{All-drop, All-same, All-take}
-use Rattle.textarea_edit.specs.Edit.{Stored, IsWellFormed}
+use Rattle.textarea_history.specs.Edit.{Stored, IsWellFormed}
 use Rattle.std.specs.VecDeque.{deque_capacity, deque_len}
 use Rattle.std.specs.Duration.{as_nanos}
 use Rattle.textarea_history.specs.Log.{Kept}

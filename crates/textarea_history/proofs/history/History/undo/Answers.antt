@@ -3,7 +3,7 @@ use Rattle.std.specs.Prelude.{String}
 use Rattle.textarea_text.specs.Text.{text_of, Symbol}
 use Rattle.textarea_text.specs.Place.{Place}
 use Rattle.textarea_text.specs.Splice.{Splice, applied, inverse, place_after, place_before}
-use Rattle.textarea_edit.specs.Change.{Makes}
+use Rattle.textarea_history.specs.Change.{Makes}
 use Rattle.textarea_history.specs.Log.{Log, Undoes, logged_of, newest, taken_back, undone_by}
 use Rattle.textarea_history.proofs.history.History.undo.Goals as goal
 

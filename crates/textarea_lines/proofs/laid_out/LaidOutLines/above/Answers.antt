@@ -1,4 +1,4 @@
-use Rattle.textarea_map.specs.Seen.{IsAbove, IsInFirstRow}
+use Rattle.textarea_screen_map.specs.Seen.{IsAbove, IsInFirstRow}
 use Rattle.textarea_lines.proofs.Steps.{found_in_text}
 use Rattle.textarea_lines.proofs.Stores.{place_in_lent}
 use Rattle.textarea_lines.proofs.laid_out.LaidOutLines.above.Goals as goal

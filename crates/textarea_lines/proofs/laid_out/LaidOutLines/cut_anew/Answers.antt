@@ -1,5 +1,5 @@
 use Rattle.std.proofs.Common.{◌∙◌, ◌+◌, ap, length}
-use Rattle.textarea_map.specs.Layout.{ticks_behind}
+use Rattle.textarea_screen_map.specs.Layout.{ticks_behind}
 use Rattle.textarea_lines.proofs.Widths.{whole_cut}
 use Rattle.textarea_lines.proofs.laid_out.LaidOutLines.cut_anew.Goals as goal
 

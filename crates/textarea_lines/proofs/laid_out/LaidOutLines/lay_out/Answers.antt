@@ -2,7 +2,7 @@ use Rattle.std.proofs.Common.{◌∙◌, ◌<◌, List, String, ap, arith, lengt
 use Rattle.std.specs.declared.alloc.Global.{Global}
 use Rattle.textarea_text.specs.Size.{size_of}
 use Rattle.textarea_text.specs.Text.{lines_of}
-use Rattle.textarea_map.specs.Layout.{AreRowsOf}
+use Rattle.textarea_screen_map.specs.Layout.{AreRowsOf}
 use Rattle.textarea_lines.specs.Wrappings.{wrapping_for}
 use Rattle.textarea_lines.proofs.Changes.{laid_new}
 use Rattle.textarea_lines.proofs.Founds.{found_first}

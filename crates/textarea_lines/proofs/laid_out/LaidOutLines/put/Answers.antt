@@ -1,7 +1,7 @@
 use Rattle.std.proofs.Common.{◌∙◌, Option, subst, sym}
 use Rattle.std.specs.Option.{IfSome}
 use Rattle.textarea_text.specs.Text.{lines_of}
-use Rattle.textarea_map.specs.Map.{IsRowCount}
+use Rattle.textarea_screen_map.specs.Map.{IsRowCount}
 use Rattle.textarea_lines.specs.declared.cut.CutAnew.{CutAnew}
 use Rattle.textarea_lines.specs.declared.laid_out.LaidOutLines.TheInside.{Inside}
 use Rattle.textarea_lines.specs.declared.settings.LayoutSettings.{LayoutSettings}
@@ -45,7 +45,7 @@ held c =
           let set = w.set_tab_len.ensures in
           subst (λ (v : Inside). HoldsAll v settings laid) (sym w.self-inside-is)
           (record {
-            rows = holds_kept_whole inside.settings settings items inside.size inside.count inside.map w.set_tab_len.new.self laid before (sym w.is_wrapped.ensures ∙ w.if-not-is_wrapped.true) stays set.same set.wrapping (set.right (lines_of items) c.self.invariant.held.laid_out);
+            rows = holds_kept_whole inside.settings settings items inside.size inside.count inside.map w.set_tab_len.new.map laid before (sym w.is_wrapped.ensures ∙ w.if-not-is_wrapped.true) stays set.same set.wrapping (set.right (lines_of items) c.self.invariant.held.laid_out);
             measured = c.self.invariant.measured;
             kept = c.self.invariant.kept;
             place = c.self.invariant.place;

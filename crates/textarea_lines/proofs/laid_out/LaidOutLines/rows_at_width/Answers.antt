@@ -1,6 +1,6 @@
 use Rattle.std.proofs.Common.{◌≡◌, ◌∙◌, ℕ, List, ap, length, subst, sym}
 use Rattle.textarea_text.specs.Text.{lines, lines_of}
-use Rattle.textarea_map.specs.Map.{IsRowCount}
+use Rattle.textarea_screen_map.specs.Map.{IsRowCount}
 use Rattle.textarea_lines.specs.Layout.{LaidOut}
 use Rattle.textarea_lines.specs.Wrappings.{wrapping_for}
 use Rattle.textarea_lines.proofs.Measuring.{Measuring, counted_anew, counted_as_kept, counted_as_measured, counted_in_text, same_as_kept}

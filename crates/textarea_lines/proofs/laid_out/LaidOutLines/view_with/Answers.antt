@@ -1,8 +1,8 @@
 use Rattle.std.proofs.Common.{◌≡◌, ◌∙◌, ap, subst, sym}
 use Rattle.textarea_lines.specs.Layout.{at_width, laid_out_with}
-use Rattle.textarea_map.specs.Lent.{LentRows}
+use Rattle.textarea_screen_map.specs.Lent.{LentRows}
 use Rattle.textarea_lines.specs.View.{IsPrepared, IsViewOf, PreparedView}
-use Rattle.textarea_map.specs.Map.{MapView}
+use Rattle.textarea_screen_map.specs.Map.{MapView}
 use Rattle.textarea_lines.proofs.Widths.{Holds, count_at, holds_at, is_lent, is_view, map_at}
 use Rattle.textarea_lines.proofs.laid_out.LaidOutLines.view_with.Goals as goal
 use Rattle.textarea_lines.proofs.laid_out.LaidOutLines.view_with.Goals.{in-Some, in-None}

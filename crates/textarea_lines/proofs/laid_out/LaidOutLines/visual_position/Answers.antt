@@ -1,4 +1,4 @@
-use Rattle.textarea_map.specs.Seen.{IsVisualPosition}
+use Rattle.textarea_screen_map.specs.Seen.{IsVisualPosition}
 use Rattle.textarea_lines.proofs.Stores.{in_text, laid_out_as, place_in_lent}
 use Rattle.textarea_lines.proofs.laid_out.LaidOutLines.visual_position.Goals as goal
 

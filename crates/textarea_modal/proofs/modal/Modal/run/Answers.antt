@@ -3,7 +3,7 @@ use Rattle.std.proofs.lemmas.List.{take-append-drop, take_more}
 use Rattle.textarea_data.specs.declared.input.Input.{Input}
 use Rattle.textarea_data.specs.declared.input.Key.TheVariants.{Char}
 use Rattle.textarea_modal.specs.Runs.{Finishes, RunsOut}
-use Rattle.textarea_modal_keys.specs.declared.mode.Mode.{Mode}
+use Rattle.textarea_modal.specs.declared.mode.Mode.{Mode}
 use Rattle.textarea_modal.proofs.Ends.{finishes_at_quit, finishes_more, runs_out}
 use Rattle.textarea_modal.proofs.modal.Modal.run.Goals as goal
 

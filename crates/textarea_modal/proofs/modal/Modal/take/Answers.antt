@@ -1,6 +1,6 @@
 use Rattle.std.proofs.Common.{◌∙◌, ap, refl, sym}
-use Rattle.textarea_modal_keys.specs.Table.{Step, step}
-use Rattle.textarea_modal_keys.specs.declared.mode.Mode.{Mode}
+use Rattle.textarea_modal.specs.Table.{Step, step}
+use Rattle.textarea_modal.specs.declared.mode.Mode.{Mode}
 use Rattle.textarea_modal.proofs.Runs.{on_err}
 use Rattle.textarea_modal.proofs.modal.Modal.take.Goals as goal
 

@@ -1,10 +1,10 @@
 use Rattle.std.proofs.Common.{ap, subst, sym}
 use Rattle.std.specs.Result.{IfOk}
 use Rattle.std.proofs.lemmas.Result.{IfOk-weaker}
-use Rattle.textarea_outcomes.specs.Outcomes.{IsAnswer, IsBehind}
-use Rattle.textarea_outcomes.specs.Said.{Flag}
-use Rattle.textarea_modal_keys.specs.Calls.{call_of}
-use Rattle.textarea_modal_keys.specs.declared.calls.KeyCall.{KeyCall}
+use Rattle.tui_textarea.specs.Outcomes.{IsAnswer, IsBehind}
+use Rattle.tui_textarea.specs.Said.{Flag}
+use Rattle.textarea_modal.specs.Calls.{call_of}
+use Rattle.textarea_modal.specs.declared.calls.KeyCall.{KeyCall}
 use Rattle.textarea_modal.proofs.modal.making.edit.Goals as goal
 
 pub returns-in-DeleteNextChar-clause-answer : goal.returns-in-DeleteNextChar-clause-answer

@@ -1,9 +1,9 @@
 use Rattle.std.proofs.Common.{◌≡◌, Bool, [], ◌∷◌, lit<, ap, refl, subst}
 use Rattle.textarea_data.specs.declared.input.Input.{Input}
 use Rattle.tui_textarea.specs.Input.{IsActed, IsLeftBy, MayRefuseAct, acts, asked_by}
-use Rattle.textarea_outcomes.specs.Said.{Flag}
+use Rattle.tui_textarea.specs.Said.{Flag}
 use Rattle.textarea_calls.specs.declared.answer.Answer.TheVariants as answer
-use Rattle.textarea_modal_keys.specs.Table.{handed_on}
+use Rattle.textarea_modal.specs.Table.{handed_on}
 use Rattle.textarea_modal.proofs.Runs.{DrawsNothing, made_more, none_made, on_err, refused_here}
 use Rattle.textarea_modal.proofs.modal.making.hand_on.Goals as goal
 

@@ -1,9 +1,9 @@
 use Rattle.std.proofs.Common.{◌≡◌, ◌<◌, ℕ, List, length, get_or, map, subst, sym}
 use Rattle.std.proofs.lemmas.List.{get_or-map, length-map}
 use Rattle.textarea_data.specs.declared.cursor.CursorMove.TheVariants.{Forward}
-use Rattle.textarea_modal_keys.specs.Calls.{call_of}
-use Rattle.textarea_modal_keys.specs.declared.calls.KeyCall.{KeyCall}
-use Rattle.textarea_modal_keys.specs.declared.calls.KeyCall.TheVariants.{Move}
+use Rattle.textarea_modal.specs.Calls.{call_of}
+use Rattle.textarea_modal.specs.declared.calls.KeyCall.{KeyCall}
+use Rattle.textarea_modal.specs.declared.calls.KeyCall.TheVariants.{Move}
 use Rattle.textarea_modal.proofs.Runs.{draws_nothing, made_more, on_err, refused_here}
 use Rattle.textarea_modal.proofs.modal.making.make_all.Goals as goal
 

@@ -1,5 +1,5 @@
 use Rattle.std.proofs.Common.{map, take}
-use Rattle.textarea_modal_keys.specs.Calls.{call_of}
+use Rattle.textarea_modal.specs.Calls.{call_of}
 use Rattle.textarea_modal.specs.Runs.{AllMade}
 use Rattle.textarea_modal.proofs.modal.making.make_all.Given as goal
 

@@ -1,8 +1,8 @@
 use Rattle.std.proofs.Common.{◌≡◌, ◌+◌, map, drop, string_bytes}
 use Rattle.std.specs.List.{slice_get}
 use Rattle.regex.specs.Strings.{matcher_pattern}
-use Rattle.textarea_pattern.specs.Spans.{columns_in}
-use Rattle.textarea_pattern.specs.Starts.{starts_from}
+use Rattle.textarea_search.specs.Spans.{columns_in}
+use Rattle.textarea_search.specs.Starts.{starts_from}
 use Rattle.textarea_search.proofs.search.lines.first_start.Given as goal
 
 abbrev pub invariant-loop-i : goal.invariant-loop-i

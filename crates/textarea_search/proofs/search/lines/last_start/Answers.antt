@@ -2,8 +2,8 @@ use Rattle.std.proofs.Common.{◌≡◌, ◌+◌, ◌-◌, ◌≤◌, None, Some
 use Rattle.std.specs.List.{slice_get}
 use Rattle.std.specs.Str.{chars}
 use Rattle.regex.specs.Strings.{matcher_pattern}
-use Rattle.textarea_pattern.specs.Spans.{columns_in}
-use Rattle.textarea_pattern.specs.Starts.{starts_from}
+use Rattle.textarea_search.specs.Spans.{columns_in}
+use Rattle.textarea_search.specs.Starts.{starts_from}
 use Rattle.textarea_search.proofs.StartLemmas.{last_start_here, last_start_next}
 use Rattle.textarea_search.proofs.PlaceLemmas.{place_here}
 use Rattle.textarea_search.proofs.search.lines.last_start.Goals as goal

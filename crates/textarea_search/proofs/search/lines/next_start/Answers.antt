@@ -2,8 +2,8 @@ use Rattle.std.proofs.Common.{◌≡◌, ◌+◌, ◌-◌, ◌≤◌, None, Some
 use Rattle.std.specs.List.{find, slice_get}
 use Rattle.std.specs.Str.{chars}
 use Rattle.regex.specs.Strings.{matcher_pattern}
-use Rattle.textarea_pattern.specs.Spans.{columns_in}
-use Rattle.textarea_pattern.specs.Starts.{starts_from, is_ahead_in_line}
+use Rattle.textarea_search.specs.Spans.{columns_in}
+use Rattle.textarea_search.specs.Starts.{starts_from, is_ahead_in_line}
 use Rattle.textarea_search.proofs.PlaceLemmas.{place_at, place_in_front, place_in_rest, place_of_some}
 use Rattle.textarea_search.proofs.StartLemmas.{forward_here, forward_from}
 use Rattle.textarea_search.proofs.search.lines.next_start.Goals as goal

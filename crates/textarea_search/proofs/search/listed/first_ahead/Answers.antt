@@ -1,8 +1,8 @@
 use Rattle.std.proofs.Common.{◌≡◌, ℕ, ◌+◌, ◌≤◌, true, false, cond, List, length, None, Some, option_map, sym, ap, ◌∙◌, subst, arith, rules}
 use Rattle.std.specs.List.{find}
 use Rattle.regex.specs.Strings.{matcher_pattern, match_span}
-use Rattle.textarea_pattern.specs.Spans.{spans_after}
-use Rattle.textarea_pattern.specs.Starts.{is_ahead_in_line}
+use Rattle.textarea_search.specs.Spans.{spans_after}
+use Rattle.textarea_search.specs.Starts.{is_ahead_in_line}
 use Rattle.textarea_search.proofs.search.listed.first_ahead.Goals as goal
 
 pub returns-in_err-found-clause-found : goal.returns-in_err-found-clause-found

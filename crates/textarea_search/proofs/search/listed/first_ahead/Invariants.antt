@@ -1,8 +1,8 @@
 use Rattle.std.proofs.Common.{◌≡◌, ◌+◌, ◌-◌, ◌≤◌, length}
 use Rattle.std.specs.List.{find}
 use Rattle.regex.specs.Strings.{matcher_pattern}
-use Rattle.textarea_pattern.specs.Spans.{spans_after}
-use Rattle.textarea_pattern.specs.Starts.{is_ahead_in_line}
+use Rattle.textarea_search.specs.Spans.{spans_after}
+use Rattle.textarea_search.specs.Starts.{is_ahead_in_line}
 use Rattle.textarea_search.proofs.search.listed.first_ahead.Given as goal
 
 abbrev pub invariant-loop-found : goal.invariant-loop-found

@@ -2,8 +2,8 @@ use Rattle.std.proofs.Common.{◌≡◌, ℕ, ◌+◌, ◌≤◌, ◌∷◌, tru
 use Rattle.std.specs.List.{find}
 use Rattle.std.specs.Option.{option_or}
 use Rattle.regex.specs.Strings.{matcher_pattern, match_span}
-use Rattle.textarea_pattern.specs.Spans.{spans_after}
-use Rattle.textarea_pattern.specs.Starts.{is_ahead_in_line}
+use Rattle.textarea_search.specs.Spans.{spans_after}
+use Rattle.textarea_search.specs.Starts.{is_ahead_in_line}
 use Rattle.textarea_search.proofs.ListedLemmas.{starts_before, last_more, last_found, spans_lie}
 use Rattle.textarea_search.proofs.search.listed.last_behind.Goals as goal
 

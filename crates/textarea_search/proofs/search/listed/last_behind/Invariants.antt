@@ -2,7 +2,7 @@ use Rattle.std.proofs.Common.{◌≡◌, ◌+◌, ◌-◌, ◌≤◌, length, re
 use Rattle.std.specs.List.{find}
 use Rattle.std.specs.Option.{option_or}
 use Rattle.regex.specs.Strings.{matcher_pattern, match_span, match_haystack}
-use Rattle.textarea_pattern.specs.Spans.{spans_after}
+use Rattle.textarea_search.specs.Spans.{spans_after}
 use Rattle.textarea_search.proofs.ListedLemmas.{starts_before}
 use Rattle.textarea_search.proofs.search.listed.last_behind.Given as goal
 

@@ -1,6 +1,6 @@
 use Rattle.std.proofs.Common.{option_map, ap, ◌∙◌, arith, length}
 use Rattle.regex.specs.Strings.{matcher_pattern}
-use Rattle.textarea_pattern.specs.Spans.{spans_after}
+use Rattle.textarea_search.specs.Spans.{spans_after}
 use Rattle.textarea_search.proofs.ColumnLemmas.{find_back, column_of_span}
 use Rattle.textarea_search.proofs.ListedLemmas.{spans_lie}
 use Rattle.textarea_search.proofs.search.listed.last_column.Goals as goal

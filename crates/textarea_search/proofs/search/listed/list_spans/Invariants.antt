@@ -1,6 +1,6 @@
 use Rattle.std.proofs.Common.{◌≡◌, ◌+◌, ◌-◌, ◌≤◌, ◌++◌, length}
 use Rattle.regex.specs.Strings.{matcher_pattern}
-use Rattle.textarea_pattern.specs.Spans.{spans_after}
+use Rattle.textarea_search.specs.Spans.{spans_after}
 use Rattle.textarea_search.proofs.search.listed.list_spans.Given as goal
 
 abbrev pub invariant-loop-found : goal.invariant-loop-found

@@ -1,6 +1,6 @@
 use Rattle.std.proofs.Common.{◌≡◌, subst, sym}
 use Rattle.std.specs.Result.{IfOk, OnOk}
-use Rattle.textarea_keys.specs.declared.action.Action.{Action}
+use Rattle.textarea_calls.specs.declared.action.Action.{Action}
 use Rattle.tui_textarea.specs.Input.{IsActed, acts}
 use Rattle.tui_textarea.proofs.textarea.TextArea.act_by_editing.Goals as goal
 

@@ -1,5 +1,5 @@
 use Rattle.std.proofs.Common.{subst, sym}
-use Rattle.textarea_keys.specs.declared.action.Action.{Action}
+use Rattle.textarea_calls.specs.declared.action.Action.{Action}
 use Rattle.tui_textarea.specs.Input.{IsActed}
 use Rattle.tui_textarea.proofs.textarea.TextArea.act_by_going.Goals as goal
 

@@ -1,6 +1,6 @@
 use Rattle.std.proofs.Common.{◌∙◌, sym}
 use Rattle.std.proofs.lemmas.Bool.{false≢true}
-use Rattle.textarea_atomic.specs.declared.range.AtomicDeleteDirection.TheVariants.{Backward}
+use Rattle.textarea_data.specs.declared.range.AtomicDeleteDirection.TheVariants.{Backward}
 use Rattle.tui_textarea.specs.Removals.{has_line_before}
 use Rattle.tui_textarea.proofs.Unselected.{answered_unhit, hit_goes, none_hit}
 use Rattle.tui_textarea.proofs.textarea.TextArea.delete_word.Goals as goal

@@ -1,6 +1,6 @@
 use Rattle.std.proofs.Common.{◌≡◌, subst}
 use Rattle.std.specs.Result.{IfOk, OnErr, OnOk}
-use Rattle.textarea_keys.specs.declared.action.Action.{Action}
+use Rattle.textarea_calls.specs.declared.action.Action.{Action}
 use Rattle.tui_textarea.specs.Input.{IsActed, IsLeftBy, MayRefuseAct, acts}
 use Rattle.tui_textarea.proofs.textarea.TextArea.input.Goals as goal
 

@@ -1,7 +1,7 @@
 use Rattle.std.proofs.Common.{◌≡◌, IfOk, Option, subst}
 use Rattle.textarea_text.specs.Text.{lines, lines_of}
 use Rattle.textarea_text.specs.Place.{Place}
-use Rattle.textarea_pattern.specs.Starts.{previous_start}
+use Rattle.textarea_search.specs.Starts.{previous_start}
 use Rattle.tui_textarea.specs.State.{State}
 use Rattle.tui_textarea.specs.Search.{previous_match}
 use Rattle.tui_textarea.proofs.Searches.{found_in_text, search_is}

@@ -1,5 +1,5 @@
 use Rattle.std.proofs.Common.{ap, sym, ◌∙◌}
-use Rattle.textarea_pattern.specs.Starts.{starts_of, previous_start}
+use Rattle.textarea_search.specs.Starts.{starts_of, previous_start}
 use Rattle.textarea_search.proofs.search.state.Search.back.Goals as goal
 
 pub returns-clause-found : goal.returns-clause-found

@@ -1,5 +1,5 @@
 use Rattle.std.proofs.Common.{Some, ap, sym, ◌∙◌, rules}
-use Rattle.textarea_pattern.specs.Matches.{match_spans}
+use Rattle.textarea_search.specs.Matches.{match_spans}
 use Rattle.textarea_search.proofs.search.state.Search.line_matcher.Goals as goal
 
 pub new-requires : goal.new-requires

@@ -1,0 +1,55 @@
+//! Kinds of edits, and texts as pieces.
+ghost use Rattle.std.specs.Prelude.{◌≡◌, ◌<◌, ◌≤◌, ◌∷◌, [], false, true, length, vec_len, IfOk, IfSome, None};
+ghost use Rattle.textarea_text.specs.Text.{symbol_in, text_of};
+ghost use Rattle.textarea_history.specs.Edit.{inserts_of, pieces_of, symbols_of};
+
+use std::alloc::{AllocError, Global};
+use textarea_history::edit::EditKind;
+
+/// The text as pieces, cut at each `|`.
+pub fn pieces_in(alloc: Global, text: &str) -> Result<Vec<String>, AllocError>
+    ensures { IfOk result (λ pieces. 0 < vec_len pieces) }
+{
+    let mut pieces = Vec::new(alloc);
+    for piece in text.split('|') {
+        pieces.push(String::from_str(alloc, piece)?)?;
+    }
+    if pieces.is_empty() {
+        pieces.push(String::new(alloc))?;
+    }
+    Ok(pieces)
+}
+
+/// The kind that inserts or removes the pieces.
+pub fn kind_of(mut pieces: Vec<String>, inserts: bool) -> EditKind
+    requires { 0 < vec_len pieces }
+    ensures symbols { symbols_of result ≡ text_of pieces.items }
+    ensures inserts { inserts_of result ≡ inserts }
+    ensures pieces { IfSome (pieces_of result) (λ n. 2 ≤ n) }
+{
+    if 1 < pieces.len() {
+        return if inserts {
+            EditKind::InsertChunk(pieces)
+        } else {
+            EditKind::DeleteChunk(pieces)
+        };
+    }
+    let text = pieces.pop().unwrap();
+    if inserts {
+        EditKind::InsertStr(text)
+    } else {
+        EditKind::DeleteStr(text)
+    }
+}
+
+/// The kind that removes a character, or a break where there is none.
+pub fn deletion_of(character: Option<char>) -> EditKind
+    ensures symbols { symbols_of result ≡ symbol_in character ∷ [] }
+    ensures inserts { inserts_of result ≡ false }
+    ensures pieces { pieces_of result ≡ None }
+{
+    match character {
+        Some(c) => EditKind::DeleteChar(c),
+        None => EditKind::DeleteNewline,
+    }
+}

@@ -1,0 +1,45 @@
+//! Long values that are lent to calls.
+use std::alloc::{AllocError, Global};
+use textarea_cases::expand::counted;
+use textarea_cases::words::{Lent, character, titled};
+use tui_textarea::{Borders, Line, Style, Text};
+
+/// What is lent to the calls of a row, and its other lines. A first line `lent COLUMNS LINES` says how many columns the block's title
+/// has, and how many lines the placeholder.
+pub fn lent_and_rest(alloc: Global, row: &str) -> Result<(Lent, &str), AllocError> {
+    let Some(sizes) = row.strip_prefix("lent ") else {
+        return Ok((Lent::new(alloc)?, row));
+    };
+    let (sizes, rest) = sizes.split_once('\n').unwrap_or((sizes, ""));
+    let (columns, lines) = counted(sizes);
+    let lines = lines.parse::<usize>().unwrap_or(0);
+    Ok((long_lent(alloc, columns, lines)?, rest))
+}
+
+fn long_lent(alloc: Global, columns: usize, lines: usize) -> Result<Lent, AllocError> {
+    let title = letters(alloc, columns)?;
+    Ok(Lent {
+        block: titled(alloc, Borders::ALL, title.as_str())?,
+        placeholder: text_of(alloc, lines)?,
+        letter: character('z'),
+    })
+}
+
+fn letters(alloc: Global, count: usize) -> Result<String, AllocError> {
+    let mut text = String::new(alloc);
+    for _ in 0..count {
+        text.push('t')?;
+    }
+    Ok(text)
+}
+
+fn text_of(alloc: Global, count: usize) -> Result<Text<'static>, AllocError> {
+    let mut lines = Vec::new(alloc);
+    for _ in 0..count {
+        lines.push(Line::raw(String::from_str(alloc, "type here")?)?)?;
+    }
+    Ok(Text {
+        lines,
+        style: Style::new(),
+    })
+}

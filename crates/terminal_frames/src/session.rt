@@ -1,0 +1,156 @@
+//! A buffer and a painter, and the commands on them.
+
+use std::alloc::{AllocError, Global};
+use textarea_screen::screen::{Buffer, Color, Modifier, Position, Rect, Style};
+use textarea_terminal::output::Painter;
+
+/// A buffer and a painter, and what was printed.
+#[derive(Drop)]
+pub(crate) struct Session {
+    buffer: Buffer,
+    painter: Painter,
+    bytes: Vec<u8>,
+}
+
+impl Session {
+    /// A session of no cells.
+    pub(crate) fn new(alloc: Global) -> Result<Session, AllocError> {
+        let area = Rect::new(0, 0, 0, 0);
+        Ok(Session {
+            buffer: Buffer::empty(alloc, area)?,
+            painter: Painter::new(alloc, area)?,
+            bytes: Vec::new(alloc),
+        })
+    }
+
+    /// What was printed.
+    pub(crate) fn into_bytes(self) -> Vec<u8> {
+        let Session { bytes, .. } = self;
+        bytes
+    }
+
+    /// Serves one line. Returns whether it is a command.
+    pub(crate) fn serve(&mut self, alloc: Global, line: &str) -> Result<bool, AllocError> {
+        let (word, rest) = line.split_once(' ').unwrap_or((line, ""));
+        match word {
+            "size" => self.size(alloc, rest),
+            "cell" => self.cell(rest),
+            "paint" => self.paint(alloc, rest),
+            "resize" => self.resize(alloc, rest),
+            "reset" => {
+                self.painter.reset();
+                Ok(true)
+            }
+            _ => Ok(false),
+        }
+    }
+
+    fn size(&mut self, alloc: Global, rest: &str) -> Result<bool, AllocError> {
+        let Some((width, height)) = pair(rest) else {
+            return Ok(false);
+        };
+        let area = Rect::new(0, 0, width, height);
+        self.buffer = Buffer::empty(alloc, area)?;
+        self.painter = Painter::new(alloc, area)?;
+        Ok(true)
+    }
+
+    fn resize(&mut self, alloc: Global, rest: &str) -> Result<bool, AllocError> {
+        let Some((width, height)) = pair(rest) else {
+            return Ok(false);
+        };
+        let area = Rect::new(0, 0, width, height);
+        self.buffer = Buffer::empty(alloc, area)?;
+        self.painter.resize(area)?;
+        Ok(true)
+    }
+
+    fn cell(&mut self, rest: &str) -> Result<bool, AllocError> {
+        let Some((position, rest)) = place(rest) else {
+            return Ok(false);
+        };
+        let Some((style, symbol)) = style(rest) else {
+            return Ok(false);
+        };
+        self.buffer.put(position.x, position.y, symbol, style)?;
+        Ok(true)
+    }
+
+    fn paint(&mut self, alloc: Global, rest: &str) -> Result<bool, AllocError> {
+        let caret = match pair(rest) {
+            Some((x, y)) => Some(Position { x, y }),
+            None => None,
+        };
+        let mut frame = Vec::new(alloc);
+        self.painter.paint(&self.buffer, caret, &mut frame)?;
+        let count = frame.len();
+        let head = format!(in alloc; "frame {count}\n")?;
+        self.bytes.extend_from_slice(head.as_bytes())?;
+        self.bytes.extend_from_slice(frame.as_slice())?;
+        self.bytes.extend_from_slice(b"\n").map(|_| true)
+    }
+}
+
+/// Two numbers.
+fn pair(text: &str) -> Option<(u16, u16)> {
+    let (first, second) = text.split_once(' ')?;
+    let first = first.parse::<u16>().ok()?;
+    let second = second.parse::<u16>().ok()?;
+    Some((first, second))
+}
+
+/// A position, and what comes after it.
+fn place(text: &str) -> Option<(Position, &str)> {
+    let (x, rest) = text.split_once(' ')?;
+    let (y, rest) = rest.split_once(' ')?;
+    let x = x.parse::<u16>().ok()?;
+    let y = y.parse::<u16>().ok()?;
+    Some((Position { x, y }, rest))
+}
+
+/// The style that sets colours and modifiers, and what comes after them.
+fn style(text: &str) -> Option<(Style, &str)> {
+    let (fg, rest) = text.split_once(' ')?;
+    let (bg, rest) = rest.split_once(' ')?;
+    let (bits, symbol) = rest.split_once(' ')?;
+    let bits = bits.parse::<u16>().ok()?;
+    let style = Style {
+        fg: Some(color(fg.parse::<u32>().ok()?)),
+        bg: Some(color(bg.parse::<u32>().ok()?)),
+        add_modifier: Modifier(bits),
+        sub_modifier: Modifier(!bits),
+    };
+    Some((style, symbol))
+}
+
+/// The colour of a number.
+fn color(number: u32) -> Color {
+    let low = (number & 255) as u8;
+    if number >= 16_777_216 {
+        let red = (number / 65_536 % 256) as u8;
+        let green = (number / 256 % 256) as u8;
+        return Color::Rgb(red, green, low);
+    }
+    if number >= 256 {
+        return Color::Indexed(low);
+    }
+    match number {
+        1 => Color::Black,
+        2 => Color::Red,
+        3 => Color::Green,
+        4 => Color::Yellow,
+        5 => Color::Blue,
+        6 => Color::Magenta,
+        7 => Color::Cyan,
+        8 => Color::Gray,
+        9 => Color::DarkGray,
+        10 => Color::LightRed,
+        11 => Color::LightGreen,
+        12 => Color::LightYellow,
+        13 => Color::LightBlue,
+        14 => Color::LightMagenta,
+        15 => Color::LightCyan,
+        16 => Color::White,
+        _ => Color::Reset,
+    }
+}

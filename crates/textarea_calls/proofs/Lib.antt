@@ -1,0 +1,11 @@
+pub mod Escapes
+pub mod Fronts
+pub mod Lines
+pub mod Numbers
+pub mod Pairs
+pub mod Ranges
+pub mod Scripts
+pub mod Tables
+pub mod Tokens
+pub mod Overlap
+pub mod Answers

@@ -1,0 +1,147 @@
+-- Rows that have an input in common are found by looking at the rows alone; so no two rows of a table have one where none are
+-- found.
+use Rattle.std.proofs.Common.{◌≡◌, ℕ, ◌+◌, ◌≤◌, Bool, true, false, cond, ◌&&◌, ◌||◌, not, List, [], ◌∷◌, refl, ap, subst, arith}
+use Rattle.std.proofs.lemmas.Bool.{false≢true, eqb-true}
+use Rattle.std.proofs.lemmas.List.Sums.{sum_by-cons}
+use Rattle.std.specs.Prelude.{count_by}
+use Rattle.std.specs.List.{list_any}
+use Rattle.textarea_data.specs.declared.input.Input.{Input}
+use Rattle.textarea_data.specs.declared.input.Key.{Key}
+use Rattle.textarea_data.specs.declared.input.Key.TheVariants as key
+use Rattle.textarea_calls.specs.Table.{Held, Keys, these, characters_but, Inputs, Row, HasNoOverlap, is_held, is_same, has, is_among, fits}
+
+-- ---- tests
+
+or_true : (b : Bool) → (b || true) ≡ true
+or_true true = refl
+or_true false = refl
+
+or_grows : (a b c d : Bool) → (a ≡ true → b ≡ true) → (c ≡ true → d ≡ true) → (a || c) ≡ true → (b || d) ≡ true
+or_grows true b c d first rest h = rw (first refl)
+or_grows false b c d first rest h = rw (rest h) (or_true b)
+
+-- where an element passes a test, one passes any test that is passed with it
+any_grows : {X : Type 0} (p q : X → Bool) (xs : List X) → ((x : X) → p x ≡ true → q x ≡ true) → list_any p xs ≡ true → list_any q xs ≡ true
+any_grows p q [] each h = h
+any_grows p q (x ∷ xs) each h =
+    or_grows (p x) (q x) (list_any p xs) (list_any q xs) (each x) (any_grows p q xs each) h
+
+and_left : (a b : Bool) → (a && b) ≡ true → a ≡ true
+and_left true b h = refl
+and_left false b h = h
+
+and_right : (a b : Bool) → (a && b) ≡ true → b ≡ true
+and_right true b h = h
+and_right false b h = absurd (false≢true h)
+
+both_true : (a b : Bool) → a ≡ true → b ≡ true → (a && b) ≡ true
+both_true a b left right = rw (left, right)
+
+not_true : (a : Bool) → not a ≡ true → a ≡ true → ⊥
+not_true true h e = false≢true h
+not_true false h e = false≢true e
+
+count_step : (b rest : Bool) (count : ℕ) → ((b || rest) ≡ true → ⊥) → ((rest ≡ true → ⊥) → count ≡ 0) → cond b 1 0 + count ≡ 0
+count_step true rest count none later = absurd (none refl)
+count_step false rest count none later = rw (later none)
+
+-- where no element passes, none is counted
+count_none : {X : Type 0} (p : X → Bool) (xs : List X) → (list_any p xs ≡ true → ⊥) → count_by p xs ≡ 0
+count_none p [] none = refl
+count_none p (x ∷ xs) none =
+    rw (sum_by-cons (λ y. cond (p y) 1 0) x xs)
+    (count_step (p x) (list_any p xs) (count_by p xs) none (count_none p xs))
+
+-- ---- inputs
+
+same : (one other : Key) → is_same one other ≡ true → one ≡ other
+same (key.Char c) (key.Char d) h = ap key.Char (eqb-true c d h)
+same (key.F m) (key.F n) h = ap key.F (eqb-true m n h)
+same key.Backspace key.Backspace h = refl
+same key.Enter key.Enter h = refl
+same key.Left key.Left h = refl
+same key.Right key.Right h = refl
+same key.Up key.Up h = refl
+same key.Down key.Down h = refl
+same key.Tab key.Tab h = refl
+same key.Delete key.Delete h = refl
+same key.Home key.Home h = refl
+same key.End key.End h = refl
+same key.PageUp key.PageUp h = refl
+same key.PageDown key.PageDown h = refl
+same key.Esc key.Esc h = refl
+same key.Copy key.Copy h = refl
+same key.Cut key.Cut h = refl
+same key.Paste key.Paste h = refl
+same key.MouseScrollDown key.MouseScrollDown h = refl
+same key.MouseScrollUp key.MouseScrollUp h = refl
+same key.Null key.Null h = refl
+same _ _ h = absurd (false≢true h)
+
+-- whether two lists of keys share one; all characters but some always do
+abbrev share : Keys → Keys → Bool
+share (these keys) others = list_any (has others) keys
+share (characters_but left_out) (these keys) = list_any (has (characters_but left_out)) keys
+share (characters_but left_out) (characters_but others) = true
+
+share_has : (keys others : Keys) (asked : Key) → has keys asked ≡ true → has others asked ≡ true → share keys others ≡ true
+share_has (these keys) others asked h k =
+    any_grows (is_same asked) (has others) keys (λ x e. subst (λ y. has others y ≡ true) (same asked x e) k) h
+share_has (characters_but left_out) (these keys) asked h k =
+    any_grows (is_same asked) (has (characters_but left_out)) keys
+    (λ x e. subst (λ y. has (characters_but left_out) y ≡ true) (same asked x e) h) k
+share_has (characters_but left_out) (characters_but others) asked h k = refl
+
+-- whether what has to be held for one can be what has to be held for another
+abbrev meet : Held → Held → Bool
+meet one other =
+    is_held one false false && is_held other false false || (is_held one true false && is_held other true false
+    || (is_held one false true && is_held other false true || is_held one true true && is_held other true true))
+
+meet_held : (one other : Held) (with_ctrl with_alt : Bool) → is_held one with_ctrl with_alt ≡ true → is_held other with_ctrl with_alt ≡ true → meet one other ≡ true
+meet_held one other false false h k = rw (h, k)
+meet_held one other true false h k = rw (h, k) (or_true _)
+meet_held one other false true h k = rw (h, k) (rw (or_true _) (or_true _))
+meet_held one other true true h k = rw (h, k) (rw (or_true _) (rw (or_true _) (or_true _)))
+
+-- whether inputs share one
+abbrev overlap : Inputs → Inputs → Bool
+overlap (held, keys) (other_held, other_keys) = meet held other_held && share keys other_keys
+
+overlap_among : (input : Input) (one other : Inputs) → is_among input one ≡ true → is_among input other ≡ true → overlap one other ≡ true
+overlap_among input (held, keys) (other_held, other_keys) h k =
+    both_true _ _
+    (meet_held held other_held input.ctrl input.alt (and_left _ _ h) (and_left _ _ k))
+    (share_has keys other_keys input.key
+    (and_right (is_held held input.ctrl input.alt) _ h) (and_right (is_held other_held input.ctrl input.alt) _ k))
+
+-- ---- rows
+
+-- whether rows share an input
+abbrev rows_overlap : Row → Row → Bool
+rows_overlap one other = list_any (λ inputs. list_any (overlap inputs) other.inputs) one.inputs
+
+overlap_fits : (input : Input) (one other : Row) → fits input one ≡ true → fits input other ≡ true → rows_overlap one other ≡ true
+overlap_fits input one other h k =
+    any_grows (is_among input) (λ inputs. list_any (overlap inputs) other.inputs) one.inputs
+    (λ inputs e. any_grows (is_among input) (overlap inputs) other.inputs (λ others. overlap_among input inputs others e) k) h
+
+-- whether no two rows of a table do
+abbrev pub is_disjoint : List Row → Bool
+is_disjoint [] = true
+is_disjoint (row ∷ rows) = not (list_any (rows_overlap row) rows) && is_disjoint rows
+
+at_most_one : (b : Bool) (count : ℕ) → (b ≡ true → count ≡ 0) → count ≤ 1 → cond b 1 0 + count ≤ 1
+at_most_one true count none least = rw (none refl) (omega arith)
+at_most_one false count none least = omega arith
+
+-- then each input is one of at most one row
+pub no_overlap : (rows : List Row) → is_disjoint rows ≡ true → HasNoOverlap rows
+no_overlap [] h input = omega arith
+no_overlap (row ∷ rows) h input =
+    rw (sum_by-cons (λ other. cond (fits input other) 1 0) row rows)
+    (at_most_one (fits input row) (count_by (fits input) rows)
+    (λ here. count_none (fits input) rows (λ there.
+    not_true (list_any (rows_overlap row) rows) (and_left _ _ h)
+    (any_grows (fits input) (rows_overlap row) rows (λ other. overlap_fits input row other here) there)))
+    (no_overlap rows (and_right (not (list_any (rows_overlap row) rows)) _ h) input))

@@ -1,0 +1,188 @@
+-- The tokens of a text with escapes, one after another.
+use Rattle.std.proofs.Common.{arith, ◌≡◌, ◌≢◌, ℕ, zero, suc, ◌+◌, ◌<◌, ◌≤◌, Bool, true, false, ◌&&◌, ◌==◌, List, [], ◌∷◌, ◌++◌, Option, Some, None, length, drop, nat_lt, option_map, if◌then◌else◌, refl, ap, sym, ◌∙◌, subst, append_assoc, append-nil, length-drop, eqb-true, lit<}
+use Rattle.std.specs.Prelude.{encode_utf8, option_and_then, chars, slice_get}
+use Rattle.std.specs.Char.{len_utf8}
+use Rattle.std.specs.List.{after_first, before_first, position_or_len}
+use Rattle.std.proofs.lemmas.Str.{encode_ascii}
+use Rattle.std.proofs.lemmas.Bool.Decides.{nat_tests}
+use Rattle.textarea_calls.specs.Escapes.{Token, Character, Break, character_numbered, control, escape, first_character, in_front, is_break, is_closing, lines_of, numbered, plain_character, text_of, token, tokens, tokens_within, unescaped, unescaped_lines}
+
+-- ---- each character takes a byte at least
+
+abbrev behind : Option (ℕ × List ℕ) → List ℕ
+behind None = []
+behind (Some p) = p.1
+
+abbrev number_at : List ℕ → Option ℕ → Option (ℕ × List ℕ)
+number_at text found = option_map (λ c. (c, after_first is_closing text)) found
+
+numbered_short : (text : List ℕ) → length (behind (numbered text)) ≤ length text
+unfolding numbered
+numbered_short [] = omega arith
+numbered_short (opening ∷ text) =
+    let left : length (after_first is_closing text) ≤ length text = omega (arith, length-drop (position_or_len is_closing text + 1) text) in
+    elim ((opening == 123) && nat_lt (position_or_len is_closing text) (length text))
+    as (λ test. length (behind (if test then number_at text (character_numbered (before_first is_closing text)) else None)) ≤ length (opening ∷ text)) [
+      | true ↦ elim (character_numbered (before_first is_closing text)) as (λ found. length (behind (number_at text found)) ≤ length (opening ∷ text)) [ None ↦ omega arith | Some c ↦ omega arith ]
+      | false ↦ omega arith
+    ]
+
+escape_short : (text : List ℕ) → length (behind (escape text)) ≤ length text
+unfolding escape
+escape_short [] = omega arith
+escape_short (letter ∷ text) =
+    let left : length (behind (numbered text)) ≤ length text = numbered_short text in
+    elim (letter == 117) as (λ test. length (behind (if test then numbered text else option_map (λ c. (c, text)) (control letter))) ≤ length (letter ∷ text)) [
+      | true ↦ omega arith
+      | false ↦ elim (control letter) as (λ found. length (behind (option_map (λ c. (c, text)) found)) ≤ length (letter ∷ text)) [ None ↦ omega arith | Some c ↦ omega arith ]
+    ]
+
+takes_some : (c : ℕ) → 0 < len_utf8 c
+takes_some c = grind (arith, nat_tests)
+
+plain_short : (text : List ℕ) → 0 < length text → length (behind (plain_character text)) < length text
+plain_short text some =
+    elim (slice_get (chars text) 0) as (λ found. length (behind (option_map (λ c. (c, drop (len_utf8 c) text)) found)) < length text) [
+      | None ↦ omega (arith, some)
+      | Some c ↦ omega (arith, some, takes_some c, length-drop (len_utf8 c) text)
+    ]
+
+first_short : (byte : ℕ) (text : List ℕ) → length (behind (first_character (byte ∷ text))) < length (byte ∷ text)
+unfolding first_character
+first_short byte text =
+    elim (byte == 92) as (λ test. length (behind (if test then escape text else plain_character (byte ∷ text))) < length (byte ∷ text)) [
+      | true ↦ omega (arith, escape_short text)
+      | false ↦ plain_short (byte ∷ text) (omega arith)
+    ]
+
+-- ---- so there are enough bytes for the tokens
+
+abbrev step : ℕ → List ℕ → Option (ℕ × List ℕ) → Option (List Token)
+step most text found = option_and_then (λ p. option_map (λ more. token text p.0 ∷ more) (tokens_within most p.1)) found
+
+enough : (f g : ℕ) (text : List ℕ) → length text ≤ f → length text ≤ g → tokens_within f text ≡ tokens_within g text
+enough f g [] h k = refl
+enough zero g (byte ∷ text) h k = absurd (omega (arith, h))
+enough (suc f) zero (byte ∷ text) h k = absurd (omega (arith, k))
+enough (suc f) (suc g) (byte ∷ text) h k =
+    elim (first_character (byte ∷ text)) as (λ found. length (behind found) < length (byte ∷ text) → step f (byte ∷ text) found ≡ step g (byte ∷ text) found) [
+      | None ↦ λ short. refl
+      | Some p ↦ λ short. ap (option_map (λ more. token (byte ∷ text) p.0 ∷ more)) (enough f g p.1 (omega (arith, h, short)) (omega (arith, k, short)))
+    ] (first_short byte text)
+
+tokens_none : (text : List ℕ) → 0 < length text → first_character text ≡ None → tokens text ≡ None
+unfolding tokens
+tokens_none [] some none = absurd (omega (arith, some))
+tokens_none (byte ∷ text) some none = ap (step (length text) (byte ∷ text)) none
+
+tokens_first : (text : List ℕ) (c : ℕ) (rest : List ℕ) → first_character text ≡ Some (c, rest) → tokens text ≡ option_map (λ more. token text c ∷ more) (tokens rest)
+unfolding tokens first_character
+tokens_first [] c rest first =
+    let nothing : Option (ℕ × List ℕ) = None in
+    let never : nothing ≡ Some (c, rest) = first in cc
+tokens_first (byte ∷ text) c rest first =
+    let short : length rest < length (byte ∷ text) = subst (λ (found : Option (ℕ × List ℕ)). length (behind found) < length (byte ∷ text)) first (first_short byte text) in
+    ap (step (length text) (byte ∷ text)) first ∙ ap (option_map (λ more. token (byte ∷ text) c ∷ more)) (enough (length text) (length rest) rest (omega (arith, short)) (omega arith))
+
+-- ---- the text of the tokens
+
+both : (a b : Bool) → (a && b) ≡ true → (a ≡ true) × (b ≡ true)
+both true b is = (refl, is)
+both false b is = (let never : false ≡ true = is in cc, let never : false ≡ true = is in cc)
+
+-- a text with the escape `\n` at its front
+break_is : (text : List ℕ) → is_break text ≡ true → text ≡ 92 ∷ 110 ∷ drop 2 text
+break_is [] is = let never : false ≡ true = is in cc
+break_is (byte ∷ []) is = let p = both (byte == 92) false is in let never : false ≡ true = p.1 in cc
+break_is (byte ∷ letter ∷ text) is =
+    let p = both (byte == 92) (letter == 110) is in
+    ap (λ (b : ℕ). b ∷ letter ∷ text) (eqb-true byte 92 p.0) ∙ ap (λ (l : ℕ). 92 ∷ l ∷ text) (eqb-true letter 110 p.1)
+
+is_false : (test : Bool) → (test ≡ true → ⊥) → test ≡ false
+is_false true other = absurd (other refl)
+is_false false other = refl
+
+pub no_break : (text : List ℕ) → ((rest : List ℕ) → text ≢ 92 ∷ 110 ∷ rest) → is_break text ≡ false
+no_break text other = is_false (is_break text) (λ is. other (drop 2 text) (break_is text is))
+
+break_first : (text : List ℕ) → first_character (92 ∷ 110 ∷ text) ≡ Some (10, text)
+unfolding first_character escape
+break_first text = refl
+
+feed : (text : List ℕ) (c : ℕ) (rest : List ℕ) → is_break text ≡ true → first_character text ≡ Some (c, rest) → c ≡ 10
+feed text c rest is first =
+    let same : Some (c, rest) ≡ Some (10, drop 2 text) = sym first ∙ ap first_character (break_is text is) ∙ break_first (drop 2 text) in
+    let pair : (c, rest) ≡ (10, drop 2 text) = cc in
+    ap (λ (p : ℕ × List ℕ). p.0) pair
+
+token_text : (text : List ℕ) (c : ℕ) (rest : List ℕ) (more : List Token) → first_character text ≡ Some (c, rest) → text_of (token text c ∷ more) ≡ encode_utf8 c ++ text_of more
+token_text text c rest more first =
+    elim (is_break text) as (λ test. is_break text ≡ test → text_of ((if test then Break else Character c) ∷ more) ≡ encode_utf8 c ++ text_of more) [
+      | true ↦ λ is. ap (λ (b : List ℕ). b ++ text_of more) (sym (ap encode_utf8 (feed text c rest is first) ∙ encode_ascii 10 (lit< tt)))
+      | false ↦ λ is. refl
+    ] refl
+
+pub unescaped_none : (text : List ℕ) → 0 < length text → first_character text ≡ None → unescaped text ≡ None
+unfolding unescaped
+unescaped_none text some none = ap (option_map text_of) (tokens_none text some none)
+
+nothing : (text : List ℕ) → length text ≡ 0 → text ≡ []
+nothing [] none = refl
+nothing (byte ∷ text) none = absurd (omega (arith, none))
+
+pub unescaped_nothing : (text : List ℕ) → length text ≡ 0 → unescaped text ≡ Some []
+unfolding unescaped tokens
+unescaped_nothing text none = ap unescaped (nothing text none)
+
+pub lines_nothing : (text : List ℕ) → length text ≡ 0 → unescaped_lines text ≡ Some ([] ∷ [])
+unfolding unescaped_lines tokens
+lines_nothing text none = ap unescaped_lines (nothing text none)
+
+pub unescaped_first : (text : List ℕ) (c : ℕ) (rest : List ℕ) → first_character text ≡ Some (c, rest) → unescaped text ≡ option_map (λ more. encode_utf8 c ++ more) (unescaped rest)
+unfolding unescaped
+unescaped_first text c rest first =
+    ap (option_map text_of) (tokens_first text c rest first)
+    ∙ elim (tokens rest) as (λ found. option_map text_of (option_map (λ more. token text c ∷ more) found) ≡ option_map (λ more. encode_utf8 c ++ more) (option_map text_of found)) [
+      | None ↦ refl
+      | Some more ↦ ap Some (token_text text c rest more first)
+    ]
+
+-- ---- the lines of the tokens
+
+pub lines_none : (text : List ℕ) → 0 < length text → first_character text ≡ None → unescaped_lines text ≡ None
+unfolding unescaped_lines
+lines_none text some none = ap (option_map lines_of) (tokens_none text some none)
+
+pub lines_first : (text : List ℕ) (c : ℕ) (rest : List ℕ) → is_break text ≡ false → first_character text ≡ Some (c, rest) → unescaped_lines text ≡ option_map (λ lines. in_front (encode_utf8 c) lines) (unescaped_lines rest)
+unfolding unescaped_lines
+lines_first text c rest other first =
+    ap (option_map lines_of) (tokens_first text c rest first)
+    ∙ elim (tokens rest) as (λ found. option_map lines_of (option_map (λ more. token text c ∷ more) found) ≡ option_map (λ lines. in_front (encode_utf8 c) lines) (option_map lines_of found)) [
+      | None ↦ refl
+      | Some more ↦ ap (λ (test : Bool). Some (lines_of ((if test then Break else Character c) ∷ more))) other
+    ]
+
+pub lines_break : (text rest : List ℕ) → text ≡ 92 ∷ 110 ∷ rest → unescaped_lines text ≡ option_map (λ lines. [] ∷ lines) (unescaped_lines rest)
+unfolding unescaped_lines
+lines_break text rest is =
+    ap (λ (t : List ℕ). option_map lines_of (tokens t)) is
+    ∙ ap (option_map lines_of) (tokens_first (92 ∷ 110 ∷ rest) 10 rest (break_first rest))
+    ∙ elim (tokens rest) as (λ found. option_map lines_of (option_map (λ more. Break ∷ more) found) ≡ option_map (λ lines. [] ∷ lines) (option_map lines_of found)) [ None ↦ refl | Some more ↦ refl ]
+
+-- ---- what stands in front
+
+pub text_grown : (plain more : List ℕ) (rest : Option (List ℕ)) → option_map (λ text. plain ++ text) (option_map (λ text. more ++ text) rest) ≡ option_map (λ text. (plain ++ more) ++ text) rest
+text_grown plain more None = refl
+text_grown plain more (Some text) = ap Some (sym (append_assoc plain more text))
+
+in_front-append : (line more : List ℕ) (lines : List (List ℕ)) → in_front line (in_front more lines) ≡ in_front (line ++ more) lines
+in_front-append line more [] = refl
+in_front-append line more (first ∷ lines) = ap (λ (l : List ℕ). l ∷ lines) (sym (append_assoc line more first))
+
+pub line_grown : (line more : List ℕ) (rest : Option (List (List ℕ))) → option_map (λ lines. in_front line lines) (option_map (λ lines. in_front more lines) rest) ≡ option_map (λ lines. in_front (line ++ more) lines) rest
+line_grown line more None = refl
+line_grown line more (Some lines) = ap Some (in_front-append line more lines)
+
+pub line_ended : (line : List ℕ) (rest : Option (List (List ℕ))) → option_map (λ lines. in_front line lines) (option_map (λ lines. [] ∷ lines) rest) ≡ option_map (λ lines. line ∷ lines) rest
+line_ended line None = refl
+line_ended line (Some lines) = ap (λ (l : List ℕ). Some (l ∷ lines)) (append-nil line)

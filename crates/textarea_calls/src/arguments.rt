@@ -1,0 +1,440 @@
+// The arguments of commands: numbers, truth values, names of moves and of scrolls, and texts with escapes.
+ghost use Rattle.std.specs.Char.{is_ascii_digit, is_ascii_hexdigit};
+ghost use Rattle.std.specs.List.{list_all};
+ghost use Rattle.std.specs.Prelude.{◌≡◌, ◌<◌, ◌≤◌, ◌∷◌, length, map, option_copied, option_map, string_bytes, vec_len, IfOk, IfSome, MatchOption};
+ghost use Rattle.textarea_calls.specs.Arguments.{IsReadAs, byte_number, mode_named, move_named, number, page, parts, scroll_by, short_number, sides, sides_of_area, signed_number, truth, two_short_numbers};
+ghost use Rattle.textarea_calls.specs.FirstLine.{IsFirstLineOf};
+ghost use Rattle.textarea_calls.specs.Escapes.{character, character_numbered, escape, first_character, numbered, unescaped, unescaped_lines};
+ghost use Rattle.textarea_calls.specs.Inputs.{held, input_named, key_alone, key_named, key_with};
+ghost use Rattle.textarea_calls.specs.Ranges.{range, ranges, ranges_behind};
+
+use std::alloc::{AllocError, AllocFailed, Global};
+use textarea_data::cursor::CursorMove;
+use textarea_data::input::{Input, Key};
+use textarea_data::range::AtomicRange;
+use textarea_data::scroll::Scrolling;
+use textarea_screen::screen::Rect;
+use textarea_wrap::wrap::WrapMode;
+
+// Why a command was not read.
+#[derive(Clone, Copy)]
+pub enum Unread {
+    // It is none.
+    NoCommand,
+    // Out of memory.
+    Memory,
+}
+
+impl From<AllocError> for Unread {
+    ghost use Rattle.std.specs.Prelude.{◌≡◌};
+    ghost use Rattle.textarea_calls.specs.declared.arguments.Unread.TheVariants.{Memory};
+
+    ghost from_gives = { λ _ error. error ≡ Memory };
+
+    fn from(_refused: AllocError) -> Unread {
+        Unread::Memory
+    }
+}
+
+impl<T: Drop> From<AllocFailed<T>> for Unread {
+    ghost use Rattle.std.specs.Prelude.{◌≡◌};
+    ghost use Rattle.textarea_calls.specs.declared.arguments.Unread.TheVariants.{Memory};
+
+    ghost from_gives = { λ _ error. error ≡ Memory };
+
+    fn from(_refused: AllocFailed<T>) -> Unread {
+        Unread::Memory
+    }
+}
+
+// What stands before the first space, and what stands behind it.
+pub fn parts(text: &str) -> Option<(&str, &str)>
+    ensures value { MatchOption result (parts text.now ≡ None)
+        (λ x. parts text.now ≡ Some (x.0.now, x.1.now)) }
+    ensures shorter { IfSome result (λ x. length x.1.now < length text.now) }
+{
+    text.split_once(' ')
+}
+
+// Whether there is nothing but digits.
+fn is_all_digits(text: &str) -> bool
+    ensures { result ≡ list_all (λ byte. is_ascii_digit byte) text.now }
+{
+    text.bytes().all(|byte| byte.is_ascii_digit())
+}
+
+// The decimal number that the text is: digits alone, leading zeros allowed.
+#[tactic(auto, unfolding(crate::specs::Arguments::number_below))]
+pub fn number(text: &str) -> Option<u64>
+    ensures { result ≡ number text.now }
+{
+    if !is_all_digits(text) {
+        return None;
+    }
+    text.parse().ok()
+}
+
+// A number of 16 bits.
+#[tactic(auto, unfolding(crate::specs::Arguments::number_below))]
+pub fn short_number(text: &str) -> Option<u16>
+    ensures { result ≡ short_number text.now }
+{
+    u16::try_from(number(text)?).ok()
+}
+
+// A number of 8 bits.
+#[tactic(auto, unfolding(crate::specs::Arguments::number_below))]
+pub fn byte_number(text: &str) -> Option<u8>
+    ensures { result ≡ byte_number text.now }
+{
+    u8::try_from(number(text)?).ok()
+}
+
+// Two numbers of 16 bits with one space between them.
+pub fn two_short_numbers(text: &str) -> Option<(u16, u16)>
+    ensures { result ≡ two_short_numbers text.now }
+{
+    let (first, second) = parts(text)?;
+    Some((short_number(first)?, short_number(second)?))
+}
+
+// The area that the text names by its first column, its first row, its columns and its rows, with one space between each two
+// numbers.
+pub fn area(text: &str) -> Option<Rect>
+    ensures { option_map sides_of_area result ≡ sides text.now }
+{
+    let (x, rest) = parts(text)?;
+    let (y, size) = parts(rest)?;
+    let (width, height) = two_short_numbers(size)?;
+    Some(Rect::new(short_number(x)?, short_number(y)?, width, height))
+}
+
+// A number of 16 bits that may be negative: it then has a `-` before its digits.
+fn signed_number(text: &str) -> Option<i16>
+    ensures { result ≡ signed_number text.now }
+{
+    let digits = text.strip_prefix('-').unwrap_or(text);
+    if !is_all_digits(digits) {
+        return None;
+    }
+    text.parse().ok()
+}
+
+// The scroll by the rows and the columns that the text names, with one space between them.
+pub fn scroll_by(text: &str) -> Option<Scrolling>
+    ensures { result ≡ scroll_by text.now }
+{
+    let (rows, cols) = parts(text)?;
+    Some(Scrolling::Delta {
+        rows: signed_number(rows)?,
+        cols: signed_number(cols)?,
+    })
+}
+
+// The scroll by pages that the text names.
+pub fn page_named(name: &str) -> Option<Scrolling>
+    ensures { result ≡ page name.now }
+{
+    Some(match name {
+        "PageDown" => Scrolling::PageDown,
+        "PageUp" => Scrolling::PageUp,
+        "HalfPageDown" => Scrolling::HalfPageDown,
+        "HalfPageUp" => Scrolling::HalfPageUp,
+        _ => return None,
+    })
+}
+
+// The atomic ranges that the text names, each by its row, its first column and the column behind its last one, with one
+// space between each two numbers.
+pub fn ranges(alloc: Global, text: &str) -> Result<Vec<AtomicRange>, Unread>
+    ensures { IsReadAs (λ read. read.items) (ranges text.now) result }
+{
+    let mut ranges = Vec::new(alloc);
+    let mut rest = Some(text);
+    while let Some(text) = rest {
+        let Some((range, behind)) = first_range(text) else {
+            return Err(Unread::NoCommand);
+        };
+        ranges.push(range)?;
+        rest = behind;
+    }
+    Ok(ranges)
+}
+
+// The first of the ranges that the text names, and the text behind the space that ends it, if there is one.
+fn first_range(text: &str) -> Option<(AtomicRange, Option<&str>)>
+    ensures value { MatchOption result (ranges text.now ≡ None) (λ x. ranges text.now
+        ≡ option_map (λ more. x.0 ∷ more) (ranges_behind (option_copied x.1))) }
+    ensures shorter { IfSome result (λ x. IfSome x.1 (λ rest. length rest.now < length text.now)) }
+{
+    let (row, rest) = parts(text)?;
+    let (start, rest) = parts(rest)?;
+    match parts(rest) {
+        Some((end, behind)) => Some((range(row, start, end)?, Some(behind))),
+        None => Some((range(row, start, rest)?, None)),
+    }
+}
+
+// The range of a row, a first column, and the column behind the last one.
+fn range(row: &str, start: &str, end: &str) -> Option<AtomicRange>
+    ensures { result ≡ range row.now start.now end.now }
+{
+    Some(AtomicRange {
+        row: number(row)? as usize,
+        start_col: number(start)? as usize,
+        end_col: number(end)? as usize,
+    })
+}
+
+// The truth value that the text names.
+pub fn truth(text: &str) -> Option<bool>
+    ensures { result ≡ truth text.now }
+{
+    match text {
+        "true" => Some(true),
+        "false" => Some(false),
+        _ => None,
+    }
+}
+
+// The move that the text names. `Jump` has a command of its own.
+pub fn move_named(name: &str) -> Option<CursorMove>
+    ensures { result ≡ move_named name.now }
+{
+    Some(match name {
+        "Forward" => CursorMove::Forward,
+        "Back" => CursorMove::Back,
+        "Up" => CursorMove::Up,
+        "Down" => CursorMove::Down,
+        "Head" => CursorMove::Head,
+        "End" => CursorMove::End,
+        "Top" => CursorMove::Top,
+        "Bottom" => CursorMove::Bottom,
+        "WordForward" => CursorMove::WordForward,
+        "WordEnd" => CursorMove::WordEnd,
+        "WordBack" => CursorMove::WordBack,
+        "ParagraphForward" => CursorMove::ParagraphForward,
+        "ParagraphBack" => CursorMove::ParagraphBack,
+        "InViewport" => CursorMove::InViewport,
+        _ => return None,
+    })
+}
+
+// The wrap mode that the text names.
+pub fn mode_named(name: &str) -> Option<WrapMode>
+    ensures { result ≡ mode_named name.now }
+{
+    Some(match name {
+        "None" => WrapMode::None,
+        "Word" => WrapMode::Word,
+        "Glyph" => WrapMode::Glyph,
+        "WordOrGlyph" => WrapMode::WordOrGlyph,
+        _ => return None,
+    })
+}
+
+// The input of what is held, as letters of `cas` or `-` for nothing, and a key, with one space between them.
+pub fn input_named(text: &str) -> Option<Input>
+    ensures { result ≡ input_named text.now }
+{
+    let (modifiers, key) = parts(text)?;
+    let (ctrl, alt, shift) = held(modifiers)?;
+    Some(Input {
+        key: key_named(key)?,
+        ctrl,
+        alt,
+        shift,
+    })
+}
+
+// What is held by these letters: Ctrl, Alt and Shift.
+fn held(modifiers: &str) -> Option<(bool, bool, bool)>
+    ensures { result ≡ held modifiers.now }
+{
+    match modifiers {
+        "-" => Some((false, false, false)),
+        "c" => Some((true, false, false)),
+        "a" => Some((false, true, false)),
+        "s" => Some((false, false, true)),
+        "ca" => Some((true, true, false)),
+        "cs" => Some((true, false, true)),
+        "as" => Some((false, true, true)),
+        "cas" => Some((true, true, true)),
+        _ => None,
+    }
+}
+
+// The key that the text names, with what one space divides from the name, if there is a space.
+#[tactic(auto, unfolding(crate::specs::Inputs::key_named))]
+fn key_named(text: &str) -> Option<Key>
+    ensures { result ≡ key_named text.now }
+{
+    match parts(text) {
+        Some((name, argument)) => key_with(name, argument),
+        None => key_alone(text),
+    }
+}
+
+// The key of a character, or a function key by its number.
+fn key_with(name: &str, argument: &str) -> Option<Key>
+    ensures { result ≡ key_with name.now argument.now }
+{
+    Some(match name {
+        "Char" => Key::Char(one_character(argument)?),
+        "F" => Key::F(byte_number(argument)?),
+        _ => return None,
+    })
+}
+
+// The key of this name, which takes no argument.
+fn key_alone(name: &str) -> Option<Key>
+    ensures { result ≡ key_alone name.now }
+{
+    Some(match name {
+        "Backspace" => Key::Backspace,
+        "Enter" => Key::Enter,
+        "Left" => Key::Left,
+        "Right" => Key::Right,
+        "Up" => Key::Up,
+        "Down" => Key::Down,
+        "Tab" => Key::Tab,
+        "Delete" => Key::Delete,
+        "Home" => Key::Home,
+        "End" => Key::End,
+        "PageUp" => Key::PageUp,
+        "PageDown" => Key::PageDown,
+        "Esc" => Key::Esc,
+        "Copy" => Key::Copy,
+        "Cut" => Key::Cut,
+        "Paste" => Key::Paste,
+        "MouseScrollDown" => Key::MouseScrollDown,
+        "MouseScrollUp" => Key::MouseScrollUp,
+        "Null" => Key::Null,
+        _ => return None,
+    })
+}
+
+// The character that the whole text stands for, as itself or by an escape.
+#[tactic(auto, unfolding(crate::specs::Escapes::character))]
+pub fn one_character(text: &str) -> Option<char>
+    ensures { result ≡ character text.now }
+{
+    let (c, rest) = first_character(text)?;
+    rest.is_empty().then_some(c)
+}
+
+// The text that a text with escapes stands for.
+pub fn unescape(alloc: Global, text: &str) -> Result<String, Unread>
+    ensures { IsReadAs string_bytes (unescaped text.now) result }
+{
+    let mut plain = String::new(alloc);
+    let mut rest = text;
+    while let Some((front, escaped)) = rest.split_once('\\') {
+        let Some((c, behind)) = escaped_character(escaped) else {
+            return Err(Unread::NoCommand);
+        };
+        plain.push_str(front)?;
+        plain.push(c)?;
+        rest = behind;
+    }
+    plain.push_str(rest)?;
+    Ok(plain)
+}
+
+// The lines that a text with escapes stands for: it is cut at each escape `\n`, so there is one line more
+// than these. A line feed by its number stays a character of its line.
+pub fn unescaped_lines(alloc: Global, text: &str) -> Result<Vec<String>, Unread>
+    ensures some { IfOk result (λ lines. 0 < vec_len lines) }
+    ensures value { IsReadAs (λ lines. map string_bytes lines.items)
+        (unescaped_lines text.now) result }
+{
+    let mut lines = Vec::new(alloc);
+    let mut rest = Some(text);
+    while let Some(text) = rest {
+        let (line, behind) = first_line(alloc, text)?;
+        lines.push(line)?;
+        rest = behind;
+    }
+    Ok(lines)
+}
+
+// The first line that a text with escapes stands for, and the text behind the escape `\n` that ends it, if there is one.
+fn first_line(alloc: Global, text: &str) -> Result<(String, Option<&str>), Unread>
+    ensures value { IsFirstLineOf text.now result }
+    ensures shorter { IfOk result (λ x. IfSome x.1 (λ rest. length rest.now < length text.now)) }
+{
+    let mut line = String::new(alloc);
+    let mut rest = text;
+    while let Some((front, escaped)) = rest.split_once('\\') {
+        line.push_str(front)?;
+        if let Some(behind) = escaped.strip_prefix('n') {
+            return Ok((line, Some(behind)));
+        }
+        let Some((c, behind)) = escaped_character(escaped) else {
+            return Err(Unread::NoCommand);
+        };
+        line.push(c)?;
+        rest = behind;
+    }
+    line.push_str(rest)?;
+    Ok((line, None))
+}
+
+// The first character that a text with escapes stands for, and the text behind it.
+fn first_character(text: &str) -> Option<(char, &str)>
+    ensures value { MatchOption result (first_character text.now ≡ None)
+        (λ x. first_character text.now ≡ Some (x.0, x.1.now)) }
+    ensures shorter { IfSome result (λ x. length x.1.now < length text.now) }
+{
+    let mut rest = text.chars();
+    let c = match rest.next()? {
+        '\\' => return escaped_character(rest.as_str()),
+        c => c,
+    };
+    Some((c, rest.as_str()))
+}
+
+// The character of an escape, whose text is given behind its backslash, and the text behind it.
+fn escaped_character(text: &str) -> Option<(char, &str)>
+    ensures value { MatchOption result (escape text.now ≡ None)
+        (λ x. escape text.now ≡ Some (x.0, x.1.now)) }
+    ensures shorter { IfSome result (λ x. length x.1.now < length text.now) }
+{
+    let mut rest = text.chars();
+    let c = match rest.next()? {
+        'n' => '\n',
+        'r' => '\r',
+        't' => '\t',
+        '\\' => '\\',
+        'u' => return numbered_character(rest.as_str()),
+        _ => return None,
+    };
+    Some((c, rest.as_str()))
+}
+
+// The character of a number in braces, of 1 to 6 hexadecimal digits, and the text behind it.
+fn numbered_character(text: &str) -> Option<(char, &str)>
+    ensures value { MatchOption result (numbered text.now ≡ None)
+        (λ x. numbered text.now ≡ Some (x.0, x.1.now)) }
+    ensures shorter { IfSome result (λ x. length x.1.now < length text.now) }
+{
+    let (digits, rest) = text.strip_prefix('{')?.split_once('}')?;
+    Some((character_of_number(digits)?, rest))
+}
+
+// The character of the number that 1 to 6 hexadecimal digits write.
+fn character_of_number(digits: &str) -> Option<char>
+    ensures { result ≡ character_numbered digits.now }
+{
+    if 6 < digits.len() || !is_all_hexadecimal(digits) {
+        return None;
+    }
+    char::from_u32(u32::from_str_radix(digits, 16).ok()?)
+}
+
+// Whether there is nothing but hexadecimal digits.
+fn is_all_hexadecimal(text: &str) -> bool
+    ensures { result ≡ list_all (λ byte. is_ascii_hexdigit byte) text.now }
+{
+    text.bytes().all(|byte| byte.is_ascii_hexdigit())
+}

@@ -1,0 +1,349 @@
+// Reading a script: each line is a command, and stands for one call.
+ghost use Rattle.std.specs.Prelude.{◌≡◌, ◌+◌, All, IfOk, IfErr, IfSome, length, map, option_and_then, option_copied, option_map, string_bytes, true, vec_len};
+ghost use Rattle.textarea_data.specs.declared.cursor.CursorMove.TheVariants as move;
+ghost use Rattle.textarea_calls.specs.Arguments.{IsReadAs, two_short_numbers};
+ghost use Rattle.textarea_calls.specs.Made.{CanBeMade};
+ghost use Rattle.textarea_calls.specs.Commands.{given_text, line_meant, line_numbers, meant, plain_meant, set_lines_meant, setting_meant};
+ghost use Rattle.textarea_calls.specs.Inputs.{input_named};
+ghost use Rattle.textarea_calls.specs.Lent.{lends_list, lends_text};
+ghost use Rattle.textarea_calls.specs.Ranges.{ranges_behind};
+ghost use Rattle.textarea_calls.specs.Script.{lines_of, filled_lines, meaning_of, meant_line, meant_lines, AreCallsOf, IsAtLine, IsCallOf, IsCommandOf, IsReady, IsReady-prop, NamesLine};
+ghost use Rattle.textarea_calls.specs.declared.commands.Content.TheVariants.{Plain};
+
+use crate::Call;
+use crate::arguments::{
+    Unread, area, byte_number, input_named, mode_named, move_named, number, one_character,
+    page_named, parts, ranges, scroll_by, short_number, truth, two_short_numbers, unescape,
+    unescaped_lines,
+};
+use std::alloc::{AllocError, AllocFailed, Global};
+use std::str::from_utf8;
+use std::time::Duration;
+use textarea_data::cursor::CursorMove;
+use textarea_data::input::Input;
+use textarea_data::range::AtomicRange;
+use textarea_screen::screen::{Position, Style};
+
+/// Why a script was not read.
+#[derive(Clone, Copy, Debug, PartialEq, Eq)]
+pub enum ReadError {
+    /// The line of this number, counted from 1, is no command or isn't UTF-8.
+    Line(usize),
+    /// Out of memory.
+    Memory,
+}
+
+impl<T: Drop> From<AllocFailed<T>> for ReadError {
+    ghost use Rattle.std.specs.Prelude.{◌≡◌};
+    ghost use Rattle.textarea_calls.specs.declared.commands.ReadError.TheVariants.{Memory};
+
+    ghost from_gives = { λ _ error. error ≡ Memory };
+
+    fn from(_refused: AllocFailed<T>) -> ReadError {
+        ReadError::Memory
+    }
+}
+
+/// A command that was read, with texts of its own. The call that it stands for can be made.
+#[derive(Drop)]
+pub struct Command {
+    content: Content,
+    ghost ready: { IsReady content } by { IsReady-prop content },
+}
+
+#[derive(Drop)]
+enum Content {
+    // The call itself, which borrows no text.
+    Plain(Call<'static>),
+    InsertStr(String),
+    SetYankText(String),
+    TrySetAtomicRanges(Vec<AtomicRange>),
+    SetSearchPattern(String),
+    SetLines {
+        lines: Vec<String>,
+        cursor: (usize, usize),
+    },
+    Input(Input),
+}
+
+impl Command {
+    /// The call that the command stands for.
+    pub fn call(&self) -> Call<'_>
+        ensures ready { CanBeMade result }
+        ensures is { IsCallOf self.now.content result }
+    {
+        match &self.content {
+            Content::Plain(call) => *call,
+            Content::Input(input) => Call::Input(input),
+            Content::TrySetAtomicRanges(_) | Content::SetLines { .. } => self.content.list_call(),
+            _ => self.content.text_call(),
+        }
+    }
+}
+
+impl Content {
+    // The call that is lent ranges or lines.
+    fn list_call(&self) -> Call<'_>
+        requires lends { lends_list self.now ≡ true }
+        requires ready { IsReady self.now }
+        ensures ready { CanBeMade result }
+        ensures is { IsCallOf self.now result }
+    {
+        match self {
+            Content::TrySetAtomicRanges(ranges) => Call::TrySetAtomicRanges(ranges.as_slice()),
+            Content::SetLines { lines, cursor } => Call::SetLines {
+                lines: lines.as_slice(),
+                cursor: *cursor,
+            },
+            _ => unreachable!(),
+        }
+    }
+
+    // The call that is lent a text.
+    fn text_call(&self) -> Call<'_>
+        requires { lends_text self.now ≡ true }
+        ensures ready { CanBeMade result }
+        ensures is { IsCallOf self.now result }
+    {
+        match self {
+            Content::InsertStr(text) => Call::InsertStr(text.as_str()),
+            Content::SetYankText(text) => Call::SetYankText(text.as_str()),
+            Content::SetSearchPattern(text) => Call::SetSearchPattern(text.as_str()),
+            _ => unreachable!(),
+        }
+    }
+}
+
+/// Reads a script, a command a line. Each line but the last ends in a line feed; empty lines are
+/// skipped, and each other line is one command. The error's line is the first that is no command or
+/// isn't UTF-8.
+pub fn read(alloc: Global, script: &[u8]) -> Result<Vec<Command>, ReadError>
+    ensures ok { IfOk result (λ commands. vec_len commands ≡ filled_lines (lines_of script.now)) }
+    ensures means { IfOk result (λ commands.
+        map (λ command. Some (meaning_of command.content)) commands.items
+        ≡ meant_lines (lines_of script.now)) }
+    ensures err { IfErr result (NamesLine script.now) }
+{
+    let mut commands = Vec::new(alloc);
+    for (index, line) in script.split(|byte| *byte == b'\n').enumerate() {
+        if line.is_empty() {
+            continue;
+        }
+        commands.push(read_line(alloc, line, index + 1)?)?;
+    }
+    Ok(commands)
+}
+
+/// The calls that the commands stand for, in their order.
+pub fn calls(alloc: Global, commands: &[Command]) -> Result<Vec<Call<'_>>, AllocError>
+    ensures ready { IfOk result (λ calls. All CanBeMade calls.items) }
+    ensures each { IfOk result (λ calls.
+        AreCallsOf (map (λ command. command.content) commands.now) calls.items) }
+{
+    let mut calls = Vec::with_capacity(alloc, commands.len())?;
+    for command in commands {
+        calls.push(command.call())?;
+    }
+    Ok(calls)
+}
+
+// Reads the line of this number.
+fn read_line(alloc: Global, line: &[u8], number: usize) -> Result<Command, ReadError>
+    ensures line { IfErr result (IsAtLine number) }
+    ensures means { IsCommandOf (λ command. command.content) (meant_line line.now) result }
+{
+    let Ok(text) = from_utf8(line) else {
+        return Err(ReadError::Line(number));
+    };
+    match content_of(alloc, text) {
+        Ok(content) => Ok(Command { content }),
+        Err(Unread::NoCommand) => Err(ReadError::Line(number)),
+        Err(Unread::Memory) => Err(ReadError::Memory),
+    }
+}
+
+// What a line commands: a call's name and, after one space, its arguments.
+fn content_of(alloc: Global, line: &str) -> Result<Content, Unread>
+    ensures ready { IfOk result IsReady }
+    ensures means { IsReadAs meaning_of (line_meant line.now) result }
+{
+    match parts(line) {
+        Some((name, arguments)) => content_named(alloc, name, Some(arguments)),
+        None => content_named(alloc, line, None),
+    }
+}
+
+// What a call's name and its arguments command, if there are any.
+#[tactic(auto, unfolding(crate::specs::Commands::meant))]
+fn content_named(alloc: Global, name: &str, arguments: Option<&str>) -> Result<Content, Unread>
+    ensures ready { IfOk result IsReady }
+    ensures means { IsReadAs meaning_of (meant name.now (option_copied arguments.entry)) result }
+{
+    match name {
+        "insert_str" => text(alloc, arguments).map(Content::InsertStr),
+        "set_yank_text" => text(alloc, arguments).map(Content::SetYankText),
+        "set_search_pattern" => text(alloc, arguments).map(Content::SetSearchPattern),
+        "ranges" => some_ranges(alloc, arguments).map(Content::TrySetAtomicRanges),
+        "set_lines" => set_lines(alloc, arguments),
+        "input" => input(arguments)
+            .map(Content::Input)
+            .ok_or(Unread::NoCommand),
+        _ => plain(name, arguments)
+            .map(Content::Plain)
+            .ok_or(Unread::NoCommand),
+    }
+}
+
+// The text that the arguments stand for: the empty one where there are none.
+fn text(alloc: Global, arguments: Option<&str>) -> Result<String, Unread>
+    ensures { IsReadAs string_bytes (given_text (option_copied arguments.entry)) result }
+{
+    unescape(alloc, arguments.unwrap_or(""))
+}
+
+// The ranges that the arguments name: none where there are no arguments.
+fn some_ranges(alloc: Global, arguments: Option<&str>) -> Result<Vec<AtomicRange>, Unread>
+    ensures { IsReadAs (λ read. read.items) (ranges_behind (option_copied arguments.entry)) result }
+{
+    match arguments {
+        Some(arguments) => ranges(alloc, arguments),
+        None => Ok(Vec::new(alloc)),
+    }
+}
+
+// The input that the arguments name.
+fn input(arguments: Option<&str>) -> Option<Input>
+    ensures { result ≡ option_and_then input_named (option_copied arguments.entry) }
+{
+    input_named(arguments?)
+}
+
+// A `set_lines` of these arguments: a row, a column, and a text that may be left out.
+fn set_lines(alloc: Global, arguments: Option<&str>) -> Result<Content, Unread>
+    ensures ready { IfOk result IsReady }
+    ensures means { IsReadAs meaning_of (set_lines_meant (option_copied arguments.entry)) result }
+{
+    let (row, rest) = parts(arguments.unwrap_or("")).ok_or(Unread::NoCommand)?;
+    let (column, text) = parts(rest).unwrap_or((rest, ""));
+    let row = number(row).ok_or(Unread::NoCommand)?;
+    let column = number(column).ok_or(Unread::NoCommand)?;
+    Ok(Content::SetLines {
+        lines: unescaped_lines(alloc, text)?,
+        cursor: (row as usize, column as usize),
+    })
+}
+
+// The call of this name and its arguments, if there are any, none of which is a text.
+fn plain(name: &str, arguments: Option<&str>) -> Option<Call<'static>>
+    ensures ready { IfSome result CanBeMade }
+    ensures means { option_map (λ call. meaning_of (Plain call)) result
+        ≡ plain_meant name.now (option_copied arguments.entry) }
+{
+    match arguments {
+        Some(arguments) => call_with(name, arguments),
+        None => call_alone(name),
+    }
+}
+
+// The call of this name, without arguments.
+#[tactic(auto, unfolding(crate::specs::Commands::plain_meant))]
+fn call_alone(name: &str) -> Option<Call<'static>>
+    ensures ready { IfSome result CanBeMade }
+    ensures means { option_map (λ call. meaning_of (Plain call)) result
+        ≡ plain_meant name.now None }
+{
+    Some(match name {
+        "insert_tab" => Call::InsertTab,
+        "insert_newline" => Call::InsertNewline,
+        "delete_newline" => Call::DeleteNewline,
+        "delete_char" => Call::DeleteChar,
+        "delete_next_char" => Call::DeleteNextChar,
+        "delete_line_by_end" => Call::DeleteLineByEnd,
+        "delete_line_by_head" => Call::DeleteLineByHead,
+        "delete_word" => Call::DeleteWord,
+        "delete_next_word" => Call::DeleteNextWord,
+        "clear" => Call::Clear,
+        "cut" => Call::Cut,
+        "copy" => Call::Copy,
+        "paste" => Call::Paste,
+        "undo" => Call::Undo,
+        "redo" => Call::Redo,
+        "start_selection" => Call::StartSelection,
+        "cancel_selection" => Call::CancelSelection,
+        "select_all" => Call::SelectAll,
+        "yank_text" => Call::YankText,
+        "clear_mask_char" => Call::ClearMaskChar,
+        _ => return None,
+    })
+}
+
+// The call of this name and these arguments, none of which is a text.
+#[tactic(auto, unfolding(crate::specs::Commands::plain_meant))]
+fn call_with(name: &str, arguments: &str) -> Option<Call<'static>>
+    ensures ready { IfSome result CanBeMade }
+    ensures means { option_map (λ call. meaning_of (Plain call)) result
+        ≡ plain_meant name.now (Some arguments.now) }
+{
+    Some(match name {
+        "insert_char" => Call::InsertChar(one_character(arguments)?),
+        "delete_str" => Call::DeleteStr(number(arguments)? as usize),
+        "search_forward" => Call::SearchForward(truth(arguments)?),
+        "search_back" => Call::SearchBack(truth(arguments)?),
+        "measure" => Call::Measure(short_number(arguments)?),
+        "render" => Call::Render(area(arguments)?),
+        "hit" => Call::CursorAtPosition(position(arguments)?),
+        "move" => Call::Move(move_named(arguments)?),
+        "jump" => Call::Move(jump(arguments)?),
+        "scroll" => Call::Scroll(scroll_by(arguments)?),
+        "page" => Call::Scroll(page_named(arguments)?),
+        _ => return setting_with(name, arguments),
+    })
+}
+
+// The call of this name and these arguments, if it sets something.
+#[tactic(auto, unfolding(crate::specs::Commands::setting_meant))]
+fn setting_with(name: &str, arguments: &str) -> Option<Call<'static>>
+    ensures ready { IfSome result CanBeMade }
+    ensures means { option_map (λ call. meaning_of (Plain call)) result
+        ≡ setting_meant name.now (Some arguments.now) }
+{
+    Some(match name {
+        "set_tab_length" => Call::SetTabLength(byte_number(arguments)?),
+        "set_hard_tab_indent" => Call::SetHardTabIndent(truth(arguments)?),
+        "set_max_histories" => Call::SetMaxHistories(number(arguments)? as usize),
+        "set_undo_coalescing" => Call::SetUndoCoalescing(truth(arguments)?),
+        "set_wrap_mode" => Call::SetWrapMode(mode_named(arguments)?),
+        "set_mask_char" => Call::SetMaskChar(one_character(arguments)?),
+        "line_numbers" => line_numbers(truth(arguments)?),
+        "now" => Call::SetNow(Duration::from_millis(number(arguments)?)),
+        _ => return None,
+    })
+}
+
+// Line numbers in the empty style, or none.
+fn line_numbers(shown: bool) -> Call<'static>
+    ensures { result ≡ line_numbers shown }
+{
+    if shown {
+        Call::SetLineNumberStyle(Style::new())
+    } else {
+        Call::RemoveLineNumber
+    }
+}
+
+// The jump to a row and a column.
+fn jump(arguments: &str) -> Option<CursorMove>
+    ensures { result ≡ option_map (λ p. move.Jump p.0 p.1) (two_short_numbers arguments.now) }
+{
+    let (row, column) = two_short_numbers(arguments)?;
+    Some(CursorMove::Jump(row, column))
+}
+
+// The cell in a column and a row.
+fn position(arguments: &str) -> Option<Position>
+    ensures { result
+        ≡ option_map (λ p. record { x = p.0; y = p.1 }) (two_short_numbers arguments.now) }
+{
+    let (x, y) = two_short_numbers(arguments)?;
+    Some(Position { x, y })
+}

@@ -1,0 +1,45 @@
+//! The two tables of keys.
+
+ghost use Rattle.std.specs.Prelude.{◌≡◌};
+ghost use Rattle.textarea_calls.specs.Keys.{keys, keys_without_shortcuts};
+ghost use Rattle.textarea_calls.specs.Table.{action_by};
+
+use crate::action::Action;
+use textarea_data::input::{Input, Key};
+use textarea_data::scroll::Scrolling;
+
+mod groups;
+
+/// What a notch of the mouse's wheel scrolls by.
+const ONE_DOWN: Scrolling = Scrolling::Delta { rows: 1, cols: 0 };
+
+const ONE_UP: Scrolling = Scrolling::Delta { rows: -1, cols: 0 };
+
+/// What an input asks for, by the table of keys with shortcuts.
+pub fn action_of(input: &Input) -> Action
+    ensures { result ≡ action_by keys input.now }
+{
+    match (input.ctrl, input.alt) {
+        (false, false) => groups::plain(input.key, input.shift),
+        (true, false) => groups::with_ctrl(input.key, input.shift),
+        (false, true) => groups::with_alt(input.key, input.shift),
+        (true, true) => groups::with_ctrl_and_alt(input.key, input.shift),
+    }
+}
+
+/// What an input asks for, by the table of keys without shortcuts, for a caller that has shortcuts of its own.
+#[tactic(auto, unfolding(crate::specs::Keys::keys_without_shortcuts, crate::specs::Table::action_by))]
+pub fn action_without_shortcuts(input: &Input) -> Action
+    ensures { result ≡ action_by keys_without_shortcuts input.now }
+{
+    match (input.key, input.ctrl, input.alt) {
+        (Key::Char(character), false, false) => Action::InsertChar(character),
+        (Key::Tab, false, false) => Action::InsertTab,
+        (Key::Backspace, ..) => Action::DeleteChar,
+        (Key::Delete, ..) => Action::DeleteNextChar,
+        (Key::Enter, ..) => Action::InsertNewline,
+        (Key::MouseScrollDown, ..) => Action::Scroll(ONE_DOWN),
+        (Key::MouseScrollUp, ..) => Action::Scroll(ONE_UP),
+        _ => Action::Nothing,
+    }
+}

@@ -1,0 +1,44 @@
+//! The lines of a case.
+use crate::stop::Stop;
+use std::alloc::{AllocError, Global};
+use textarea_calls::Call;
+use textarea_calls::commands::{Command, read};
+
+/// The lines of a case behind its comments, each with a line feed, and with a blank for a `\u{20}` at its end.
+pub fn plain(alloc: Global, case: &str) -> Result<String, AllocError> {
+    let mut lines = String::new(alloc);
+    for line in case.lines().skip_while(|line| line.starts_with("# ")) {
+        match line.strip_suffix("\\u{20}") {
+            Some(line) => writeln!(lines, "{line} ")?,
+            None => writeln!(lines, "{line}")?,
+        }
+    }
+    Ok(lines)
+}
+
+/// The keys in the first line of a case, behind `> `, and what stands behind that line.
+pub fn keys_and_rest(alloc: Global, case: &str) -> Result<(String, &str), Stop> {
+    let (first, rest) = case.split_once('\n').unwrap_or((case, ""));
+    let Some(keys) = first.strip_prefix("> ") else {
+        return Err(Stop::Unread);
+    };
+    Ok((unescaped(alloc, keys)?, rest))
+}
+
+/// The text that scripts write so, with their escapes.
+pub fn unescaped(alloc: Global, text: &str) -> Result<String, Stop> {
+    let line = format!(in alloc; "insert_str {text}")?;
+    let commands = read(alloc, line.as_bytes())?;
+    text_of(alloc, commands.as_slice())
+}
+
+// The text that the first command inserts.
+fn text_of(alloc: Global, commands: &[Command]) -> Result<String, Stop> {
+    match commands.first() {
+        Some(command) => match command.call() {
+            Call::InsertStr(text) => Ok(String::from_str(alloc, text)?),
+            _ => Err(Stop::Unread),
+        },
+        None => Err(Stop::Unread),
+    }
+}

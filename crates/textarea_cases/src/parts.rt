@@ -1,0 +1,201 @@
+//! What is told beside what scripts print: styles by their names, the cells of a buffer, and what isn't as of a new text area.
+use crate::stop::Stop;
+use crate::styles::style_name;
+use std::alloc::{AllocError, Global};
+use std::fmt;
+use textarea_calls::Answer;
+use textarea_calls::printing::Escaped;
+use textarea_data::range::AtomicRange;
+use textarea_screen::screen::{Buffer, Color, Rect, Style};
+use textarea_wrap::wrap::WrapMode;
+
+// A style, by its name.
+#[derive(Clone, Copy)]
+struct Named(Style);
+
+impl fmt::Display for Named {
+    fn fmt<W: fmt::Write>(&self, f: &mut fmt::Formatter<W>) -> fmt::Result {
+        match style_name(self.0) {
+            Some(name) => write!(f, "{name}"),
+            None => write!(f, "{:?}", self.0),
+        }
+    }
+}
+
+// Ranges, with a blank between each two.
+#[derive(Clone, Copy)]
+struct Ranges<'a>(&'a [AtomicRange]);
+
+impl fmt::Display for Ranges<'_> {
+    fn fmt<W: fmt::Write>(&self, f: &mut fmt::Formatter<W>) -> fmt::Result {
+        for (index, range) in self.0.iter().enumerate() {
+            if index != 0 {
+                write!(f, " ")?;
+            }
+            write!(f, "{}", Answer::Range(Some(*range)))?;
+        }
+        Ok(())
+    }
+}
+
+/// An answer as scripts print it, a style by its name.
+pub fn told_answer(alloc: Global, answer: &Answer) -> Result<String, AllocError> {
+    match answer {
+        Answer::Style(style) | Answer::StyleIfShown(Some(style)) => {
+            format!(in alloc; "{}", Named(*style))
+        }
+        Answer::StyleIfShown(None) => String::from_str(alloc, "none"),
+        _ => format!(in alloc; "{answer}"),
+    }
+}
+
+/// Ranges as they are told: `none`, or each with a blank between.
+pub fn told_ranges(alloc: Global, ranges: &[AtomicRange]) -> Result<String, AllocError> {
+    if ranges.is_empty() {
+        return String::from_str(alloc, "none");
+    }
+    format!(in alloc; "{}", Ranges(ranges))
+}
+
+/// The styles of the cells of a part of a buffer, row after row, those that are alike counted. The part's first column and row, its
+/// columns and its rows stand in a text.
+pub fn told_styles(alloc: Global, buffer: &Buffer, place: &str) -> Result<String, Stop> {
+    let Some(place) = area_of(place) else {
+        return Err(Stop::Unread);
+    };
+    let mut told = String::new(alloc);
+    let (mut count, mut last) = (0usize, Style::new());
+    for y in place.y..place.y + place.height {
+        for x in place.x..place.x + place.width {
+            let style = style_of(buffer, x, y);
+            if style != last && count != 0 {
+                write!(told, "{count} {}, ", Named(last))?;
+                count = 0;
+            }
+            count = count.saturating_add(1);
+            last = style;
+        }
+    }
+    write!(told, "{count} {}", Named(last))?;
+    Ok(told)
+}
+
+// The style of a cell, without the colours of the terminal's own.
+fn style_of(buffer: &Buffer, x: u16, y: u16) -> Style {
+    let Some(cell) = buffer.cell(x, y) else {
+        return Style::new();
+    };
+    let style = cell.style();
+    Style {
+        fg: own_color(style.fg),
+        bg: own_color(style.bg),
+        ..style
+    }
+}
+
+fn own_color(color: Option<Color>) -> Option<Color> {
+    match color {
+        Some(Color::Reset) => None,
+        _ => color,
+    }
+}
+
+fn area_of(text: &str) -> Option<Rect> {
+    let mut parts = text.split(' ');
+    let x = number(parts.next())?;
+    let y = number(parts.next())?;
+    let width = number(parts.next())?;
+    let height = number(parts.next())?;
+    Some(Rect::new(x, y, width, height))
+}
+
+fn number(text: Option<&str>) -> Option<u16> {
+    text?.parse().ok()
+}
+
+/// What isn't as of a new text area: each part by its name.
+#[derive(Drop)]
+pub struct Parts {
+    told: String,
+}
+
+impl Parts {
+    /// Nothing.
+    pub fn new(alloc: Global) -> Parts {
+        Parts {
+            told: String::new(alloc),
+        }
+    }
+
+    /// What was told, or `nothing`.
+    pub fn told(&self, alloc: Global) -> Result<String, AllocError> {
+        match self.told.strip_prefix(", ") {
+            Some(parts) => String::from_str(alloc, parts),
+            None => String::from_str(alloc, "nothing"),
+        }
+    }
+
+    /// Tells a flag that is set.
+    pub fn flag(&mut self, is_set: bool, name: &str) -> Result<(), AllocError> {
+        if is_set {
+            write!(self.told, ", {name}")?;
+        }
+        Ok(())
+    }
+
+    /// Tells a number that isn't as at first.
+    pub fn number(&mut self, number: usize, at_first: usize, name: &str) -> Result<(), AllocError> {
+        if number != at_first {
+            write!(self.told, ", {name} {number}")?;
+        }
+        Ok(())
+    }
+
+    /// Tells a style that is set.
+    pub fn style(&mut self, style: Option<Style>, name: &str) -> Result<(), AllocError> {
+        match style {
+            Some(style) => write!(self.told, ", {name} {}", Named(style)),
+            None => Ok(()),
+        }
+    }
+
+    /// Tells what else than four blanks indents.
+    pub fn indent(&mut self, indent: &str) -> Result<(), AllocError> {
+        if indent != "    " {
+            write!(self.told, ", indent \"{}\"", Escaped(indent))?;
+        }
+        Ok(())
+    }
+
+    /// Tells how lines are wrapped, if they are.
+    pub fn mode(&mut self, mode: WrapMode) -> Result<(), AllocError> {
+        if mode != WrapMode::None {
+            write!(self.told, ", wrap_mode {mode:?}")?;
+        }
+        Ok(())
+    }
+
+    /// Tells the pattern, if there is one.
+    pub fn pattern(&mut self, pattern: Option<&str>) -> Result<(), AllocError> {
+        match pattern {
+            Some(pattern) => write!(self.told, ", search_pattern {pattern}"),
+            None => Ok(()),
+        }
+    }
+
+    /// Tells the ranges, if there are any.
+    pub fn ranges(&mut self, ranges: &[AtomicRange]) -> Result<(), AllocError> {
+        if !ranges.is_empty() {
+            write!(self.told, ", atomic_ranges {}", Ranges(ranges))?;
+        }
+        Ok(())
+    }
+
+    /// Tells the placeholder, of so many lines, if it has one.
+    pub fn placeholder(&mut self, lines: usize, text: &str) -> Result<(), AllocError> {
+        if lines != 0 {
+            write!(self.told, ", placeholder {lines} {}", Escaped(text))?;
+        }
+        Ok(())
+    }
+}

@@ -1,0 +1,228 @@
+//! The calls that words stand for, and what is lent to them.
+ghost use Rattle.std.specs.Prelude.{IfSome};
+ghost use Rattle.textarea_calls.specs.Made.{CanBeMade};
+
+use crate::styles::style_named;
+use std::alloc::{AllocError, Global};
+use textarea_calls::Call;
+use textarea_data::input::{Input, Key};
+use textarea_data::range::{AtomicCursorBias, AtomicDeleteDirection};
+use textarea_screen::screen::{Alignment, Block, Borders, Line, Style, Text};
+use textarea_view::look::CursorRenderMode;
+
+/// What is lent to calls.
+#[derive(Drop)]
+pub struct Lent {
+    /// What `set_block` sets.
+    pub block: Block<'static>,
+    /// What `set_styled_placeholder` sets.
+    pub placeholder: Text<'static>,
+    /// What `letter` types.
+    pub letter: Input,
+}
+
+impl Lent {
+    /// A block with all borders and a title, a placeholder of two lines in the empty style, and the key of the letter `z`.
+    pub fn new(alloc: Global) -> Result<Lent, AllocError> {
+        Ok(Lent {
+            block: titled(alloc, Borders::ALL, "a title")?,
+            placeholder: lines_in(alloc, Style::new(), &["type", "here"])?,
+            letter: character('z'),
+        })
+    }
+}
+
+/// A block with these borders and this title.
+pub fn titled(alloc: Global, borders: Borders, title: &str) -> Result<Block<'static>, AllocError> {
+    let title = line_of(alloc, title)?;
+    Ok(Block::new().borders(borders).title(title))
+}
+
+/// A text of these lines, in this style.
+pub fn lines_in(alloc: Global, style: Style, texts: &[&str]) -> Result<Text<'static>, AllocError> {
+    let mut lines = Vec::new(alloc);
+    for text in texts {
+        lines.push(line_of(alloc, text)?)?;
+    }
+    Ok(Text { lines, style })
+}
+
+fn line_of(alloc: Global, text: &str) -> Result<Line<'static>, AllocError> {
+    Line::raw(String::from_str(alloc, text)?)
+}
+
+/// The key of a character, with nothing held.
+pub fn character(character: char) -> Input {
+    Input {
+        key: Key::Char(character),
+        ctrl: false,
+        alt: false,
+        shift: false,
+    }
+}
+
+/// The call that a line of words stands for: the name of a call of the text area that no script makes and, behind blanks, its
+/// arguments. `letter` types the letter that is lent, without shortcuts.
+pub fn call_of<'a>(line: &'a str, lent: &'a Lent) -> Option<Call<'a>>
+    ensures { IfSome result CanBeMade }
+{
+    match line.split_once(' ') {
+        Some((name, arguments)) => call_with(name, arguments),
+        None => call_alone(line, lent),
+    }
+}
+
+// The call of this name, without arguments.
+fn call_alone<'a>(name: &str, lent: &'a Lent) -> Option<Call<'a>>
+    ensures { IfSome result CanBeMade }
+{
+    Some(match name {
+        "letter" => Call::InputWithoutShortcuts(&lent.letter),
+        "set_block" => Call::SetBlock(&lent.block),
+        "remove_block" => Call::RemoveBlock,
+        "set_placeholder_text" => Call::SetPlaceholderText(""),
+        "set_styled_placeholder" => Call::SetStyledPlaceholder(&lent.placeholder),
+        "clear_custom_highlight" => Call::ClearCustomHighlight,
+        "clear_atomic_ranges" => Call::ClearAtomicRanges,
+        "remove_line_number" => Call::RemoveLineNumber,
+        _ => return reading(name),
+    })
+}
+
+// The call of this name that reads the text, or how it is edited.
+fn reading<'a>(name: &str) -> Option<Call<'a>>
+    ensures { IfSome result CanBeMade }
+{
+    Some(match name {
+        "cursor" => Call::Cursor,
+        "is_empty" => Call::IsEmpty,
+        "is_selecting" => Call::IsSelecting,
+        "selection_range" => Call::SelectionRange,
+        "tab_length" => Call::TabLength,
+        "hard_tab_indent" => Call::HardTabIndent,
+        "max_histories" => Call::MaxHistories,
+        "undo_coalescing" => Call::UndoCoalescing,
+        "wrap_mode" => Call::WrapMode,
+        _ => return reading_look(name),
+    })
+}
+
+// The call of this name that reads how the text area is drawn.
+fn reading_look<'a>(name: &str) -> Option<Call<'a>>
+    ensures { IfSome result CanBeMade }
+{
+    Some(match name {
+        "line_number_style" => Call::LineNumberStyle,
+        "placeholder_style" => Call::PlaceholderStyle,
+        "min_rows" => Call::MinRows,
+        "max_rows" => Call::MaxRows,
+        "mask_char" => Call::MaskChar,
+        "style" => Call::Style,
+        "cursor_style" => Call::CursorStyle,
+        "cursor_line_style" => Call::CursorLineStyle,
+        "selection_style" => Call::SelectionStyle,
+        "search_style" => Call::SearchStyle,
+        "cursor_render_mode" => Call::CursorRenderMode,
+        "alignment" => Call::Alignment,
+        "rendered_cursor_position" => Call::RenderedCursorPosition,
+        _ => return None,
+    })
+}
+
+// The call of this name and these arguments.
+fn call_with<'a>(name: &str, arguments: &'a str) -> Option<Call<'a>>
+    ensures { IfSome result CanBeMade }
+{
+    if name == "set_placeholder_text" {
+        Some(Call::SetPlaceholderText(arguments))
+    } else {
+        call_of_parts(name, arguments)
+    }
+}
+
+// The same, where the arguments aren't lent.
+fn call_of_parts<'a>(name: &str, arguments: &str) -> Option<Call<'a>>
+    ensures { IfSome result CanBeMade }
+{
+    Some(match name {
+        "set_min_rows" => Call::SetMinRows(arguments.parse().ok()?),
+        "set_max_rows" => Call::SetMaxRows(arguments.parse().ok()?),
+        "set_cursor_render_mode" => Call::SetCursorRenderMode(render_mode(arguments)?),
+        "set_alignment" => Call::SetAlignment(alignment(arguments)?),
+        "normalize_cursor_around_atomic_ranges" => {
+            Call::NormalizeCursorAroundAtomicRanges(bias(arguments)?)
+        }
+        "atomic_range_at_cursor" => Call::AtomicRangeAtCursor(direction(arguments)?),
+        "delete_atomic_range_at_cursor" => Call::DeleteAtomicRangeAtCursor(direction(arguments)?),
+        "custom_highlight" => return highlight(arguments),
+        _ => return setting_style(name, arguments),
+    })
+}
+
+// The call of this name that sets a style.
+fn setting_style<'a>(name: &str, style: &str) -> Option<Call<'a>>
+    ensures { IfSome result CanBeMade }
+{
+    let style = style_named(style)?;
+    Some(match name {
+        "set_style" => Call::SetStyle(style),
+        "set_cursor_style" => Call::SetCursorStyle(style),
+        "set_cursor_line_style" => Call::SetCursorLineStyle(style),
+        "set_selection_style" => Call::SetSelectionStyle(style),
+        "set_search_style" => Call::SetSearchStyle(style),
+        "set_line_number_style" => Call::SetLineNumberStyle(style),
+        "set_placeholder_style" => Call::SetPlaceholderStyle(style),
+        _ => return None,
+    })
+}
+
+// The highlight from one row and byte to another, of a style and a priority.
+fn highlight<'a>(arguments: &str) -> Option<Call<'a>>
+    ensures { IfSome result CanBeMade }
+{
+    let mut parts = arguments.split(' ');
+    let start = (number(parts.next())?, number(parts.next())?);
+    let end = (number(parts.next())?, number(parts.next())?);
+    Some(Call::CustomHighlight {
+        range: (start, end),
+        style: style_named(parts.next()?)?,
+        priority: parts.next()?.parse().ok()?,
+    })
+}
+
+fn number(text: Option<&str>) -> Option<usize> {
+    text?.parse().ok()
+}
+
+fn direction(name: &str) -> Option<AtomicDeleteDirection> {
+    match name {
+        "Backward" => Some(AtomicDeleteDirection::Backward),
+        "Forward" => Some(AtomicDeleteDirection::Forward),
+        _ => None,
+    }
+}
+
+fn bias(name: &str) -> Option<AtomicCursorBias> {
+    match name {
+        "Backward" => Some(AtomicCursorBias::Backward),
+        "Forward" => Some(AtomicCursorBias::Forward),
+        _ => None,
+    }
+}
+
+fn render_mode(name: &str) -> Option<CursorRenderMode> {
+    match name {
+        "Cell" => Some(CursorRenderMode::Cell),
+        "Hidden" => Some(CursorRenderMode::Hidden),
+        _ => None,
+    }
+}
+
+fn alignment(name: &str) -> Option<Alignment> {
+    match name {
+        "Left" => Some(Alignment::Left),
+        "Center" => Some(Alignment::Center),
+        "Right" => Some(Alignment::Right),
+        _ => None,
+    }
+}

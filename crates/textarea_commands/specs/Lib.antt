@@ -1,8 +1,0 @@
-pub mod Arguments
-pub mod Commands
-pub mod Escapes
-pub mod FirstLine
-pub mod Inputs
-pub mod Lent
-pub mod Ranges
-pub mod Script

@@ -1,0 +1,82 @@
+-- One symbol on from a place of some lines, and one back.
+use Rattle.std.proofs.Common.{◌≡◌, ℕ, ◌+◌, ◌-◌, ◌≢◌, ◌<◌, ◌≤◌, List, [], ◌∷◌, length, get_or, sym, ap₂, subst, refl, arith, Some, None}
+use Rattle.std.proofs.lemmas.Bool.Decides.{nat_tests}
+use Rattle.std.proofs.lemmas.Grind.{common_steps}
+use Rattle.std.proofs.lemmas.List.{drop_more}
+use Rattle.textarea_text.specs.Text.{Symbol, Character, Break, joined}
+use Rattle.textarea_text.specs.Place.{Place, IsPlace, IsPlaceOf, StandsAt, end, index_of, line_end, place_of}
+use Rattle.textarea_text.proofs.Splices.{lines-joined}
+use Rattle.textarea_text.proofs.TextPlaces.{index_within, place_of-index}
+use Rattle.textarea_text.proofs.StringRows.{stands_until}
+use Rattle.textarea_text.proofs.Befores.{character_stands, break_stands}
+use Rattle.textarea_text.proofs.PlaceLemmas.{is_at_end}
+use Rattle.textarea_document.specs.Target.{next_place, previous_place}
+
+-- ---- neighbours
+
+-- the second place is one symbol behind the first
+pub record IsNext (text : List Symbol) (place next : Place) : Type 0 where
+  pub place_is : place_of text (index_of text place) ≡ place
+  pub next_is : place_of text (index_of text next) ≡ next
+  pub index : index_of text next ≡ index_of text place + 1
+  pub within : index_of text next ≤ length text
+
+-- it is where a symbol ends that stands at the first
+next_behind : (text : List Symbol) (place : Place) (symbol : Symbol) → IsPlace text place → StandsAt text place (symbol ∷ []) → IsNext text place (end place (symbol ∷ []))
+next_behind text place symbol h stands =
+    let until = stands_until text place (symbol ∷ []) h stands in
+    record {
+      place_is = place_of-index text place h;
+      next_is = place_of-index text (end place (symbol ∷ [])) until.0;
+      index = until.1;
+      within = index_within text (end place (symbol ∷ [])) until.0;
+    }
+
+pub next_place-is : (text : List Symbol) (place next : Place) → IsNext text place next → Some next ≡ next_place text place
+next_place-is text place next h = grind (arith, common_steps, nat_tests)
+
+pub previous_place-is : (text : List Symbol) (previous place : Place) → IsNext text previous place → Some previous ≡ previous_place text place
+previous_place-is text previous place h = grind (arith, common_steps, nat_tests)
+
+-- ---- neighbours in lines
+
+place_in : (rows : List (List ℕ)) (place : Place) → IsPlaceOf rows place → IsPlace (joined rows) place
+place_in rows place h = subst (λ (r : List (List ℕ)). IsPlaceOf r place) (sym (lines-joined rows (omega (arith, h.0)))) h
+
+-- the next column, inside a line
+pub IsNext-column : (rows : List (List ℕ)) (row column : ℕ) → row < length rows → column < length (get_or rows row []) → IsNext (joined rows) (row, column) (row, column + 1)
+IsNext-column rows row column within inside =
+    let line = get_or rows row [] in
+    let place : IsPlaceOf rows (row, column) = (within, omega arith) in
+    next_behind (joined rows) (row, column) (Character (get_or line column 0)) (place_in rows (row, column) place)
+    (character_stands rows row column (get_or line column 0) within (omega arith) (drop_more line column 0 inside))
+
+-- the next line's start, at a line's end
+pub IsNext-line : (rows : List (List ℕ)) (row column : ℕ) → row + 1 < length rows → column ≡ length (get_or rows row []) → IsNext (joined rows) (row, column) (row + 1, 0)
+IsNext-line rows row column within whole =
+    let place : IsPlaceOf rows (row, column) = (omega arith, omega arith) in
+    let stands : StandsAt (joined rows) (row, column) (Break ∷ []) =
+    subst (λ (n : ℕ). StandsAt (joined rows) (row, n) (Break ∷ [])) (sym whole) (break_stands rows row within) in
+    next_behind (joined rows) (row, column) Break (place_in rows (row, column) place) stands
+
+-- the last line's end is the text's end
+pub index_of-text_end : (rows : List (List ℕ)) (row column : ℕ) → IsPlaceOf rows (row, column) → length (get_or rows row []) ≤ column → length rows ≤ row + 1 → index_of (joined rows) (row, column) ≡ length (joined rows)
+index_of-text_end rows row column h whole last = (is_at_end rows row column (omega (arith, h.0)) (omega (arith, h.1))).index_is
+
+-- nothing is behind it
+pub next_place-none : (text : List Symbol) (place : Place) → index_of text place ≡ length text → None ≡ next_place text place
+next_place-none text place whole = grind (arith, common_steps, nat_tests)
+
+-- the column before a place inside a line
+pub IsNext-column-back : (rows : List (List ℕ)) (place : Place) → IsPlaceOf rows place → 0 < place.1 → IsNext (joined rows) (place.0, place.1 - 1) place
+IsNext-column-back rows place h some =
+    let same : place.1 - 1 + 1 ≡ place.1 = omega arith in
+    subst (λ (n : ℕ). IsNext (joined rows) (place.0, place.1 - 1) (place.0, n)) same (IsNext-column rows place.0 (place.1 - 1) h.0 (omega (arith, h.1)))
+
+-- the end of the line above a place at a line's start
+pub IsNext-line-back : (rows : List (List ℕ)) (place previous : Place) → IsPlaceOf rows place → place.1 ≡ 0 → place.0 ≢ 0 → previous ≡ line_end rows (place.0 - 1) → IsNext (joined rows) previous place
+IsNext-line-back rows place previous h none later is =
+    let first : place.0 - 1 + 1 ≡ place.0 = omega arith in
+    let line = IsNext-line rows (place.0 - 1) (length (get_or rows (place.0 - 1) [])) (omega (arith, h.0)) refl in
+    subst (λ (p : Place). IsNext (joined rows) p place) (sym is)
+    (subst (λ (p : Place). IsNext (joined rows) (line_end rows (place.0 - 1)) p) (ap₂ (λ (m n : ℕ). (m, n)) first (sym none)) line)

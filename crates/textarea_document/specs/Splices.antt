@@ -1,0 +1,70 @@
+-- The splices by which the edits of a document change its text, as a list: one, or none where nothing changes. Each is the splice of
+-- one of the five steps.
+use Rattle.std.specs.Prelude.{◌==◌, List, [], ◌∷◌, Option, None, Some, if◌then◌else◌}
+use Rattle.textarea_text.specs.Place.{Place}
+use Rattle.textarea_text.specs.Splice.{Splice, inverse}
+use Rattle.textarea_text.specs.Text.{Symbol}
+use Rattle.textarea_history.specs.Log.{newest, next}
+use Rattle.textarea_data.specs.declared.range.AtomicRange.{AtomicRange}
+use Rattle.textarea_data.specs.declared.range.AtomicDeleteDirection.{AtomicDeleteDirection}
+use Rattle.textarea_ranges.specs.Held.{range_start, range_end}
+use Rattle.textarea_document.specs.State.{DocumentState}
+use Rattle.textarea_document.specs.Edits.{Insert, Remove, RemoveBefore, RemoveBehind, RemoveBreak, hit_at_cursor, hit_before, hit_behind, is_at_end, is_at_start, splice_of}
+use Rattle.textarea_document.specs.Selection.{is_selected, selection_end, selection_start}
+
+-- the insertion of the symbols, if there are any
+abbrev pub insertion_splices : DocumentState → List Symbol → List Splice
+insertion_splices document [] = []
+insertion_splices document (symbol ∷ symbols) = splice_of document (Insert (symbol ∷ symbols)) ∷ []
+
+-- the removal of what is between two places, with the ranges that this overlaps
+abbrev pub removal_splices : DocumentState → Place → Place → List Splice
+removal_splices document from to = splice_of document (Remove from to) ∷ []
+
+-- the removal of the range, where one was hit; else the other splices
+abbrev pub range_splices_or : Option AtomicRange → DocumentState → List Splice → List Splice
+range_splices_or None document other = other
+range_splices_or (Some range) document other =
+    removal_splices document (range_start range) (range_end range)
+
+-- the removal of the range that is hit from the cursor in this direction, if there is one
+abbrev pub hit_splices : DocumentState → AtomicDeleteDirection → List Splice
+hit_splices document direction = range_splices_or (hit_at_cursor document direction) document []
+
+-- the removal of the range that is hit before the cursor, or else of the symbol there, if there is one
+abbrev pub before_splices : DocumentState → List Splice
+before_splices document =
+    range_splices_or (hit_before document) document
+    (if is_at_start document then [] else splice_of document RemoveBefore ∷ [])
+
+-- the same after the cursor
+abbrev pub after_splices : DocumentState → List Splice
+after_splices document =
+    range_splices_or (hit_behind document) document
+    (if is_at_end document then [] else splice_of document RemoveBehind ∷ [])
+
+-- the removal of the break before the cursor's line, if there is one
+abbrev pub break_splices : DocumentState → List Splice
+break_splices document =
+    if document.cursor.0 == 0 then [] else splice_of document RemoveBreak ∷ []
+
+-- the removal of what is selected, if a symbol is
+abbrev pub selected_splices : DocumentState → List Splice
+selected_splices document =
+    if is_selected document then removal_splices document (selection_start document) (selection_end document) else []
+
+-- the inverse of the newest done edit, if there is one
+abbrev pub undo_splices_by : Option Splice → List Splice
+undo_splices_by None = []
+undo_splices_by (Some splice) = inverse splice ∷ []
+
+abbrev pub undo_splices : DocumentState → List Splice
+undo_splices document = undo_splices_by (newest document.log)
+
+-- the next undone edit, if there is one
+abbrev pub redo_splices_by : Option Splice → List Splice
+redo_splices_by None = []
+redo_splices_by (Some splice) = splice ∷ []
+
+abbrev pub redo_splices : DocumentState → List Splice
+redo_splices document = redo_splices_by (next document.log)

@@ -1,0 +1,70 @@
+//! The neighbours of a place, and how far the removal of a word reaches.
+ghost use Rattle.std.specs.Prelude.{◌≡◌, ◌+◌, ◌<◌, ◌≤◌, length, IfSome, MatchOption};
+ghost use Rattle.std.specs.Str.{chars};
+ghost use Rattle.textarea_text.specs.Text.{lines_of, text_of};
+ghost use Rattle.textarea_text.specs.Place.{IsPlaceOf, index_of};
+ghost use Rattle.textarea_document.specs.Target.{next_place, previous_place, word_end_after, word_start_before};
+
+use textarea_text::places::{line_end, line_length};
+use textarea_text::rows::column_count;
+use textarea_text::word::{find_word_exclusive_end_forward, find_word_start_backward};
+
+/// The place behind the symbol that begins at the place; none at the text's end.
+pub fn next_place(lines: &[String], place: (usize, usize)) -> Option<(usize, usize)>
+    requires { IsPlaceOf (lines_of lines.now) place }
+    ensures value { result ≡ next_place (text_of lines.now) place }
+    ensures place { IfSome result (λ next. IsPlaceOf (lines_of lines.now) next) }
+    ensures index { MatchOption result
+        (index_of (text_of lines.now) place ≡ length (text_of lines.now))
+        (λ next. index_of (text_of lines.now) next ≡ index_of (text_of lines.now) place + 1) }
+{
+    let (row, column) = place;
+    if column < line_length(lines, row) {
+        return Some((row, column + 1));
+    }
+    if row + 1 < lines.len() {
+        return Some((row + 1, 0));
+    }
+    None
+}
+
+/// The place of the symbol that stands directly before the place; none at the text's start.
+pub fn previous_place(lines: &[String], place: (usize, usize)) -> Option<(usize, usize)>
+    requires { IsPlaceOf (lines_of lines.now) place }
+    ensures value { result ≡ previous_place (text_of lines.now) place }
+    ensures place { IfSome result (λ previous. IsPlaceOf (lines_of lines.now) previous) }
+    ensures index { MatchOption result (index_of (text_of lines.now) place ≡ 0)
+        (λ previous.
+        index_of (text_of lines.now) previous + 1 ≡ index_of (text_of lines.now) place) }
+{
+    let (row, column) = place;
+    if 0 < column {
+        return Some((row, column - 1));
+    }
+    if row == 0 {
+        return None;
+    }
+    Some(line_end(lines, row - 1))
+}
+
+/// The column from which the removal of the word before the column takes: the start of that word, or 0.
+pub fn word_start_before(line: &str, column: usize) -> usize
+    ensures value { result ≡ word_start_before (chars line.now) column }
+    ensures within { result ≤ length (chars line.now) }
+    ensures before { 0 < column → result < column }
+{
+    find_word_start_backward(line, column).unwrap_or(0)
+}
+
+/// The column up to which the removal of the word after the column takes: the one behind the first word that ends
+/// after the column and before the line's end, or the line's end.
+pub fn word_end_after(line: &str, column: usize) -> usize
+    ensures value { result ≡ word_end_after (chars line.now) column }
+    ensures within { result ≤ length (chars line.now) }
+    ensures after { column < length (chars line.now) → column < result }
+{
+    match find_word_exclusive_end_forward(line, column) {
+        Some(end) => end,
+        None => column_count(line),
+    }
+}

@@ -1,0 +1,45 @@
+//! Where the moves of a cursor lead.
+ghost use Rattle.std.specs.Prelude.{◌≡◌, false, true, IfSome, None};
+ghost use Rattle.textarea_text.specs.Text.{lines_of, text_of};
+ghost use Rattle.textarea_text.specs.Place.{IsPlaceOf};
+ghost use Rattle.textarea_document.specs.Target.{VisualTargets, is_visual, target};
+
+use crate::ends::{next_place, previous_place};
+use crate::paragraphs::{paragraph_back, paragraph_forward};
+use crate::words::{word_back, word_end, word_forward};
+use textarea_data::cursor::CursorMove;
+use textarea_text::places::{clip, last_row, line_end};
+
+/// Where the move leads from the cursor, a place of the lines: row and column, both from 0, the column in characters.
+/// None where it leads nowhere: Forward from the text's end, Back from its start, and ParagraphBack from the first row.
+/// None for Up, Down and InViewport too, which go over visual rows: whoever knows these answers for them.
+pub fn target(
+    lines: &[String],
+    cursor: (usize, usize),
+    cursor_move: CursorMove,
+) -> Option<(usize, usize)>
+    requires { IsPlaceOf (lines_of lines.now) cursor }
+    ensures value { (visual : VisualTargets) → is_visual cursor_move ≡ false →
+        result ≡ target visual (text_of lines.now) cursor cursor_move }
+    ensures visual { is_visual cursor_move ≡ true → result ≡ None }
+    ensures place { IfSome result (λ place. IsPlaceOf (lines_of lines.now) place) }
+{
+    let (row, column) = cursor;
+    match cursor_move {
+        CursorMove::Forward => next_place(lines, cursor),
+        CursorMove::Back => previous_place(lines, cursor),
+        CursorMove::Head => Some((row, 0)),
+        CursorMove::End => Some(line_end(lines, row)),
+        CursorMove::Top => Some(clip(lines, (0, column))),
+        CursorMove::Bottom => Some(clip(lines, (last_row(lines), column))),
+        CursorMove::WordForward => Some(word_forward(lines, cursor)),
+        CursorMove::WordEnd => Some(word_end(lines, cursor)),
+        CursorMove::WordBack => Some(word_back(lines, cursor)),
+        CursorMove::ParagraphForward => Some(paragraph_forward(lines, cursor)),
+        CursorMove::ParagraphBack => paragraph_back(lines, cursor),
+        CursorMove::Jump(row, column) => {
+            Some(clip(lines, (usize::from(row), usize::from(column))))
+        }
+        CursorMove::Up | CursorMove::Down | CursorMove::InViewport => None,
+    }
+}

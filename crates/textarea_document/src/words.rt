@@ -1,0 +1,90 @@
+//! The moves by words.
+ghost use Rattle.std.specs.Prelude.{◌≡◌, ◌<◌, length};
+ghost use Rattle.textarea_text.specs.Text.{lines_of};
+ghost use Rattle.textarea_text.specs.Place.{IsPlaceOf};
+ghost use Rattle.textarea_document.specs.Target.{first_word_end, next_head, next_word_row, previous_end, word_back, word_end, word_forward};
+
+use textarea_text::places::{last_row, line_end, line_of};
+use textarea_text::word::{
+    find_word_inclusive_end_forward, find_word_start_backward, find_word_start_forward,
+};
+
+/// The start of the next word of the row, else the next row's start, else this row's end.
+pub fn word_forward(lines: &[String], cursor: (usize, usize)) -> (usize, usize)
+    requires { IsPlaceOf (lines_of lines.now) cursor }
+    ensures value { result ≡ word_forward (lines_of lines.now) cursor }
+    ensures place { IsPlaceOf (lines_of lines.now) result }
+{
+    let (row, column) = cursor;
+    match find_word_start_forward(line_of(lines, row), column) {
+        Some(found) => (row, found),
+        None => next_head(lines, row),
+    }
+}
+
+/// The first column behind the cursor that holds a word's last character, in its row or in later ones, else the text's end.
+pub fn word_end(lines: &[String], cursor: (usize, usize)) -> (usize, usize)
+    requires { IsPlaceOf (lines_of lines.now) cursor }
+    ensures value { result ≡ word_end (lines_of lines.now) cursor }
+    ensures place { IsPlaceOf (lines_of lines.now) result }
+{
+    let (row, column) = cursor;
+    match find_word_inclusive_end_forward(line_of(lines, row), column + 1) {
+        Some(found) => (row, found),
+        None => later_word_end(lines, row),
+    }
+}
+
+/// The start of the word before the cursor in its row, else the previous row's end, else the text's start.
+pub fn word_back(lines: &[String], cursor: (usize, usize)) -> (usize, usize)
+    requires { IsPlaceOf (lines_of lines.now) cursor }
+    ensures value { result ≡ word_back (lines_of lines.now) cursor }
+    ensures place { IsPlaceOf (lines_of lines.now) result }
+{
+    let (row, column) = cursor;
+    match find_word_start_backward(line_of(lines, row), column) {
+        Some(found) => (row, found),
+        None => previous_end(lines, row),
+    }
+}
+
+// The next row's start, or this row's end where it is the last.
+fn next_head(lines: &[String], row: usize) -> (usize, usize)
+    requires { row < length lines.now }
+    ensures value { result ≡ next_head (lines_of lines.now) row }
+    ensures place { IsPlaceOf (lines_of lines.now) result }
+{
+    if row + 1 < lines.len() {
+        (row + 1, 0)
+    } else {
+        line_end(lines, row)
+    }
+}
+
+// The previous row's end, or the text's start in the first row.
+fn previous_end(lines: &[String], row: usize) -> (usize, usize)
+    requires { row < length lines.now }
+    ensures value { result ≡ previous_end (lines_of lines.now) row }
+    ensures place { IsPlaceOf (lines_of lines.now) result }
+{
+    if row == 0 {
+        (0, 0)
+    } else {
+        line_end(lines, row - 1)
+    }
+}
+
+// The last character of the first word of the rows below, or the text's end where they hold none.
+fn later_word_end(lines: &[String], start: usize) -> (usize, usize)
+    requires { start < length lines.now }
+    ensures value { result
+        ≡ first_word_end (lines_of lines.now) (next_word_row (lines_of lines.now) start) }
+    ensures place { IsPlaceOf (lines_of lines.now) result }
+{
+    for row in start + 1..lines.len() {
+        if let Some(column) = find_word_inclusive_end_forward(line_of(lines, row), 0) {
+            return (row, column);
+        }
+    }
+    line_end(lines, last_row(lines))
+}

@@ -1,4 +1,0 @@
-mod Runs
-mod Weights
-mod Changes
-mod Offsets

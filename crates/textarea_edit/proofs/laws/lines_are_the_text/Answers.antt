@@ -1,5 +1,0 @@
-use Rattle.textarea_text.proofs.Splices.{lines-joined}
-use Rattle.textarea_edit.proofs.laws.lines_are_the_text.Goals as goal
-
-pub returns : goal.returns
-returns c = lines-joined

@@ -1,4 +1,0 @@
-pub mod Change
-pub mod Edit
-pub mod Run
-pub mod Law

@@ -1,5 +1,0 @@
-pub mod Frame
-pub mod Placed
-pub mod Cells
-pub mod Drawn
-pub mod Hit

@@ -1,0 +1,101 @@
+-- What a change is, of what its edit keeps; and the replacements that make it.
+use Rattle.std.proofs.Common.{◌≡◌, ℕ, ◌+◌, ◌<◌, ◌≤◌, Bool, true, false, cond, List, [], ◌∷◌, length, sym, ap, ◌∙◌, arith, subst, inl, inr, ◌⊎◌, String, encode_utf8, Vec}
+use Rattle.std.specs.declared.alloc.Global.{Global}
+use Rattle.std.specs.Option.{IfSome}
+use Rattle.std.specs.Str.{chars, IsUtf8}
+use Rattle.std.proofs.lemmas.List.{append-nil, length-map}
+use Rattle.textarea_text.specs.Text.{Symbol, characters, characters_of, lines_of, text_of}
+use Rattle.textarea_text.specs.Place.{Place, IsPlace, IsPlaceOf, StandsAt, changed, end, inserted, removed}
+use Rattle.textarea_text.specs.Splice.{Splice, Allows, Fits, applied}
+use Rattle.textarea_text.specs.Touched.{IsReplacementFor, ReplacesPart, breaks_of, lines_coming, lines_going}
+use Rattle.textarea_text.specs.declared.rows.Replacement.{Replacement}
+use Rattle.textarea_text.proofs.Columns.{chars_from_bytes}
+use Rattle.textarea_text.proofs.StringRows.{changed_by_none, columns_ordered, rows_ordered, rows_place, stands_until}
+use Rattle.textarea_text.proofs.Touching.{breaks_of-joined, end_row}
+use Rattle.textarea_history.specs.Edit.{Stored, IsWellFormed, directed, stored_of, symbols_in}
+use Rattle.textarea_history.proofs.Runs.{pieces_as}
+use Rattle.textarea_history.specs.declared.edit.Content.{Content}
+use Rattle.textarea_history.specs.declared.edit.Content.TheVariants as content
+
+-- ---- symbols
+
+-- a change has the symbols of its edit's content
+pub symbols_of_change : (kept : Content) (inserts told : Bool) (start to : Place) (edit : Stored) (now : Splice) → stored_of kept inserts start to ≡ edit → directed edit.splice told ≡ now → symbols_in inserts kept ≡ now.symbols
+symbols_of_change kept inserts told start to edit now view view' = ap (λ (s : Stored). s.splice.symbols) view ∙ ap (λ (s : Splice). s.symbols) view'
+
+-- a character, encoded
+pub characters_of_one : (bs : List ℕ) (c : ℕ) → IsUtf8 bs → bs ≡ encode_utf8 c → characters (chars bs) ≡ characters (c ∷ [])
+characters_of_one bs c text e = ap characters (chars_from_bytes bs (c ∷ []) text (e ∙ sym (append-nil (encode_utf8 c))))
+
+-- a break, and pieces of which there are at least two, don't stay within a line
+pub has_break : (kept : Content) (inserts told : Bool) (start to : Place) (edit : Stored) (now : Splice) → stored_of kept inserts start to ≡ edit → directed edit.splice told ≡ now → IsWellFormed edit → breaks_of now.symbols ≡ 0 → (kept ≡ content.Break) ⊎ ((pieces : Vec (String Global) Global) × kept ≡ content.Chunk pieces) → ⊥
+has_break kept inserts told start to edit now view view' h none (inl is) =
+    omega (arith, none, ap breaks_of (symbols_of_change kept inserts told start to edit now view view'), ap (λ k. breaks_of (symbols_in inserts k)) is)
+has_break kept inserts told start to edit now view view' h none (inr found) =
+    let pieces = found.0.items in
+    let many : 2 ≤ length pieces = pieces_as found.1 (subst (λ (s : Stored). IfSome s.pieces (λ n. 2 ≤ n)) (sym view) h.pieces) in
+    let long = length-map pieces characters_of in
+    omega (arith, none, many, long, ap breaks_of (symbols_of_change kept inserts told start to edit now view view'), ap (λ k. breaks_of (symbols_in inserts k)) found.1, breaks_of-joined (lines_of pieces) (omega (arith, many, long)))
+
+-- ---- removals
+
+-- the two ends are places, in order, and the text without what stands between them is the one after the splice
+pub record Removing {Z : Type 0} (items : List (String Z)) (splice : Splice) (start to : Place) : Type 0 where
+  pub from : IsPlaceOf (lines_of items) start
+  pub end_place : IsPlaceOf (lines_of items) to
+  pub rows : start.0 ≤ to.0
+  pub text : (none : List Symbol) → none ≡ [] → changed (text_of items) start to none ≡ applied (text_of items) splice
+
+pub removing : {Z : Type 0} (items : List (String Z)) (splice : Splice) (start to : Place) → 0 < length items → Fits (text_of items) splice → splice.inserts ≡ false → start ≡ splice.place → to ≡ end splice.place splice.symbols → Removing items splice start to
+removing items splice start to some fits removes begins ends =
+    let text = text_of items in
+    let stands : StandsAt text splice.place splice.symbols = subst (λ (b : Bool). Allows b text splice.place splice.symbols) removes fits.allowed in
+    let until = stands_until text splice.place splice.symbols fits.is_place stands in
+    let gone : applied text splice ≡ removed text splice.place splice.symbols =
+    ap (λ (b : Bool). cond b (inserted text splice.place splice.symbols) (removed text splice.place splice.symbols)) removes in
+    record {
+      from = rows_place items start some (subst (IsPlace text) (sym begins) fits.is_place);
+      end_place = rows_place items to some (subst (IsPlace text) (sym ends) until.0);
+      rows = omega (arith, ap (λ (p : Place). p.0) begins, ap (λ (p : Place). p.0) ends, rows_ordered splice.place splice.symbols);
+      text = λ none is.
+          ap (λ (p : Place). changed text p to none) begins ∙ changed_by_none text splice.place to splice.symbols none fits.is_place stands ends is ∙ sym gone;
+    }
+
+-- where they have no break, they end in the row where they begin
+pub ends_inside : (splice : Splice) (start to : Place) → breaks_of splice.symbols ≡ 0 → start ≡ splice.place → to ≡ end splice.place splice.symbols → ((start.0, to.1) ≡ end splice.place splice.symbols) × (start.1 ≤ to.1)
+ends_inside splice start to none begins ends =
+    let row : start.0 ≡ to.0 = omega (arith, none, ap (λ (p : Place). p.0) begins, ap (λ (p : Place). p.0) ends, end_row splice.place splice.symbols) in
+    let same : (end splice.place splice.symbols).0 ≡ splice.place.0 = omega (arith, none, end_row splice.place splice.symbols) in (
+      ap (λ n. (n, to.1)) row ∙ ends,
+      omega (arith, ap (λ (p : Place). p.1) begins, ap (λ (p : Place). p.1) ends, columns_ordered splice.place splice.symbols same),
+    )
+
+pub removed_by : (items : List (String Global)) (splice : Splice) (start to : Place) (none : List Symbol) (r : Replacement) → 0 < length items → Fits (text_of items) splice → splice.inserts ≡ false → start ≡ splice.place → to ≡ end splice.place splice.symbols → none ≡ [] → ReplacesPart items start to none r → IsReplacementFor items splice r
+removed_by items splice start to none r some fits removes begins ends is k =
+    let going : lines_going splice ≡ breaks_of splice.symbols + 1 = ap (λ (b : Bool). cond b 1 (breaks_of splice.symbols + 1)) removes in
+    let coming : lines_coming splice ≡ 1 = ap (λ (b : Bool). cond b (breaks_of splice.symbols + 1) 1) removes in
+    let row = ap (λ (p : Place). p.0) begins in
+    record {
+      row = k.row ∙ row;
+      going = omega (arith, k.row, k.going, row, going, ap (λ (p : Place). p.0) ends, end_row splice.place splice.symbols);
+      coming = omega (arith, k.coming, coming, ap breaks_of is);
+      within = k.within;
+      text = k.text ∙ (removing items splice start to some fits removes begins ends).text none is;
+    }
+
+-- ---- insertions
+
+pub inserted_by : (items : List (String Global)) (splice : Splice) (start : Place) (symbols : List Symbol) (r : Replacement) → splice.inserts ≡ true → start ≡ splice.place → symbols ≡ splice.symbols → ReplacesPart items start start symbols r → IsReplacementFor items splice r
+inserted_by items splice start symbols r inserts begins same k =
+    let text = text_of items in
+    let going : lines_going splice ≡ 1 = ap (λ (b : Bool). cond b 1 (breaks_of splice.symbols + 1)) inserts in
+    let coming : lines_coming splice ≡ breaks_of splice.symbols + 1 = ap (λ (b : Bool). cond b (breaks_of splice.symbols + 1) 1) inserts in
+    let there : applied text splice ≡ inserted text splice.place splice.symbols =
+    ap (λ (b : Bool). cond b (inserted text splice.place splice.symbols) (removed text splice.place splice.symbols)) inserts in
+    record {
+      row = k.row ∙ ap (λ (p : Place). p.0) begins;
+      going = omega (arith, k.row, k.going, going);
+      coming = omega (arith, k.coming, coming, ap breaks_of same);
+      within = k.within;
+      text = k.text ∙ ap (λ (p : Place). inserted text p symbols) begins ∙ ap (inserted text splice.place) same ∙ sym there;
+    }

@@ -1,0 +1,20 @@
+use Rattle.std.proofs.Common.{◌∙◌, ◌≤◌, sym, ap, arith, subst}
+use Rattle.std.specs.Option.{IfSome}
+use Rattle.std.specs.Str.{chars}
+use Rattle.std.proofs.lemmas.List.{length-map}
+use Rattle.textarea_text.specs.Text.{characters, characters_of, lines_of}
+use Rattle.textarea_history.specs.Edit.{Stored}
+use Rattle.textarea_history.specs.Run.{character_of}
+use Rattle.textarea_history.proofs.Runs.{only_reversed, only_pieces, symbols_as, pieces_as}
+use Rattle.textarea_history.proofs.edit.Edit.character.Goals as goal
+
+pub returns-in-Typed : goal.returns-in-Typed
+returns-in-Typed c =
+    c.only_character-in-Typed.ensures ∙ ap (λ t. character_of (characters (chars t))) c.as_str-in-Typed.ensures.value
+    ∙ sym (only_reversed c.self.inside.inserts (characters_of c.in-Typed.text))
+    ∙ ap character_of (symbols_as c.self.inside.start c.self.inside.end c.self.view_is c.in-Typed.is)
+
+pub returns-in-Chunk : goal.returns-in-Chunk
+returns-in-Chunk c =
+    only_pieces (lines_of c.in-Chunk.field-0.items) (omega (arith, pieces_as c.in-Chunk.is (subst (λ (s : Stored). IfSome s.pieces (λ n. 2 ≤ n)) (sym c.self.view_is) c.requires.pieces), length-map c.in-Chunk.field-0.items characters_of))
+    ∙ ap character_of (symbols_as c.self.inside.start c.self.inside.end c.self.view_is c.in-Chunk.is)

@@ -1,0 +1,7 @@
+use Rattle.std.specs.Str.Iter.{chars_rest}
+use Rattle.textarea_text.specs.Text.{characters_of}
+use Rattle.textarea_history.proofs.Runs.{WrittenBack}
+use Rattle.textarea_history.proofs.texts.reverse_text.Given as goal
+
+abbrev pub invariant-loop-c : goal.invariant-loop-c
+invariant-loop-c l = WrittenBack l.text (chars_rest l.c-iterator.iter) (characters_of l.result_text)

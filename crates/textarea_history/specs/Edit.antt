@@ -1,0 +1,137 @@
+-- An edit: what it inserts or removes, and between which places.
+use Rattle.std.specs.Prelude.{◌≡◌, ℕ, ◌<◌, ◌≤◌, ◌-◌, Bool, true, false, cond, List, [], ◌∷◌, length, reverse, Option, Some, None, IfSome, string_len, string_capacity}
+use Rattle.textarea_text.specs.Text.{Symbol, Character, Break, characters, characters_of, joined, lines_of}
+use Rattle.textarea_text.specs.Place.{Place, end}
+use Rattle.textarea_text.specs.Splice.{Splice}
+use Rattle.textarea_history.specs.declared.edit.EditKind.{EditKind}
+use Rattle.textarea_history.specs.declared.edit.EditKind.TheVariants.{InsertChar, DeleteChar, InsertNewline, DeleteNewline, InsertStr, DeleteStr, InsertChunk, DeleteChunk}
+use Rattle.textarea_history.specs.declared.edit.Content.{Content}
+use Rattle.textarea_history.specs.declared.edit.Content.TheVariants as content
+
+-- the symbols that an edit of the kind inserts or removes: one character, one break, the characters of a text
+-- (a line feed in it is a character), or pieces with a break between each two
+abbrev pub symbols_of : EditKind → List Symbol
+symbols_of (InsertChar c) = Character c ∷ []
+symbols_of (DeleteChar c) = Character c ∷ []
+symbols_of InsertNewline = Break ∷ []
+symbols_of DeleteNewline = Break ∷ []
+symbols_of (InsertStr s) = characters (characters_of s)
+symbols_of (DeleteStr s) = characters (characters_of s)
+symbols_of (InsertChunk pieces) = joined (lines_of pieces.items)
+symbols_of (DeleteChunk pieces) = joined (lines_of pieces.items)
+
+abbrev pub inserts_of : EditKind → Bool
+inserts_of (InsertChar c) = true
+inserts_of (DeleteChar c) = false
+inserts_of InsertNewline = true
+inserts_of DeleteNewline = false
+inserts_of (InsertStr s) = true
+inserts_of (DeleteStr s) = false
+inserts_of (InsertChunk pieces) = true
+inserts_of (DeleteChunk pieces) = false
+
+-- how many pieces a chunk has
+abbrev pub pieces_of : EditKind → Option ℕ
+pieces_of (InsertChunk pieces) = Some (length pieces.items)
+pieces_of (DeleteChunk pieces) = Some (length pieces.items)
+pieces_of kind = None
+
+-- a copy of a kind is of the same variant, with the same character, the characters of the same text, or those of the
+-- same pieces one by one
+abbrev pub IsCopyOfKind : EditKind → EditKind → Type 0
+IsCopyOfKind (InsertChar c) (InsertChar copy) = copy ≡ c
+IsCopyOfKind (DeleteChar c) (DeleteChar copy) = copy ≡ c
+IsCopyOfKind InsertNewline InsertNewline = Unit {0}
+IsCopyOfKind DeleteNewline DeleteNewline = Unit {0}
+IsCopyOfKind (InsertStr s) (InsertStr copy) = characters_of copy ≡ characters_of s
+IsCopyOfKind (DeleteStr s) (DeleteStr copy) = characters_of copy ≡ characters_of s
+IsCopyOfKind (InsertChunk pieces) (InsertChunk copy) = lines_of copy.items ≡ lines_of pieces.items
+IsCopyOfKind (DeleteChunk pieces) (DeleteChunk copy) = lines_of copy.items ≡ lines_of pieces.items
+IsCopyOfKind kind copy = ⊥
+
+-- the splice, of the cursor's places before and after it: at the first where it inserts, and at the second where it
+-- removes
+abbrev pub splice_of : EditKind → Place → Place → Splice
+splice_of kind before after = record {
+  place = cond (inserts_of kind) before after;
+  symbols = symbols_of kind;
+  inserts = inserts_of kind;
+}
+
+-- the place that is handed in as the end of the symbols
+abbrev pub end_of_kind : EditKind → Place → Place → Place
+end_of_kind kind before after = cond (inserts_of kind) after before
+
+-- an edit as others see it: its splice, the place handed in as the end of the splice's symbols, the number of a
+-- chunk's pieces, and how a run of typing can grow in it
+pub record Stored : Type 0 where
+  pub splice : Splice
+  pub end : Place
+  pub pieces : Option ℕ
+  pub grows : Bool
+  pub spare : ℕ
+
+-- an edit is well formed where it has symbols, where a chunk has at least two pieces (so that it has a break), and
+-- where the places handed in are the two ends of its symbols
+pub record IsWellFormed (edit : Stored) : Type 0 where
+  pub some : 0 < length edit.splice.symbols
+  pub pieces : IfSome edit.pieces (λ n. 2 ≤ n)
+  pub ends : edit.end ≡ end edit.splice.place edit.splice.symbols
+
+-- the splice in a direction of its own: an edit's splice as it is made, and as it is taken back
+abbrev pub directed : Splice → Bool → Splice
+directed splice inserts = record splice { inserts = inserts }
+
+-- the cursor's places before and after the edit, as they were handed in
+abbrev pub before_of : Stored → Place
+before_of edit = cond edit.splice.inserts edit.splice.place edit.end
+
+abbrev pub after_of : Stored → Place
+after_of edit = cond edit.splice.inserts edit.end edit.splice.place
+
+-- a copy of an edit is the same in all that others see of it, but for the memory that it has to grow
+pub record IsCopyOfEdit (edit copy : Stored) : Type 0 where
+  pub splice : copy.splice ≡ edit.splice
+  pub end : copy.end ≡ edit.end
+  pub pieces : copy.pieces ≡ edit.pieces
+  pub grows : copy.grows ≡ edit.grows
+
+-- ---- as an `Edit` keeps it
+
+-- the symbols, of an edit that inserts or one that removes: what was typed stands in the order of typing
+abbrev pub symbols_in : Bool → Content → List Symbol
+symbols_in inserts (content.Character c) = Character c ∷ []
+symbols_in inserts (content.Text s) = characters (characters_of s)
+symbols_in inserts (content.Typed s) = characters (cond inserts (characters_of s) (reverse (characters_of s)))
+symbols_in inserts content.Break = Break ∷ []
+symbols_in inserts (content.Chunk pieces) = joined (lines_of pieces.items)
+
+abbrev pub pieces_in : Content → Option ℕ
+pieces_in (content.Chunk pieces) = Some (length pieces.items)
+pieces_in other = None
+
+-- whether a run can be made of it
+abbrev pub grows_of : Content → Bool
+grows_of (content.Character c) = true
+grows_of (content.Typed s) = true
+grows_of other = false
+
+-- by how many bytes the run can grow without memory
+abbrev pub spare_of : Content → ℕ
+spare_of (content.Typed s) = string_capacity s - string_len s
+spare_of other = 0
+
+abbrev pub stored_of : Content → Bool → Place → Place → Stored
+stored_of kept inserts start to = record {
+  splice = record { place = start; symbols = symbols_in inserts kept; inserts = inserts };
+  end = to;
+  pieces = pieces_in kept;
+  grows = grows_of kept;
+  spare = spare_of kept;
+}
+
+-- a copy of a content has the same symbols, whichever way they go
+pub record IsCopyOfContent (kept copy : Content) : Type 0 where
+  pub symbols : (inserts : Bool) → symbols_in inserts copy ≡ symbols_in inserts kept
+  pub pieces : pieces_in copy ≡ pieces_in kept
+  pub grows : grows_of copy ≡ grows_of kept

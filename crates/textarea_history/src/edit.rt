@@ -1,0 +1,226 @@
+//! One edit of the lines: made between two places, and lent as a change that makes it or takes it back.
+mod change;
+mod run;
+
+ghost use Rattle.std.specs.Prelude.{◌≡◌, ◌<◌, IsOk, OnOk, OnErr, vec_len, true, false};
+ghost use Rattle.textarea_text.specs.Splice.{inverse, place_after, place_before};
+ghost use Rattle.textarea_history.specs.Change.{FitsLines, IsRemovalInLine, Makes};
+
+pub use change::Change;
+use std::alloc::AllocError;
+use std::marker::Model;
+use textarea_text::util::Pos;
+
+/// What an edit inserts or removes: a character, a line break, a text within a line, or a chunk of at least two
+/// pieces with a line break between each two.
+#[derive(Drop)]
+pub enum EditKind {
+    InsertChar(char),
+    DeleteChar(char),
+    InsertNewline,
+    DeleteNewline,
+    InsertStr(String),
+    DeleteStr(String),
+    InsertChunk(Vec<String>),
+    DeleteChunk(Vec<String>),
+}
+
+impl Clone for EditKind {
+    ghost use Rattle.textarea_history.specs.Edit.{IsCopyOfKind};
+
+    ghost is_clone = { λ kind copy. IsCopyOfKind kind copy };
+
+    /// The same kind, or out of memory for its text or pieces.
+    fn clone(&self) -> Result<EditKind, AllocError> {
+        match self {
+            EditKind::InsertChar(c) => Ok(EditKind::InsertChar(*c)),
+            EditKind::DeleteChar(c) => Ok(EditKind::DeleteChar(*c)),
+            EditKind::InsertNewline => Ok(EditKind::InsertNewline),
+            EditKind::DeleteNewline => Ok(EditKind::DeleteNewline),
+            EditKind::InsertStr(s) => Ok(EditKind::InsertStr(s.clone()?)),
+            EditKind::DeleteStr(s) => Ok(EditKind::DeleteStr(s.clone()?)),
+            EditKind::InsertChunk(pieces) => Ok(EditKind::InsertChunk(pieces.clone()?)),
+            EditKind::DeleteChunk(pieces) => Ok(EditKind::DeleteChunk(pieces.clone()?)),
+        }
+    }
+}
+
+/// What is inserted or removed. `Typed` has the characters in the order of typing: those that
+/// Backspace removed stand last first, so that a run of either direction grows at the end.
+#[derive(Drop)]
+enum Content {
+    Character(char),
+    Text(String),
+    Typed(String),
+    Break,
+    Chunk(Vec<String>),
+}
+
+impl Clone for Content {
+    ghost use Rattle.textarea_history.specs.Edit.{IsCopyOfContent};
+
+    ghost is_clone = { λ kept copy. IsCopyOfContent kept copy };
+
+    fn clone(&self) -> Result<Content, AllocError> {
+        match self {
+            Content::Character(c) => Ok(Content::Character(*c)),
+            Content::Text(text) => Ok(Content::Text(text.clone()?)),
+            Content::Typed(text) => Ok(Content::Typed(text.clone()?)),
+            Content::Break => Ok(Content::Break),
+            Content::Chunk(pieces) => Ok(Content::Chunk(pieces.clone()?)),
+        }
+    }
+}
+
+/// One edit. The content stands from the start to the end, once it is inserted or before it is removed.
+#[derive(Drop)]
+pub struct Edit {
+    content: Content,
+    inserts: bool,
+    start: (usize, usize),
+    end: (usize, usize),
+}
+
+impl Model for Edit {
+    ghost use Rattle.textarea_history.specs.Edit.{Stored};
+
+    ghost Value = { Stored };
+
+    ghost use Rattle.textarea_history.specs.Edit.{stored_of};
+
+    ghost view = { λ edit. stored_of edit.content edit.inserts edit.start edit.end };
+}
+
+impl Clone for Edit {
+    ghost use Rattle.textarea_history.specs.Edit.{IsCopyOfEdit};
+
+    ghost is_clone = { λ edit copy. IsCopyOfEdit edit copy };
+
+    /// The same edit, or out of memory for its text.
+    fn clone(&self) -> Result<Edit, AllocError> {
+        Ok(Edit {
+            content: self.content.clone()?,
+            inserts: self.inserts,
+            start: self.start,
+            end: self.end,
+        })
+    }
+}
+
+impl Edit {
+    ghost use Rattle.textarea_history.specs.Edit.{IsWellFormed, after_of, before_of, pieces_of, splice_of, end_of_kind, stored_of};
+
+    /// An edit between the cursor's positions before and after it. Their byte offsets are for the caller: no rule
+    /// reads them.
+    pub fn new(kind: EditKind, before: Pos, after: Pos) -> Self
+        ensures splice { result.splice
+            ≡ splice_of kind (before.row, before.col) (after.row, after.col) }
+        ensures end { result.end
+            ≡ end_of_kind kind (before.row, before.col) (after.row, after.col) }
+        ensures pieces { result.pieces ≡ pieces_of kind }
+    {
+        Edit::between(kind, (before.row, before.col), (after.row, after.col))
+    }
+
+    /// An edit between the cursor's places, as (row, column), before and after it.
+    pub fn between(kind: EditKind, before: (usize, usize), after: (usize, usize)) -> Self
+        ensures splice { result.splice ≡ splice_of kind before after }
+        ensures end { result.end ≡ end_of_kind kind before after }
+        ensures pieces { result.pieces ≡ pieces_of kind }
+    {
+        match kind {
+            EditKind::InsertChar(c) => Edit::insertion(Content::Character(c), before, after),
+            EditKind::DeleteChar(c) => Edit::removal(Content::Character(c), before, after),
+            EditKind::InsertNewline => Edit::insertion(Content::Break, before, after),
+            EditKind::DeleteNewline => Edit::removal(Content::Break, before, after),
+            EditKind::InsertStr(s) => Edit::insertion(Content::Text(s), before, after),
+            EditKind::DeleteStr(s) => Edit::removal(Content::Text(s), before, after),
+            EditKind::InsertChunk(pieces) => Edit::insertion(Content::Chunk(pieces), before, after),
+            EditKind::DeleteChunk(pieces) => Edit::removal(Content::Chunk(pieces), before, after),
+        }
+    }
+
+    fn insertion(content: Content, before: (usize, usize), after: (usize, usize)) -> Self
+        ensures { result ≡ stored_of content true before after }
+    {
+        Edit {
+            content,
+            inserts: true,
+            start: before,
+            end: after,
+        }
+    }
+
+    fn removal(content: Content, before: (usize, usize), after: (usize, usize)) -> Self
+        ensures { result ≡ stored_of content false after before }
+    {
+        Edit {
+            content,
+            inserts: false,
+            start: after,
+            end: before,
+        }
+    }
+
+    /// The cursor's (row, column) before the edit.
+    pub fn cursor_before(&self) -> (usize, usize)
+        ensures place { result ≡ before_of self.now }
+        ensures end { IsWellFormed self.now → result ≡ place_before self.now.splice }
+    {
+        if self.inserts { self.start } else { self.end }
+    }
+
+    /// The cursor's (row, column) after the edit.
+    pub fn cursor_after(&self) -> (usize, usize)
+        ensures place { result ≡ after_of self.now }
+        ensures end { IsWellFormed self.now → result ≡ place_after self.now.splice }
+    {
+        if self.inserts { self.end } else { self.start }
+    }
+
+    /// The edit as it was made, or is made again.
+    pub fn change(&self) -> Change<'_>
+        requires { IsWellFormed self.now }
+        ensures { result ≡ self.now.splice }
+    {
+        Change {
+            edit: self,
+            inserts: self.inserts,
+        }
+    }
+
+    /// The edit as it is taken back.
+    pub fn inverse(&self) -> Change<'_>
+        requires { IsWellFormed self.now }
+        ensures { result ≡ inverse self.now.splice }
+    {
+        Change {
+            edit: self,
+            inserts: !self.inserts,
+        }
+    }
+
+    /// Makes the edit on lines that it fits.
+    pub fn redo(&self, lines: &mut Vec<String>) -> Result<(), AllocError>
+        requires well_formed { IsWellFormed self.now }
+        requires fits { FitsLines lines.old.items self.now.splice }
+        ensures ok { OnOk result (Makes self.now.splice lines.old.items lines.new.items) }
+        ensures err { OnErr result (lines.new.items ≡ lines.old.items) }
+        ensures nonempty { 0 < vec_len lines.new }
+        ensures no_memory { IsRemovalInLine self.now.splice → IsOk result }
+    {
+        self.change().apply(lines)
+    }
+
+    /// Takes the edit back on lines that its inverse fits.
+    pub fn undo(&self, lines: &mut Vec<String>) -> Result<(), AllocError>
+        requires well_formed { IsWellFormed self.now }
+        requires fits { FitsLines lines.old.items (inverse self.now.splice) }
+        ensures ok { OnOk result (Makes (inverse self.now.splice) lines.old.items lines.new.items) }
+        ensures err { OnErr result (lines.new.items ≡ lines.old.items) }
+        ensures nonempty { 0 < vec_len lines.new }
+        ensures no_memory { IsRemovalInLine (inverse self.now.splice) → IsOk result }
+    {
+        self.inverse().apply(lines)
+    }
+}

@@ -1,0 +1,306 @@
+//! Changes: edits that are lent with the direction in which they go.
+ghost use Rattle.std.specs.Prelude.{◌≡◌, ◌<◌, ◌≤◌, ◌+◌, ◌++◌, ◌↔◌, length, min, reverse, IsTrue, IsOk, OnOk, OnErr, IfOk, true, false, vec_len};
+ghost use Rattle.std.specs.Str.{chars};
+ghost use Rattle.textarea_text.specs.Text.{characters, following, lines_of, text_of};
+ghost use Rattle.textarea_text.specs.Size.{weight};
+ghost use Rattle.textarea_text.specs.Offset.{offset_at};
+ghost use Rattle.textarea_text.specs.Place.{IsPlaceOf, end};
+ghost use Rattle.textarea_text.specs.Splice.{Fits, place_after, place_before};
+ghost use Rattle.textarea_text.specs.Touched.{IsReplacementFor, breaks_of};
+ghost use Rattle.textarea_history.specs.Change.{IsRemovalInLine, Makes};
+
+use super::{Content, Edit};
+use crate::texts::reverse_text;
+use std::alloc::{AllocError, Global};
+use std::marker::Model;
+use textarea_text::inside::{insert_inside, remove_inside};
+use textarea_text::rows::{Replacement, byte_offset, prepare_replacement, size_of};
+
+/// A well-formed edit with the direction in which it goes: as it was made, or taken back. Clauses see it as its splice.
+#[derive(Drop)]
+pub struct Change<'a> {
+    pub(super) edit: &'a Edit,
+    pub(super) inserts: bool,
+}
+
+impl<'a> Model for Change<'a> {
+    ghost use Rattle.textarea_text.specs.Splice.{Splice};
+
+    ghost Value = { Splice };
+
+    ghost use Rattle.textarea_history.specs.Edit.{IsWellFormed, directed};
+
+    ghost view = { λ change. directed change.edit.now.splice change.inserts };
+
+    ghost invariant = { λ change. IsWellFormed change.edit.now };
+}
+
+impl<'a> Change<'a> {
+    /// Whether it inserts its symbols, or removes them.
+    pub fn inserts(&self) -> bool
+        ensures { result ≡ self.now.inserts }
+    {
+        self.inserts
+    }
+
+    /// Where its symbols begin, as (row, column).
+    pub fn start(&self) -> (usize, usize)
+        ensures { result ≡ self.now.place }
+    {
+        let edit = self.edit;
+        edit.start
+    }
+
+    // Where its symbols end, once they are inserted or before they are removed.
+    fn end(&self) -> (usize, usize)
+        ensures { result ≡ end self.now.place self.now.symbols }
+    {
+        let edit = self.edit;
+        edit.end
+    }
+
+    /// The cursor's (row, column) before the change.
+    pub fn cursor_before(&self) -> (usize, usize)
+        ensures { result ≡ place_before self.now }
+    {
+        if self.inserts {
+            self.start()
+        } else {
+            self.end()
+        }
+    }
+
+    /// The cursor's (row, column) after the change.
+    pub fn cursor_after(&self) -> (usize, usize)
+        ensures { result ≡ place_after self.now }
+    {
+        if self.inserts {
+            self.end()
+        } else {
+            self.start()
+        }
+    }
+
+    /// Whether it has no line break, so that it stays within one line.
+    pub fn is_inside_line(&self) -> bool
+        ensures { IsTrue result ↔ (breaks_of self.now.symbols ≡ 0) }
+    {
+        self.start().0 == self.end().0
+    }
+
+    /// The bytes that its symbols take, a line break counting one; the greatest `usize` where they are more.
+    pub fn weight(&self) -> usize
+        ensures { result ≡ min (weight self.now.symbols) usize.MAX }
+    {
+        let edit = self.edit;
+        match &edit.content {
+            Content::Character(c) => c.len_utf8(),
+            Content::Text(text) => text.len(),
+            Content::Typed(text) => text.len(),
+            Content::Break => 1,
+            Content::Chunk(pieces) => weight_of_pieces(pieces.as_slice()),
+        }
+    }
+
+    /// Makes the change on lines that it fits, in place where it has no line break.
+    pub fn apply(&self, lines: &mut Vec<String>) -> Result<(), AllocError>
+        requires nonempty { 0 < vec_len lines.old }
+        requires fits { Fits (text_of lines.old.items) self.now }
+        ensures ok { OnOk result (Makes self.now lines.old.items lines.new.items) }
+        ensures err { OnErr result (lines.new.items ≡ lines.old.items) }
+        ensures nonempty { 0 < vec_len lines.new }
+        ensures no_memory { IsRemovalInLine self.now → IsOk result }
+    {
+        if self.is_inside_line() {
+            let (row, column) = self.start();
+            let offset = byte_offset(lines[row].as_str(), column);
+            return self.apply_inside(lines, offset);
+        }
+        let replacement = self.prepare(*lines.allocator(), lines.as_slice())?;
+        replacement.apply(lines)
+    }
+
+    /// Makes a change without a line break, in place. Its start stands behind so many bytes of its line, before the change and
+    /// behind it.
+    pub fn apply_inside(&self, lines: &mut Vec<String>, offset: usize) -> Result<(), AllocError>
+        requires inside { breaks_of self.now.symbols ≡ 0 }
+        requires nonempty { 0 < vec_len lines.old }
+        requires fits { Fits (text_of lines.old.items) self.now }
+        requires offset { offset ≡ offset_at (lines_of lines.old.items) self.now.place }
+        ensures ok { OnOk result (Makes self.now lines.old.items lines.new.items) }
+        ensures err { OnErr result (lines.new.items ≡ lines.old.items) }
+        ensures len { vec_len lines.new ≡ vec_len lines.old }
+        ensures no_memory { self.now.inserts ≡ false → IsOk result }
+        ensures start { IsPlaceOf (lines_of lines.new.items) self.now.place }
+        ensures offset { offset ≡ offset_at (lines_of lines.new.items) self.now.place }
+    {
+        if !self.inserts {
+            self.remove_inside(lines, offset);
+            return Ok(());
+        }
+        let edit = self.edit;
+        match &edit.content {
+            Content::Character(c) => {
+                let mut buffer = [0u8; 4];
+                self.insert_inside(lines, offset, c.encode_utf8(&mut buffer))
+            }
+            Content::Text(text) => self.insert_inside(lines, offset, text.as_str()),
+            Content::Typed(text) => {
+                if edit.inserts {
+                    self.insert_inside(lines, offset, text.as_str())
+                } else {
+                    self.insert_reversed(lines, offset, text.as_str())
+                }
+            }
+            Content::Break | Content::Chunk(_) => unreachable!(),
+        }
+    }
+
+    // Removes its symbols, in place and without memory; they begin behind so many bytes of their line.
+    fn remove_inside(&self, lines: &mut Vec<String>, offset: usize)
+        requires removes { self.now.inserts ≡ false }
+        requires inside { breaks_of self.now.symbols ≡ 0 }
+        requires nonempty { 0 < vec_len lines.old }
+        requires fits { Fits (text_of lines.old.items) self.now }
+        requires offset { offset ≡ offset_at (lines_of lines.old.items) self.now.place }
+        ensures text { Makes self.now lines.old.items lines.new.items }
+        ensures len { vec_len lines.new ≡ vec_len lines.old }
+        ensures start { IsPlaceOf (lines_of lines.new.items) self.now.place }
+        ensures offset { offset ≡ offset_at (lines_of lines.new.items) self.now.place }
+    {
+        let start = self.start();
+        let end = self.end();
+        remove_inside(lines, start, offset, end.1, offset + self.weight());
+    }
+
+    // Inserts its symbols, which are this text, in place, behind so many bytes of their line.
+    fn insert_inside(
+        &self,
+        lines: &mut Vec<String>,
+        offset: usize,
+        text: &str,
+    ) -> Result<(), AllocError>
+        requires inserts { self.now.inserts ≡ true }
+        requires symbols { characters (chars text.now) ≡ self.now.symbols }
+        requires nonempty { 0 < vec_len lines.old }
+        requires fits { Fits (text_of lines.old.items) self.now }
+        requires offset { offset ≡ offset_at (lines_of lines.old.items) self.now.place }
+        ensures ok { OnOk result (Makes self.now lines.old.items lines.new.items) }
+        ensures err { OnErr result (lines.new.items ≡ lines.old.items) }
+        ensures len { vec_len lines.new ≡ vec_len lines.old }
+        ensures start { IsPlaceOf (lines_of lines.new.items) self.now.place }
+        ensures offset { offset ≡ offset_at (lines_of lines.new.items) self.now.place }
+    {
+        insert_inside(lines, self.start(), offset, text)
+    }
+
+    // Inserts its symbols, which are this text from its end on, in place, behind so many bytes of their line.
+    fn insert_reversed(
+        &self,
+        lines: &mut Vec<String>,
+        offset: usize,
+        text: &str,
+    ) -> Result<(), AllocError>
+        requires inserts { self.now.inserts ≡ true }
+        requires symbols { characters (reverse (chars text.now)) ≡ self.now.symbols }
+        requires nonempty { 0 < vec_len lines.old }
+        requires fits { Fits (text_of lines.old.items) self.now }
+        requires offset { offset ≡ offset_at (lines_of lines.old.items) self.now.place }
+        ensures ok { OnOk result (Makes self.now lines.old.items lines.new.items) }
+        ensures err { OnErr result (lines.new.items ≡ lines.old.items) }
+        ensures len { vec_len lines.new ≡ vec_len lines.old }
+        ensures start { IsPlaceOf (lines_of lines.new.items) self.now.place }
+        ensures offset { offset ≡ offset_at (lines_of lines.new.items) self.now.place }
+    {
+        let restored = reverse_text(*lines.allocator(), text)?;
+        self.insert_inside(lines, offset, restored.as_str())
+    }
+
+    /// The lines that take the place of others when the change is made; the lines stay.
+    pub fn prepare(&self, alloc: Global, lines: &[String]) -> Result<Replacement, AllocError>
+        requires nonempty { 0 < length lines.now }
+        requires fits { Fits (text_of lines.now) self.now }
+        ensures { IfOk result (IsReplacementFor lines.now self.now) }
+    {
+        if !self.inserts {
+            return self.prepare_removal(alloc, lines);
+        }
+        let edit = self.edit;
+        match &edit.content {
+            Content::Character(c) => {
+                let mut buffer = [0u8; 4];
+                self.prepare_insertion(alloc, lines, c.encode_utf8(&mut buffer), &[])
+            }
+            Content::Text(text) => self.prepare_insertion(alloc, lines, text.as_str(), &[]),
+            Content::Typed(text) => {
+                if edit.inserts {
+                    self.prepare_insertion(alloc, lines, text.as_str(), &[])
+                } else {
+                    self.prepare_reversed(alloc, lines, text.as_str())
+                }
+            }
+            Content::Break => self.prepare_insertion(alloc, lines, "", &[String::new(alloc)]),
+            Content::Chunk(pieces) => {
+                self.prepare_insertion(alloc, lines, pieces[0].as_str(), &pieces[1..])
+            }
+        }
+    }
+
+    // The lines without its symbols.
+    fn prepare_removal(&self, alloc: Global, lines: &[String]) -> Result<Replacement, AllocError>
+        requires removes { self.now.inserts ≡ false }
+        requires nonempty { 0 < length lines.now }
+        requires fits { Fits (text_of lines.now) self.now }
+        ensures { IfOk result (IsReplacementFor lines.now self.now) }
+    {
+        let start = self.start();
+        let end = self.end();
+        prepare_replacement(alloc, lines, start, end, "", &[])
+    }
+
+    // The lines with its symbols, which are the first piece, and each further one behind a break.
+    fn prepare_insertion(
+        &self,
+        alloc: Global,
+        lines: &[String],
+        first: &str,
+        rest: &[String],
+    ) -> Result<Replacement, AllocError>
+        requires inserts { self.now.inserts ≡ true }
+        requires symbols { characters (chars first.now) ++ following (lines_of rest.now)
+            ≡ self.now.symbols }
+        requires nonempty { 0 < length lines.now }
+        requires fits { Fits (text_of lines.now) self.now }
+        ensures { IfOk result (IsReplacementFor lines.now self.now) }
+    {
+        let start = self.start();
+        prepare_replacement(alloc, lines, start, start, first, rest)
+    }
+
+    // The lines with its symbols, which are this text from its end on.
+    fn prepare_reversed(
+        &self,
+        alloc: Global,
+        lines: &[String],
+        text: &str,
+    ) -> Result<Replacement, AllocError>
+        requires inserts { self.now.inserts ≡ true }
+        requires symbols { characters (reverse (chars text.now)) ≡ self.now.symbols }
+        requires nonempty { 0 < length lines.now }
+        requires fits { Fits (text_of lines.now) self.now }
+        ensures { IfOk result (IsReplacementFor lines.now self.now) }
+    {
+        let restored = reverse_text(alloc, text)?;
+        self.prepare_insertion(alloc, lines, restored.as_str(), &[])
+    }
+}
+
+// The bytes of the pieces, with one for each break between two.
+fn weight_of_pieces(pieces: &[String]) -> usize
+    ensures { result ≡ min (weight (text_of pieces.now)) usize.MAX }
+{
+    match pieces {
+        [] => 0,
+        [first, rest @ ..] => size_of(rest).saturating_add(first.len()),
+    }
+}

@@ -1,0 +1,17 @@
+//! Laws of edits, each the contract of a function without a body.
+ghost use Rattle.std.specs.Prelude.{◌≡◌, ◌<◌, ℕ, List, length};
+ghost use Rattle.textarea_text.specs.Text.{Symbol, joined, lines};
+ghost use Rattle.textarea_text.specs.Splice.{Splice, Fits};
+ghost use Rattle.textarea_history.specs.EditLaw.{IsTakenBack};
+
+/// `Edit::undo` after `Edit::redo` gives the same text: wherever an edit fits, its inverse fits the text after it, and
+/// brings the text back.
+pub fn undo_takes_back()
+    ensures { (text : List Symbol) (splice : Splice) →
+        Fits text splice → IsTakenBack text splice }
+{}
+
+/// A text has one list of lines, so lines that hold the same text are the same lines.
+pub fn lines_are_the_text()
+    ensures { (rows : List (List ℕ)) → 0 < length rows → lines (joined rows) ≡ rows }
+{}

@@ -1,0 +1,30 @@
+//! Texts read backwards, and texts of one character.
+ghost use Rattle.std.specs.Prelude.{◌≡◌, reverse, string_bytes, IfOk};
+ghost use Rattle.std.specs.Str.{chars};
+ghost use Rattle.textarea_text.specs.Text.{characters};
+ghost use Rattle.textarea_history.specs.Run.{character_of};
+
+use std::alloc::{AllocError, Global};
+
+/// The characters of the text, the last one first.
+pub fn reverse_text(alloc: Global, text: &str) -> Result<String, AllocError>
+    ensures { IfOk result (λ s. chars (string_bytes s) ≡ reverse (chars text.now)) }
+{
+    let mut result_text = String::new(alloc);
+    for c in text.chars().rev() {
+        result_text.push(c)?;
+    }
+    Ok(result_text)
+}
+
+/// The character of a text that has just one.
+pub fn only_character(text: &str) -> Option<char>
+    ensures { result ≡ character_of (characters (chars text.now)) }
+{
+    let mut rest = text.chars();
+    let first = rest.next()?;
+    match rest.next() {
+        None => Some(first),
+        Some(_) => None,
+    }
+}

@@ -1,2 +1,0 @@
-pub mod Overlap
-pub mod Answers

@@ -1,8 +1,0 @@
-use Rattle.std.proofs.Common.{ap, min, subst, ℕ, ◌∙◌}
-use Rattle.textarea_map.specs.Seen.{IsPlaceAt}
-use Rattle.textarea_text.specs.Text.{lines_of}
-use Rattle.textarea_map.proofs.screen_map.ScreenMap.place_near.Goals as goal
-
-pub returns-clause-near : goal.returns-clause-near
-returns-clause-near c =
-    subst (λ (n : ℕ). IsPlaceAt c.args.self.now.wrapping.tab_len (lines_of c.args.lines.now) c.args.self.now.rows (c.args.seen.0, n) c.place_at.result) (c.min.ensures ∙ ap (min c.args.seen.1) c.greatest_column-greatest.ensures) c.place_at.ensures.found

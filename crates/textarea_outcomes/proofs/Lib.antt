@@ -1,4 +1,0 @@
-mod Worked
-pub mod Cuts
-pub mod Going
-pub mod Runs

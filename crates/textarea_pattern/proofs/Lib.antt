@@ -1,2 +1,0 @@
-mod FailureLemmas
-mod PatternLemmas

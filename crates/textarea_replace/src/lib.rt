@@ -1,4 +1,0 @@
-//! Items of a vector that give place to others.
-#![tactic(auto)]
-
-pub mod replace;

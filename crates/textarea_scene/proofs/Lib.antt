@@ -1,6 +1,0 @@
-pub mod Drawing
-mod Found
-mod Holds
-mod OneFilling
-mod Placeholder
-mod Told

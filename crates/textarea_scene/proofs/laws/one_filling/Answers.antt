@@ -1,5 +1,0 @@
-use Rattle.textarea_scene.proofs.OneFilling.{filled_once}
-use Rattle.textarea_scene.proofs.laws.one_filling.Goals as goal
-
-pub returns : goal.returns
-returns c = filled_once c.one_line_shows_a_row.ensures

@@ -1,7 +1,0 @@
-use Rattle.std.proofs.Common.{◌≡◌}
-use Rattle.textarea_scene.specs.Drawn.{DrawnTo}
-use Rattle.textarea_scene.specs.Rows.{searched}
-use Rattle.textarea_scene.proofs.scene.draw_rows.Given as goal
-
-abbrev pub invariant-loop-i : goal.invariant-loop-i
-invariant-loop-i l = (l.matches.searched ≡ searched l.frame) × DrawnTo l.frame l.top l.rows l.fn.buffer l.buffer l.i

@@ -1,8 +1,0 @@
-use Rattle.std.proofs.Common.{◌≡◌, take}
-use Rattle.std.specs.List.{fold}
-use Rattle.textarea_map.specs.Shown.{shown_row}
-use Rattle.textarea_scene.specs.Rows.{with_match}
-use Rattle.textarea_scene.proofs.scene.frame.Frame.add_matches.Given as goal
-
-abbrev pub invariant-loop-found : goal.invariant-loop-found
-invariant-loop-found l = l.highlighter ≡ fold (with_match l.style (shown_row l.shown)) l.fn.highlighter (take l.found-index l.matches)

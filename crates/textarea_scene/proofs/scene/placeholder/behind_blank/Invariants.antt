@@ -1,7 +1,0 @@
-use Rattle.std.proofs.Common.{◌≡◌, ◌∷◌, map, take}
-use Rattle.textarea_screen.specs.Text.{shown_span}
-use Rattle.textarea_scene.specs.Placeholder.{blank, lent_span}
-use Rattle.textarea_scene.proofs.scene.placeholder.behind_blank.Given as goal
-
-abbrev pub invariant-loop-span : goal.invariant-loop-span
-invariant-loop-span l = map shown_span l.spans.items ≡ blank l.fn.style ∷ map lent_span (map shown_span (take l.span-index l.line.spans.items))

@@ -1,4 +1,0 @@
-pub mod Scene
-pub mod Rows
-pub mod Drawn
-pub mod Placeholder

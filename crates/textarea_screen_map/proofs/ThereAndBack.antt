@@ -1,0 +1,142 @@
+-- From a place to its visual row and column, and back.
+use Rattle.std.proofs.Common.{ap₂, ◌≡◌, ℕ, ◌+◌, ◌-◌, ◌<◌, ◌≤◌, inl, inr, min, false, true, Bool, cond, List, [], length, get_or, sym, ap, refl, subst, ◌∙◌, arith}
+use Rattle.std.proofs.lemmas.Bool.{cases_lt}
+use Rattle.std.proofs.Math.Seq.{take-length}
+use Rattle.textarea_util.specs.Limit.{size_limit}
+use Rattle.textarea_text.specs.Place.{Place, IsPlaceOf}
+use Rattle.textarea_wrap.specs.Columns.{display_end_column}
+use Rattle.textarea_wrap.specs.RowsView.{RowsView}
+use Rattle.textarea_screen_map.specs.declared.layout.Wrapping.{Wrapping}
+use Rattle.textarea_screen_map.specs.Layout.{AreRowsOf}
+use Rattle.textarea_blocks.specs.Sums.{row_total}
+use Rattle.textarea_screen_map.specs.Rows.{VisualRow, visual_rows, row_at, column_at, greatest_column}
+use Rattle.textarea_screen_map.specs.Seen.{HasNoZeroWidth, IsPlaceAt, IsPlaceNear, IsVisualPosition, LeadsTo}
+use Rattle.textarea_screen_map.proofs.RowColumns.{column_at-le, column_at-less}
+use Rattle.textarea_screen_map.proofs.VisualRows.{row_count, row_of}
+
+-- a place of the row, and at its column or before it
+pub leads_within : (t : ℕ) (text : List ℕ) (column index : ℕ) → LeadsTo t text column index → (index ≤ length text) × (column_at t text index ≤ column)
+leads_within t text column index (inl h) = (h.0, omega (arith, h.1))
+leads_within t text column index (inr (inl h)) = (omega (arith, h.0), omega (arith, h.1))
+leads_within t text column index (inr (inr h)) = (omega (arith, h.0), omega (arith, h.1))
+
+-- no place before it is at the column or behind it
+before_it : (t : ℕ) (text : List ℕ) (column index k : ℕ) → LeadsTo t text column index → k < index → column_at t text k < column
+before_it t text column index k (inl h) below =
+    elim (cases_lt (column_at t text k) column) [
+      | inl less ↦ less
+      | inr more ↦ absurd (h.2 k below (omega (arith, more, h.1, column_at-le t text k index (omega arith))))
+    ]
+before_it t text column index k (inr (inl h)) below = omega (arith, h.1, column_at-le t text k index (omega arith))
+before_it t text column index k (inr (inr h)) below = omega (arith, h.1, column_at-le t text k index (omega arith))
+
+-- a place behind one whose column is reached or covered isn't led to
+not_behind : (t : ℕ) (text : List ℕ) (column index other : ℕ) → LeadsTo t text column index → LeadsTo t text column other → index < other → ⊥
+not_behind t text column index other (inl h) k less = absurd (omega (arith, h.1, before_it t text column other index k less))
+not_behind t text column index other (inr (inl h)) k less =
+    absurd (omega (arith, h.2, leads_within t text column other k, column_at-le t text (index + 1) other (omega arith)))
+not_behind t text column index other (inr (inr h)) k less = absurd (omega (arith, h.0, leads_within t text column other k))
+
+pub leads_to_one : (t : ℕ) (text : List ℕ) (column index other : ℕ) → LeadsTo t text column index → LeadsTo t text column other → index ≡ other
+leads_to_one t text column index other h k =
+    elim (cases_lt index other) [
+      | inl less ↦ absurd (not_behind t text column index other h k less)
+      | inr more ↦ elim (cases_lt other index) [ inl less ↦ absurd (not_behind t text column other index k h less) | inr most ↦ omega (arith, more, most) ]
+    ]
+
+-- where each character has a column, a place is what its own column leads to
+leads_back : (t : ℕ) (text : List ℕ) (index : ℕ) → HasNoZeroWidth text → index ≤ length text → LeadsTo t text (column_at t text index) index
+leads_back t text index all within =
+    inl (within, refl, λ k below e. absurd (omega (arith, e, column_at-less t text k index all below within)))
+
+same_place : (a b : Place) (first : ℕ) → a.0 ≡ b.0 → first ≤ a.1 → first ≤ b.1 → a.1 - first ≡ b.1 - first → a ≡ b
+same_place a b first rows from from' e =
+    ap₂ (λ (m n : ℕ). (m, n)) rows (omega arith)
+
+pub found_again : (t : ℕ) (lines : List (List ℕ)) (rows : List RowsView) (place seen found : Place) → IsVisualPosition t lines rows place seen → HasNoZeroWidth (row_at lines rows seen.0).text → IsPlaceAt t lines rows seen found → found ≡ place
+found_again t lines rows place seen found s all f =
+    let row = row_at lines rows seen.0 in
+    let back : LeadsTo t row.text seen.1 (place.1 - row.first) = rw s.column (leads_back t row.text (place.1 - row.first) all (omega (arith, s.holds.to))) in
+    same_place found place row.first (f.line ∙ sym s.holds.line) f.from s.holds.from (leads_to_one t row.text seen.1 (found.1 - row.first) (place.1 - row.first) f.leads back)
+
+pub one_place : (t : ℕ) (lines : List (List ℕ)) (rows : List RowsView) (seen place other : Place) → IsPlaceAt t lines rows seen place → IsPlaceAt t lines rows seen other → place ≡ other
+one_place t lines rows seen place other p o =
+    let row = row_at lines rows seen.0 in
+    same_place place other row.first (p.line ∙ sym o.line) p.from o.from (leads_to_one t row.text seen.1 (place.1 - row.first) (other.1 - row.first) p.leads o.leads)
+
+pub is_place : (w : Wrapping) (lines : List (List ℕ)) (rows : List RowsView) (seen place : Place) → AreRowsOf w lines rows → IsPlaceAt w.tab_len lines rows seen place → IsPlaceOf lines place
+is_place w lines rows seen place h p =
+    let known = row_of w lines rows seen.0 h p.row in
+    let row = row_at lines rows seen.0 in
+    let size : length (get_or lines place.0 []) ≡ length (get_or lines row.line []) = ap (λ (n : ℕ). length (get_or lines n [])) p.line in
+    (omega (arith, p.line, known.within), omega (arith, size, known.inside, p.from, (leads_within w.tab_len row.text seen.1 (place.1 - row.first) p.leads).0))
+
+-- a column up to the greatest one doesn't lead to the end of a row that isn't its line's last
+inside_row : (t : ℕ) (row : VisualRow) (column index : ℕ) → LeadsTo t row.text column index → column ≤ greatest_column t row → (row.is_last ≡ false → 0 < length row.text) → row.is_last ≡ false → index < length row.text
+inside_row t row column index h small some e =
+    let greatest : greatest_column t row ≡ column_at t row.text (length row.text - 1) = ap (λ (b : Bool). cond b (display_end_column t 0 row.text) (column_at t row.text (length row.text - 1))) e in
+    elim (cases_lt index (length row.text)) [
+      | inl less ↦ less
+      | inr more ↦ absurd (omega (arith, small, greatest, some e, before_it t row.text column index (length row.text - 1) h (omega (arith, some e, more))))
+    ]
+
+pub seen_there : (w : Wrapping) (lines : List (List ℕ)) (rows : List RowsView) (seen place : Place) → AreRowsOf w lines rows → IsPlaceAt w.tab_len lines rows seen place → seen.1 ≤ greatest_column w.tab_len (row_at lines rows seen.0) → (column : ℕ) × (column ≤ seen.1) × IsVisualPosition w.tab_len lines rows place (seen.0, column)
+seen_there w lines rows seen place h p small =
+    let known = row_of w lines rows seen.0 h p.row in
+    let row = row_at lines rows seen.0 in
+    let found = leads_within w.tab_len row.text seen.1 (place.1 - row.first) p.leads in (
+      column_at w.tab_len row.text (place.1 - row.first),
+      found.1,
+      record {
+        row = p.row;
+        holds = record {
+          line = p.line;
+          from = p.from;
+          to = omega (arith, p.from, found.0);
+          before_next = λ e. omega (arith, p.from, inside_row w.tab_len row seen.1 (place.1 - row.first) p.leads small known.some e);
+        };
+        column = refl;
+      },
+    )
+
+pub seen_near : (w : Wrapping) (lines : List (List ℕ)) (rows : List RowsView) (seen place : Place) → AreRowsOf w lines rows → IsPlaceNear w.tab_len lines rows seen place → (column : ℕ) × (column ≤ seen.1) × IsVisualPosition w.tab_len lines rows place (seen.0, column)
+seen_near w lines rows seen place h p =
+    let greatest = greatest_column w.tab_len (row_at lines rows seen.0) in
+    let found = seen_there w lines rows (seen.0, min seen.1 greatest) place h p (omega arith) in
+    (found.0, omega (arith, found.1), found.2)
+
+-- the place that the code finds, from the row's line, its first column and its characters
+pub place_found : (w : Wrapping) (lines : List (List ℕ)) (rows : List RowsView) (seen : Place) (line first index : ℕ) (text : List ℕ) → AreRowsOf w lines rows → seen.0 < row_total rows → line ≡ (row_at lines rows seen.0).line → first ≡ (row_at lines rows seen.0).first → text ≡ (row_at lines rows seen.0).text → LeadsTo w.tab_len text seen.1 index → (first + index < size_limit) × IsPlaceAt w.tab_len lines rows seen (line, first + index)
+place_found w lines rows seen line first index text h below line_is first_is text_is leads =
+    let there : seen.0 < length (visual_rows lines rows) = omega (arith, below, row_count w lines rows h) in
+    let known = row_of w lines rows seen.0 h there in
+    let row = row_at lines rows seen.0 in
+    let same : index ≡ first + index - row.first = omega (arith, first_is) in (
+      omega (arith, known.short, first_is, ap length text_is, (leads_within w.tab_len text seen.1 index leads).0),
+      record {
+        row = there;
+        line = line_is;
+        from = omega (arith, first_is);
+        leads = subst (λ (n : ℕ). LeadsTo w.tab_len row.text seen.1 n) same (subst (λ (t : List ℕ). LeadsTo w.tab_len t seen.1 index) text_is leads);
+      },
+    )
+
+-- ---- where a place is seen
+
+pub seen_row : (w : Wrapping) (lines : List (List ℕ)) (rows : List RowsView) (place seen : Place) → AreRowsOf w lines rows → IsVisualPosition w.tab_len lines rows place seen → seen.0 < row_total rows
+seen_row w lines rows place seen h s = omega (arith, s.row, row_count w lines rows h)
+
+abbrev greatest_by : Bool → ℕ → VisualRow → ℕ
+greatest_by b t row = cond b (display_end_column t 0 row.text) (column_at t row.text (length row.text - 1))
+
+-- in a row that is its line's last a place stands at its end or before it, in another before its last character or at it
+column_within : (t : ℕ) (row : VisualRow) (index : ℕ) (b : Bool) → row.is_last ≡ b → index ≤ length row.text → (row.is_last ≡ false → index < length row.text) → column_at t row.text index ≤ greatest_by b t row
+column_within t row index true e within before =
+    subst (λ (text : List ℕ). column_at t row.text index ≤ display_end_column t 0 text) (take-length row.text) (column_at-le t row.text index (length row.text) within)
+column_within t row index false e within before = column_at-le t row.text index (length row.text - 1) (omega (arith, before e))
+
+pub seen_column : (t : ℕ) (lines : List (List ℕ)) (rows : List RowsView) (place seen : Place) → IsVisualPosition t lines rows place seen → seen.1 ≤ greatest_column t (row_at lines rows seen.0)
+seen_column t lines rows place seen s =
+    let row = row_at lines rows seen.0 in
+    let index = place.1 - row.first in
+    rw s.column (column_within t row index row.is_last refl (omega (arith, s.holds.to)) (λ e. omega (arith, s.holds.from, s.holds.before_next e)))

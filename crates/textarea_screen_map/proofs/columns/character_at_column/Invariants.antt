@@ -1,0 +1,18 @@
+use Rattle.std.proofs.Common.{◌≡◌, ℕ, ◌+◌, ◌*◌, ◌<◌, ◌≤◌, drop, length}
+use Rattle.std.specs.Str.{chars, IsUtf8}
+use Rattle.std.specs.Str.Iter.{chars_rest}
+use Rattle.textarea_screen_map.specs.Rows.{column_at}
+use Rattle.textarea_screen_map.proofs.columns.character_at_column.Given as goal
+
+-- the characters passed stand before the column
+abbrev pub invariant-loop-c : goal.invariant-loop-c
+invariant-loop-c l = record {
+  text : IsUtf8 (chars_rest l.c-iterator);
+  left : drop l.index (chars l.text) ≡ chars (chars_rest l.c-iterator);
+  within : l.index ≤ length (chars l.text);
+  bytes : l.index + length (chars_rest l.c-iterator) ≤ length l.text;
+  at : l.at ≡ column_at l.tab_len (chars l.text) l.index;
+  fits : l.at + 255 * length (chars_rest l.c-iterator) ≤ 255 * length l.text;
+  before : (k : ℕ) → k < l.index → column_at l.tab_len (chars l.text) k < l.column;
+  reached : l.at ≤ l.column;
+}

@@ -1,0 +1,39 @@
+use Rattle.std.proofs.Common.{◌≡◌, ℕ, ◌+◌, ◌++◌, ◌∷◌, List, [], ap, arith, length, max, refl, subst}
+use Rattle.std.proofs.lemmas.List.{length-map, take_all}
+use Rattle.textarea_text.specs.Text.{characters_of, lines_of}
+use Rattle.textarea_text.proofs.Sizes.{size_of_more}
+use Rattle.textarea_wrap.specs.RowsView.{RowsView}
+use Rattle.textarea_blocks.specs.Sums.{row_total}
+use Rattle.textarea_screen_map.specs.Map.{IsRowCount}
+use Rattle.textarea_screen_map.proofs.Layouts.{AreRowsOf-more}
+use Rattle.textarea_blocks.proofs.Numbers.{row_total-append}
+use Rattle.textarea_screen_map.proofs.RowSizes.{size_of_line, size_of_take}
+use Rattle.textarea_screen_map.proofs.layout.rows_in.Goals as goal
+
+pub loop-line-init : goal.loop-line-init
+loop-line-init c = (([], tt, refl), omega arith)
+
+pub overflow_add-total : goal.overflow_add-total
+overflow_add-total c =
+    let few = (size_of_line c.args.wrapping.mode c.args.wrapping.tab_len (max c.args.wrapping.width 1) c.as_str.result.now c.in_ok-cut.cut.ranges c.in_ok-cut.ensures.rows).1 in
+    omega (arith, c.loop-line.invariant.1, few, c.in_ok-cut.ensures.short, ap length c.as_slice.ensures, size_of_more c.args.lines.now c.loop-line.line-index c.line-item.result (omega arith) c.line-item.is, size_of_take c.args.lines.now (c.loop-line.line-index + 1), c.in_ok-size_within_limit.ensures.limit.0 refl)
+
+pub loop-line-preserved : goal.loop-line-preserved
+loop-line-preserved c =
+    let cut = c.in_ok-cut.cut in
+    let before = c.loop-line.invariant.0 in
+    let rows : List RowsView = before.0 in
+    let few = (size_of_line c.args.wrapping.mode c.args.wrapping.tab_len (max c.args.wrapping.width 1) c.as_str.result.now cut.ranges c.in_ok-cut.ensures.rows).1 in
+    let total : c.loop-line.total + length c.as_slice.result.now ≡ row_total (rows ++ cut ∷ []) =
+    omega (arith, before.2, ap length c.as_slice.ensures, row_total-append rows (cut ∷ [])) in (
+      (rows ++ cut ∷ [], AreRowsOf-more c.args.wrapping [] c.args.lines.now c.loop-line.line-index c.line-item.result c.as_str.result.now rows cut (omega arith) c.line-item.is c.as_str.ensures.value before.1 c.in_ok-cut.ensures.rows c.in_ok-cut.ensures.short, total),
+      omega (arith, c.loop-line.invariant.1, few, ap length c.as_slice.ensures, ap length c.as_str.ensures.value, size_of_more c.args.lines.now c.loop-line.line-index c.line-item.result (omega arith) c.line-item.is),
+    )
+
+pub returns-clause-limit : goal.returns-clause-limit
+returns-clause-limit c = c.in_ok-size_within_limit.ensures.limit.0 refl
+
+pub returns-clause-rows : goal.returns-clause-rows
+returns-clause-rows c =
+    let all = take_all c.loop-line.line-index (lines_of c.args.lines.now) (omega (arith, c.loop-line-test.false, length-map c.args.lines.now characters_of)) in
+    subst (λ (t : List (List ℕ)). IsRowCount c.args.wrapping t c.loop-line.total) all c.loop-line.invariant.0

@@ -1,0 +1,18 @@
+-- A visual row as the look-up gives it.
+use Rattle.std.specs.Prelude.{◌≡◌, ℕ, List, [], length, take, chars, encode_utf8_all, slice_index_or}
+use Rattle.textarea_screen_map.specs.Rows.{VisualRow}
+use Rattle.textarea_screen_map.specs.declared.screen_map.look_up.RowText.{RowText}
+
+-- the visual row that these texts show: it begins behind what stands before it in its line, byte by byte and character by character
+abbrev pub shown_row : RowText → VisualRow
+shown_row row = record {
+  line = row.line;
+  start = length row.before.now;
+  first = length (chars row.before.now);
+  text = chars row.text.now;
+  is_last = row.is_last;
+}
+
+-- what the row has before it is the text of its line up to it, byte by byte, and not only a text of that length
+abbrev pub HasFrontOfLine : List (List ℕ) → RowText → Type 0
+HasFrontOfLine lines row = row.before.now ≡ take (length row.before.now) (encode_utf8_all (slice_index_or lines row.line []))

@@ -1,0 +1,41 @@
+//! Lines that are cut, with their rows in blocks.
+ghost use Rattle.std.specs.Prelude.{◌≡◌, ◌+◌, ◌≤◌, ◌++◌, ℕ, List, length, OnOk};
+ghost use Rattle.textarea_text.specs.Text.{lines_of};
+ghost use Rattle.textarea_blocks.specs.Blocks.{all_rows};
+ghost use Rattle.textarea_screen_map.specs.Layout.{AreRowsOf, ticks_behind, ticks_of};
+
+use crate::layout::{Wrapping, rows_of};
+use std::alloc::{AllocError, Global};
+pub use textarea_blocks::blocks::RowBlocks;
+use textarea_wrap::wrap::WrapCount;
+
+/// How many lines a block has that is cut from lines in one piece, but for a last one.
+pub const BLOCK: usize = 768;
+
+/// Cuts the lines, and puts their rows behind all others, in blocks of 768 lines and a last one. Each line adds one to `count`.
+/// More than 2^48 lines or rows are out of memory.
+pub fn push_lines(
+    alloc: Global,
+    blocks: &mut RowBlocks,
+    lines: &[String],
+    wrapping: Wrapping,
+    count: &mut WrapCount,
+) -> Result<(), AllocError>
+    ensures counted { OnOk result (count.new ≡ count.old + length lines.now) }
+    ensures never_less { count.old ≤ count.new }
+    ensures rows { (before : List (List ℕ)) →
+        AreRowsOf wrapping before (all_rows blocks.old.blocks) →
+        OnOk result (AreRowsOf wrapping (before ++ lines_of lines.now)
+        (all_rows blocks.new.blocks)) }
+    ensures ticks { OnOk result (ticks_of (all_rows blocks.new.blocks)
+        ≡ ticks_of (all_rows blocks.old.blocks) ++ ticks_behind count.old (length lines.now)) }
+{
+    let mut from = 0;
+    'cutting: while from < lines.len() {
+        let to = lines.len().min(from + BLOCK);
+        let rows = rows_of(alloc, &lines[from..to], wrapping, count)?;
+        blocks.push(rows)?;
+        from = to;
+    }
+    Ok(())
+}

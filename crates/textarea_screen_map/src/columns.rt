@@ -1,0 +1,51 @@
+//! The display columns of the characters of one row.
+ghost use Rattle.std.specs.Prelude.{◌≡◌, ◌-◌, ◌<◌, chars, length, if◌then◌else◌};
+ghost use Rattle.textarea_util.specs.Limit.{size_limit};
+ghost use Rattle.textarea_wrap.specs.Columns.{display_end_column};
+ghost use Rattle.textarea_screen_map.specs.Rows.{column_at};
+ghost use Rattle.textarea_screen_map.specs.Seen.{LeadsTo};
+
+use textarea_text::rows::{byte_offset, column_count};
+use textarea_wrap::wrap::columns::{display_column_behind, display_column_behind_text};
+
+/// The display column at which the last character of a row begins; 0 for an empty row.
+pub fn last_character_column(text: &str, tab_len: u8) -> usize
+    requires { length text.now < size_limit }
+    ensures { result ≡ column_at tab_len (chars text.now) (length (chars text.now) - 1) }
+{
+    let last = column_count(text).saturating_sub(1);
+    display_column_behind_text(&text[..byte_offset(text, last)], 0, tab_len)
+}
+
+/// The greatest display column of a row at which a cursor can stand: the row's width in its line's last row, else the display
+/// column of its last character.
+pub fn greatest_cursor_column(text: &str, is_last: bool, tab_len: u8) -> usize
+    requires { length text.now < size_limit }
+    ensures { result ≡ (if is_last then display_end_column tab_len 0 (chars text.now)
+        else column_at tab_len (chars text.now) (length (chars text.now) - 1)) }
+{
+    if is_last {
+        display_column_behind_text(text, 0, tab_len)
+    } else {
+        last_character_column(text, tab_len)
+    }
+}
+
+/// How many characters of a row stand before the place that a display column leads back to: the first place at that column, else
+/// the character that covers it, else the row's end.
+pub fn character_at_column(text: &str, column: usize, tab_len: u8) -> usize
+    requires { length text.now < size_limit }
+    ensures { LeadsTo tab_len (chars text.now) column result }
+{
+    let mut index = 0;
+    let mut at = 0;
+    for c in text.chars() {
+        let next = display_column_behind(c, at, tab_len);
+        if column <= at || column < next {
+            return index;
+        }
+        index += 1;
+        at = next;
+    }
+    index
+}

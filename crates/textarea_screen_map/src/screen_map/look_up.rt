@@ -1,0 +1,179 @@
+//! Look-ups of a screen map: where a place is seen, which place a visual row and a display column lead back to, and where a
+//! cursor goes up and down. None of them takes memory. The lines that the map was made for are lent. A tab reaches to the next
+//! tab stop, and takes one column where there are none.
+ghost use Rattle.std.specs.Prelude.{◌≡◌, ◌+◌, ◌<◌, ◌≤◌, length, min, take, MatchOption};
+ghost use Rattle.textarea_util.specs.Limit.{size_limit};
+ghost use Rattle.textarea_text.specs.Text.{lines_of};
+ghost use Rattle.textarea_text.specs.Place.{IsPlaceOf};
+ghost use Rattle.textarea_screen_map.specs.Layout.{AreRowsOf};
+ghost use Rattle.textarea_blocks.specs.Sums.{range_at, row_total};
+ghost use Rattle.textarea_screen_map.specs.Rows.{greatest_column, row_at, row_width};
+ghost use Rattle.textarea_screen_map.specs.Shown.{HasFrontOfLine, shown_row};
+ghost use Rattle.textarea_screen_map.specs.Seen.{IsAbove, IsBelow, IsInFirstRow, IsInLastRow, IsPlaceAt, IsPlaceNear, IsVisualPosition};
+
+use super::ScreenMap;
+use crate::columns::{character_at_column, greatest_cursor_column};
+use textarea_text::rows::{byte_offset, column_count};
+use textarea_wrap::wrap::columns::display_column_behind_text;
+
+/// A visual row: its line, its number among the rows of that line, what stands before it in that line, its own text, and whether
+/// it is its line's last row. Of the line's bytes it has those from `before.len()` on, up to `before.len() + text.len()`, and its
+/// first character is the line's character of the number `before.chars().count()`.
+#[derive(Clone, Copy)]
+pub struct RowText<'a> {
+    pub line: usize,
+    pub number: usize,
+    pub before: &'a str,
+    pub text: &'a str,
+    pub is_last: bool,
+}
+
+// The last of the rows of a line that begins at the offset or before it.
+fn row_holding(ranges: &[(usize, usize)], offset: usize) -> usize
+    requires some { 0 < length ranges.now }
+    requires first { (range_at ranges.now 0).0 ≤ offset }
+    ensures within { result < length ranges.now }
+    ensures from { (range_at ranges.now result).0 ≤ offset }
+    ensures next { result + 1 < length ranges.now → offset < (range_at ranges.now (result + 1)).0 }
+{
+    let mut low = 0;
+    let mut high = ranges.len();
+    'halving: while 1 < high - low {
+        let middle = low + (high - low) / 2;
+        if ranges[middle].0 <= offset {
+            low = middle;
+        } else {
+            high = middle;
+        }
+    }
+    low
+}
+
+impl ScreenMap {
+    /// A visual row, as parts of the lines that are lent.
+    pub fn row_at<'a>(&self, lines: &'a [String], row: usize) -> RowText<'a>
+        requires rows { AreRowsOf self.now.wrapping (lines_of lines.now) self.now.rows }
+        requires row { row < row_total self.now.rows }
+        ensures shown { shown_row result ≡ row_at (lines_of lines.now) self.now.rows row }
+        ensures number { row_total (take result.line self.now.rows) + result.number ≡ row }
+        ensures line { result.line < length self.now.rows }
+        ensures front { HasFrontOfLine (lines_of lines.now) result }
+        ensures before { length result.before.now < size_limit }
+        ensures short { length result.text.now < size_limit }
+    {
+        let (line, number) = self.line_of_row(row);
+        let ranges = self.rows_of(line);
+        let (start, end) = ranges[number];
+        let text = lines[line].as_str();
+        RowText {
+            line,
+            number,
+            before: &text[..start],
+            text: &text[start..end],
+            is_last: number + 1 == ranges.len(),
+        }
+    }
+
+    /// The display width of a visual row: the column behind all its characters, whitespace that hangs over included.
+    pub fn row_width(&self, lines: &[String], row: usize) -> usize
+        requires rows { AreRowsOf self.now.wrapping (lines_of lines.now) self.now.rows }
+        requires row { row < row_total self.now.rows }
+        ensures { result
+            ≡ row_width self.now.wrapping.tab_len (row_at (lines_of lines.now) self.now.rows row) }
+    {
+        let shown = self.row_at(lines, row);
+        display_column_behind_text(shown.text, 0, self.wrapping.tab_len)
+    }
+
+    /// The greatest display column of a visual row at which a cursor can stand: the row's width in its line's last row, else the
+    /// display column of its last character.
+    pub fn greatest_column(&self, lines: &[String], row: usize) -> usize
+        requires rows { AreRowsOf self.now.wrapping (lines_of lines.now) self.now.rows }
+        requires row { row < row_total self.now.rows }
+        ensures { result ≡ greatest_column self.now.wrapping.tab_len
+            (row_at (lines_of lines.now) self.now.rows row) }
+    {
+        let shown = self.row_at(lines, row);
+        greatest_cursor_column(shown.text, shown.is_last, self.wrapping.tab_len)
+    }
+
+    /// The visual row in which a place of the map's lines is seen, and its display column there.
+    pub fn visual_position(&self, lines: &[String], place: (usize, usize)) -> (usize, usize)
+        requires rows { AreRowsOf self.now.wrapping (lines_of lines.now) self.now.rows }
+        requires place { IsPlaceOf (lines_of lines.now) place }
+        ensures row { result.0 < row_total self.now.rows }
+        ensures seen { IsVisualPosition self.now.wrapping.tab_len (lines_of lines.now)
+            self.now.rows place result }
+    {
+        let line = lines[place.0].as_str();
+        let offset = byte_offset(line, place.1);
+        let ranges = self.rows_of(place.0);
+        let row = row_holding(ranges, offset);
+        let start = ranges[row].0;
+        let column = display_column_behind_text(&line[start..offset], 0, self.wrapping.tab_len);
+        (self.first_row(place.0) + row, column)
+    }
+
+    /// The place that a visual row and a display column lead back to: the row's first place at that column, else the character
+    /// that covers it, else the row's end. In a row that isn't its line's last, a column up to the row's greatest cursor column
+    /// leads to a place that is seen in that row; the row's end is seen in the next one.
+    pub fn place_at(&self, lines: &[String], seen: (usize, usize)) -> (usize, usize)
+        requires rows { AreRowsOf self.now.wrapping (lines_of lines.now) self.now.rows }
+        requires row { seen.0 < row_total self.now.rows }
+        ensures place { IsPlaceOf (lines_of lines.now) result }
+        ensures found { IsPlaceAt self.now.wrapping.tab_len (lines_of lines.now)
+            self.now.rows seen result }
+    {
+        let shown = self.row_at(lines, seen.0);
+        let index = character_at_column(shown.text, seen.1, self.wrapping.tab_len);
+        (shown.line, column_count(shown.before) + index)
+    }
+
+    /// Where a cursor goes that is to stand in a visual row at a display column, or before it where the row's greatest cursor
+    /// column is less: a place that is seen in that row.
+    pub fn place_near(&self, lines: &[String], seen: (usize, usize)) -> (usize, usize)
+        requires rows { AreRowsOf self.now.wrapping (lines_of lines.now) self.now.rows }
+        requires row { seen.0 < row_total self.now.rows }
+        ensures place { IsPlaceOf (lines_of lines.now) result }
+        ensures near { IsPlaceNear self.now.wrapping.tab_len (lines_of lines.now)
+            self.now.rows seen result }
+    {
+        let greatest = self.greatest_column(lines, seen.0);
+        self.place_at(lines, (seen.0, seen.1.min(greatest)))
+    }
+
+    /// Where a cursor goes from a place, one visual row up; none from the first visual row.
+    pub fn above(&self, lines: &[String], place: (usize, usize)) -> Option<(usize, usize)>
+        requires rows { AreRowsOf self.now.wrapping (lines_of lines.now) self.now.rows }
+        requires place { IsPlaceOf (lines_of lines.now) place }
+        ensures { MatchOption result
+            (IsInFirstRow self.now.wrapping.tab_len (lines_of lines.now) self.now.rows place)
+            (λ target. IsPlaceOf (lines_of lines.now) target
+            × IsAbove self.now.wrapping.tab_len (lines_of lines.now) self.now.rows
+            place target) }
+    {
+        let (row, column) = self.visual_position(lines, place);
+        if row == 0 {
+            return None;
+        }
+        Some(self.place_near(lines, (row - 1, column)))
+    }
+
+    /// Where a cursor goes from a place, one visual row down; none from the last visual row.
+    pub fn below(&self, lines: &[String], place: (usize, usize)) -> Option<(usize, usize)>
+        requires rows { AreRowsOf self.now.wrapping (lines_of lines.now) self.now.rows }
+        requires place { IsPlaceOf (lines_of lines.now) place }
+        ensures { MatchOption result
+            (IsInLastRow self.now.wrapping.tab_len (lines_of lines.now) self.now.rows place)
+            (λ target. IsPlaceOf (lines_of lines.now) target
+            × IsBelow self.now.wrapping.tab_len (lines_of lines.now) self.now.rows
+            place target) }
+    {
+        let total = self.total;
+        let (row, column) = self.visual_position(lines, place);
+        if row + 1 == total {
+            return None;
+        }
+        Some(self.place_near(lines, (row + 1, column)))
+    }
+}

@@ -1,4 +1,0 @@
-//! How far to scroll, as data.
-#![tactic(auto)]
-
-pub mod scroll;

@@ -1,0 +1,20 @@
+use Rattle.textarea_search.proofs.FailureLemmas.{refused_of_built, carried_of_built, own_of_built}
+use Rattle.textarea_search.proofs.pattern.Pattern.new.Goals as goal
+
+pub returns-clause-refused : goal.returns-clause-refused
+returns-clause-refused c =
+    let from = c.new.ensures in
+    let to = c.of_built.ensures in
+    refused_of_built c.args.pattern.now c.new.result c.of_built.result from.by_grammar from.kind to.memory to.carried
+
+pub returns-clause-carried : goal.returns-clause-carried
+returns-clause-carried c =
+    let from = c.new.ensures in
+    let to = c.of_built.ensures in
+    carried_of_built c.args.pattern.now c.new.result c.of_built.result from.by_grammar from.kind from.span from.no_internal to.memory to.carried
+
+pub returns-clause-own : goal.returns-clause-own
+returns-clause-own c =
+    let from = c.new.ensures in
+    let to = c.of_built.ensures in
+    own_of_built c.args.pattern.now c.new.result c.of_built.result from.source from.config from.read to.memory to.carried

@@ -1,0 +1,91 @@
+ghost use Rattle.std.specs.Prelude.{◌≡◌, IfOk, IfErr, alloc_error};
+ghost use Rattle.regex.specs.Strings.{matcher_pattern, regex_source};
+ghost use Rattle.textarea_search.specs.Failures.{IsPatternFailure, IsCarried, IsOwnFailure, IsBuiltByDefault};
+ghost use Rattle.textarea_search.specs.Spans.{ListsMatchesOf};
+ghost use Rattle.textarea_search.specs.Starts.{IsTreeOf};
+
+use crate::error::SearchError;
+use regex::{Matcher, Regex};
+use std::alloc::{AllocError, Global};
+use std::marker::Model;
+use std::rc::Rc;
+
+/// A pattern that was built, shared with the clones of what built it, and what gives memory to its matchers. Contracts see
+/// its text.
+#[derive(Drop)]
+pub struct Pattern {
+    regex: Rc<Regex>,
+    alloc: Global,
+}
+
+impl Model for Pattern {
+    ghost use Rattle.std.specs.Prelude.{◌≡◌, ℕ, List};
+    ghost use Rattle.regex.specs.Strings.{regex_source, regex_config, IsReadFromSource};
+    ghost use Rattle.regex.specs.Patterns.{default_config};
+
+    ghost Value = { List ℕ };
+
+    ghost view = { λ p. regex_source p.regex.value };
+
+    ghost invariant = { λ p. (regex_config p.regex.value ≡ default_config)
+        × ∥ IsReadFromSource p.regex.value ∥₁ };
+}
+
+impl Pattern {
+    /// Builds the pattern of a text, which is in the syntax of `regex`.
+    pub fn new(alloc: Global, pattern: &str) -> Result<Pattern, SearchError>
+        ensures ok { IfOk result (λ built. built ≡ pattern.now) }
+        ensures refused { IfErr result (IsPatternFailure pattern.now) }
+        ensures carried { IfErr result (IsCarried pattern.now) }
+        ensures own { IfErr result (IsOwnFailure pattern.now) }
+    {
+        Pattern::of_built(alloc, Regex::new(alloc, pattern))
+    }
+
+    // The pattern that was built, in memory that can be shared; and for an error the same error. Out of memory for sharing
+    // is the pattern's own error.
+    fn of_built(alloc: Global, built: Result<Regex, regex::Error>) -> Result<Pattern, SearchError>
+        requires { IfOk built IsBuiltByDefault }
+        ensures shared { IfOk built (λ regex. IfOk result (λ shared. shared ≡ regex_source regex)) }
+        ensures memory { IfOk built (λ _. IfErr result (λ e. e ≡ SearchError.Memory alloc_error)) }
+        ensures carried { IfErr built (λ error. result ≡ Err (SearchError.Pattern error)) }
+    {
+        match built {
+            Ok(regex) => match Rc::new(alloc, regex) {
+                Ok(regex) => Ok(Pattern { regex, alloc }),
+                Err(_) => Err(SearchError::Memory(AllocError)),
+            },
+            Err(error) => Err(SearchError::Pattern(error)),
+        }
+    }
+
+    /// The text of the pattern.
+    pub fn text(&self) -> &str
+        ensures { result.now ≡ self.now }
+    {
+        self.regex.as_str()
+    }
+
+    /// Where the memory of its matchers comes from.
+    pub fn allocator(&self) -> Global {
+        self.alloc
+    }
+
+    /// The same pattern once more. It fails only where no more owners can be counted.
+    pub fn share(&self) -> Result<Pattern, AllocError>
+        ensures { IfOk result (λ copy. copy ≡ self.now) }
+    {
+        Ok(Pattern {
+            regex: self.regex.clone()?,
+            alloc: self.alloc,
+        })
+    }
+
+    /// What goes over the matches of line after line.
+    pub fn matcher(&self) -> Result<Matcher<'_>, AllocError>
+        ensures starts { IfOk result (λ m. IsTreeOf self.now (matcher_pattern m)) }
+        ensures lists { IfOk result (λ m. ListsMatchesOf self.now (matcher_pattern m)) }
+    {
+        self.regex.matcher(self.alloc)
+    }
+}

@@ -1,4 +1,0 @@
-//! How large a text may be.
-#![tactic(auto)]
-
-pub mod limit;

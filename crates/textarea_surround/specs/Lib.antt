@@ -1,4 +1,0 @@
-pub mod State
-pub mod Outcomes
-pub mod Measure
-pub mod Inner

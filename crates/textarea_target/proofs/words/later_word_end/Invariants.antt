@@ -1,7 +1,0 @@
-use Rattle.std.proofs.Common.{◌≡◌, ◌<◌, ℕ, false}
-use Rattle.textarea_text.specs.Text.{lines_of}
-use Rattle.textarea_target.specs.Target.{is_later_word_row}
-use Rattle.textarea_target.proofs.words.later_word_end.Given as goal
-
-abbrev pub invariant-loop-row : goal.invariant-loop-row
-invariant-loop-row l = (e : ℕ) → e < l.row → is_later_word_row (lines_of l.lines) l.start e ≡ false

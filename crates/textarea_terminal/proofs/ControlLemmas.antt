@@ -1,0 +1,75 @@
+-- Controls one after another, and what was written of them.
+use Rattle.std.proofs.Common.{◌≡◌, ℕ, ◌+◌, arith, List, [], ◌∷◌, ◌++◌, refl, sym, ap, ◌∙◌, append_assoc}
+use Rattle.std.proofs.lemmas.List.{append-nil}
+use Rattle.textarea_terminal.specs.Control.{Control, control_bytes, bytes_of}
+use Rattle.textarea_terminal.specs.Control.Control.{Print, MoveTo, SetPen, EraseAll, ShowCursor, HideCursor, BeginUpdate, EndUpdate}
+use Rattle.textarea_terminal.specs.Paint.{Wrote, prints_of, moves_of, pens_of}
+use Rattle.textarea_terminal.specs.Screen.{Terminal, step, run}
+
+pub bytes_of-append : (xs ys : List Control) → bytes_of (xs ++ ys) ≡ bytes_of xs ++ bytes_of ys
+bytes_of-append [] ys = refl
+bytes_of-append (x ∷ xs) ys = ap (λ bytes. control_bytes x ++ bytes) (bytes_of-append xs ys) ∙ sym (append_assoc (control_bytes x) (bytes_of xs) (bytes_of ys))
+
+pub run-append : (xs ys : List Control) (terminal : Terminal) → run (xs ++ ys) terminal ≡ run ys (run xs terminal)
+run-append [] ys terminal = refl
+run-append (x ∷ xs) ys terminal = run-append xs ys (step x terminal)
+
+pub prints_of-append : (xs ys : List Control) → prints_of (xs ++ ys) ≡ prints_of xs ++ prints_of ys
+prints_of-append [] ys = refl
+prints_of-append (Print text ∷ xs) ys = ap (λ texts. text ∷ texts) (prints_of-append xs ys)
+prints_of-append (MoveTo row column ∷ xs) ys = prints_of-append xs ys
+prints_of-append (SetPen renditions ∷ xs) ys = prints_of-append xs ys
+prints_of-append (EraseAll ∷ xs) ys = prints_of-append xs ys
+prints_of-append (ShowCursor ∷ xs) ys = prints_of-append xs ys
+prints_of-append (HideCursor ∷ xs) ys = prints_of-append xs ys
+prints_of-append (BeginUpdate ∷ xs) ys = prints_of-append xs ys
+prints_of-append (EndUpdate ∷ xs) ys = prints_of-append xs ys
+
+pub moves_of-append : (xs ys : List Control) → moves_of (xs ++ ys) ≡ moves_of xs + moves_of ys
+moves_of-append [] ys = omega arith
+moves_of-append (Print text ∷ xs) ys = moves_of-append xs ys
+moves_of-append (MoveTo row column ∷ xs) ys = omega (arith, moves_of-append xs ys)
+moves_of-append (SetPen renditions ∷ xs) ys = moves_of-append xs ys
+moves_of-append (EraseAll ∷ xs) ys = moves_of-append xs ys
+moves_of-append (ShowCursor ∷ xs) ys = moves_of-append xs ys
+moves_of-append (HideCursor ∷ xs) ys = moves_of-append xs ys
+moves_of-append (BeginUpdate ∷ xs) ys = moves_of-append xs ys
+moves_of-append (EndUpdate ∷ xs) ys = moves_of-append xs ys
+
+pub pens_of-append : (xs ys : List Control) → pens_of (xs ++ ys) ≡ pens_of xs + pens_of ys
+pens_of-append [] ys = omega arith
+pens_of-append (Print text ∷ xs) ys = pens_of-append xs ys
+pens_of-append (MoveTo row column ∷ xs) ys = pens_of-append xs ys
+pens_of-append (SetPen renditions ∷ xs) ys = omega (arith, pens_of-append xs ys)
+pens_of-append (EraseAll ∷ xs) ys = pens_of-append xs ys
+pens_of-append (ShowCursor ∷ xs) ys = pens_of-append xs ys
+pens_of-append (HideCursor ∷ xs) ys = pens_of-append xs ys
+pens_of-append (BeginUpdate ∷ xs) ys = pens_of-append xs ys
+pens_of-append (EndUpdate ∷ xs) ys = pens_of-append xs ys
+
+-- one control was written
+pub Wrote-one : {before after : List ℕ} {holds : List Control → Type 0} (control : Control) → after ≡ before ++ control_bytes control → holds (control ∷ []) → Wrote before after holds
+Wrote-one {before} control bytes holding = record {
+  controls = control ∷ [];
+  bytes = bytes ∙ ap (λ more. before ++ more) (sym (append-nil (control_bytes control)));
+  holding = holding;
+}
+
+-- nothing was written
+pub Wrote-none : {bytes : List ℕ} {holds : List Control → Type 0} → holds [] → Wrote bytes bytes holds
+Wrote-none {bytes} holding = record { controls = []; bytes = sym (append-nil bytes); holding = holding }
+
+-- some were, and then others
+pub Wrote-then : {a b c : List ℕ} {P Q : List Control → Type 0} (R : List Control → Type 0) → Wrote a b P → Wrote b c Q →
+    ((xs ys : List Control) → P xs → Q ys → R (xs ++ ys)) → Wrote a c R
+Wrote-then {a} {b} {c} R first second both = record {
+  controls = first.controls ++ second.controls;
+  bytes =
+      second.bytes ∙ ap (λ bytes. bytes ++ bytes_of second.controls) first.bytes
+      ∙ append_assoc a (bytes_of first.controls) (bytes_of second.controls)
+      ∙ ap (λ more. a ++ more) (sym (bytes_of-append first.controls second.controls));
+  holding = both first.controls second.controls first.holding second.holding;
+}
+
+pub Wrote-as : {a b : List ℕ} {P : List Control → Type 0} (R : List Control → Type 0) → Wrote a b P → ((xs : List Control) → P xs → R xs) → Wrote a b R
+Wrote-as R wrote same = record { controls = wrote.controls; bytes = wrote.bytes; holding = same wrote.controls wrote.holding }

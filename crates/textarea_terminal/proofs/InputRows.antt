@@ -1,0 +1,294 @@
+-- Each row is read back.
+use Rattle.std.proofs.Common.{◌≡◌, ◌≢◌, ℕ, zero, suc, ◌+◌, ◌-◌, ◌/◌, ◌%◌, ◌<◌, ◌≤◌, true, false, List, [], ◌∷◌, ◌++◌, length, get_or, drop, map, Some, None, refl, sym, ap, ◌∙◌, arith, inl, inr, ⊎_elim}
+use Rattle.std.specs.Prelude.{Contains}
+use Rattle.std.proofs.lemmas.List.{get_or-map, map-append, length-append, append_assoc, get_or-append-add, get_or_append_left}
+use Rattle.std.proofs.Math.Seq.{take-append_seam, drop-append-add}
+use lib.Utf8.{scalar_cases}
+use Rattle.std.specs.Str.Lossy.{utf8_lossy}
+use Rattle.std.specs.List.{AllByRecursion}
+use Rattle.textarea_terminal.proofs.InputMarks.{IsAt, index_of-first, nowhere-index_of, after_mark-written}
+use Rattle.textarea_terminal.proofs.InputUnits.{unit_at-key, unit-paste_at, unit_at-taken, unit_at-nil}
+use Rattle.textarea_terminal.proofs.InputReports.{mouse-read, wheel_up-read, wheel_down-read, size-read, cursor-read}
+use Rattle.textarea_terminal.proofs.InputStreams.{decoding-none, decoding-some}
+use Rattle.textarea_terminal.specs.InputStream.{decoding, with_event}
+use Rattle.textarea_terminal.specs.InputEvent.{EventValue, EventAndRest, input, paste, focus_gained, focus_lost}
+use Rattle.textarea_data.specs.declared.input.Key.TheVariants as key
+use Rattle.std.specs.Prelude.{option_map}
+use Rattle.std.specs.Char.{IsScalar, encode_utf8}
+use Rattle.std.proofs.Math.Dec.{eqb, ltb}
+use Rattle.std.proofs.lemmas.Bool.Decides.{nat_tests}
+use Rattle.std.proofs.lemmas.Bool.{lt-ltb, le-ltb, ne_eqb, cases_lt}
+use Rattle.textarea_terminal.specs.InputCharacter.{character, is_second, code_of_two, code_of_three, code_of_four}
+use Rattle.std.specs.Prelude.{◌⊎◌}
+use Rattle.textarea_terminal.specs.InputKey.{with_alt, input_of_key, byte_input}
+use Rattle.textarea_terminal.specs.InputUnit.{unit_at, paste_start, paste_end, index_of, paste_at, paste_before, after_mark, key_or_sequence, escape_at, second_escape_at, single_at, key_at}
+use Rattle.textarea_terminal.specs.InputSequence.{bracket_at, shift_key_at, shift_key_after_one, shift_key_after_two, control_at, count_front, after_inner, final_at, console_at, sequence_event, event_of_one, event_of_two}
+use Rattle.textarea_terminal.specs.InputParameter.{parameters_of, number_from}
+use Rattle.textarea_terminal.specs.InputRow.{KeyRow, byte_rows, letter_rows, numbered_rows, other_rows, key_rows, IsWritten, key_row, alt_key_row, character_row, alt_character_row, paste_row, mouse_row, wheel_up_row, wheel_down_row, size_row, cursor_row, focus_gained_row, focus_lost_row, bytes_of_rows}
+
+-- what is read of a row's bytes, and of them after one ESC more; and what they are
+abbrev read_row : KeyRow → EventAndRest
+read_row row = unit_at row.0
+
+abbrev row_value : KeyRow → EventAndRest
+row_value row = Some (input row.1, [])
+
+abbrev read_alt_row : KeyRow → EventAndRest
+read_alt_row row = unit_at (27 ∷ row.0)
+
+abbrev alt_row_value : KeyRow → EventAndRest
+alt_row_value row = Some (input (with_alt row.1), [])
+
+byte_rows-read : map read_row byte_rows ≡ map row_value byte_rows
+unfolding byte_rows unit_at after_mark key_or_sequence key_at
+byte_rows-read = refl
+
+letter_rows-read : map read_row letter_rows ≡ map row_value letter_rows
+unfolding letter_rows unit_at after_mark key_or_sequence escape_at single_at bracket_at shift_key_at shift_key_after_one shift_key_after_two control_at count_front after_inner final_at sequence_event event_of_one event_of_two parameters_of number_from
+letter_rows-read = refl
+
+numbered_rows-read : map read_row numbered_rows ≡ map row_value numbered_rows
+unfolding numbered_rows unit_at after_mark key_or_sequence escape_at single_at bracket_at shift_key_at shift_key_after_one shift_key_after_two control_at count_front after_inner final_at sequence_event event_of_one event_of_two parameters_of number_from
+numbered_rows-read = refl
+
+other_rows-read : map read_row other_rows ≡ map row_value other_rows
+unfolding other_rows unit_at after_mark key_or_sequence escape_at single_at bracket_at shift_key_at shift_key_after_one shift_key_after_two control_at count_front after_inner final_at console_at sequence_event event_of_one event_of_two parameters_of number_from
+other_rows-read = refl
+
+byte_rows-read_alt : map read_alt_row byte_rows ≡ map alt_row_value byte_rows
+unfolding byte_rows unit_at after_mark key_or_sequence escape_at key_at
+byte_rows-read_alt = refl
+
+letter_rows-read_alt : map read_alt_row letter_rows ≡ map alt_row_value letter_rows
+unfolding letter_rows unit_at after_mark key_or_sequence escape_at second_escape_at single_at bracket_at shift_key_at shift_key_after_one shift_key_after_two control_at count_front after_inner final_at sequence_event event_of_one event_of_two parameters_of number_from
+letter_rows-read_alt = refl
+
+numbered_rows-read_alt : map read_alt_row numbered_rows ≡ map alt_row_value numbered_rows
+unfolding numbered_rows unit_at after_mark key_or_sequence escape_at second_escape_at single_at bracket_at shift_key_at shift_key_after_one shift_key_after_two control_at count_front after_inner final_at sequence_event event_of_one event_of_two parameters_of number_from
+numbered_rows-read_alt = refl
+
+other_rows-read_alt : map read_alt_row other_rows ≡ map alt_row_value other_rows
+unfolding other_rows unit_at after_mark key_or_sequence escape_at second_escape_at single_at bracket_at shift_key_at shift_key_after_one shift_key_after_two control_at count_front after_inner final_at console_at sequence_event event_of_one event_of_two parameters_of number_from
+other_rows-read_alt = refl
+
+map-four : {A B : Type 0} (f g : A → B) (a b c d : List A) → map f a ≡ map g a → map f b ≡ map g b → map f c ≡ map g c → map f d ≡ map g d → map f (a ++ b ++ c ++ d) ≡ map g (a ++ b ++ c ++ d)
+map-four f g a b c d p q r s =
+    map-append f (a ++ b ++ c) d ∙ ap (λ xs. xs ++ map f d) (map-append f (a ++ b) c) ∙ ap (λ xs. xs ++ map f c ++ map f d) (map-append f a b)
+    ∙ rw (p, q, r, s) (sym (map-append g (a ++ b ++ c) d ∙ ap (λ xs. xs ++ map g d) (map-append g (a ++ b) c) ∙ ap (λ xs. xs ++ map g c ++ map g d) (map-append g a b)))
+
+-- functions that are the same on a list are so at each of its elements
+same_at : {A B : Type 0} (f g : A → B) (xs : List A) (x : A) → map f xs ≡ map g xs → Contains xs x → f x ≡ g x
+same_at f g xs x e h =
+    sym (get_or-map f xs h.0 x (f x) h.1 ∙ ap f h.2) ∙ ap (λ ys. get_or ys h.0 (f x)) e ∙ get_or-map g xs h.0 x (f x) h.1 ∙ ap g h.2
+
+pub key_row-read : (row : KeyRow) → Contains key_rows row → unit_at row.0 ≡ Some (input row.1, [])
+key_row-read row h = same_at read_row row_value key_rows row (map-four read_row row_value byte_rows letter_rows numbered_rows other_rows byte_rows-read letter_rows-read numbered_rows-read other_rows-read) h
+
+pub alt_key_row-read : (row : KeyRow) → Contains key_rows row → unit_at (27 ∷ row.0) ≡ Some (input (with_alt row.1), [])
+alt_key_row-read row h = same_at read_alt_row alt_row_value key_rows row (map-four read_alt_row alt_row_value byte_rows letter_rows numbered_rows other_rows byte_rows-read_alt letter_rows-read_alt numbered_rows-read_alt other_rows-read_alt) h
+
+-- ---- characters
+
+byte_input-character : (c : ℕ) → 32 ≤ c → c ≢ 127 → byte_input c ≡ input_of_key (key.Char c)
+byte_input-character c h k = grind (arith, nat_tests)
+
+after_escape : (a : ℕ) (bytes : List ℕ) → 27 < a → a ≢ 91 → a ≢ 79 → unit_at (27 ∷ a ∷ bytes) ≡ option_map (λ x. (input (with_alt x.0), x.1)) (key_at a bytes)
+unfolding unit_at after_mark key_or_sequence escape_at
+after_escape a bytes h k l =
+    let no : eqb a 27 ≡ false = ne_eqb a 27 (omega arith) in
+    let no_bracket : eqb a 91 ≡ false = ne_eqb a 91 k in
+    let no_o : eqb a 79 ≡ false = ne_eqb a 79 l in
+    rw (no, no_bracket, no_o) refl
+
+key_at-byte : (c : ℕ) (bytes : List ℕ) → 32 ≤ c → c < 128 → c ≢ 127 → key_at c bytes ≡ Some (input_of_key (key.Char c), bytes)
+unfolding key_at
+key_at-byte c bytes h k l =
+    let small : ltb c 128 ≡ true = lt-ltb c 128 k in
+    rw (small, byte_input-character c h l) refl
+
+-- a letter, or another character from a space to ~
+pub unit_at-letter : (bytes rest : List ℕ) (c : ℕ) → bytes ≡ c ∷ rest → 32 ≤ c → c ≤ 126 → unit_at bytes ≡ Some (input (input_of_key (key.Char c)), rest)
+unit_at-letter bytes rest c e h k =
+    ap unit_at e ∙ unit_at-key c rest (λ e. omega arith) ∙ ap (option_map (λ x. (input x.0, x.1))) (key_at-byte c rest h (omega arith) (λ e. omega arith))
+
+key_at-character : (a c : ℕ) (bytes rest : List ℕ) → 128 ≤ a → character a bytes ≡ Some (c, rest) → key_at a bytes ≡ Some (input_of_key (key.Char c), rest)
+unfolding key_at
+key_at-character a c bytes rest h e =
+    let great : ltb a 128 ≡ false = le-ltb a 128 h in
+    rw (great, e) refl
+
+two-read : (a b : ℕ) (rest : List ℕ) → 0xC2 ≤ a → a < 0xE0 → 0x80 ≤ b → b ≤ 0xBF → character a (b ∷ rest) ≡ Some (code_of_two a b, rest)
+two-read a b rest h k l m = grind (arith, nat_tests)
+
+three-read : (a b c : ℕ) (rest : List ℕ) → 0xE0 ≤ a → a < 0xF0 → is_second a b ≡ true → 0x80 ≤ c → c ≤ 0xBF → character a (b ∷ c ∷ rest) ≡ Some (code_of_three a b c, rest)
+three-read a b c rest h k l m n = grind (arith, nat_tests)
+
+four-read : (a b c d : ℕ) (rest : List ℕ) → 0xF0 ≤ a → a ≤ 0xF4 → is_second a b ≡ true → 0x80 ≤ c → c ≤ 0xBF → 0x80 ≤ d → d ≤ 0xBF → character a (b ∷ c ∷ d ∷ rest) ≡ Some (code_of_four a b c d, rest)
+four-read a b c d rest h k l m n o p = grind (arith, nat_tests)
+
+-- a first byte from 128 on
+character_first : (a c : ℕ) (bytes : List ℕ) → 128 ≤ a → character a bytes ≡ Some (c, []) → unit_at (a ∷ bytes) ≡ Some (input (input_of_key (key.Char c)), [])
+character_first a c bytes h e = unit_at-key a bytes (λ e. omega arith) ∙ ap (option_map (λ x. (input x.0, x.1))) (key_at-character a c bytes [] h e)
+
+character_after_escape : (a c : ℕ) (bytes : List ℕ) → 128 ≤ a → character a bytes ≡ Some (c, []) → unit_at (27 ∷ a ∷ bytes) ≡ Some (input (with_alt (input_of_key (key.Char c))), [])
+character_after_escape a c bytes h e = after_escape a bytes (omega arith) (λ k. omega arith) (λ k. omega arith) ∙ ap (option_map (λ x. (input (with_alt x.0), x.1))) (key_at-character a c bytes [] h e)
+
+-- a first byte of at least 128 and those after it, that are a character
+pub record IsLong (c : ℕ) (bytes : List ℕ) : Type 0 where
+  pub first : ℕ
+  pub others : List ℕ
+  pub whole : bytes ≡ first ∷ others
+  pub high : 128 ≤ first
+  pub read : character first others ≡ Some (c, [])
+
+long_two : (c : ℕ) → 128 ≤ c → c < 2048 → IsLong c ((192 + c / 64) ∷ (128 + c % 64) ∷ [])
+long_two c h k =
+    let code : code_of_two (192 + c / 64) (128 + c % 64) ≡ c = omega arith in
+    record {
+      first = 192 + c / 64;
+      others = (128 + c % 64) ∷ [];
+      whole = refl;
+      high = omega arith;
+      read = two-read (192 + c / 64) (128 + c % 64) [] (omega arith) (omega arith) (omega arith) (omega arith) ∙ ap (λ (n : ℕ). Some (n, [])) code;
+    }
+
+-- a second byte in its range
+second_in : (a b : ℕ) → (a ≡ 0xE0 → 0xA0 ≤ b) → (a ≡ 0xF0 → 0x90 ≤ b) → (a ≡ 0xED → b ≤ 0x9F) → (a ≡ 0xF4 → b ≤ 0x8F) → 0x80 ≤ b → b ≤ 0xBF → is_second a b ≡ true
+second_in a b h k l m n o = grind (arith, nat_tests)
+
+long_three : (c : ℕ) → 2048 ≤ c → c < 65536 → (c < 55296) ⊎ (57344 ≤ c) → IsLong c ((224 + c / 4096) ∷ (128 + (c / 64) % 64) ∷ (128 + c % 64) ∷ [])
+long_three c h k l =
+    let code : code_of_three (224 + c / 4096) (128 + (c / 64) % 64) (128 + c % 64) ≡ c = omega arith in
+    let second = second_in (224 + c / 4096) (128 + (c / 64) % 64) (λ e. omega arith) (λ e. omega arith)
+    (λ e. ⊎_elim (λ (low : c < 55296). omega arith) (λ (high : 57344 ≤ c). absurd (omega arith)) l) (λ e. omega arith) (omega arith) (omega arith) in
+    record {
+      first = 224 + c / 4096;
+      others = (128 + (c / 64) % 64) ∷ (128 + c % 64) ∷ [];
+      whole = refl;
+      high = omega arith;
+      read = three-read (224 + c / 4096) (128 + (c / 64) % 64) (128 + c % 64) [] (omega arith) (omega arith) second (omega arith) (omega arith) ∙ ap (λ (n : ℕ). Some (n, [])) code;
+    }
+
+long_four : (c : ℕ) → 65536 ≤ c → c < 1114112 → IsLong c ((240 + c / 262144) ∷ (128 + (c / 4096) % 64) ∷ (128 + (c / 64) % 64) ∷ (128 + c % 64) ∷ [])
+long_four c h k =
+    let code : code_of_four (240 + c / 262144) (128 + (c / 4096) % 64) (128 + (c / 64) % 64) (128 + c % 64) ≡ c = omega arith in
+    let second = second_in (240 + c / 262144) (128 + (c / 4096) % 64) (λ e. omega arith) (λ e. omega arith) (λ e. omega arith) (λ e. omega arith) (omega arith) (omega arith) in
+    record {
+      first = 240 + c / 262144;
+      others = (128 + (c / 4096) % 64) ∷ (128 + (c / 64) % 64) ∷ (128 + c % 64) ∷ [];
+      whole = refl;
+      high = omega arith;
+      read = four-read (240 + c / 262144) (128 + (c / 4096) % 64) (128 + (c / 64) % 64) (128 + c % 64) [] (omega arith) (omega arith) second (omega arith) (omega arith) (omega arith) (omega arith) ∙ ap (λ (n : ℕ). Some (n, [])) code;
+    }
+
+-- the bytes of a character: itself below 128
+encoded_short : (c : ℕ) → c < 128 → encode_utf8 c ≡ c ∷ []
+unfolding encode_utf8
+encoded_short c h = rw (lt-ltb c 128 h) refl
+
+encoded_long : (c : ℕ) → 128 ≤ c → IsScalar c → IsLong c (encode_utf8 c)
+unfolding encode_utf8
+encoded_long c h s = ⊎_elim
+    (λ (k : c < 2048). rw (le-ltb c 128 h, lt-ltb c 2048 k) (long_two c h k))
+    (λ (k : 2048 ≤ c). ⊎_elim
+    (λ (l : c < 65536).
+    let in_range : (c < 55296) ⊎ (57344 ≤ c) = ⊎_elim (λ (low : c < 55296). inl low) (λ (high : (57344 ≤ c) × (c < 1114112)). inr high.0) (scalar_cases c s) in
+    rw (le-ltb c 128 h, le-ltb c 2048 k, lt-ltb c 65536 l) (long_three c k l in_range))
+    (λ (l : 65536 ≤ c).
+    let below : c < 1114112 = ⊎_elim (λ (low : c < 55296). absurd (omega arith)) (λ (high : (57344 ≤ c) × (c < 1114112)). high.1) (scalar_cases c s) in
+    rw (le-ltb c 128 h, le-ltb c 2048 k, le-ltb c 65536 l) (long_four c l below))
+    (cases_lt c 65536))
+    (cases_lt c 2048)
+
+pub character-read : (c : ℕ) → IsScalar c → 32 ≤ c → c ≢ 127 → unit_at (encode_utf8 c) ≡ Some (input (input_of_key (key.Char c)), [])
+character-read c s h k = ⊎_elim
+    (λ (short : c < 128). ap unit_at (encoded_short c short) ∙ unit_at-key c [] (λ e. omega arith) ∙ ap (option_map (λ x. (input x.0, x.1))) (key_at-byte c [] h short k))
+    (λ (long : 128 ≤ c). let e = encoded_long c long s in ap unit_at e.whole ∙ character_first e.first c e.others e.high e.read)
+    (cases_lt c 128)
+
+pub alt_character-read : (c : ℕ) → IsScalar c → 32 ≤ c → c ≢ 127 → c ≢ 91 → c ≢ 79 → unit_at (27 ∷ encode_utf8 c) ≡ Some (input (with_alt (input_of_key (key.Char c))), [])
+alt_character-read c s h k l m = ⊎_elim
+    (λ (short : c < 128). ap (λ xs. unit_at (27 ∷ xs)) (encoded_short c short) ∙ after_escape c [] (omega arith) l m ∙ ap (option_map (λ x. (input (with_alt x.0), x.1))) (key_at-byte c [] h short k))
+    (λ (long : 128 ≤ c). let e = encoded_long c long s in ap (λ xs. unit_at (27 ∷ xs)) e.whole ∙ character_after_escape e.first c e.others e.high e.read)
+    (cases_lt c 128)
+
+-- ---- pasted texts and the focus
+
+not_first : (j : ℕ) → 0 < j → j < 6 → get_or paste_end j 0 ≡ 27 → ⊥
+not_first zero h k e = absurd (omega arith)
+not_first (suc zero) h k e = absurd (omega (arith, e))
+not_first (suc (suc zero)) h k e = absurd (omega (arith, e))
+not_first (suc (suc (suc zero))) h k e = absurd (omega (arith, e))
+not_first (suc (suc (suc (suc zero)))) h k e = absurd (omega (arith, e))
+not_first (suc (suc (suc (suc (suc zero))))) h k e = absurd (omega (arith, e))
+not_first (suc (suc (suc (suc (suc (suc j)))))) h k e = absurd (omega arith)
+
+-- the first mark of the end is the one that is written
+index_of-written : (text : List ℕ) → index_of paste_end text ≡ None → index_of paste_end (text ++ paste_end) ≡ Some (length text)
+index_of-written text none = index_of-first paste_end (text ++ paste_end) (length text) (omega arith) here before
+  where
+    here : IsAt (text ++ paste_end) paste_end (length text)
+    here = record {
+      fits = omega (arith, length-append text paste_end);
+      reads = λ j h. get_or-append-add text paste_end j 0;
+    }
+
+    before : (i : ℕ) → i < length text → IsAt (text ++ paste_end) paste_end i → ⊥
+    before i h at = ⊎_elim
+        (λ (over : length text < i + 6).
+        let j = length text - i in
+        let sum : i + j ≡ length text + 0 = omega arith in
+        let first : get_or (text ++ paste_end) (i + j) 0 ≡ 27 = ap (λ n. get_or (text ++ paste_end) n 0) sum ∙ get_or-append-add text paste_end 0 0 in
+        not_first j (omega arith) (omega arith) (sym (at.reads j (omega arith)) ∙ first))
+        (λ (inside : i + 6 ≤ length text). nowhere-index_of paste_end text (omega arith) none i (record {
+          fits = inside;
+          reads = λ j k. sym (get_or_append_left text paste_end 0 (i + j) (omega arith)) ∙ at.reads j k;
+        }))
+        (cases_lt (length text) (i + 6))
+
+paste_at-written : (text : List ℕ) → index_of paste_end text ≡ None → paste_at (text ++ paste_end) ≡ Some (paste (utf8_lossy text), [])
+unfolding paste_at
+paste_at-written text none =
+    ap (option_map (paste_before (text ++ paste_end))) (index_of-written text none)
+    ∙ ap (λ (xs : List ℕ). Some (paste (utf8_lossy xs), drop (length text + 6) (text ++ paste_end))) (take-append_seam text paste_end)
+    ∙ ap (λ (xs : List ℕ). Some (paste (utf8_lossy text), xs)) (drop-append-add text paste_end 6)
+
+pub paste-read : (text : List ℕ) → index_of paste_end text ≡ None → unit_at (paste_start ++ text ++ paste_end) ≡ Some (paste (utf8_lossy text), [])
+paste-read text none = ap unit_at (append_assoc paste_start text paste_end) ∙ unit-paste_at (paste_start ++ (text ++ paste_end)) (text ++ paste_end) (after_mark-written paste_start (text ++ paste_end)) ∙ paste_at-written text none
+
+focus_gained-read : unit_at (27 ∷ 91 ∷ 73 ∷ []) ≡ Some (focus_gained, [])
+unfolding unit_at after_mark key_or_sequence escape_at bracket_at shift_key_at control_at count_front after_inner final_at sequence_event event_of_one parameters_of number_from
+focus_gained-read = refl
+
+focus_lost-read : unit_at (27 ∷ 91 ∷ 79 ∷ []) ≡ Some (focus_lost, [])
+unfolding unit_at after_mark key_or_sequence escape_at bracket_at shift_key_at control_at count_front after_inner final_at sequence_event event_of_one parameters_of number_from
+focus_lost-read = refl
+
+-- ---- all rows
+
+pub written-read : (bytes : List ℕ) (value : EventValue) → IsWritten bytes value → unit_at bytes ≡ Some (value, [])
+written-read bytes value (key_row row h) = key_row-read row h
+written-read bytes value (alt_key_row row h) = alt_key_row-read row h
+written-read bytes value (character_row c s h k) = character-read c s h k
+written-read bytes value (alt_character_row c s h k l m) = alt_character-read c s h k l m
+written-read bytes value (paste_row text none) = paste-read text none
+written-read bytes value (mouse_row m h k) = mouse-read m h k
+written-read bytes value (wheel_up_row column row ctrl alt shift h k) = wheel_up-read column row ctrl alt shift h k
+written-read bytes value (wheel_down_row column row ctrl alt shift h k) = wheel_down-read column row ctrl alt shift h k
+written-read bytes value (size_row columns rows h k) = size-read columns rows h k
+written-read bytes value (cursor_row column row h k no_f3) = cursor-read column row h k no_f3
+written-read bytes value focus_gained_row = focus_gained-read
+written-read bytes value focus_lost_row = focus_lost-read
+
+-- a row is read, whatever comes after it
+pub written-read_before : (bytes : List ℕ) (value : EventValue) (more : List ℕ) → IsWritten bytes value → unit_at (bytes ++ more) ≡ Some (value, more)
+written-read_before bytes value more h = (unit_at-taken bytes (value, []) (written-read bytes value h)).same more
+
+decoding-nil : decoding [] ≡ ([], [])
+decoding-nil = decoding-none [] unit_at-nil
+
+pub rows-read : (rows : List (List ℕ × EventValue)) → AllByRecursion (λ r. IsWritten r.0 r.1) rows → decoding (bytes_of_rows rows) ≡ (map (λ r. r.1) rows, [])
+rows-read [] h = decoding-nil
+rows-read (r ∷ rows) h =
+    decoding-some (r.0 ++ bytes_of_rows rows) (r.1, bytes_of_rows rows) (written-read_before r.0 r.1 (bytes_of_rows rows) h.0)
+    ∙ ap (with_event r.1) (rows-read rows h.1)

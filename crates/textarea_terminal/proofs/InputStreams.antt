@@ -1,0 +1,168 @@
+-- What a decoder makes of bytes, event by event, and piece by piece.
+use Rattle.std.proofs.Common.{◌≡◌, ℕ, zero, suc, ◌-◌, ◌<◌, ◌≤◌, List, [], ◌∷◌, ◌++◌, length, take, drop, map, Some, None, refl, sym, ap, ◌∙◌, subst, arith}
+use Rattle.std.proofs.lemmas.List.{length-append, append_assoc, append-nil, map-append, take-append-drop, take-append-le}
+use Rattle.std.proofs.Math.Seq.{drop-append_seam, take-append_seam}
+use Rattle.textarea_terminal.specs.declared.input.event.Event.{Event}
+use Rattle.textarea_terminal.specs.InputEvent.{EventValue, EventAndRest, value_of}
+use Rattle.textarea_terminal.specs.InputUnit.{unit_at}
+use Rattle.std.specs.List.{concat}
+use Rattle.textarea_terminal.specs.InputRow.{feeding}
+use Rattle.textarea_terminal.specs.InputStream.{Adds, AddsUpTo, EndsIn, Decoding, with_event, decoding_within, decoding, events_of, rest_of}
+use Rattle.textarea_terminal.proofs.InputUnits.{unit_at-taken, unit_at-nil}
+
+-- an event takes a byte at least
+pub unit_at-shorter : (bytes : List ℕ) (x : EventValue × List ℕ) → unit_at bytes ≡ Some x → length x.1 < length bytes
+unit_at-shorter bytes x e =
+    let taken = unit_at-taken bytes x e in
+    omega (arith, taken.some, ap length taken.whole ∙ length-append taken.front x.1)
+
+within-none : (most : ℕ) (bytes : List ℕ) → unit_at bytes ≡ None → decoding_within most bytes ≡ ([], bytes)
+unfolding decoding_within
+within-none zero bytes e = refl
+within-none (suc most) bytes e = rw (e, decoding_within) refl
+
+within-some : (most : ℕ) (bytes : List ℕ) (x : EventValue × List ℕ) → unit_at bytes ≡ Some x → decoding_within (suc most) bytes ≡ with_event x.0 (decoding_within most x.1)
+unfolding decoding_within
+within-some most bytes x e = rw (e, decoding_within) refl
+
+enough_step : (n m : ℕ) (bytes : List ℕ) (o : EventAndRest) → ((rest : List ℕ) → length rest ≤ n → length rest ≤ m → decoding_within n rest ≡ decoding_within m rest) → length bytes ≤ suc n → length bytes ≤ suc m → unit_at bytes ≡ o → decoding_within (suc n) bytes ≡ decoding_within (suc m) bytes
+enough_step n m bytes None same h k e = within-none (suc n) bytes e ∙ sym (within-none (suc m) bytes e)
+enough_step n m bytes (Some x) same h k e =
+    let short = unit_at-shorter bytes x e in
+    within-some n bytes x e ∙ ap (with_event x.0) (same x.1 (omega arith) (omega arith)) ∙ sym (within-some m bytes x e)
+
+-- more than the bytes' number makes no difference
+within-enough : (n m : ℕ) (bytes : List ℕ) → length bytes ≤ n → length bytes ≤ m → decoding_within n bytes ≡ decoding_within m bytes
+within-enough zero m [] h k = within-none zero [] unit_at-nil ∙ sym (within-none m [] unit_at-nil)
+within-enough zero m (b ∷ bytes) h k = absurd (omega arith)
+within-enough (suc n) zero [] h k = within-none (suc n) [] unit_at-nil ∙ sym (within-none zero [] unit_at-nil)
+within-enough (suc n) zero (b ∷ bytes) h k = absurd (omega arith)
+within-enough (suc n) (suc m) bytes h k = enough_step n m bytes (unit_at bytes) (within-enough n m) h k refl
+
+-- where an event is begun, the bytes are left
+pub decoding-none : (bytes : List ℕ) → unit_at bytes ≡ None → decoding bytes ≡ ([], bytes)
+unfolding decoding
+decoding-none bytes e = within-none (length bytes) bytes e
+
+-- an event, and what is made of the bytes after it
+pub decoding-some : (bytes : List ℕ) (x : EventValue × List ℕ) → unit_at bytes ≡ Some x → decoding bytes ≡ with_event x.0 (decoding x.1)
+unfolding decoding
+decoding-some [] x e = let both : None ≡ Some x = sym unit_at-nil ∙ e in (cc)
+decoding-some (b ∷ bytes) x e =
+    let short = unit_at-shorter (b ∷ bytes) x e in
+    within-some (length bytes) (b ∷ bytes) x e ∙ ap (with_event x.0) (within-enough (length bytes) (length x.1) x.1 (omega arith) (omega arith))
+
+unit_step : (P : List ℕ → Type 0) (bytes : List ℕ) (o : EventAndRest) → ((bytes : List ℕ) → unit_at bytes ≡ None → P bytes) → ((bytes : List ℕ) (x : EventValue × List ℕ) → unit_at bytes ≡ Some x → P x.1 → P bytes) → ((rest : List ℕ) → length rest < length bytes → P rest) → unit_at bytes ≡ o → P bytes
+unit_step P bytes None none some shorter e = none bytes e
+unit_step P bytes (Some x) none some shorter e = some bytes x e (shorter x.1 (unit_at-shorter bytes x e))
+
+by_length : (P : List ℕ → Type 0) → ((bytes : List ℕ) → unit_at bytes ≡ None → P bytes) → ((bytes : List ℕ) (x : EventValue × List ℕ) → unit_at bytes ≡ Some x → P x.1 → P bytes) → (n : ℕ) (bytes : List ℕ) → length bytes < n → P bytes
+by_length P none some zero bytes h = absurd (omega arith)
+by_length P none some (suc n) bytes h = unit_step P bytes (unit_at bytes) none some (λ rest k. by_length P none some n rest (omega arith)) refl
+
+-- what holds where an event is begun, and before an event where it holds after it, holds of all bytes
+pub by_units : (P : List ℕ → Type 0) → ((bytes : List ℕ) → unit_at bytes ≡ None → P bytes) → ((bytes : List ℕ) (x : EventValue × List ℕ) → unit_at bytes ≡ Some x → P x.1 → P bytes) → (bytes : List ℕ) → P bytes
+by_units P none some bytes = by_length P none some (suc (length bytes)) bytes (omega arith)
+
+-- an event is begun in what is left
+pub rest_of-begun : (bytes : List ℕ) → unit_at (rest_of bytes) ≡ None
+rest_of-begun = by_units (λ bytes. unit_at (rest_of bytes) ≡ None)
+    (λ bytes e. ap (λ (d : Decoding). unit_at d.1) (decoding-none bytes e) ∙ e)
+    (λ bytes x e h. ap (λ (d : Decoding). unit_at d.1) (decoding-some bytes x e) ∙ h)
+
+-- what is left is the end of the bytes
+pub rest_of-ends : (bytes : List ℕ) → EndsIn bytes (rest_of bytes)
+rest_of-ends = by_units (λ bytes. EndsIn bytes (rest_of bytes))
+    (λ bytes e. record { front = []; whole = sym (ap (λ (d : Decoding). d.1) (decoding-none bytes e)) })
+    (λ bytes x e h. let taken = unit_at-taken bytes x e in record {
+      front = taken.front ++ h.front;
+      whole = taken.whole ∙ ap (λ xs. taken.front ++ xs) (h.whole ∙ ap (λ xs. h.front ++ xs) (sym (ap (λ (d : Decoding). d.1) (decoding-some bytes x e)))) ∙ sym (append_assoc taken.front h.front (rest_of bytes));
+    })
+
+drop_front : (front rest : List ℕ) → drop (length (front ++ rest) - length rest) (front ++ rest) ≡ rest
+drop_front front rest =
+    let n : length (front ++ rest) - length rest ≡ length front = omega (arith, length-append front rest) in
+    ap (λ (k : ℕ). drop k (front ++ rest)) n ∙ drop-append_seam front rest
+
+pub rest_of-drop : (bytes : List ℕ) → drop (length bytes - length (rest_of bytes)) bytes ≡ rest_of bytes
+rest_of-drop bytes =
+    let ends = rest_of-ends bytes in
+    ap (λ (xs : List ℕ). drop (length xs - length (rest_of bytes)) xs) ends.whole ∙ drop_front ends.front (rest_of bytes)
+
+pub rest_of-le : (bytes : List ℕ) → length (rest_of bytes) ≤ length bytes
+rest_of-le bytes = let ends = rest_of-ends bytes in omega (arith, ap length ends.whole ∙ length-append ends.front (rest_of bytes))
+
+-- bytes and more bytes: the events of the first, and what is made of what they leave, and of the others
+abbrev joined : List EventValue → Decoding → Decoding
+joined values d = (values ++ d.0, d.1)
+
+pub decoding-append : (bytes more : List ℕ) → decoding (bytes ++ more) ≡ (events_of bytes ++ events_of (rest_of bytes ++ more), rest_of (rest_of bytes ++ more))
+decoding-append bytes more = by_units (λ bytes. decoding (bytes ++ more) ≡ joined (events_of bytes) (decoding (rest_of bytes ++ more)))
+    (λ bytes e. sym (ap (λ (d : Decoding). joined d.0 (decoding (d.1 ++ more))) (decoding-none bytes e)))
+    (λ bytes x e h.
+    decoding-some (bytes ++ more) (x.0, x.1 ++ more) ((unit_at-taken bytes x e).same more) ∙ ap (with_event x.0) h
+    ∙ sym (ap (λ (d : Decoding). joined d.0 (decoding (d.1 ++ more))) (decoding-some bytes x e)))
+    bytes
+
+-- ---- events that are added
+
+pub AddsUpTo-none : (old : List Event) (all : List EventValue) → AddsUpTo old old all all
+AddsUpTo-none old all = record { added = []; whole = sym (append-nil old); values_are = refl }
+
+pub AddsUpTo-push : (old new : List Event) (event : Event) (value : EventValue) (more all : List EventValue) → value_of event ≡ value → AddsUpTo old new (value ∷ more) all → AddsUpTo old (new ++ event ∷ []) more all
+AddsUpTo-push old new event value more all e h = record {
+  added = h.added ++ event ∷ [];
+  whole = ap (λ xs. xs ++ event ∷ []) h.whole ∙ append_assoc old h.added (event ∷ []);
+  values_are =
+      ap (λ xs. xs ++ more) (map-append value_of h.added (event ∷ [])) ∙ append_assoc (map value_of h.added) (value_of event ∷ []) more
+      ∙ ap (λ (v : EventValue). map value_of h.added ++ (v ∷ more)) e ∙ h.values_are;
+}
+
+-- some, and then more
+pub AddsUpTo-trans : (old mid new : List Event) (to_come later all : List EventValue) → AddsUpTo old mid to_come all → AddsUpTo mid new later to_come → AddsUpTo old new later all
+AddsUpTo-trans old mid new to_come later all h k = record {
+  added = h.added ++ k.added;
+  whole = k.whole ∙ ap (λ xs. xs ++ k.added) h.whole ∙ append_assoc old h.added k.added;
+  values_are =
+      ap (λ xs. xs ++ later) (map-append value_of h.added k.added) ∙ append_assoc (map value_of h.added) (map value_of k.added) later
+      ∙ ap (λ xs. map value_of h.added ++ xs) k.values_are ∙ h.values_are;
+}
+
+pub AddsUpTo-all : (old new : List Event) (all : List EventValue) → AddsUpTo old new [] all → Adds old new all
+AddsUpTo-all old new all h = record { added = h.added; whole = h.whole; values_are = sym (append-nil (map value_of h.added)) ∙ h.values_are }
+
+pub AddsUpTo-front : (old new : List Event) (more all : List EventValue) → AddsUpTo old new more all → take (length old) new ≡ old
+AddsUpTo-front old new more all h = ap (take (length old)) h.whole ∙ take-append_seam old h.added
+
+-- the next event is the first of those to come
+pub AddsUpTo-unit : (old new : List Event) (all : List EventValue) (bytes : List ℕ) (x : EventValue × List ℕ) → unit_at bytes ≡ Some x → AddsUpTo old new (events_of bytes) all → AddsUpTo old new (x.0 ∷ events_of x.1) all
+AddsUpTo-unit old new all bytes x e h =
+    let P : List EventValue → Type 0 = λ values. AddsUpTo old new values all in
+    subst P (ap (λ (d : Decoding). d.0) (decoding-some bytes x e)) h
+
+-- where an event is begun, none is to come
+pub AddsUpTo-begun : (old new : List Event) (all : List EventValue) (bytes : List ℕ) → unit_at bytes ≡ None → AddsUpTo old new (events_of bytes) all → Adds old new all
+AddsUpTo-begun old new all bytes e h =
+    let P : List EventValue → Type 0 = λ values. AddsUpTo old new values all in
+    AddsUpTo-all old new all (subst P (ap (λ (d : Decoding). d.0) (decoding-none bytes e)) h)
+
+-- what is left after the front is removed
+pub rest_of-removed : (items all new rest : List ℕ) (n left : ℕ) → items ≡ all → new ≡ drop (n - left) items → n ≡ length items → left ≡ length rest → rest ≡ rest_of items → new ≡ rest_of all
+rest_of-removed items all new rest n left same removed count kept is =
+    let cut : n - left ≡ length items - length (rest_of items) = omega (arith, ap length is) in
+    removed ∙ ap (λ (k : ℕ). drop k items) cut ∙ rest_of-drop items ∙ ap (λ (xs : List ℕ). rest_of xs) same
+
+-- ---- pieces
+
+pub feeding-concat : (pending : List ℕ) (pieces : List (List ℕ)) → unit_at pending ≡ None → feeding pending pieces ≡ decoding (pending ++ concat pieces)
+feeding-concat pending [] begun = sym (ap decoding (append-nil pending) ∙ decoding-none pending begun)
+feeding-concat pending (piece ∷ pieces) begun =
+    ap (λ (d : Decoding). (events_of (pending ++ piece) ++ d.0, d.1)) (feeding-concat (rest_of (pending ++ piece)) pieces (rest_of-begun (pending ++ piece)))
+    ∙ sym (decoding-append (pending ++ piece) (concat pieces)) ∙ ap decoding (append_assoc pending piece (concat pieces))
+
+-- what stays at the front of some events, and of those that are added to them
+pub AddsUpTo-front_of_more : (n m : ℕ) (old mid new : List Event) (to_come all : List EventValue) → n ≡ length old → m ≡ length mid → AddsUpTo old mid to_come all → take m new ≡ mid → take n new ≡ old
+AddsUpTo-front_of_more n m old mid new to_come all e f h more =
+    let whole : new ≡ mid ++ drop m new = sym (take-append-drop m new) ∙ ap (λ xs. xs ++ drop m new) more in
+    let long : length old ≤ length mid = omega (arith, ap length h.whole, length-append old h.added) in
+    ap (λ (k : ℕ). take k new) e ∙ ap (take (length old)) whole ∙ take-append-le (length old) mid (drop m new) long ∙ AddsUpTo-front old mid to_come all h

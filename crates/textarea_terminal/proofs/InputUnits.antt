@@ -1,0 +1,512 @@
+-- Each reader keeps what it read.
+use Rattle.std.proofs.Common.{◌≡◌, ℕ, zero, suc, ◌+◌, ◌-◌, ◌*◌, ◌==◌, ◌<◌, ◌≤◌, ◌≢◌, Bool, true, false, cond, eqb, List, [], ◌∷◌, ◌++◌, length, take, drop, Option, Some, None, refl, sym, ap, ◌∙◌, arith, inl, inr, ⊎_elim, subst}
+use Rattle.std.proofs.lemmas.List.{take-append-drop, take-append-le, drop-append-le, length-drop, append_assoc}
+use Rattle.std.proofs.lemmas.Bool.{eqb-true, eqb-false, ne_eqb}
+use Rattle.std.proofs.lemmas.Bool.Decides.{nat_tests}
+use Rattle.textarea_data.specs.declared.input.Key.{Key}
+use Rattle.textarea_data.specs.declared.input.Key.TheVariants as key
+use Rattle.std.specs.Prelude.{option_map, ◌⊎◌}
+use Rattle.textarea_terminal.specs.InputEvent.{EventValue, EventAndRest, input, paste, unknown}
+use Rattle.textarea_terminal.specs.InputKey.{input_of_key, entry, numbered_keys}
+use Rattle.textarea_terminal.specs.InputCharacter.{character, second_byte, third_byte, fourth_byte, is_second, is_continuation}
+use Rattle.textarea_terminal.specs.InputSequence.{is_inner, count_front, inner_limit, console_at, final_at, after_inner, control_at, shift_key, shift_key_after_two, shift_key_after_one, shift_key_at, or_else, bracket_at}
+use Rattle.textarea_terminal.specs.InputParameter.{is_digit}
+use Rattle.textarea_terminal.specs.InputUnit.{key_at, single_at, with_escape, second_escape_at, escape_at, key_or_sequence, paste_start, paste_end, after_mark, index_of, paste_at, paste_before, paste_or, unit_at}
+use Rattle.std.specs.Str.Lossy.{utf8_lossy}
+use Rattle.textarea_terminal.specs.InputStream.{Takes}
+use Rattle.textarea_terminal.proofs.InputMarks.{after_mark-whole, after_mark-more, after_mark-part, index_of-fits, index_of-more}
+use Rattle.textarea_terminal.proofs.InputKeeps.{Kept, Keeps, keeps_none, keeps_some, keeps_here, keeps_byte, keeps_one, keeps_if, keeps_map, kept_from}
+
+-- ---- characters and keys
+
+keeps_fourth : (a b c : ℕ) (bytes : List ℕ) → Keeps bytes (fourth_byte a b c bytes) (λ more. fourth_byte a b c (bytes ++ more))
+keeps_fourth a b c [] = keeps_none [] _
+keeps_fourth a b c (d ∷ bytes) = keeps_if (is_continuation d) (d ∷ bytes) _ _ _ _ (keeps_one _ d bytes) (keeps_here _ (d ∷ bytes))
+
+keeps_third : (a b : ℕ) (bytes : List ℕ) → Keeps bytes (third_byte a b bytes) (λ more. third_byte a b (bytes ++ more))
+keeps_third a b [] = keeps_none [] _
+keeps_third a b (c ∷ bytes) =
+    keeps_if (is_continuation c) (c ∷ bytes) _ _ _ _
+    (keeps_if _ (c ∷ bytes) _ _ _ _ (keeps_one _ c bytes) (keeps_byte c bytes _ _ (keeps_fourth a b c bytes)))
+    (keeps_here _ (c ∷ bytes))
+
+keeps_second : (a : ℕ) (bytes : List ℕ) → Keeps bytes (second_byte a bytes) (λ more. second_byte a (bytes ++ more))
+keeps_second a [] = keeps_none [] _
+keeps_second a (b ∷ bytes) =
+    keeps_if (is_second a b) (b ∷ bytes) _ _ _ _
+    (keeps_if _ (b ∷ bytes) _ _ _ _ (keeps_one _ b bytes) (keeps_byte b bytes _ _ (keeps_third a b bytes)))
+    (keeps_here _ (b ∷ bytes))
+
+keeps_character : (a : ℕ) (bytes : List ℕ) → Keeps bytes (character a bytes) (λ more. character a (bytes ++ more))
+keeps_character a bytes = keeps_if _ bytes _ _ _ _ (keeps_second a bytes) (keeps_here _ bytes)
+
+keeps_key : (a : ℕ) (bytes : List ℕ) → Keeps bytes (key_at a bytes) (λ more. key_at a (bytes ++ more))
+unfolding key_at
+keeps_key a bytes = keeps_if _ bytes _ _ _ _ (keeps_here _ bytes) (keeps_map _ bytes (character a bytes) _ (keeps_character a bytes))
+
+-- ---- control sequences
+
+keeps_console : (bytes : List ℕ) → Keeps bytes (console_at bytes) (λ more. console_at (bytes ++ more))
+unfolding console_at
+keeps_console [] = keeps_none [] _
+keeps_console (b ∷ bytes) = keeps_if _ (b ∷ bytes) _ _ _ _ (keeps_one _ b bytes) (keeps_here _ (b ∷ bytes))
+
+keeps_ended : (inner : List ℕ) (last : ℕ) (bytes : List ℕ) → Keeps bytes (final_at inner last bytes) (λ more. final_at inner last (bytes ++ more))
+unfolding final_at
+keeps_ended [] last bytes = keeps_if _ bytes _ _ _ _ (keeps_console bytes) (keeps_here _ bytes)
+keeps_ended (b ∷ inner) last bytes = keeps_here _ bytes
+
+keeps_after_inner : (inner bytes : List ℕ) → Keeps bytes (after_inner inner bytes) (λ more. after_inner inner (bytes ++ more))
+unfolding after_inner
+keeps_after_inner inner [] = keeps_none [] _
+keeps_after_inner inner (b ∷ bytes) = keeps_if _ (b ∷ bytes) _ _ _ _ (keeps_byte b bytes _ _ (keeps_ended inner b bytes)) (keeps_here _ (b ∷ bytes))
+
+pub count_front-le : (test : ℕ → Bool) (most : ℕ) (bytes : List ℕ) → count_front test most bytes ≤ length bytes
+unfolding count_front
+count_front-le test zero bytes = omega arith
+count_front-le test (suc most) [] = omega arith
+count_front-le test (suc most) (b ∷ bytes) = counted (test b) (count_front test most bytes) (count_front-le test most bytes)
+  where
+    counted : (t : Bool) (n : ℕ) → n ≤ length bytes → cond t (suc n) 0 ≤ suc (length bytes)
+    counted true n h = omega arith
+    counted false n h = omega arith
+
+-- with more bytes the count stays, where it is at its limit or ends before the last byte
+count_front-append : (test : ℕ → Bool) (most : ℕ) (bytes more : List ℕ) → (count_front test most bytes ≡ most) ⊎ (count_front test most bytes < length bytes) → count_front test most (bytes ++ more) ≡ count_front test most bytes
+unfolding count_front
+count_front-append test zero bytes more h = refl
+count_front-append test (suc most) [] more h = ⊎_elim (λ (e : 0 ≡ suc most). absurd (omega arith)) (λ (e : 0 < 0). absurd (omega arith)) h
+count_front-append test (suc most) (b ∷ bytes) more h = goes_on (test b) (count_front test most bytes) (count_front test most (bytes ++ more)) (count_front-append test most bytes more) h
+  where
+    goes_on : (t : Bool) (n m : ℕ) → ((n ≡ most) ⊎ (n < length bytes) → m ≡ n) → (cond t (suc n) 0 ≡ suc most) ⊎ (cond t (suc n) 0 < suc (length bytes)) → cond t (suc m) 0 ≡ cond t (suc n) 0
+    goes_on true n m k h = ap suc (k (⊎_elim (λ (e : suc n ≡ suc most). inl (omega arith)) (λ (e : suc n < suc (length bytes)). inr (omega arith)) h))
+    goes_on false n m k h = refl
+
+-- what is made of a count of inner bytes
+unfoldable pub control_after_count : ℕ → List ℕ → List ℕ → EventAndRest
+control_after_count n inner bytes = cond (eqb n inner_limit) (Some (unknown, bytes)) (after_inner inner bytes)
+
+keeps_closed : (n : ℕ) (inner bytes : List ℕ) → Keeps bytes (control_after_count n inner bytes) (λ more. control_after_count n inner (bytes ++ more))
+unfolding control_after_count
+keeps_closed n inner bytes = keeps_if _ bytes _ _ _ _ (keeps_here _ bytes) (keeps_after_inner inner bytes)
+
+pub control_at-counted : (bytes : List ℕ) → control_at bytes ≡ control_after_count (count_front is_inner inner_limit bytes) (take (count_front is_inner inner_limit bytes) bytes) (drop (count_front is_inner inner_limit bytes) bytes)
+unfolding control_at control_after_count
+control_at-counted bytes = refl
+
+-- with more bytes, where the count stays
+control-more : (n : ℕ) (bytes more : List ℕ) → n ≤ length bytes → count_front is_inner inner_limit (bytes ++ more) ≡ n → control_at (bytes ++ more) ≡ control_after_count n (take n bytes) (drop n bytes ++ more)
+control-more n bytes more h e =
+    control_at-counted (bytes ++ more) ∙ ap (λ (m : ℕ). control_after_count m (take m (bytes ++ more)) (drop m (bytes ++ more))) e
+    ∙ ap (λ (xs : List ℕ). control_after_count n xs (drop n (bytes ++ more))) (take-append-le n bytes more h) ∙ ap (λ (xs : List ℕ). control_after_count n (take n bytes) xs) (drop-append-le n bytes more h)
+
+-- there is something after the inner bytes, or they are at their limit, where a sequence is read
+counted_out : (n : ℕ) (inner bytes : List ℕ) (x : EventValue × List ℕ) → control_after_count n inner bytes ≡ Some x → (n ≡ inner_limit) ⊎ (0 < length bytes)
+unfolding control_after_count after_inner
+counted_out n inner (b ∷ bytes) x e = inr (omega arith)
+counted_out n inner [] x e = limited (eqb n inner_limit) (eqb-true n inner_limit) e
+  where
+    limited : (t : Bool) → (t ≡ true → n ≡ inner_limit) → cond t (Some (unknown, [])) None ≡ Some x → (n ≡ inner_limit) ⊎ (0 < 0)
+    limited true h e = inl (h refl)
+    limited false h e = (cc)
+
+keeps_control : (bytes : List ℕ) → Keeps bytes (control_at bytes) (λ more. control_at (bytes ++ more))
+keeps_control bytes = record {
+  kept = λ x e.
+      let n = count_front is_inner inner_limit bytes in
+      let read = sym (control_at-counted bytes) ∙ e in
+      let within = count_front-le is_inner inner_limit bytes in
+      let out : (n ≡ inner_limit) ⊎ (n < length bytes) =
+      ⊎_elim (λ (k : n ≡ inner_limit). inl k) (λ (k : 0 < length (drop n bytes)). inr (omega (arith, length-drop n bytes))) (counted_out n (take n bytes) (drop n bytes) x read) in
+      kept_from n bytes x _ _ (λ more. control-more n bytes more within (count_front-append is_inner inner_limit bytes more out))
+      ((keeps_closed n (take n bytes) (drop n bytes)).kept x read);
+}
+
+-- ---- rxvt's keys with Shift
+
+keeps_shifted : (o : Option Key) (bytes : List ℕ) → Keeps bytes (shift_key o bytes) (λ more. shift_key o (bytes ++ more))
+keeps_shifted None bytes = keeps_none bytes _
+keeps_shifted (Some k) bytes = keeps_here _ bytes
+
+keeps_shifted_two : (number : ℕ) (bytes : List ℕ) → Keeps bytes (shift_key_after_two number bytes) (λ more. shift_key_after_two number (bytes ++ more))
+unfolding shift_key_after_two
+keeps_shifted_two number [] = keeps_none [] _
+keeps_shifted_two number (b ∷ bytes) = keeps_if _ (b ∷ bytes) _ None _ (λ _. None) (keeps_byte b bytes _ _ (keeps_shifted _ bytes)) (keeps_none (b ∷ bytes) _)
+
+keeps_shifted_one : (number : ℕ) (bytes : List ℕ) → Keeps bytes (shift_key_after_one number bytes) (λ more. shift_key_after_one number (bytes ++ more))
+unfolding shift_key_after_one
+keeps_shifted_one number [] = keeps_none [] _
+keeps_shifted_one number (b ∷ bytes) =
+    keeps_if _ (b ∷ bytes) _ _ _ _ (keeps_byte b bytes _ _ (keeps_shifted _ bytes))
+    (keeps_if _ (b ∷ bytes) _ None _ (λ _. None) (keeps_byte b bytes _ _ (keeps_shifted_two _ bytes)) (keeps_none (b ∷ bytes) _))
+
+keeps_shifted_at : (bytes : List ℕ) → Keeps bytes (shift_key_at bytes) (λ more. shift_key_at (bytes ++ more))
+unfolding shift_key_at
+keeps_shifted_at [] = keeps_none [] _
+keeps_shifted_at (b ∷ bytes) = keeps_if _ (b ∷ bytes) _ None _ (λ _. None) (keeps_byte b bytes _ _ (keeps_shifted_one _ bytes)) (keeps_none (b ∷ bytes) _)
+
+is_inner-digit : (b : ℕ) → is_digit b ≡ true → is_inner b ≡ true
+is_inner-digit b h = grind (arith, nat_tests)
+
+control-one : (b : ℕ) → is_inner b ≡ true → control_at (b ∷ []) ≡ None
+unfolding control_at count_front after_inner
+control-one b h = rw h refl
+
+control-two : (b c : ℕ) → is_inner b ≡ true → is_inner c ≡ true → control_at (b ∷ c ∷ []) ≡ None
+unfolding control_at count_front after_inner
+control-two b c h k = rw (h, k) refl
+
+-- what is no key of rxvt's is none with more bytes, or it is no whole sequence either
+abbrev StaysNone : List ℕ → List ℕ → Type 0
+StaysNone bytes more = (shift_key_at (bytes ++ more) ≡ None) ⊎ (control_at bytes ≡ None)
+
+no_shifted : (o : Option Key) (bytes more : List ℕ) → shift_key o bytes ≡ None → shift_key o more ≡ None
+no_shifted None bytes more e = refl
+no_shifted (Some k) bytes more e = (cc)
+
+stays_two : (number c : ℕ) (bytes more : List ℕ) → shift_key_after_two number (c ∷ bytes) ≡ None → shift_key_after_two number (c ∷ (bytes ++ more)) ≡ None
+unfolding shift_key_after_two
+stays_two number c bytes more e = chosen (c == 36) e
+  where
+    chosen : (t : Bool) → cond t (shift_key (entry numbered_keys number) bytes) None ≡ None → cond t (shift_key (entry numbered_keys number) (bytes ++ more)) None ≡ None
+    chosen true e = no_shifted (entry numbered_keys number) bytes (bytes ++ more) e
+    chosen false e = refl
+
+stays_one : (b number : ℕ) (bytes more : List ℕ) → is_digit b ≡ true → shift_key_after_one number bytes ≡ None → (shift_key_after_one number (bytes ++ more) ≡ None) ⊎ (control_at (b ∷ bytes) ≡ None)
+unfolding shift_key_after_one
+stays_one b number [] more h e = inr (control-one b (is_inner-digit b h))
+stays_one b number (c ∷ bytes) more h e = chosen (c == 36) (is_digit c) refl e
+  where
+    two : (t : Bool) → is_digit c ≡ t → (bytes : List ℕ) → cond t (shift_key_after_two (10 * number + (c - 48)) bytes) None ≡ None → (cond t (shift_key_after_two (10 * number + (c - 48)) (bytes ++ more)) None ≡ None) ⊎ (control_at (b ∷ c ∷ bytes) ≡ None)
+    two true k [] e = inr (control-two b c (is_inner-digit b h) (is_inner-digit c k))
+    two true k (d ∷ bytes) e = inl (stays_two (10 * number + (c - 48)) d bytes more e)
+    two false k bytes e = inl refl
+
+    chosen : (t s : Bool) → is_digit c ≡ s → cond t (shift_key (entry numbered_keys number) bytes) (cond s (shift_key_after_two (10 * number + (c - 48)) bytes) None) ≡ None → (cond t (shift_key (entry numbered_keys number) (bytes ++ more)) (cond s (shift_key_after_two (10 * number + (c - 48)) (bytes ++ more)) None) ≡ None) ⊎ (control_at (b ∷ c ∷ bytes) ≡ None)
+    chosen true s k e = inl (no_shifted (entry numbered_keys number) bytes (bytes ++ more) e)
+    chosen false s k e = two s k bytes e
+
+control-none : control_at [] ≡ None
+unfolding control_at count_front after_inner
+control-none = refl
+
+stays_none : (bytes more : List ℕ) → shift_key_at bytes ≡ None → StaysNone bytes more
+unfolding shift_key_at
+stays_none [] more e = inr control-none
+stays_none (b ∷ bytes) more e = chosen (is_digit b) refl e
+  where
+    chosen : (t : Bool) → is_digit b ≡ t → cond t (shift_key_after_one (b - 48) bytes) None ≡ None → (cond t (shift_key_after_one (b - 48) (bytes ++ more)) None ≡ None) ⊎ (control_at (b ∷ bytes) ≡ None)
+    chosen true h e = stays_one b (b - 48) bytes more h e
+    chosen false h e = inl refl
+
+-- ---- what is after ESC [
+
+keeps_or_else : (bytes : List ℕ) (o p : EventAndRest) (f g : List ℕ → EventAndRest) → Keeps bytes o f → Keeps bytes p g → ((more : List ℕ) → o ≡ None → (f more ≡ None) ⊎ (p ≡ None)) → Keeps bytes (or_else o p) (λ more. or_else (f more) (g more))
+keeps_or_else bytes (Some x) p f g h k stays =
+    let kept = h.kept x refl in
+    keeps_some bytes x _ (record { front = kept.front; whole = kept.whole; same = λ more. ap (λ (o : EventAndRest). or_else o (g more)) (kept.same more) })
+keeps_or_else bytes None None f g h k stays = keeps_none bytes _
+keeps_or_else bytes None (Some x) f g h k stays =
+    let kept = k.kept x refl in
+    keeps_some bytes x _ (record {
+      front = kept.front;
+      whole = kept.whole;
+      same = λ more. ⊎_elim
+          (λ (e : f more ≡ None). ap (λ (o : EventAndRest). or_else o (g more)) e ∙ kept.same more)
+          (λ (e : Some x ≡ None). (cc))
+          (stays more refl);
+    })
+
+keeps_bracket : (bytes : List ℕ) → Keeps bytes (bracket_at bytes) (λ more. bracket_at (bytes ++ more))
+unfolding bracket_at
+keeps_bracket bytes = keeps_or_else bytes (shift_key_at bytes) (control_at bytes) _ _ (keeps_shifted_at bytes) (keeps_control bytes) (λ more e. stays_none bytes more e)
+
+-- ---- what is after ESC
+
+keeps_single : (bytes : List ℕ) → Keeps bytes (single_at bytes) (λ more. single_at (bytes ++ more))
+unfolding single_at
+keeps_single [] = keeps_none [] _
+keeps_single (b ∷ bytes) = keeps_if _ (b ∷ bytes) _ _ _ _ (keeps_one _ b bytes) (keeps_here _ (b ∷ bytes))
+
+-- a sequence after another ESC, where `second` begins at its own
+escape_kept : (second bytes front : List ℕ) (x : EventValue × List ℕ) (f : List ℕ → EventAndRest) → second ≡ front ++ bytes → Kept bytes x f → Kept second (with_escape second x) (λ more. option_map (with_escape (second ++ more)) (f more))
+escape_kept second bytes front (input i, rest) f e h = record {
+  front = front ++ h.front;
+  whole = e ∙ ap (λ xs. front ++ xs) h.whole ∙ sym (append_assoc front h.front rest);
+  same = λ more. ap (option_map (with_escape (second ++ more))) (h.same more);
+}
+escape_kept second bytes front (other, rest) f e h = record {
+  front = [];
+  whole = refl;
+  same = λ more. ap (option_map (with_escape (second ++ more))) (h.same more);
+}
+
+keeps_with_escape : (second bytes front : List ℕ) (o : EventAndRest) (f : List ℕ → EventAndRest) → second ≡ front ++ bytes → Keeps bytes o f → Keeps second (option_map (with_escape second) o) (λ more. option_map (with_escape (second ++ more)) (f more))
+keeps_with_escape second bytes front None f e h = keeps_none second _
+keeps_with_escape second bytes front (Some x) f e h = keeps_some second (with_escape second x) _ (escape_kept second bytes front x f e (h.kept x refl))
+
+keeps_twice : (b : ℕ) (bytes : List ℕ) → Keeps (b ∷ bytes) (second_escape_at (b ∷ bytes) bytes) (λ more. second_escape_at (b ∷ bytes ++ more) (bytes ++ more))
+unfolding second_escape_at
+keeps_twice b [] = keeps_none (b ∷ []) _
+keeps_twice b (c ∷ bytes) =
+    keeps_if _ (b ∷ c ∷ bytes) _ _ _ _ (keeps_with_escape (b ∷ c ∷ bytes) bytes (b ∷ c ∷ []) _ _ refl (keeps_bracket bytes))
+    (keeps_if _ (b ∷ c ∷ bytes) _ _ _ _ (keeps_with_escape (b ∷ c ∷ bytes) bytes (b ∷ c ∷ []) _ _ refl (keeps_single bytes))
+    (keeps_here _ (b ∷ c ∷ bytes)))
+
+keeps_escaped : (bytes : List ℕ) → Keeps bytes (escape_at bytes) (λ more. escape_at (bytes ++ more))
+unfolding escape_at
+keeps_escaped [] = keeps_none [] _
+keeps_escaped (b ∷ bytes) =
+    keeps_if _ (b ∷ bytes) _ _ _ _ (keeps_byte b bytes _ _ (keeps_bracket bytes))
+    (keeps_if _ (b ∷ bytes) _ _ _ _ (keeps_byte b bytes _ _ (keeps_single bytes))
+    (keeps_if _ (b ∷ bytes) _ _ _ _ (keeps_twice b bytes)
+    (keeps_byte b bytes _ _ (keeps_map _ bytes (key_at b bytes) _ (keeps_key b bytes)))))
+
+-- a key or a sequence takes its first byte
+keeps_key_or_sequence : (b : ℕ) (bytes : List ℕ) → Keeps bytes (key_or_sequence (b ∷ bytes)) (λ more. key_or_sequence (b ∷ (bytes ++ more)))
+unfolding key_or_sequence
+keeps_key_or_sequence b bytes = keeps_if _ bytes _ _ _ _ (keeps_escaped bytes) (keeps_map _ bytes (key_at b bytes) _ (keeps_key b bytes))
+
+-- ---- pasted texts
+
+pasted_kept : (bytes : List ℕ) (x : EventValue × List ℕ) (o : Option ℕ) → index_of paste_end bytes ≡ o → option_map (paste_before bytes) o ≡ Some x → Kept bytes x (λ more. paste_at (bytes ++ more))
+unfolding paste_at
+pasted_kept bytes x None place e = (cc)
+pasted_kept bytes x (Some k) place e =
+    let fits : k + 6 ≤ length bytes = index_of-fits paste_end bytes k place in
+    let same : paste_before bytes k ≡ x = (cc) in
+    let P : EventValue × List ℕ → Type 0 = λ y. Kept bytes y (λ more. paste_at (bytes ++ more)) in
+    subst P same (record {
+      front = take (k + 6) bytes;
+      whole = sym (take-append-drop (k + 6) bytes);
+      same = λ more.
+          ap (option_map (paste_before (bytes ++ more))) (index_of-more paste_end bytes more k place)
+          ∙ ap (λ (xs : List ℕ). Some (paste (utf8_lossy xs), drop (k + 6) (bytes ++ more))) (take-append-le k bytes more (omega arith))
+          ∙ ap (λ (xs : List ℕ). Some (paste (utf8_lossy (take k bytes)), xs)) (drop-append-le (k + 6) bytes more fits);
+    })
+
+paste_at-kept : (bytes : List ℕ) (x : EventValue × List ℕ) → paste_at bytes ≡ Some x → Kept bytes x (λ more. paste_at (bytes ++ more))
+unfolding paste_at
+paste_at-kept bytes x e = pasted_kept bytes x (index_of paste_end bytes) refl e
+
+unmapped : {A B : Type 0} (f : A → B) (o : Option A) → option_map f o ≡ None → o ≡ None
+unmapped f None e = refl
+unmapped f (Some x) e = (cc)
+
+begun_text : (text : List ℕ) (n : ℕ) → unit_at (take n (paste_start ++ text)) ≡ None → index_of paste_end (take (n - 6) text) ≡ None
+unfolding unit_at after_mark paste_at index_of
+begun_text text zero e = refl
+begun_text text (suc zero) e = refl
+begun_text text (suc (suc zero)) e = refl
+begun_text text (suc (suc (suc zero))) e = refl
+begun_text text (suc (suc (suc (suc zero)))) e = refl
+begun_text text (suc (suc (suc (suc (suc zero))))) e = refl
+begun_text text (suc (suc (suc (suc (suc (suc n)))))) e =
+    let left : suc (suc (suc (suc (suc (suc n))))) - 6 ≡ n = omega arith in
+    ap (λ (k : ℕ). index_of paste_end (take k text)) left ∙ unmapped (paste_before (take n text)) (index_of paste_end (take n text)) e
+
+-- where the front of a pasted text is begun, it is without the mark of its end
+pub index_of-begun : (bytes text : List ℕ) (n : ℕ) → after_mark paste_start bytes ≡ Some text → unit_at (take n bytes) ≡ None → index_of paste_end (take (n - 6) text) ≡ None
+index_of-begun bytes text n e none = begun_text text n (ap (λ (xs : List ℕ). unit_at (take n xs)) (sym (after_mark-whole paste_start bytes text e)) ∙ none)
+
+-- ---- all
+
+-- the parts of the mark that begins a pasted text begin a sequence
+begun_mark : (n : ℕ) → n < 6 → key_or_sequence (take n paste_start) ≡ None
+unfolding key_or_sequence escape_at bracket_at shift_key_at shift_key_after_one shift_key_after_two control_at count_front after_inner
+begun_mark zero h = refl
+begun_mark (suc zero) h = refl
+begun_mark (suc (suc zero)) h = refl
+begun_mark (suc (suc (suc zero))) h = refl
+begun_mark (suc (suc (suc (suc zero)))) h = refl
+begun_mark (suc (suc (suc (suc (suc zero))))) h = refl
+begun_mark (suc (suc (suc (suc (suc (suc n)))))) h = absurd (omega arith)
+
+pub unit-paste_at : (bytes text : List ℕ) → after_mark paste_start bytes ≡ Some text → unit_at bytes ≡ paste_at text
+unfolding unit_at
+unit-paste_at bytes text e = ap (λ (o : Option (List ℕ)). paste_or o (key_or_sequence bytes)) e
+
+pub unit-other : (bytes : List ℕ) → after_mark paste_start bytes ≡ None → unit_at bytes ≡ key_or_sequence bytes
+unfolding unit_at
+unit-other bytes e = ap (λ (o : Option (List ℕ)). paste_or o (key_or_sequence bytes)) e
+
+taken_text : (bytes text : List ℕ) (x : EventValue × List ℕ) → after_mark paste_start bytes ≡ Some text → unit_at bytes ≡ Some x → Takes bytes x
+taken_text bytes text x e is =
+    let kept = paste_at-kept text x (sym (unit-paste_at bytes text e) ∙ is) in
+    record {
+      front = paste_start ++ kept.front;
+      some = omega arith;
+      whole = after_mark-whole paste_start bytes text e ∙ ap (λ xs. paste_start ++ xs) kept.whole;
+      same = λ more. unit-paste_at (bytes ++ more) (text ++ more) (after_mark-more paste_start bytes text more e) ∙ kept.same more;
+    }
+
+still_no_mark : (bytes more : List ℕ) (x : EventValue × List ℕ) (o : Option (List ℕ)) → after_mark paste_start bytes ≡ None → key_or_sequence bytes ≡ Some x → after_mark paste_start (bytes ++ more) ≡ o → after_mark paste_start (bytes ++ more) ≡ None
+still_no_mark bytes more x None none is e = e
+still_no_mark bytes more x (Some rest) none is e =
+    let part = after_mark-part paste_start bytes more rest none e in
+    let begun = ap key_or_sequence part.2 ∙ begun_mark part.0 part.1 in
+    let both : Some x ≡ None = sym is ∙ begun in (cc)
+
+nothing_read : key_or_sequence [] ≡ None
+unfolding key_or_sequence
+nothing_read = refl
+
+taken_other : (bytes : List ℕ) (x : EventValue × List ℕ) → after_mark paste_start bytes ≡ None → key_or_sequence bytes ≡ Some x → Takes bytes x
+taken_other [] x none is = let both : None ≡ Some x = sym nothing_read ∙ is in (cc)
+taken_other (b ∷ bytes) x none is =
+    let kept = (keeps_key_or_sequence b bytes).kept x is in
+    record {
+      front = b ∷ kept.front;
+      some = omega arith;
+      whole = ap (λ xs. b ∷ xs) kept.whole;
+      same = λ more. unit-other (b ∷ bytes ++ more) (still_no_mark (b ∷ bytes) more x (after_mark paste_start (b ∷ bytes ++ more)) none is refl) ∙ kept.same more;
+    }
+
+taken_by : (bytes : List ℕ) (x : EventValue × List ℕ) (o : Option (List ℕ)) → after_mark paste_start bytes ≡ o → unit_at bytes ≡ Some x → Takes bytes x
+taken_by bytes x None e is = taken_other bytes x e (sym (unit-other bytes e) ∙ is)
+taken_by bytes x (Some text) e is = taken_text bytes text x e is
+
+pub unit_at-taken : (bytes : List ℕ) (x : EventValue × List ℕ) → unit_at bytes ≡ Some x → Takes bytes x
+unit_at-taken bytes x is = taken_by bytes x (after_mark paste_start bytes) refl is
+
+pub unit_at-nil : unit_at [] ≡ None
+unfolding unit_at after_mark key_or_sequence
+unit_at-nil = refl
+
+-- ---- how many bytes may be pending
+
+-- where nothing is read, the bytes are at most so many
+record Waits {A : Type 0} (most : ℕ) (bytes : List ℕ) (o : Option A) : Type 0 where
+  bound : o ≡ None → length bytes ≤ most
+
+waits_some : {A : Type 0} (most : ℕ) (bytes : List ℕ) (x : A) → Waits most bytes (Some x)
+waits_some most bytes x = record { bound = λ e. (cc) }
+
+waits_if : {A : Type 0} (t : Bool) (most : ℕ) (bytes : List ℕ) (o p : Option A) → Waits most bytes o → Waits most bytes p → Waits most bytes (cond t o p)
+waits_if true most bytes o p h k = h
+waits_if false most bytes o p h k = k
+
+waits_byte : {A : Type 0} (most : ℕ) (b : ℕ) (bytes : List ℕ) (o : Option A) → Waits most bytes o → Waits (most + 1) (b ∷ bytes) o
+waits_byte most b bytes o h = record { bound = λ e. let short = h.bound e in omega arith }
+
+waits_more : {A : Type 0} (most n : ℕ) (bytes : List ℕ) (o : Option A) → n ≤ most → Waits n bytes o → Waits most bytes o
+waits_more most n bytes o k h = record { bound = λ e. let short = h.bound e in omega arith }
+
+waits_nil : {A : Type 0} (most : ℕ) (o : Option A) → Waits most [] o
+waits_nil most o = record { bound = λ e. omega arith }
+
+waits_map : {A B : Type 0} (f : A → B) (most : ℕ) (bytes : List ℕ) (o : Option A) → Waits most bytes o → Waits most bytes (option_map f o)
+waits_map f most bytes o h = record { bound = λ e. h.bound (unmapped f o e) }
+
+waits_fourth : (a b c : ℕ) (bytes : List ℕ) → Waits 0 bytes (fourth_byte a b c bytes)
+waits_fourth a b c [] = waits_nil 0 _
+waits_fourth a b c (d ∷ bytes) = waits_if (is_continuation d) 0 (d ∷ bytes) _ _ (waits_some 0 (d ∷ bytes) _) (waits_some 0 (d ∷ bytes) _)
+
+waits_third : (a b : ℕ) (bytes : List ℕ) → Waits 1 bytes (third_byte a b bytes)
+waits_third a b [] = waits_nil 1 _
+waits_third a b (c ∷ bytes) =
+    waits_if (is_continuation c) 1 (c ∷ bytes) _ _
+    (waits_if _ 1 (c ∷ bytes) _ _ (waits_some 1 (c ∷ bytes) _) (waits_byte 0 c bytes _ (waits_fourth a b c bytes)))
+    (waits_some 1 (c ∷ bytes) _)
+
+waits_second : (a : ℕ) (bytes : List ℕ) → Waits 2 bytes (second_byte a bytes)
+waits_second a [] = waits_nil 2 _
+waits_second a (b ∷ bytes) =
+    waits_if (is_second a b) 2 (b ∷ bytes) _ _
+    (waits_if _ 2 (b ∷ bytes) _ _ (waits_some 2 (b ∷ bytes) _) (waits_byte 1 b bytes _ (waits_third a b bytes)))
+    (waits_some 2 (b ∷ bytes) _)
+
+waits_key : (a : ℕ) (bytes : List ℕ) → Waits 2 bytes (key_at a bytes)
+unfolding key_at
+waits_key a bytes = waits_if _ 2 bytes _ _ (waits_some 2 bytes _) (waits_map _ 2 bytes (character a bytes) (waits_if _ 2 bytes _ _ (waits_second a bytes) (waits_some 2 bytes _)))
+
+waits_console : (bytes : List ℕ) → Waits 0 bytes (console_at bytes)
+unfolding console_at
+waits_console [] = waits_nil 0 _
+waits_console (b ∷ bytes) = waits_if _ 0 (b ∷ bytes) _ _ (waits_some 0 (b ∷ bytes) _) (waits_some 0 (b ∷ bytes) _)
+
+waits_ended : (inner : List ℕ) (last : ℕ) (bytes : List ℕ) → Waits 0 bytes (final_at inner last bytes)
+unfolding final_at
+waits_ended [] last bytes = waits_if _ 0 bytes _ _ (waits_console bytes) (waits_some 0 bytes _)
+waits_ended (b ∷ inner) last bytes = waits_some 0 bytes _
+
+waits_after_inner : (inner bytes : List ℕ) → Waits 1 bytes (after_inner inner bytes)
+unfolding after_inner
+waits_after_inner inner [] = waits_nil 1 _
+waits_after_inner inner (b ∷ bytes) = waits_if _ 1 (b ∷ bytes) _ _ (waits_byte 0 b bytes _ (waits_ended inner b bytes)) (waits_some 1 (b ∷ bytes) _)
+
+count_front-most : (test : ℕ → Bool) (most : ℕ) (bytes : List ℕ) → count_front test most bytes ≤ most
+unfolding count_front
+count_front-most test zero bytes = omega arith
+count_front-most test (suc most) [] = omega arith
+count_front-most test (suc most) (b ∷ bytes) = counted (test b) (count_front test most bytes) (count_front-most test most bytes)
+  where
+    counted : (t : Bool) (n : ℕ) → n ≤ most → cond t (suc n) 0 ≤ suc most
+    counted true n h = omega arith
+    counted false n h = omega arith
+
+control_after_count-none : (n : ℕ) (inner bytes : List ℕ) → control_after_count n inner bytes ≡ None → (n ≢ inner_limit) × (length bytes ≤ 1)
+unfolding control_after_count
+control_after_count-none n inner bytes e = tested (eqb n inner_limit) (λ h. eqb-false n inner_limit h) e
+  where
+    tested : (t : Bool) → (t ≡ false → n ≢ inner_limit) → cond t (Some (unknown, bytes)) (after_inner inner bytes) ≡ None → (n ≢ inner_limit) × (length bytes ≤ 1)
+    tested true h e = (cc)
+    tested false h e = (h refl, (waits_after_inner inner bytes).bound e)
+
+waits_control : (bytes : List ℕ) → Waits inner_limit bytes (control_at bytes)
+waits_control bytes = record {
+  bound = λ e.
+      let n = count_front is_inner inner_limit bytes in
+      let parts = control_after_count-none n (take n bytes) (drop n bytes) (sym (control_at-counted bytes) ∙ e) in
+      omega (arith, count_front-most is_inner inner_limit bytes, count_front-le is_inner inner_limit bytes, parts.0, parts.1, length-drop n bytes);
+}
+
+or_else-none : (o p : EventAndRest) → or_else o p ≡ None → p ≡ None
+or_else-none None p e = e
+or_else-none (Some x) p e = (cc)
+
+waits_bracket : (bytes : List ℕ) → Waits inner_limit bytes (bracket_at bytes)
+unfolding bracket_at
+waits_bracket bytes = record { bound = λ e. (waits_control bytes).bound (or_else-none (shift_key_at bytes) (control_at bytes) e) }
+
+waits_single : (bytes : List ℕ) → Waits 0 bytes (single_at bytes)
+unfolding single_at
+waits_single [] = waits_nil 0 _
+waits_single (b ∷ bytes) = waits_if _ 0 (b ∷ bytes) _ _ (waits_some 0 (b ∷ bytes) _) (waits_some 0 (b ∷ bytes) _)
+
+waits_twice : (second bytes : List ℕ) → Waits 4095 bytes (second_escape_at second bytes)
+unfolding second_escape_at
+waits_twice second [] = waits_nil 4095 _
+waits_twice second (b ∷ bytes) =
+    waits_if (b == 91) 4095 (b ∷ bytes) _ _ (waits_byte 4094 b bytes _ (waits_map (with_escape second) 4094 bytes (bracket_at bytes) (waits_bracket bytes)))
+    (waits_if (b == 79) 4095 (b ∷ bytes) _ _ (waits_more 4095 1 (b ∷ bytes) _ (omega arith) (waits_byte 0 b bytes _ (waits_map (with_escape second) 0 bytes (single_at bytes) (waits_single bytes))))
+    (waits_some 4095 (b ∷ bytes) (input (input_of_key key.Esc), second)))
+
+waits_escaped : (bytes : List ℕ) → Waits 4096 bytes (escape_at bytes)
+unfolding escape_at
+waits_escaped [] = waits_nil 4096 _
+waits_escaped (b ∷ bytes) =
+    waits_if _ 4096 (b ∷ bytes) _ _ (waits_more 4096 4095 (b ∷ bytes) _ (omega arith) (waits_byte 4094 b bytes _ (waits_bracket bytes)))
+    (waits_if _ 4096 (b ∷ bytes) _ _ (waits_more 4096 1 (b ∷ bytes) _ (omega arith) (waits_byte 0 b bytes _ (waits_single bytes)))
+    (waits_if _ 4096 (b ∷ bytes) _ _ (waits_byte 4095 b bytes _ (waits_twice (b ∷ bytes) bytes))
+    (waits_more 4096 3 (b ∷ bytes) _ (omega arith) (waits_byte 2 b bytes _ (waits_map _ 2 bytes _ (waits_key b bytes))))))
+
+waits_key_or_sequence : (bytes : List ℕ) → Waits 4097 bytes (key_or_sequence bytes)
+unfolding key_or_sequence
+waits_key_or_sequence [] = waits_nil 4097 _
+waits_key_or_sequence (b ∷ bytes) =
+    waits_if _ 4097 (b ∷ bytes) _ _ (waits_byte 4096 b bytes _ (waits_escaped bytes))
+    (waits_more 4097 3 (b ∷ bytes) _ (omega arith) (waits_byte 2 b bytes _ (waits_map _ 2 bytes _ (waits_key b bytes))))
+
+pending_by : (bytes : List ℕ) (o : Option (List ℕ)) → after_mark paste_start bytes ≡ o → unit_at bytes ≡ None → (length bytes ≤ 4097) ⊎ ((text : List ℕ) × (bytes ≡ paste_start ++ text))
+pending_by bytes None e none = inl ((waits_key_or_sequence bytes).bound (sym (unit-other bytes e) ∙ none))
+pending_by bytes (Some text) e none = inr (text, after_mark-whole paste_start bytes text e)
+
+-- what is pending is short, or a pasted text
+pub pending_short : (bytes : List ℕ) → unit_at bytes ≡ None → (length bytes ≤ 4097) ⊎ ((text : List ℕ) × (bytes ≡ paste_start ++ text))
+pending_short bytes none = pending_by bytes (after_mark paste_start bytes) refl none
+
+-- a first byte other than ESC begins a key
+pub unit_at-key : (a : ℕ) (bytes : List ℕ) → a ≢ 27 → unit_at (a ∷ bytes) ≡ option_map (λ x. (input x.0, x.1)) (key_at a bytes)
+unfolding unit_at after_mark key_or_sequence
+unit_at-key a bytes h = let other : eqb a 27 ≡ false = ne_eqb a 27 h in rw other refl

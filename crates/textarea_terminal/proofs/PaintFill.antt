@@ -1,0 +1,197 @@
+-- The cells of a buffer as a terminal is to show them, from one place to the next; and that they are whole clusters.
+use Rattle.std.proofs.Common.{◌≡◌, ℕ, zero, suc, ◌+◌, ◌-◌, ◌*◌, ◌/◌, ◌%◌, ◌<◌, ◌≤◌, true, false, ◌&&◌, ◌⊎◌, inl, inr, ⊎_elim, List, [], ◌∷◌, ◌++◌, length, map, take, drop, replicate, refl, sym, ap, ◌∙◌, arith, ltb, leb}
+use Rattle.std.proofs.Common.{set, append_assoc}
+use Rattle.std.proofs.Math.Nat.{mod-lt, div-lt_iff_lt-mul, mul-le-mul_left}
+use Rattle.std.proofs.Math.Seq.{take-length, drop-length}
+use Rattle.std.proofs.lemmas.List.{append-nil, take_more_set, map-append, replicate_more}
+use Rattle.std.proofs.lemmas.Bool.{cases_Bool, cond-true, cond-false, and_parts, lt-ltb, le-leb}
+use Rattle.std.proofs.lemmas.Nat.{and_le_r}
+use Rattle.textarea_screen.specs.Cell.{ShownCell, fresh_cell, shown_cell}
+use Rattle.textarea_screen.specs.declared.screen.cell.Cell.{Cell}
+use Rattle.textarea_screen.specs.declared.screen.buffer.Buffer.{Buffer}
+use Rattle.textarea_screen.specs.declared.screen.rect.Rect.{Rect}
+use Rattle.textarea_terminal.specs.Pen.{look_of}
+use Rattle.textarea_terminal.specs.PaintCells.{cluster_columns, half, is_half, nine_of, shown_alike, blanked, begins_empty, fits, displayed, cell_in, cells_from, frame_of, can_begin, are_whole}
+use Rattle.textarea_terminal.proofs.ScreenPlain.{cluster_columns-blank}
+
+-- ---- from one place to the next
+
+pub cells_from-next : (area : Rect) (buffer : Buffer) (place size : ℕ) → place < size →
+    cells_from area buffer place (size - place) ≡ cell_in area buffer place ∷ cells_from area buffer (place + 1) (size - (place + 1))
+cells_from-next area buffer place size within =
+    let more : size - place ≡ suc (size - (place + 1)) = omega arith in
+    ap (cells_from area buffer place) more
+
+pub begins_empty-next : (area : Rect) (buffer : Buffer) (place end size : ℕ) → place < end → end ≤ size →
+    begins_empty (end - place) (cells_from area buffer place (size - place))
+    ≡ (is_half (cell_in area buffer place) && begins_empty (end - (place + 1)) (cells_from area buffer (place + 1) (size - (place + 1))))
+begins_empty-next area buffer place end size within fit =
+    let more : end - place ≡ suc (end - (place + 1)) = omega arith in
+    ap (begins_empty (end - place)) (cells_from-next area buffer place size (omega arith))
+    ∙ ap (λ count. begins_empty count (cell_in area buffer place ∷ cells_from area buffer (place + 1) (size - (place + 1)))) more
+
+-- ---- one cell
+
+pub displayed-half : (area : Rect) (buffer : Buffer) (place halves size : ℕ) → place < size → 0 < halves →
+    displayed area.width place halves (cells_from area buffer place (size - place))
+    ≡ half ∷ displayed area.width (place + 1) (halves - 1) (cells_from area buffer (place + 1) (size - (place + 1)))
+displayed-half area buffer place halves size within some =
+    let more : halves ≡ suc (halves - 1) = omega arith in
+    ap (displayed area.width place halves) (cells_from-next area buffer place size within)
+    ∙ ap (λ count. displayed area.width place count (cell_in area buffer place ∷ cells_from area buffer (place + 1) (size - (place + 1)))) more
+
+pub displayed-shown : (area : Rect) (buffer : Buffer) (place halves size : ℕ) → place < size → halves ≡ 0 →
+    fits area.width place (cell_in area buffer place) (cells_from area buffer (place + 1) (size - (place + 1))) ≡ true →
+    displayed area.width place halves (cells_from area buffer place (size - place))
+    ≡ shown_alike (cell_in area buffer place) ∷ displayed area.width (place + 1) (cluster_columns (cell_in area buffer place).symbol - 1) (cells_from area buffer (place + 1) (size - (place + 1)))
+displayed-shown area buffer place halves size within none fit =
+    let cell = cell_in area buffer place in
+    let cells = cells_from area buffer (place + 1) (size - (place + 1)) in
+    ap (displayed area.width place halves) (cells_from-next area buffer place size within)
+    ∙ ap (λ count. displayed area.width place count (cell ∷ cells)) none
+    ∙ cond-true (fits area.width place cell cells) (shown_alike cell ∷ displayed area.width (place + 1) (cluster_columns cell.symbol - 1) cells)
+    (blanked cell ∷ displayed area.width (place + 1) 0 cells) fit
+
+pub displayed-blank : (area : Rect) (buffer : Buffer) (place halves size : ℕ) → place < size → halves ≡ 0 →
+    fits area.width place (cell_in area buffer place) (cells_from area buffer (place + 1) (size - (place + 1))) ≡ false →
+    displayed area.width place halves (cells_from area buffer place (size - place))
+    ≡ blanked (cell_in area buffer place) ∷ displayed area.width (place + 1) 0 (cells_from area buffer (place + 1) (size - (place + 1)))
+displayed-blank area buffer place halves size within none fit =
+    let cell = cell_in area buffer place in
+    let cells = cells_from area buffer (place + 1) (size - (place + 1)) in
+    ap (displayed area.width place halves) (cells_from-next area buffer place size within)
+    ∙ ap (λ count. displayed area.width place count (cell ∷ cells)) none
+    ∙ cond-false (fits area.width place cell cells) (shown_alike cell ∷ displayed area.width (place + 1) (cluster_columns cell.symbol - 1) cells)
+    (blanked cell ∷ displayed area.width (place + 1) 0 cells) fit
+
+-- ---- whole clusters
+
+begins_empty-long : (count : ℕ) (cells : List ShownCell) → begins_empty count cells ≡ true → count ≤ length cells
+begins_empty-long zero cells empty = omega arith
+begins_empty-long (suc count) [] empty = cc empty
+begins_empty-long (suc count) (cell ∷ cells) empty = omega (arith, begins_empty-long count cells (and_parts (is_half cell) (begins_empty count cells) empty).1)
+
+shown-bits : (cell : ShownCell) → ltb (nine_of (look_of cell)).modifier.0 512 ≡ true
+shown-bits cell = lt-ltb _ _ (omega (arith, and_le_r cell.modifier.0 511))
+
+shown-begins : (columns place : ℕ) (cell : ShownCell) (cells : List ShownCell) → fits columns place cell cells ≡ true → can_begin columns place (shown_alike cell) ≡ true
+shown-begins columns place cell cells fit =
+    let width = cluster_columns cell.symbol in
+    let room = (and_parts (ltb 0 width && leb (place % columns + width) columns) (begins_empty (width - 1) cells) fit).0 in
+    rw room (shown-bits cell)
+
+blank-begins : (columns place : ℕ) (cell : ShownCell) → 0 < columns → can_begin columns place (blanked cell) ≡ true
+blank-begins columns place cell some =
+    let room : place % columns + 1 ≤ columns = omega (arith, mod-lt place some) in
+    rw (cluster_columns-blank, shown-bits cell, le-leb (place % columns + 1) columns room) refl
+
+pub displayed-whole : (columns place halves : ℕ) (cells : List ShownCell) → 0 < columns → halves ≤ length cells → are_whole columns place halves (displayed columns place halves cells) ≡ true
+displayed-whole columns place zero [] some long = refl
+displayed-whole columns place (suc halves) [] some long = absurd (omega arith)
+displayed-whole columns place (suc halves) (cell ∷ cells) some long = displayed-whole columns (place + 1) halves cells some (omega arith)
+displayed-whole columns place zero (cell ∷ cells) some long =
+    ⊎_elim
+    (λ fit.
+    let width = cluster_columns cell.symbol in
+    let empty = (and_parts (ltb 0 width && leb (place % columns + width) columns) (begins_empty (width - 1) cells) fit).1 in
+    rw fit (rw (shown-begins columns place cell cells fit) (displayed-whole columns (place + 1) (width - 1) cells some (begins_empty-long (width - 1) cells empty))))
+    (λ other.
+    rw other (rw (blank-begins columns place cell some, cluster_columns-blank) (displayed-whole columns (place + 1) 0 cells some (omega arith))))
+    (cases_Bool (fits columns place cell cells))
+
+-- the cells of an erased terminal
+pub fresh-whole : (columns place size : ℕ) → 0 < columns → are_whole columns place 0 (replicate size fresh_cell) ≡ true
+fresh-whole columns place zero some = refl
+fresh-whole columns place (suc size) some =
+    let room : place % columns + 1 ≤ columns = omega (arith, mod-lt place some) in
+    rw (cluster_columns-blank, le-leb (place % columns + 1) columns room) (fresh-whole columns (place + 1) size some)
+
+-- ---- a row's end
+
+pub row-fits : (place columns height width : ℕ) → place < height * width → 0 < columns → columns ≤ width - place % width → place + 1 + (columns - 1) ≤ height * width
+row-fits place columns height zero within some fit = absurd (omega (arith, within))
+row-fits place columns height (suc less) within some fit =
+    let width = suc less in
+    let wide : 0 < width = omega arith in
+    let row : place / width < height = (div-lt_iff_lt-mul {k = width} {x = place} {y = height} wide).1 within in
+    let rows : width * (place / width + 1) ≤ width * height = mul-le-mul_left width (omega arith) in
+    omega (arith, rows, mod-lt place wide)
+
+-- ---- all cells
+
+pub fill-start : (area : Rect) (buffer : Buffer) → displayed area.width 0 0 (cells_from area buffer 0 (area.height * area.width - 0)) ≡ frame_of area buffer
+fill-start area buffer =
+    let all : area.height * area.width - 0 ≡ area.height * area.width = omega arith in
+    ap (λ count. displayed area.width 0 0 (cells_from area buffer 0 count)) all
+
+pub fill-step : (area : Rect) (buffer : Buffer) (cells : List Cell) (place halves left : ℕ) (cell : Cell) (after frame : List ShownCell) → place < length cells →
+    displayed area.width place halves (cells_from area buffer place (area.height * area.width - place)) ≡ shown_cell cell ∷ after →
+    map shown_cell (take place cells) ++ displayed area.width place halves (cells_from area buffer place (area.height * area.width - place)) ≡ frame →
+    map shown_cell (take (place + 1) (set cells place cell)) ++ after ≡ frame
+fill-step area buffer cells place halves left cell after frame within next before =
+    ap (λ items. map shown_cell items ++ after) (take_more_set cells place cell within)
+    ∙ ap (λ shown. shown ++ after) (map-append shown_cell (take place cells) (cell ∷ []))
+    ∙ append_assoc (map shown_cell (take place cells)) (shown_cell cell ∷ []) after
+    ∙ ap (λ more. map shown_cell (take place cells) ++ more) (sym next)
+    ∙ before
+
+pub fill-end : (area : Rect) (buffer : Buffer) (cells : List Cell) (place halves : ℕ) (frame : List ShownCell) → place ≡ length cells → length cells ≡ area.height * area.width →
+    map shown_cell (take place cells) ++ displayed area.width place halves (cells_from area buffer place (area.height * area.width - place)) ≡ frame → map shown_cell cells ≡ frame
+fill-end area buffer cells place halves frame at full before =
+    let none : area.height * area.width - place ≡ 0 = omega arith in
+    let all : take place cells ≡ cells = ap (λ k. take k cells) at ∙ take-length cells in
+    sym (append-nil (map shown_cell cells))
+    ∙ ap (λ items. map shown_cell items ++ []) (sym all)
+    ∙ ap (λ count. map shown_cell (take place cells) ++ displayed area.width place halves (cells_from area buffer place count)) (sym none)
+    ∙ before
+
+-- ---- fresh cells
+
+pub fresh-more : (cells : List Cell) (cell : Cell) (count : ℕ) → shown_cell cell ≡ fresh_cell → map shown_cell cells ≡ replicate count fresh_cell →
+    map shown_cell (cells ++ cell ∷ []) ≡ replicate (count + 1) fresh_cell
+fresh-more cells cell count is all =
+    map-append shown_cell cells (cell ∷ []) ∙ ap (λ shown. map shown_cell cells ++ shown ∷ []) is ∙ ap (λ shown. shown ++ fresh_cell ∷ []) all ∙ replicate_more count fresh_cell
+
+pub fresh-set : (cells : List Cell) (place : ℕ) (cell : Cell) → place < length cells → shown_cell cell ≡ fresh_cell → map shown_cell (take place cells) ≡ replicate place fresh_cell →
+    map shown_cell (take (place + 1) (set cells place cell)) ≡ replicate (place + 1) fresh_cell
+fresh-set cells place cell within is all = ap (map shown_cell) (take_more_set cells place cell within) ∙ fresh-more (take place cells) cell place is all
+
+pub fresh-all : (cells : List Cell) (place count : ℕ) → place ≡ length cells → length cells ≡ count → map shown_cell (take place cells) ≡ replicate place fresh_cell →
+    map shown_cell cells ≡ replicate count fresh_cell
+fresh-all cells place count at full all =
+    ap (map shown_cell) (sym (take-length cells) ∙ ap (λ k. take k cells) (sym at)) ∙ all ∙ ap (λ k. replicate k fresh_cell) (at ∙ full)
+
+-- ---- whole clusters of an area, which may have no column
+
+zero_or : (n : ℕ) → (n ≡ 0) ⊎ (0 < n)
+zero_or zero = inl refl
+zero_or (suc n) = inr (omega arith)
+
+pub frame-whole : (area : Rect) (buffer : Buffer) → are_whole area.width 0 0 (frame_of area buffer) ≡ true
+frame-whole area buffer =
+    ⊎_elim
+    (λ none.
+    let empty : area.height * area.width ≡ 0 = rw none (omega arith) in
+    ap (λ count. are_whole area.width 0 0 (displayed area.width 0 0 (cells_from area buffer 0 count))) empty)
+    (λ some. displayed-whole area.width 0 0 (cells_from area buffer 0 (area.height * area.width)) some (omega arith))
+    (zero_or area.width)
+
+pub erased-whole : (height width : ℕ) → are_whole width 0 0 (replicate (height * width) fresh_cell) ≡ true
+erased-whole height width =
+    ⊎_elim
+    (λ none.
+    let empty : height * width ≡ 0 = rw none (omega arith) in
+    ap (λ count. are_whole width 0 0 (replicate count fresh_cell)) empty)
+    (λ some. fresh-whole width 0 (height * width) some)
+    (zero_or width)
+
+-- the same where the cells are those of a vector, of which all were erased
+pub erased-back : (height width : ℕ) (items cells : List Cell) (len : ℕ) → length cells ≡ length items → len ≡ length items → len ≡ height * width →
+    map shown_cell cells ≡ replicate (length items) fresh_cell → are_whole width 0 0 (map shown_cell (take len (cells ++ drop (length cells) items))) ≡ true
+erased-back height width items cells len same all full erased =
+    let none : drop (length cells) items ≡ [] = ap (λ k. drop k items) same ∙ drop-length items in
+    let back : take len (cells ++ drop (length cells) items) ≡ cells =
+    ap (λ rest. take len (cells ++ rest)) none ∙ ap (take len) (append-nil cells) ∙ ap (λ k. take k cells) (all ∙ sym same) ∙ take-length cells in
+    ap (λ shown. are_whole width 0 0 (map shown_cell shown)) back
+    ∙ ap (are_whole width 0 0) (erased ∙ ap (λ k. replicate k fresh_cell) (sym all ∙ full))
+    ∙ erased-whole height width

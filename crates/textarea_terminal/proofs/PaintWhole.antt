@@ -1,0 +1,143 @@
+-- The caret and the update around the cells of a frame.
+use Rattle.std.proofs.Common.{◌≡◌, ℕ, ◌<◌, Bool, true, false, List, ◌++◌, length, replicate, Option, Some, None, IfSome, is_some, refl, sym, ap, subst, ◌∙◌, arith}
+use Rattle.std.specs.Option.{option_or}
+use Rattle.std.proofs.lemmas.List.{append-nil}
+use Rattle.std.proofs.Common.{map}
+use Rattle.std.proofs.lemmas.List.{length-map}
+use Rattle.textarea_screen.specs.declared.screen.cell.Cell.{Cell}
+use Rattle.textarea_screen.specs.Cell.{ShownCell, fresh_cell, shown_cell}
+use Rattle.textarea_terminal.specs.Control.{Control}
+use Rattle.textarea_terminal.specs.Paint.{Wrote, prints_of, HasRuns, HasLooks, AreChanges, Repaints, Frame, IsCaret, ShowsFrame, Paints, MovesTo, Clears, SetsCursor, EndsUpdate, PutsCaret, Finishes}
+use Rattle.textarea_terminal.specs.Pen.{plain_look}
+use Rattle.textarea_terminal.specs.Screen.{Terminal, run}
+use Rattle.textarea_terminal.specs.declared.output.brush.Brush.{Brush}
+use Rattle.textarea_terminal.proofs.ControlLemmas.{Wrote-then, run-append, prints_of-append, moves_of-append, pens_of-append}
+
+pub puts-caret : (at : Option ℕ) (known : Option Bool) (columns place : ℕ) (xs ys : List Control) → MovesTo at columns place xs → SetsCursor known true ys →
+    PutsCaret at known columns (Some place) (xs ++ ys)
+puts-caret at known columns place xs ys moves sets = record {
+  brings = λ terminal here is_shown same within.
+      run-append xs ys terminal ∙ ap (run ys) (moves.1 terminal here same within) ∙ sets.1 (record terminal { cursor = Some place }) is_shown;
+  prints = rw (prints_of-append xs ys, moves.0, sets.0) refl;
+  moves = omega (arith, moves_of-append xs ys, moves.3, sets.3);
+  pens = omega (arith, pens_of-append xs ys, moves.4, sets.4);
+  still = λ is_shown here. rw (moves.2 here, sets.2 is_shown) refl;
+}
+
+pub hides-caret : (at : Option ℕ) (known : Option Bool) (columns : ℕ) (ys : List Control) → SetsCursor known false ys → PutsCaret at known columns None ys
+hides-caret at known columns ys sets = record {
+  brings = λ terminal here is_shown same within. sets.1 terminal is_shown;
+  prints = sets.0;
+  moves = omega (arith, sets.3);
+  pens = sets.4;
+  still = λ is_shown here. sets.2 is_shown;
+}
+
+still-known : (known : Option Bool) (before after : Bool) → after ≡ before → IfSome known (λ is_shown. before ≡ is_shown) → IfSome known (λ is_shown. after ≡ is_shown)
+still-known None before after same is_shown = tt
+still-known (Some b) before after same is_shown = same ∙ is_shown
+
+within-cells : (caret : Option ℕ) (cells new : List ShownCell) → cells ≡ new → IfSome caret (λ place. place < length new) → IfSome caret (λ place. place < length cells)
+within-cells None cells new same within = tt
+within-cells (Some place) cells new same within = omega (arith, ap length same)
+
+still-there : (caret at before : Option ℕ) → at ≡ before → IfSome caret (λ place. before ≡ Some place) → IfSome caret (λ place. at ≡ Some place)
+still-there None at before same here = tt
+still-there (Some place) at before same here = same ∙ here
+
+caret-known : (caret : Option ℕ) (terminal : Terminal) → IsCaret caret terminal → IfSome caret (λ place. terminal.cursor ≡ Some place)
+caret-known None terminal is = tt
+caret-known (Some place) terminal is = is.1
+
+caret-shown : (caret : Option ℕ) (terminal : Terminal) → IsCaret caret terminal → terminal.has_cursor_shown ≡ is_some caret
+caret-shown None terminal is = is
+caret-shown (Some place) terminal is = is.0
+
+caret-same : (old new : Option ℕ) → old ≡ new → IfSome new (λ place. old ≡ Some place)
+caret-same old None same = tt
+caret-same old (Some place) same = same
+
+caret-there : (caret : Option ℕ) (terminal : Terminal) → IsCaret caret (record terminal { cursor = option_or caret terminal.cursor; has_cursor_shown = is_some caret; is_updating = false })
+caret-there None terminal = refl
+caret-there (Some place) terminal = (refl, refl)
+
+pub finishes : (start brush : Brush) (known : Option Bool) (columns : ℕ) (old new : List ShownCell) (caret : Option ℕ) (xs ys zs : List Control) →
+    IfSome caret (λ place. place < length new) → Repaints columns old new start brush xs → PutsCaret brush.at known columns caret ys → EndsUpdate brush.is_updating zs →
+    Finishes start known columns old (record { cells = new; caret = caret }) (xs ++ (ys ++ zs))
+finishes start brush known columns old new caret xs ys zs within repaints puts ends = record {
+  brings = λ terminal knows is_shown same cells.
+      let one = run xs terminal in
+      let shows = repaints.brings terminal terminal.has_cursor_shown (record { knows = knows; columns = same; cells = cells; caret = refl }) in
+      let two : Terminal = record one { cursor = option_or caret one.cursor; has_cursor_shown = is_some caret } in
+      let three : Terminal = record two { is_updating = false } in
+      let put : run ys one ≡ two = puts.brings one shows.knows.cursor (still-known known terminal.has_cursor_shown one.has_cursor_shown shows.caret is_shown) shows.columns (within-cells caret one.cells new shows.cells within) in
+      let ran : run (xs ++ (ys ++ zs)) terminal ≡ three =
+      run-append xs (ys ++ zs) terminal ∙ run-append ys zs one ∙ ap (run zs) put ∙ ends.1 two shows.knows.updating in
+      let F : Frame = record { cells = new; caret = caret } in
+      subst (ShowsFrame columns F) (sym ran) (record { columns = shows.columns; cells = shows.cells; caret = caret-there caret one; updating = refl });
+  prints =
+      let texts : prints_of (xs ++ (ys ++ zs)) ≡ prints_of xs = rw (prints_of-append xs (ys ++ zs), prints_of-append ys zs, puts.prints, ends.0) (append-nil (prints_of xs)) in
+      subst (AreChanges old new) (sym texts) repaints.prints;
+  moves = (repaints.moves.0, (repaints.moves.1.0, omega (arith, repaints.moves.1.1, moves_of-append xs (ys ++ zs), moves_of-append ys zs, puts.moves, ends.3)));
+  pens = (repaints.pens.0, (repaints.pens.1.0, omega (arith, repaints.pens.1.1, pens_of-append xs (ys ++ zs), pens_of-append ys zs, puts.pens, ends.4)));
+  still = λ same is_shown here not_begun.
+      let quiet = repaints.still same in
+      let here' : IfSome caret (λ place. brush.at ≡ Some place) = still-there caret brush.at start.at (ap (λ (b : Brush). b.at) quiet.1) here in
+      rw (quiet.0, puts.still is_shown here', ends.2 (ap (λ (b : Brush). b.is_updating) quiet.1 ∙ not_begun)) refl;
+}
+
+-- from a terminal that shows the frame painted last
+pub paints-known : (columns size : ℕ) (old new : Frame) (xs : List Control) → Finishes (record { at = old.caret; pen = None; is_updating = false }) (Some (is_some old.caret)) columns old.cells new xs →
+    Paints columns size (Some old) new xs
+paints-known columns size old new xs finish = record {
+  brings = λ terminal shown.
+      finish.brings terminal (record { cursor = caret-known old.caret terminal shown.caret; pen = tt; updating = shown.updating }) (caret-shown old.caret terminal shown.caret) shown.columns shown.cells;
+  prints = finish.prints;
+  moves = finish.moves;
+  pens = (finish.pens.0, (finish.pens.1.0, omega (arith, finish.pens.1.1)));
+  still = λ same.
+      let frames : old ≡ new = cc same in
+      finish.still (ap (λ (f : Frame). f.cells) frames) (ap (λ (f : Frame). Some (is_some f.caret)) frames) (caret-same old.caret new.caret (ap (λ (f : Frame). f.caret) frames)) refl;
+}
+
+-- from a terminal that was erased
+pub paints-unknown : (columns size : ℕ) (old : List ShownCell) (new : Frame) (xs ys : List Control) → old ≡ replicate size fresh_cell → Clears xs →
+    Finishes (record { at = None; pen = Some plain_look; is_updating = true }) None columns old new ys → Paints columns size None new (xs ++ ys)
+paints-unknown columns size old new xs ys erased clears finish = record {
+  brings = λ terminal shown.
+      let one : Terminal = record terminal { cells = replicate (length terminal.cells) fresh_cell; pen = plain_look; is_updating = true } in
+      let ran : run (xs ++ ys) terminal ≡ run ys one = run-append xs ys terminal ∙ ap (run ys) (clears.1 terminal) in
+      subst (ShowsFrame columns new) (sym ran)
+      (finish.brings one (record { cursor = tt; pen = refl; updating = refl }) tt shown.0 (ap (λ n. replicate n fresh_cell) shown.1 ∙ sym erased));
+  prints =
+      let texts : prints_of (xs ++ ys) ≡ prints_of ys = rw (prints_of-append xs ys, clears.0) refl in
+      subst (λ cells. AreChanges cells new.cells (prints_of (xs ++ ys))) erased (subst (AreChanges old new.cells) (sym texts) finish.prints);
+  moves = (
+    finish.moves.0,
+    (subst (λ cells. HasRuns columns 0 false cells new.cells finish.moves.0) erased finish.moves.1.0, omega (arith, finish.moves.1.1, moves_of-append xs ys, clears.2)),
+  );
+  pens = (
+    finish.pens.0,
+    (subst (λ cells. HasLooks (Some plain_look) cells new.cells finish.pens.0) erased finish.pens.1.0, omega (arith, finish.pens.1.1, pens_of-append xs ys, clears.3)),
+  );
+  still = λ same. cc same;
+}
+
+-- ---- as bytes
+
+pub Wrote-frame : (start brush : Brush) (known : Option Bool) (columns : ℕ) (old new : List ShownCell) (caret : Option ℕ) {a b c d : List ℕ} →
+    IfSome caret (λ place. place < length new) → Wrote a b (Repaints columns old new start brush) → Wrote b c (PutsCaret brush.at known columns caret) →
+    Wrote c d (EndsUpdate brush.is_updating) → Wrote a d (Finishes start known columns old (record { cells = new; caret = caret }))
+Wrote-frame start brush known columns old new caret within first second third =
+    let Q : List Control → Type 0 = λ rest. (ys : List Control) × ((zs : List Control) × ((rest ≡ ys ++ zs) × (PutsCaret brush.at known columns caret ys × EndsUpdate brush.is_updating zs))) in
+    let R : List Control → Type 0 = Finishes start known columns old (record { cells = new; caret = caret }) in
+    Wrote-then R first (Wrote-then Q second third (λ ys zs puts ends. (ys, (zs, (refl, (puts, ends))))))
+    (λ xs rest repaints parts.
+    let ys = parts.0 in
+    let zs = parts.1.0 in
+    let same : xs ++ rest ≡ xs ++ (ys ++ zs) = ap (λ more. xs ++ more) parts.1.1.0 in
+    subst R (sym same) (finishes start brush known columns old new caret xs ys zs within repaints parts.1.1.1.0 parts.1.1.1.1))
+
+pub within-shown : (caret : Option ℕ) (items : List Cell) → IfSome caret (λ place. place < length items) → IfSome caret (λ place. place < length (map shown_cell items))
+within-shown None items within = tt
+within-shown (Some place) items within = omega (arith, length-map items shown_cell)

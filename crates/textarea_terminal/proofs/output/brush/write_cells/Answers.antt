@@ -1,0 +1,42 @@
+use Rattle.std.proofs.Common.{◌≡◌, ◌+◌, length, map, sym, ◌∙◌, arith}
+use Rattle.std.proofs.lemmas.List.{length-map}
+use Rattle.textarea_screen.specs.Cell.{shown_cell}
+use Rattle.textarea_terminal.proofs.ControlLemmas.{Wrote-none, Wrote-then, Wrote-as}
+use Rattle.textarea_terminal.specs.Paint.{Repaints}
+use Rattle.textarea_terminal.proofs.PaintSteps.{Reaches, Reaches-start, Reaches-end, Reaches-step, begins-at}
+use Rattle.textarea_terminal.proofs.output.brush.write_cells.Goals as goal
+
+pub write_change-requires-clause-begins : goal.write_change-requires-clause-begins
+write_change-requires-clause-begins c =
+    rw c.loop-place.invariant.1
+    (begins-at c.args.columns c.loop-place.place c.args.new.now c.index-new-place.result c.index-new-place.is (omega arith) c.requires.new_whole)
+
+pub loop-place-init : goal.loop-place-init
+loop-place-init c =
+    let olds = map shown_cell c.args.old.now in
+    let news = map shown_cell c.args.new.now in
+    let long : length olds ≡ length news = length-map c.args.old.now shown_cell ∙ c.requires.length ∙ sym (length-map c.args.new.now shown_cell) in (
+      Wrote-none (Reaches-start c.args.start c.args.columns olds news c.requires.old_whole c.requires.new_whole long),
+      c.first-spot.ensures.place,
+      c.first-spot.ensures.is,
+    )
+
+pub loop-place-preserved : goal.loop-place-preserved
+loop-place-preserved c = (
+  Wrote-then (Reaches c.args.start c.in_ok-brush.brush c.args.columns (c.loop-place.place + 1) (map shown_cell c.args.old.now) (map shown_cell c.args.new.now))
+      c.loop-place.invariant.0 (rw c.loop-place.invariant.1 at c.in_ok-brush.ensures)
+      (λ xs ys reaches change.
+      Reaches-step c.args.start c.loop-place.brush c.in_ok-brush.brush c.args.columns c.loop-place.place c.args.old.now c.args.new.now c.index-old-place.result
+      c.index-new-place.result xs ys c.index-old-place.is c.index-new-place.is c.requires.length (omega arith) c.requires.old_whole c.requires.new_whole change reaches),
+  omega (arith, c.next-spot.ensures.place, c.loop-place.invariant.1),
+  c.next-spot.ensures.is,
+)
+
+pub returns : goal.returns
+returns c =
+    let olds = map shown_cell c.args.old.now in
+    let news = map shown_cell c.args.new.now in
+    let long : length olds ≡ length news = length-map c.args.old.now shown_cell ∙ c.requires.length ∙ sym (length-map c.args.new.now shown_cell) in
+    Wrote-as (Repaints c.args.columns olds news c.args.start c.loop-place.brush) c.loop-place.invariant.0
+    (λ xs reaches.
+    Reaches-end c.args.start c.loop-place.brush c.args.columns c.loop-place.place olds news xs (omega (arith, length-map c.args.new.now shown_cell)) long reaches)

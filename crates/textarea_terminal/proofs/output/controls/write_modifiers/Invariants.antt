@@ -1,0 +1,6 @@
+use Rattle.std.proofs.Common.{◌≡◌, ◌++◌, drop}
+use Rattle.textarea_terminal.specs.Pen.{renditions_bytes, added, all_numbers}
+use Rattle.textarea_terminal.proofs.output.controls.write_modifiers.Given as goal
+
+abbrev pub invariant-loop-number : goal.invariant-loop-number
+invariant-loop-number l = l.bytes.items ++ renditions_bytes (added l.modifier (drop l.number-index all_numbers)) ≡ l.initial.bytes.items ++ renditions_bytes (added l.modifier all_numbers)

@@ -1,0 +1,6 @@
+use Rattle.std.proofs.Common.{[], ◌∷◌, refl}
+use Rattle.textarea_terminal.specs.Control.Control.{BeginUpdate, SetPen, EraseAll}
+use Rattle.textarea_terminal.proofs.output.whole.clear.Goals as goal
+
+pub returns : goal.returns
+returns c = record { controls = BeginUpdate ∷ SetPen [] ∷ EraseAll ∷ []; bytes = c.in_ok-extend_from_slice.ensures.items; holding = (refl, λ terminal. refl, refl, refl) }

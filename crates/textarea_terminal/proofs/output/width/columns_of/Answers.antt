@@ -1,0 +1,17 @@
+use Rattle.std.proofs.Common.{◌^◌, ◌<◌, length, arith, rules}
+use Rattle.textarea_paint.specs.Columns.{columns_of}
+use Rattle.textarea_terminal.proofs.ScreenWidths.{columns-le}
+use Rattle.textarea_terminal.proofs.output.width.columns_of.Goals as goal
+
+pub sum_of_columns-requires : goal.sum_of_columns-requires
+sum_of_columns-requires c =
+    let size : length c.args.cluster.now < 2 ^ 63 = search rules in
+    omega (arith, columns-le c.args.cluster.now c.utf8.cluster)
+
+pub returns-then-has_control : goal.returns-then-has_control
+unfolding columns_of
+returns-then-has_control c = search rules
+
+pub returns-else-has_control : goal.returns-else-has_control
+unfolding columns_of
+returns-else-has_control c = search rules

@@ -1,0 +1,32 @@
+-- Events as values.
+use Rattle.std.specs.Prelude.{ℕ, List, Option}
+use Rattle.std.specs.String.{string_bytes}
+use Rattle.textarea_data.specs.declared.input.Input.{Input}
+use Rattle.textarea_terminal.specs.declared.input.event.Event.{Event}
+use Rattle.textarea_terminal.specs.declared.input.event.Event.TheVariants as event
+use Rattle.textarea_terminal.specs.declared.input.event.Mouse.{Mouse}
+
+-- an event, with the bytes of a pasted text
+pub data EventValue : Type 0 where
+  input : Input → EventValue
+  paste : List ℕ → EventValue
+  mouse : Mouse → EventValue
+  size : ℕ → ℕ → EventValue
+  cursor : ℕ → ℕ → EventValue
+  focus_gained : EventValue
+  focus_lost : EventValue
+  unknown : EventValue
+
+abbrev pub value_of : Event → EventValue
+value_of (event.Input i) = input i
+value_of (event.Paste text) = paste (string_bytes text)
+value_of (event.Mouse m) = mouse m
+value_of (event.Size columns rows) = size columns rows
+value_of (event.Cursor column row) = cursor column row
+value_of event.FocusGained = focus_gained
+value_of event.FocusLost = focus_lost
+value_of event.Unknown = unknown
+
+-- the event at the front of bytes, and the bytes after it; none where the bytes end within it
+abbrev pub EventAndRest : Type 0
+EventAndRest = Option (EventValue × List ℕ)

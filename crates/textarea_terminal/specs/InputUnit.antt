@@ -1,0 +1,87 @@
+-- The events of a terminal's bytes, one after another from the front.
+use Rattle.std.specs.Prelude.{ℕ, ◌+◌, ◌==◌, nat_lt, List, [], ◌∷◌, Option, Some, None, option_map, is_some, take, drop, suc, if◌then◌else◌}
+use Rattle.std.specs.Int.{is_in_range}
+use Rattle.std.specs.Str.Lossy.{utf8_lossy}
+use Rattle.textarea_data.specs.declared.input.Input.{Input}
+use Rattle.textarea_data.specs.declared.input.Key.TheVariants as key
+use Rattle.textarea_terminal.specs.InputEvent.{EventValue, EventAndRest, input, paste}
+use Rattle.textarea_terminal.specs.InputKey.{input_of_key, with_alt, byte_input, single_event}
+use Rattle.textarea_terminal.specs.InputCharacter.{character}
+use Rattle.textarea_terminal.specs.InputSequence.{bracket_at}
+
+-- ---- keys with a character, and sequences
+
+-- the input of a first byte that isn't ESC, and of those after it
+unfoldable pub key_at : ℕ → List ℕ → Option (Input × List ℕ)
+key_at a bytes =
+    if nat_lt a 128 then Some (byte_input a, bytes) else option_map (λ x. (input_of_key (key.Char x.0), x.1)) (character a bytes)
+
+-- what is after ESC O: a byte from 32 to 126, or it is Alt and O
+unfoldable pub single_at : List ℕ → EventAndRest
+single_at [] = None
+single_at (b ∷ bytes) =
+    if is_in_range 32 126 b then Some (single_event b, bytes) else Some (input (with_alt (input_of_key (key.Char 79))), b ∷ bytes)
+
+-- an ESC before a sequence: with a key's or the wheel's it is that with Alt, and before another, which begins at `sequence`, it is
+-- the key Esc
+abbrev pub with_escape : List ℕ → EventValue × List ℕ → EventValue × List ℕ
+with_escape sequence (input i, bytes) = (input (with_alt i), bytes)
+with_escape sequence (other, bytes) = (input (input_of_key key.Esc), sequence)
+
+-- what is after ESC ESC; `second` begins at the second one
+unfoldable pub second_escape_at : List ℕ → List ℕ → EventAndRest
+second_escape_at second [] = None
+second_escape_at second (b ∷ bytes) =
+    if b == 91 then option_map (with_escape second) (bracket_at bytes)
+    else (if b == 79 then option_map (with_escape second) (single_at bytes)
+    else Some (input (input_of_key key.Esc), second))
+
+-- what is after ESC: a sequence, or a key with Alt
+unfoldable pub escape_at : List ℕ → EventAndRest
+escape_at [] = None
+escape_at (b ∷ bytes) =
+    if b == 91 then bracket_at bytes
+    else (if b == 79 then single_at bytes
+    else (if b == 27 then second_escape_at (b ∷ bytes) bytes
+    else option_map (λ x. (input (with_alt x.0), x.1)) (key_at b bytes)))
+
+unfoldable pub key_or_sequence : List ℕ → EventAndRest
+key_or_sequence [] = None
+key_or_sequence (b ∷ bytes) = if b == 27 then escape_at bytes else option_map (λ x. (input x.0, x.1)) (key_at b bytes)
+
+-- ---- pasted texts
+
+-- the marks around a pasted text (xterm, "Bracketed Paste Mode"): ESC [ 2 0 0 ~ and ESC [ 2 0 1 ~
+abbrev pub paste_start : List ℕ
+paste_start = 27 ∷ 91 ∷ 50 ∷ 48 ∷ 48 ∷ 126 ∷ []
+
+abbrev pub paste_end : List ℕ
+paste_end = 27 ∷ 91 ∷ 50 ∷ 48 ∷ 49 ∷ 126 ∷ []
+
+-- the bytes after a mark at the front
+unfoldable pub after_mark : List ℕ → List ℕ → Option (List ℕ)
+after_mark [] bytes = Some bytes
+after_mark (m ∷ mark) [] = None
+after_mark (m ∷ mark) (b ∷ bytes) = if b == m then after_mark mark bytes else None
+
+-- the index of the first mark
+unfoldable pub index_of : List ℕ → List ℕ → Option ℕ
+index_of mark [] = None
+index_of mark (b ∷ bytes) = if is_some (after_mark mark (b ∷ bytes)) then Some 0 else option_map suc (index_of mark bytes)
+
+-- a pasted text ends at the first mark of an end, whatever its bytes are
+abbrev pub paste_before : List ℕ → ℕ → EventValue × List ℕ
+paste_before bytes index = (paste (utf8_lossy (take index bytes)), drop (index + 6) bytes)
+
+unfoldable pub paste_at : List ℕ → EventAndRest
+paste_at bytes = option_map (paste_before bytes) (index_of paste_end bytes)
+
+-- ---- all
+
+abbrev pub paste_or : Option (List ℕ) → EventAndRest → EventAndRest
+paste_or (Some text) other = paste_at text
+paste_or None other = other
+
+-- the event at the front
+unfoldable pub unit_at : List ℕ → EventAndRest
+unit_at bytes = paste_or (after_mark paste_start bytes) (key_or_sequence bytes)

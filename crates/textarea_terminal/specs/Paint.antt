@@ -1,0 +1,262 @@
+-- What painting does to a terminal, and how the bytes say it.
+use Rattle.std.specs.Prelude.{◌≡◌, ℕ, ◌+◌, ◌%◌, ◌<◌, ◌≤◌, true, false, Bool, not, ◌&&◌, ◌==◌, List, [], ◌∷◌, ◌++◌, ◌⊎◌, ◌≢◌, length, take, drop, replicate, Option, None, Some, IfSome, is_some, if◌then◌else◌}
+use Rattle.std.specs.Option.{option_or}
+use Rattle.textarea_screen.specs.Cell.{ShownCell, fresh_cell}
+use Rattle.textarea_terminal.specs.Control.{Control, bytes_of}
+use Rattle.textarea_terminal.specs.Control.Control.{Print, MoveTo, SetPen, EraseAll, ShowCursor, HideCursor, BeginUpdate, EndUpdate}
+use Rattle.textarea_terminal.specs.PaintCells.{cluster_columns, is_half}
+use Rattle.textarea_terminal.specs.Pen.{look_of, plain_look}
+use Rattle.textarea_terminal.specs.Screen.{Terminal, run, printed, rest_of, cursor_after}
+use Rattle.textarea_terminal.specs.declared.output.brush.Brush.{Brush}
+use Rattle.textarea_terminal.specs.declared.output.look.Look.{Look}
+
+-- the bytes after are those before, followed by those of controls of which this holds
+pub record Wrote (before after : List ℕ) (holds : List Control → Type 0) : Type 0 where
+  pub controls : List Control
+  pub bytes : after ≡ before ++ bytes_of controls
+  pub holding : holds controls
+
+-- the texts that controls print, in order
+abbrev pub prints_of : List Control → List (List ℕ)
+prints_of [] = []
+prints_of (Print text ∷ controls) = text ∷ prints_of controls
+prints_of (MoveTo row column ∷ controls) = prints_of controls
+prints_of (SetPen renditions ∷ controls) = prints_of controls
+prints_of (EraseAll ∷ controls) = prints_of controls
+prints_of (ShowCursor ∷ controls) = prints_of controls
+prints_of (HideCursor ∷ controls) = prints_of controls
+prints_of (BeginUpdate ∷ controls) = prints_of controls
+prints_of (EndUpdate ∷ controls) = prints_of controls
+
+-- how often controls move the cursor
+abbrev pub moves_of : List Control → ℕ
+moves_of [] = 0
+moves_of (Print text ∷ controls) = moves_of controls
+moves_of (MoveTo row column ∷ controls) = moves_of controls + 1
+moves_of (SetPen renditions ∷ controls) = moves_of controls
+moves_of (EraseAll ∷ controls) = moves_of controls
+moves_of (ShowCursor ∷ controls) = moves_of controls
+moves_of (HideCursor ∷ controls) = moves_of controls
+moves_of (BeginUpdate ∷ controls) = moves_of controls
+moves_of (EndUpdate ∷ controls) = moves_of controls
+
+-- how often controls change the pen
+abbrev pub pens_of : List Control → ℕ
+pens_of [] = 0
+pens_of (Print text ∷ controls) = pens_of controls
+pens_of (MoveTo row column ∷ controls) = pens_of controls
+pens_of (SetPen renditions ∷ controls) = pens_of controls + 1
+pens_of (EraseAll ∷ controls) = pens_of controls
+pens_of (ShowCursor ∷ controls) = pens_of controls
+pens_of (HideCursor ∷ controls) = pens_of controls
+pens_of (BeginUpdate ∷ controls) = pens_of controls
+pens_of (EndUpdate ∷ controls) = pens_of controls
+
+-- ---- the steps of painting
+
+-- the controls leave the terminal in an update
+abbrev pub BeginsUpdate : Bool → List Control → Type 0
+BeginsUpdate is_updating controls =
+    (prints_of controls ≡ [])
+    × ((terminal : Terminal) → terminal.is_updating ≡ is_updating → run controls terminal ≡ record terminal { is_updating = true })
+    × (moves_of controls ≡ 0) × (pens_of controls ≡ 0)
+
+-- they bring the cursor to a place, from this one if it is known
+abbrev pub MovesTo : Option ℕ → ℕ → ℕ → List Control → Type 0
+MovesTo at columns place controls =
+    (prints_of controls ≡ [])
+    × ((terminal : Terminal) → IfSome at (λ here. terminal.cursor ≡ Some here) → terminal.columns ≡ columns → place < length terminal.cells →
+    run controls terminal ≡ record terminal { cursor = Some place })
+    × (at ≡ Some place → controls ≡ [])
+    × (moves_of controls ≤ 1) × (pens_of controls ≡ 0)
+
+-- so many changes of the pen: one, unless it is known to have the look
+abbrev pub IsNeeded : Option Look → Look → ℕ → Type 0
+IsNeeded pen look count = ((pen ≡ Some look) × (count ≡ 0)) ⊎ ((pen ≢ Some look) × (count ≡ 1))
+
+-- they give the pen a look, from this one if it is known
+abbrev pub TakesLook : Option Look → Look → List Control → Type 0
+TakesLook pen look controls =
+    (prints_of controls ≡ [])
+    × ((terminal : Terminal) → IfSome pen (λ known. terminal.pen ≡ known) → run controls terminal ≡ record terminal { pen = look })
+    × (moves_of controls ≡ 0) × IsNeeded pen look (pens_of controls)
+
+-- what is known of the terminal is so
+pub record Knows (brush : Brush) (terminal : Terminal) : Type 0 where
+  pub cursor : IfSome brush.at (λ place. terminal.cursor ≡ Some place)
+  pub pen : IfSome brush.pen (λ look. terminal.pen ≡ look)
+  pub updating : terminal.is_updating ≡ brush.is_updating
+
+-- the terminal with the cell's cluster printed at a place
+abbrev pub with_cell : ℕ → ℕ → ShownCell → Terminal → Terminal
+with_cell columns place cell terminal = record terminal {
+  cells = printed (rest_of terminal.rest_look (look_of cell)) cell (cluster_columns cell.symbol) (take place terminal.cells) (drop place terminal.cells);
+  cursor = cursor_after columns (place + cluster_columns cell.symbol);
+  pen = look_of cell;
+  is_updating = true;
+}
+
+-- what is known after that
+abbrev pub brush_after : ℕ → ℕ → ShownCell → Brush
+brush_after columns place cell = record {
+  at = cursor_after columns (place + cluster_columns cell.symbol);
+  pen = Some (look_of cell);
+  is_updating = true;
+}
+
+-- the controls print the cell's cluster at a place
+abbrev pub PrintsCell : Brush → ℕ → ℕ → ShownCell → List Control → Type 0
+PrintsCell brush columns place cell controls =
+    (prints_of controls ≡ cell.symbol ∷ [])
+    × ((terminal : Terminal) → Knows brush terminal → terminal.columns ≡ columns → place < length terminal.cells →
+    run controls terminal ≡ with_cell columns place cell terminal)
+    × (moves_of controls ≤ 1) × (brush.at ≡ Some place → moves_of controls ≡ 0) × IsNeeded brush.pen (look_of cell) (pens_of controls)
+
+-- the cell is as it was, or its cluster begins before it: nothing is written
+pub record KeepsCell (before after : Brush) (old new : ShownCell) (controls : List Control) : Type 0 where
+  pub none : controls ≡ []
+  pub brush : after ≡ before
+
+-- the cell is another one: it is printed
+pub record ChangesCell (before after : Brush) (columns place : ℕ) (old new : ShownCell) (controls : List Control) : Type 0 where
+  pub whole : is_half new ≡ false
+  pub changed : old ≢ new
+  pub prints : PrintsCell before columns place new controls
+  pub brush : after ≡ brush_after columns place new
+
+-- ---- a frame
+
+-- the terminal is as the brush knows it, and shows these cells, and its cursor or not
+pub record Shows (brush : Brush) (width : ℕ) (frame : List ShownCell) (is_caret_shown : Bool) (terminal : Terminal) : Type 0 where
+  pub knows : Knows brush terminal
+  pub columns : terminal.columns ≡ width
+  pub cells : terminal.cells ≡ frame
+  pub caret : terminal.has_cursor_shown ≡ is_caret_shown
+
+-- these texts, in order, are those of the clusters of the new cells that begin in a cell which is not as it was
+abbrev pub AreChanges : List ShownCell → List ShownCell → List (List ℕ) → Type 0
+AreChanges [] [] texts = texts ≡ []
+AreChanges (old ∷ olds) (new ∷ news) texts =
+    (((is_half new ≡ true) ⊎ (old ≡ new)) × AreChanges olds news texts)
+    ⊎ ((is_half new ≡ false) × (old ≢ new) × ((later : List (List ℕ)) × (texts ≡ new.symbol ∷ later) × AreChanges olds news later))
+AreChanges olds news texts = ⊥
+
+-- so many runs of changed clusters, each run in one row; `follows` where the cluster before these cells has changed
+abbrev pub HasRuns : ℕ → ℕ → Bool → List ShownCell → List ShownCell → ℕ → Type 0
+HasRuns columns place follows [] [] runs = runs ≡ 0
+HasRuns columns place follows (old ∷ olds) (new ∷ news) runs =
+    ((is_half new ≡ true) × HasRuns columns (place + 1) follows olds news runs)
+    ⊎ (((is_half new ≡ false) × (old ≡ new) × HasRuns columns (place + 1) false olds news runs)
+    ⊎ ((is_half new ≡ false) × (old ≢ new)
+    × ((later : ℕ) × (runs ≡ (if follows && not (place % columns == 0) then later else later + 1)) × HasRuns columns (place + 1) true olds news later)))
+HasRuns columns place follows olds news runs = ⊥
+
+-- so many changes of the look among changed clusters, from the look of the pen
+abbrev pub HasLooks : Option Look → List ShownCell → List ShownCell → ℕ → Type 0
+HasLooks pen [] [] looks = looks ≡ 0
+HasLooks pen (old ∷ olds) (new ∷ news) looks =
+    (((is_half new ≡ true) ⊎ (old ≡ new)) × HasLooks pen olds news looks)
+    ⊎ ((is_half new ≡ false) × (old ≢ new)
+    × ((later : ℕ) × ((count : ℕ) × (IsNeeded pen (look_of new) count × (looks ≡ count + later) × HasLooks (Some (look_of new)) olds news later))))
+HasLooks pen olds news looks = ⊥
+
+-- the controls bring a terminal from showing the old cells to showing the new ones, and leave its cursor as visible as it was; they
+-- print what has changed and nothing else, with one move for each run at most, and a change of the pen only where the look changes; and
+-- where nothing has changed there are none
+pub record Repaints (columns : ℕ) (old new : List ShownCell) (before after : Brush) (controls : List Control) : Type 0 where
+  pub brings : (terminal : Terminal) (is_caret_shown : Bool) → Shows before columns old is_caret_shown terminal →
+      Shows after columns new is_caret_shown (run controls terminal)
+  pub prints : AreChanges old new (prints_of controls)
+  pub moves : (runs : ℕ) × (HasRuns columns 0 false old new runs × (moves_of controls ≤ runs))
+  pub pens : (looks : ℕ) × (HasLooks before.pen old new looks × (pens_of controls ≤ looks))
+  pub still : old ≡ new → (controls ≡ []) × (after ≡ before)
+
+-- ---- what a painter promises
+
+-- what was painted last: the cells, row after row, and the place of the caret among them, if it is shown
+pub record Frame : Type 0 where
+  pub cells : List ShownCell
+  pub caret : Option ℕ
+
+-- the cursor is shown at this place, or not shown
+abbrev pub IsCaret : Option ℕ → Terminal → Type 0
+IsCaret None terminal = terminal.has_cursor_shown ≡ false
+IsCaret (Some place) terminal = (terminal.has_cursor_shown ≡ true) × (terminal.cursor ≡ Some place)
+
+-- the terminal shows exactly these cells and this caret, and holds nothing back
+pub record ShowsFrame (width : ℕ) (frame : Frame) (terminal : Terminal) : Type 0 where
+  pub columns : terminal.columns ≡ width
+  pub cells : terminal.cells ≡ frame.cells
+  pub caret : IsCaret frame.caret terminal
+  pub updating : terminal.is_updating ≡ false
+
+-- the terminal has so many columns and cells; and where a frame is known it shows that
+abbrev pub IsShown : ℕ → ℕ → Option Frame → Terminal → Type 0
+IsShown columns size None terminal = (terminal.columns ≡ columns) × (length terminal.cells ≡ size)
+IsShown columns size (Some frame) terminal = ShowsFrame columns frame terminal
+
+-- the cells from which the next frame starts: where nothing is known, those of an erased terminal
+abbrev pub first_cells : ℕ → Option Frame → List ShownCell
+first_cells size None = replicate size fresh_cell
+first_cells size (Some frame) = frame.cells
+
+-- the look of the pen before the first cell, where it is known: that of an erased terminal
+abbrev pub first_pen : Option Frame → Option Look
+first_pen None = Some plain_look
+first_pen (Some frame) = None
+
+-- the controls bring any terminal that shows what was painted last to show the frame, and any terminal of that size where nothing is
+-- known of it; they print each cluster that begins in a cell which has changed once, and nothing else, with one move for each run of such
+-- clusters and one for the caret at most, and a change of the pen where the look changes and one more at most; and where neither a cell
+-- nor the caret has changed there are none
+pub record Paints (columns size : ℕ) (before : Option Frame) (frame : Frame) (controls : List Control) : Type 0 where
+  pub brings : (terminal : Terminal) → IsShown columns size before terminal → ShowsFrame columns frame (run controls terminal)
+  pub prints : AreChanges (first_cells size before) frame.cells (prints_of controls)
+  pub moves : (runs : ℕ) × (HasRuns columns 0 false (first_cells size before) frame.cells runs × (moves_of controls ≤ runs + 1))
+  pub pens : (looks : ℕ) × (HasLooks (first_pen before) (first_cells size before) frame.cells looks × (pens_of controls ≤ looks + 1))
+  pub still : before ≡ Some frame → controls ≡ []
+
+-- ---- around the cells
+
+-- a terminal, whatever it shows, is erased in its own colours, in an update
+abbrev pub Clears : List Control → Type 0
+Clears controls =
+    (prints_of controls ≡ [])
+    × ((terminal : Terminal) → run controls terminal
+    ≡ record terminal { cells = replicate (length terminal.cells) fresh_cell; pen = plain_look; is_updating = true })
+    × (moves_of controls ≡ 0) × (pens_of controls ≡ 1)
+
+-- the cursor is shown or hidden as wanted; `known` is how it was, where that is known
+abbrev pub SetsCursor : Option Bool → Bool → List Control → Type 0
+SetsCursor known wanted controls =
+    (prints_of controls ≡ [])
+    × ((terminal : Terminal) → IfSome known (λ is_shown. terminal.has_cursor_shown ≡ is_shown) → run controls terminal ≡ record terminal { has_cursor_shown = wanted })
+    × (known ≡ Some wanted → controls ≡ [])
+    × (moves_of controls ≡ 0) × (pens_of controls ≡ 0)
+
+-- an update that has begun ends
+abbrev pub EndsUpdate : Bool → List Control → Type 0
+EndsUpdate is_updating controls =
+    (prints_of controls ≡ [])
+    × ((terminal : Terminal) → terminal.is_updating ≡ is_updating → run controls terminal ≡ record terminal { is_updating = false })
+    × (is_updating ≡ false → controls ≡ [])
+    × (moves_of controls ≡ 0) × (pens_of controls ≡ 0)
+
+-- the cursor is brought to the caret and shown, or hidden
+pub record PutsCaret (at : Option ℕ) (known : Option Bool) (width : ℕ) (caret : Option ℕ) (controls : List Control) : Type 0 where
+  pub brings : (terminal : Terminal) → IfSome at (λ here. terminal.cursor ≡ Some here) → IfSome known (λ is_shown. terminal.has_cursor_shown ≡ is_shown) →
+      terminal.columns ≡ width → IfSome caret (λ place. place < length terminal.cells) →
+      run controls terminal ≡ record terminal { cursor = option_or caret terminal.cursor; has_cursor_shown = is_some caret }
+  pub prints : prints_of controls ≡ []
+  pub moves : moves_of controls ≤ 1
+  pub pens : pens_of controls ≡ 0
+  pub still : known ≡ Some (is_some caret) → IfSome caret (λ place. at ≡ Some place) → controls ≡ []
+
+-- the cells and then the caret are brought from what is known to the frame
+pub record Finishes (brush : Brush) (known : Option Bool) (width : ℕ) (old : List ShownCell) (frame : Frame) (controls : List Control) : Type 0 where
+  pub brings : (terminal : Terminal) → Knows brush terminal → IfSome known (λ is_shown. terminal.has_cursor_shown ≡ is_shown) → terminal.columns ≡ width →
+      terminal.cells ≡ old → ShowsFrame width frame (run controls terminal)
+  pub prints : AreChanges old frame.cells (prints_of controls)
+  pub moves : (runs : ℕ) × (HasRuns width 0 false old frame.cells runs × (moves_of controls ≤ runs + 1))
+  pub pens : (looks : ℕ) × (HasLooks brush.pen old frame.cells looks × (pens_of controls ≤ looks))
+  pub still : old ≡ frame.cells → known ≡ Some (is_some frame.caret) → IfSome frame.caret (λ place. brush.at ≡ Some place) → brush.is_updating ≡ false → controls ≡ []

@@ -1,0 +1,9 @@
+-- A place among the cells of a terminal, with its row and its column.
+use Rattle.std.specs.Prelude.{◌≡◌, ℕ, ◌+◌, ◌*◌, ◌<◌, ◌≤◌}
+use Rattle.textarea_terminal.specs.declared.output.spot.Spot.{Spot}
+
+-- the row and the column are those of the place, where a row has so many columns
+pub record IsSpot (columns : ℕ) (spot : Spot) : Type 0 where
+  pub place : spot.place ≡ spot.row * columns + spot.column
+  pub column : 0 < columns → spot.column < columns
+  pub row : spot.row ≤ spot.place

@@ -1,0 +1,104 @@
+-- The pen of a terminal: the look of what it prints next. A terminal changes it by Select Graphic Rendition.
+use Rattle.std.specs.Prelude.{ℕ, ◌+◌, ◌-◌, ◌^◌, Bool, ◌==◌, List, [], ◌∷◌, ◌++◌, codes, decimal, if◌then◌else◌}
+use Rattle.std.specs.Int.RustNames.{bit_and}
+use Rattle.textarea_screen.specs.Cell.{ShownCell}
+use Rattle.textarea_screen.specs.Modifier.{union_of}
+use Rattle.textarea_screen.specs.declared.screen.color.Color.{Color}
+use Rattle.textarea_screen.specs.declared.screen.color.Color.TheVariants.{Reset, Black, Red, Green, Yellow, Blue, Magenta, Cyan, Gray, DarkGray, LightRed, LightGreen, LightYellow, LightBlue, LightMagenta, LightCyan, White, Rgb, Indexed}
+use Rattle.textarea_screen.specs.declared.screen.modifier.Modifier.{Modifier}
+use Rattle.textarea_terminal.specs.declared.output.look.Look.{Look}
+
+-- the look of a terminal that was reset: its own colours, and no modifier
+abbrev pub plain_look : Look
+plain_look = record { fg = Reset; bg = Reset; modifier = record { 0 = 0 } }
+
+-- the colours and modifiers of a cell
+abbrev pub look_of : ShownCell → Look
+look_of cell = record { fg = cell.fg; bg = cell.bg; modifier = cell.modifier }
+
+-- a cell of this text in this look
+abbrev pub in_look : Look → List ℕ → ShownCell
+in_look look symbol = record { symbol = symbol; fg = look.fg; bg = look.bg; modifier = look.modifier }
+
+-- ---- what a rendition changes
+
+-- one rendition: a modifier that is added, by its number from 1 to 9, or a colour
+pub data Rendition : Type 0 where
+  Add : ℕ → Rendition
+  Foreground : Color → Rendition
+  Background : Color → Rendition
+
+-- the modifier of a number: 1 is bold, 2 dim, 3 italic, 4 underlined, 5 slowly and 6 quickly blinking, 7 reversed, 8 hidden and
+-- 9 crossed out
+abbrev pub modifier_bit : ℕ → ℕ
+modifier_bit number = 2 ^ (number - 1)
+
+abbrev pub rendered : Look → Rendition → Look
+rendered look (Add number) = record look { modifier = union_of look.modifier (record { 0 = modifier_bit number }) }
+rendered look (Foreground color) = record look { fg = color }
+rendered look (Background color) = record look { bg = color }
+
+-- renditions one after another
+abbrev pub rendered_all : Look → List Rendition → Look
+rendered_all look [] = look
+rendered_all look (rendition ∷ renditions) = rendered_all (rendered look rendition) renditions
+
+-- ---- its numbers
+
+-- the eight colours are numbered from `base` on, the eight bright ones 60 after them; 8 after `base` introduces another colour
+abbrev pub color_bytes : ℕ → Color → List ℕ
+color_bytes base Reset = decimal (base + 9)
+color_bytes base Black = decimal base
+color_bytes base Red = decimal (base + 1)
+color_bytes base Green = decimal (base + 2)
+color_bytes base Yellow = decimal (base + 3)
+color_bytes base Blue = decimal (base + 4)
+color_bytes base Magenta = decimal (base + 5)
+color_bytes base Cyan = decimal (base + 6)
+color_bytes base Gray = decimal (base + 7)
+color_bytes base DarkGray = decimal (base + 60)
+color_bytes base LightRed = decimal (base + 61)
+color_bytes base LightGreen = decimal (base + 62)
+color_bytes base LightYellow = decimal (base + 63)
+color_bytes base LightBlue = decimal (base + 64)
+color_bytes base LightMagenta = decimal (base + 65)
+color_bytes base LightCyan = decimal (base + 66)
+color_bytes base White = decimal (base + 67)
+color_bytes base (Rgb red green blue) =
+    decimal (base + 8) ++ codes ";2;" ++ decimal red ++ codes ";" ++ decimal green ++ codes ";" ++ decimal blue
+color_bytes base (Indexed number) = decimal (base + 8) ++ codes ";5;" ++ decimal number
+
+abbrev pub rendition_bytes : Rendition → List ℕ
+rendition_bytes (Add number) = decimal number
+rendition_bytes (Foreground color) = color_bytes 30 color
+rendition_bytes (Background color) = color_bytes 40 color
+
+-- each with a semicolon before it
+abbrev pub renditions_bytes : List Rendition → List ℕ
+renditions_bytes [] = []
+renditions_bytes (rendition ∷ renditions) = codes ";" ++ rendition_bytes rendition ++ renditions_bytes renditions
+
+-- ---- the renditions that give a look to a pen that was reset
+
+abbrev pub has_modifier : Modifier → ℕ → Bool
+has_modifier modifier number = bit_and modifier.0 (modifier_bit number) == modifier_bit number
+
+-- those of the modifiers with these numbers that the set has
+abbrev pub added : Modifier → List ℕ → List Rendition
+added modifier [] = []
+added modifier (number ∷ numbers) =
+    if has_modifier modifier number then Add number ∷ added modifier numbers else added modifier numbers
+
+abbrev pub all_numbers : List ℕ
+all_numbers = 1 ∷ 2 ∷ 3 ∷ 4 ∷ 5 ∷ 6 ∷ 7 ∷ 8 ∷ 9 ∷ []
+
+abbrev pub foreground : Color → List Rendition
+foreground Reset = []
+foreground color = Foreground color ∷ []
+
+abbrev pub background : Color → List Rendition
+background Reset = []
+background color = Background color ∷ []
+
+unfoldable pub renditions_of : Look → List Rendition
+renditions_of look = added look.modifier all_numbers ++ foreground look.fg ++ background look.bg

@@ -1,0 +1,244 @@
+//! A decoder of the bytes of a terminal.
+
+ghost use Rattle.std.specs.Prelude.{◌≡◌, ◌≤◌, ◌++◌, [], ◌∷◌, length, take, drop, None, IfSome, IfOk, OnOk, OnErr, vec_len};
+ghost use Rattle.textarea_terminal.specs.InputReading.{Reads};
+ghost use Rattle.textarea_terminal.specs.InputUnit.{unit_at};
+ghost use Rattle.textarea_terminal.specs.InputStream.{Adds, AddsUpTo, events_of, rest_of, key_alone, keys_after_escape, idle_keys, values_of_keys, idle_decoding};
+
+use crate::input::event::Event;
+use crate::input::key::{alt_input, plain_input};
+use crate::input::unit::read_unit;
+use std::alloc::{AllocError, Global};
+use std::marker::Model;
+use textarea_data::input::{Input, Key};
+
+const ESCAPE: u8 = 0x1b;
+
+// The letter at the front, or another character from a space to `~`, and the bytes after it.
+#[inline]
+fn read_letter(bytes: &[u8]) -> Option<(u8, &[u8])>
+    ensures whole { IfSome result (λ x. bytes.now ≡ x.0 ∷ x.1.now) }
+    ensures low { IfSome result (λ x. 32 ≤ x.0) }
+    ensures high { IfSome result (λ x. x.0 ≤ 126) }
+{
+    let (byte, rest) = bytes.split_first()?;
+    if 32 <= *byte && *byte <= 126 {
+        Some((*byte, rest))
+    } else {
+        None
+    }
+}
+
+// Adds the letters at the front, and returns the bytes after them. An `Err` may leave some added.
+fn push_letters<'a>(bytes: &'a [u8], events: &mut Vec<Event>) -> Result<&'a [u8], AllocError>
+    ensures left { IfOk result (λ rest. rest_of rest.now ≡ rest_of bytes.now) }
+    ensures events { IfOk result (λ rest. AddsUpTo events.old.items events.new.items (events_of rest.now) (events_of bytes.now)) }
+    ensures front { take (vec_len events.old) events.new.items ≡ events.old.items }
+    ensures shorter { IfOk result (λ rest. length rest.now ≤ length bytes.now) }
+{
+    let mut rest = bytes;
+    while let Some((letter, after)) = read_letter(rest) {
+        let key = Key::Char(char::from(letter));
+        events.push(Event::Input(plain_input(key)))?;
+        rest = after;
+    }
+    Ok(rest)
+}
+
+// Adds the events of the bytes, and returns the bytes of an event that is begun. Of the bytes, the first `begun` are known to
+// end within an event. An `Err` may leave some events added.
+fn read_units<'a>(
+    alloc: Global,
+    bytes: &'a [u8],
+    begun: usize,
+    events: &mut Vec<Event>,
+) -> Result<&'a [u8], AllocError>
+    requires within { begun ≤ length bytes.now }
+    requires begun { unit_at (take begun bytes.now) ≡ None }
+    ensures rest { IfOk result (λ rest. rest.now ≡ rest_of bytes.now) }
+    ensures events { OnOk result (Adds events.old.items events.new.items (events_of bytes.now)) }
+    ensures front { take (vec_len events.old) events.new.items ≡ events.old.items }
+{
+    let mut rest = bytes;
+    let mut begun = begun;
+    while let Some((event, after)) = read_unit(alloc, rest, begun)? {
+        events.push(event)?;
+        rest = push_letters(after, events)?;
+        begun = 0;
+    }
+    Ok(rest)
+}
+
+// Removes bytes from the front.
+fn remove_front(bytes: &mut Vec<u8>, count: usize)
+    requires { count ≤ vec_len bytes.old }
+    ensures { bytes.new.items ≡ drop count bytes.old.items }
+{
+    if count == 0 {
+        return;
+    }
+    let len = bytes.len();
+    bytes.copy_within(count..len, 0);
+    bytes.truncate(len - count);
+}
+
+// Adds the events of bytes that come after the pending ones, and keeps those of an event that is begun. An `Err` changes
+// nothing.
+fn feed_pending(
+    pending: &mut Vec<u8>,
+    bytes: &[u8],
+    events: &mut Vec<Event>,
+) -> Result<(), AllocError>
+    requires { unit_at pending.old.items ≡ None }
+    ensures pending { OnOk result (pending.new.items ≡ rest_of (pending.old.items ++ bytes.now)) }
+    ensures events { OnOk result (Adds events.old.items events.new.items (events_of (pending.old.items ++ bytes.now))) }
+    ensures err { OnErr result ((pending.new.items ≡ pending.old.items) × (events.new.items ≡ events.old.items)) }
+    ensures begun { unit_at pending.new.items ≡ None }
+{
+    let begun = pending.len();
+    let events_before = events.len();
+    pending.extend_from_slice(bytes)?;
+    let alloc = *pending.allocator();
+    match read_units(alloc, pending.as_slice(), begun, events) {
+        Ok(rest) => {
+            let left = rest.len();
+            let count = pending.len() - left;
+            remove_front(pending, count);
+            Ok(())
+        }
+        Err(error) => {
+            events.truncate(events_before);
+            pending.truncate(begun);
+            Err(error)
+        }
+    }
+}
+
+// The key that begins a sequence, which the bytes after its ESC begin.
+#[tactic(auto, unfolding(crate::specs::InputStream::key_alone))]
+fn read_key_alone(bytes: &[u8]) -> Option<Input>
+    ensures { result ≡ key_alone bytes.now }
+{
+    match bytes {
+        [] => Some(plain_input(Key::Esc)),
+        [b'['] => Some(alt_input(plain_input(Key::Char('[')))),
+        [b'O'] => Some(alt_input(plain_input(Key::Char('O')))),
+        _ => None,
+    }
+}
+
+#[tactic(auto, unfolding(crate::specs::InputStream::keys_after_escape))]
+fn read_keys_after_escape(bytes: &[u8]) -> Option<(bool, Input)>
+    ensures { result ≡ keys_after_escape bytes.now }
+{
+    match bytes {
+        [] => Some((false, plain_input(Key::Esc))),
+        [ESCAPE, rest @ ..] => Some((true, read_key_alone(rest)?)),
+        [_, ..] => Some((false, read_key_alone(bytes)?)),
+    }
+}
+
+// The keys of a begun sequence where nothing more comes: whether Esc is first, and the key after it.
+#[tactic(auto, unfolding(crate::specs::InputStream::idle_keys))]
+fn read_idle_keys(bytes: &[u8]) -> Option<(bool, Input)>
+    ensures { result ≡ idle_keys bytes.now }
+{
+    match bytes {
+        [ESCAPE, rest @ ..] => read_keys_after_escape(rest),
+        _ => None,
+    }
+}
+
+// Adds Esc, if it is first, and a key. An `Err` may leave Esc added.
+fn push_keys(is_escape_first: bool, key: Input, events: &mut Vec<Event>) -> Result<(), AllocError>
+    ensures events { OnOk result (Adds events.old.items events.new.items (values_of_keys is_escape_first key)) }
+    ensures front { take (vec_len events.old) events.new.items ≡ events.old.items }
+{
+    if is_escape_first {
+        events.push(Event::Input(plain_input(Key::Esc)))?;
+    }
+    events.push(Event::Input(key))?;
+    Ok(())
+}
+
+// Adds the keys of a begun sequence where nothing more comes. An `Err` changes nothing.
+#[tactic(auto, unfolding(crate::specs::InputStream::idle_decoding))]
+fn idle_pending(pending: &mut Vec<u8>, events: &mut Vec<Event>) -> Result<(), AllocError>
+    requires { unit_at pending.old.items ≡ None }
+    ensures pending { OnOk result (pending.new.items ≡ (idle_decoding pending.old.items).1) }
+    ensures events { OnOk result (Adds events.old.items events.new.items (idle_decoding pending.old.items).0) }
+    ensures err { OnErr result ((pending.new.items ≡ pending.old.items) × (events.new.items ≡ events.old.items)) }
+    ensures begun { unit_at pending.new.items ≡ None }
+{
+    let Some((is_escape_first, key)) = read_idle_keys(pending.as_slice()) else {
+        return Ok(());
+    };
+    let events_before = events.len();
+    match push_keys(is_escape_first, key, events) {
+        Ok(()) => {
+            pending.clear();
+            Ok(())
+        }
+        Err(error) => {
+            events.truncate(events_before);
+            Err(error)
+        }
+    }
+}
+
+/// Reads the events of a terminal's bytes, in pieces of any size.
+///
+/// In a clause it is the list of the bytes of an event that is begun. These are at most 4,097, but for a pasted text.
+///
+/// A sequence whose first 4,096 bytes bring no end is an unknown event of those bytes. A pasted text is kept until its end
+/// comes.
+#[derive(Drop)]
+pub struct Decoder {
+    pending: Vec<u8>,
+}
+
+impl Model for Decoder {
+    ghost use Rattle.std.specs.Prelude.{◌≡◌, List, ℕ, None};
+    ghost use Rattle.textarea_terminal.specs.InputUnit.{unit_at};
+
+    ghost Value = { List ℕ };
+
+    ghost view = { λ decoder. decoder.pending.items };
+
+    ghost invariant = { λ decoder. unit_at decoder.pending.items ≡ None };
+}
+
+impl Decoder {
+    /// A decoder with no event begun.
+    pub fn new(alloc: Global) -> Decoder
+        ensures { result ≡ [] }
+    {
+        Decoder {
+            pending: Vec::new(alloc),
+        }
+    }
+
+    /// Takes the next bytes of the terminal, and adds the events that are whole now. An event that is begun waits for more bytes.
+    ///
+    /// It fails only where memory runs out, and then changes neither the decoder nor the events.
+    pub fn feed(&mut self, bytes: &[u8], events: &mut Vec<Event>) -> Result<(), AllocError>
+        ensures pending { OnOk result (self.new ≡ rest_of (self.old ++ bytes.now)) }
+        ensures events { OnOk result (Adds events.old.items events.new.items (events_of (self.old ++ bytes.now))) }
+        ensures err { OnErr result ((self.new ≡ self.old) × (events.new.items ≡ events.old.items)) }
+    {
+        feed_pending(&mut self.pending, bytes, events)
+    }
+
+    /// Adds the keys that begun bytes are where nothing more comes for now: a lone ESC is the key Esc, and `ESC [` and `ESC O` are
+    /// Alt with `[` and `O`; each of them after one ESC more is Esc and then that key. Longer sequences, a pasted text and a
+    /// character that are begun wait on.
+    ///
+    /// It fails only where memory runs out, and then changes neither the decoder nor the events.
+    pub fn idle(&mut self, events: &mut Vec<Event>) -> Result<(), AllocError>
+        ensures pending { OnOk result (self.new ≡ (idle_decoding self.old).1) }
+        ensures events { OnOk result (Adds events.old.items events.new.items (idle_decoding self.old).0) }
+        ensures err { OnErr result ((self.new ≡ self.old) × (events.new.items ≡ events.old.items)) }
+    {
+        idle_pending(&mut self.pending, events)
+    }
+}

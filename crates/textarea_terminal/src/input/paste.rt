@@ -1,0 +1,58 @@
+//! Pasted texts.
+
+ghost use Rattle.std.specs.Prelude.{◌≡◌, ◌≤◌, ◌+◌, length, take, None, IfOk, option_map, IfSome};
+ghost use Rattle.textarea_terminal.specs.InputReading.{Reads};
+ghost use Rattle.textarea_terminal.specs.InputEvent.{value_of};
+ghost use Rattle.textarea_terminal.specs.InputUnit.{paste_start, paste_end, after_mark, index_of, paste_at};
+
+use crate::input::event::Event;
+use memchr::memmem;
+use std::alloc::{AllocError, Global};
+
+const START: &[u8; 6] = b"\x1b[200~";
+
+const END: &[u8; 6] = b"\x1b[201~";
+
+/// The bytes after the mark that begins a pasted text, where they begin with it.
+pub fn after_start(bytes: &[u8]) -> Option<&[u8]>
+    ensures { Reads (λ x. x.now) result (after_mark paste_start bytes.now) }
+{
+    bytes.strip_prefix(START)
+}
+
+// The index of the mark that ends a text. None is in its first `begun` bytes.
+fn find_end(text: &[u8], begun: usize) -> Option<usize>
+    requires within { begun ≤ length text.now }
+    requires begun { index_of paste_end (take begun text.now) ≡ None }
+    ensures index { result ≡ index_of paste_end text.now }
+    ensures within { IfSome result (λ index. index + 6 ≤ length text.now) }
+{
+    let from = begun.saturating_sub(END.len() - 1);
+    let (_, searched) = text.split_at(from);
+    match memmem::find(searched, END) {
+        Some(index) => Some(from + index),
+        None => None,
+    }
+}
+
+/// Reads a pasted text, which begins after its mark, and the bytes after it. There is none where the bytes end within it.
+///
+/// The first `begun` bytes are known to be without the mark that ends it.
+#[tactic(auto, unfolding(crate::specs::InputUnit::paste_at))]
+pub fn read_paste(
+    alloc: Global,
+    bytes: &[u8],
+    begun: usize,
+) -> Result<Option<(Event, &[u8])>, AllocError>
+    requires within { begun ≤ length bytes.now }
+    requires begun { index_of paste_end (take begun bytes.now) ≡ None }
+    ensures { IfOk result (λ found. Reads (λ x. (value_of x.0, x.1.now)) found (paste_at bytes.now)) }
+{
+    match find_end(bytes, begun) {
+        Some(index) => {
+            let text = String::from_utf8_lossy(alloc, &bytes[..index])?;
+            Ok(Some((Event::Paste(text), &bytes[index + 6..])))
+        }
+        None => Ok(None),
+    }
+}

@@ -1,0 +1,14 @@
+//! From the cells of a buffer to the bytes that a terminal is sent.
+
+mod area;
+mod brush;
+mod controls;
+mod frame;
+pub mod look;
+mod painter;
+mod spot;
+mod whole;
+mod width;
+
+pub use look::Look;
+pub use painter::Painter;

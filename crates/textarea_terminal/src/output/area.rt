@@ -1,0 +1,43 @@
+//! The cells and the caret of an area.
+ghost use Rattle.std.specs.Prelude.{◌≡◌, ◌<◌, map, length, replicate, vec_len, IfOk, IfSome};
+ghost use Rattle.textarea_screen.specs.Cell.{shown_cell, fresh_cell};
+ghost use Rattle.textarea_terminal.specs.PaintArea.{size_of, caret_in};
+
+use std::alloc::{AllocError, Global};
+use textarea_screen::screen::{Cell, Position, Rect};
+
+/// So many fresh cells.
+pub(super) fn fresh_cells(alloc: Global, count: usize) -> Result<Vec<Cell>, AllocError>
+    ensures len { IfOk result (λ cells. vec_len cells ≡ count) }
+    ensures cells { IfOk result (λ cells.
+        map shown_cell cells.items ≡ replicate count fresh_cell) }
+{
+    let mut cells = Vec::with_capacity(alloc, count)?;
+    for _ in 0..count {
+        cells.push(Cell::fresh())?;
+    }
+    Ok(cells)
+}
+
+/// Makes each cell a fresh one.
+pub(super) fn erase(cells: &mut [Cell])
+    ensures { map shown_cell cells.new ≡ replicate (length cells.old) fresh_cell }
+{
+    for cell in cells.iter_mut() {
+        *cell = Cell::fresh();
+    }
+}
+
+/// The place of the caret among the cells of an area; one outside of it isn't shown.
+pub(super) fn caret_in(area: Rect, caret: Option<Position>) -> Option<usize>
+    ensures value { result ≡ caret_in area caret }
+    ensures bound { IfSome result (λ place. place < size_of area) }
+{
+    let position = caret?;
+    if area.contains(position) {
+        let row = usize::from(position.y - area.y);
+        Some(row * usize::from(area.width) + usize::from(position.x - area.x))
+    } else {
+        None
+    }
+}

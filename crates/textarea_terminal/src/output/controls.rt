@@ -1,0 +1,137 @@
+//! The bytes of each control.
+ghost use Rattle.std.specs.Prelude.{◌≡◌, ℕ, ◌+◌, ◌<◌, ◌≤◌, ◌^◌, ◌++◌, OnOk, [], ◌∷◌, codes, decimal};
+ghost use Rattle.textarea_terminal.specs.Control.{control_bytes};
+ghost use Rattle.textarea_terminal.specs.Control.Control.{MoveTo, SetPen};
+ghost use Rattle.textarea_terminal.specs.Pen.{Rendition, renditions_bytes, renditions_of, added, all_numbers, foreground, background, color_bytes};
+
+use super::look::Look;
+use itoa::Buffer;
+use std::alloc::AllocError;
+use textarea_screen::screen::{Color, Modifier};
+
+/// The numbers of the modifiers that a terminal has, each of which is the bit of one place less.
+const MODIFIERS: [u8; 9] = [1, 2, 3, 4, 5, 6, 7, 8, 9];
+
+/// Writes a number in decimal.
+fn write_number(bytes: &mut Vec<u8>, number: u64) -> Result<(), AllocError>
+    ensures { OnOk result (bytes.new.items ≡ bytes.old.items ++ decimal number) }
+{
+    let mut digits = Buffer::new();
+    bytes.extend_from_slice(digits.format(number).as_bytes())
+}
+
+/// Moves the cursor to a row and a column, each counted from 0.
+pub(super) fn write_move(bytes: &mut Vec<u8>, row: u64, column: u64) -> Result<(), AllocError>
+    requires row { row + 1 < 2 ^ 64 }
+    requires column { column + 1 < 2 ^ 64 }
+    ensures { OnOk result
+        (bytes.new.items ≡ bytes.old.items ++ control_bytes (MoveTo row column)) }
+{
+    bytes.extend_from_slice(b"\x1b[")?;
+    write_number(bytes, row + 1)?;
+    bytes.extend_from_slice(b";")?;
+    write_number(bytes, column + 1)?;
+    bytes.extend_from_slice(b"H")
+}
+
+/// Resets the pen, and gives it a look.
+pub(super) fn write_pen(bytes: &mut Vec<u8>, look: Look) -> Result<(), AllocError>
+    ensures { OnOk result
+        (bytes.new.items ≡ bytes.old.items ++ control_bytes (SetPen (renditions_of look))) }
+{
+    bytes.extend_from_slice(b"\x1b[0")?;
+    write_modifiers(bytes, look.modifier)?;
+    write_foreground(bytes, look.fg)?;
+    write_background(bytes, look.bg)?;
+    bytes.extend_from_slice(b"m")?;
+    Ok(())
+}
+
+/// Adds the modifiers of a set, in the order of their numbers.
+fn write_modifiers(bytes: &mut Vec<u8>, modifier: Modifier) -> Result<(), AllocError>
+    ensures { OnOk result (bytes.new.items
+        ≡ bytes.old.items ++ renditions_bytes (added modifier all_numbers)) }
+{
+    if modifier.0 != 0 {
+        for number in &MODIFIERS {
+            write_modifier(bytes, modifier, *number)?;
+        }
+    }
+    Ok(())
+}
+
+/// Adds the modifier of a number, if the set has it.
+fn write_modifier(bytes: &mut Vec<u8>, modifier: Modifier, number: u8) -> Result<(), AllocError>
+    requires { (1 ≤ number) × (number ≤ 9) }
+    ensures { OnOk result (bytes.new.items
+        ≡ bytes.old.items ++ renditions_bytes (added modifier (number ∷ []))) }
+{
+    let bit = 1u16 << (number - 1);
+    if modifier.contains(Modifier(bit)) {
+        bytes.extend_from_slice(b";")?;
+        write_number(bytes, u64::from(number))?;
+    }
+    Ok(())
+}
+
+fn write_foreground(bytes: &mut Vec<u8>, color: Color) -> Result<(), AllocError>
+    ensures { OnOk result (bytes.new.items
+        ≡ bytes.old.items ++ renditions_bytes (foreground color)) }
+{
+    if let Color::Reset = color {
+        return Ok(());
+    }
+    bytes.extend_from_slice(b";")?;
+    write_color(bytes, 30, color)
+}
+
+fn write_background(bytes: &mut Vec<u8>, color: Color) -> Result<(), AllocError>
+    ensures { OnOk result (bytes.new.items
+        ≡ bytes.old.items ++ renditions_bytes (background color)) }
+{
+    if let Color::Reset = color {
+        return Ok(());
+    }
+    bytes.extend_from_slice(b";")?;
+    write_color(bytes, 40, color)
+}
+
+/// Writes a colour, where the first of the eight has the number `base`.
+fn write_color(bytes: &mut Vec<u8>, base: u64, color: Color) -> Result<(), AllocError>
+    requires { base < 256 }
+    ensures { OnOk result (bytes.new.items ≡ bytes.old.items ++ color_bytes base color) }
+{
+    match color {
+        Color::Rgb(red, green, blue) => {
+            write_number(bytes, base + 8)?;
+            bytes.extend_from_slice(b";2;")?;
+            write_number(bytes, u64::from(red))?;
+            bytes.extend_from_slice(b";")?;
+            write_number(bytes, u64::from(green))?;
+            bytes.extend_from_slice(b";")?;
+            write_number(bytes, u64::from(blue))
+        }
+        Color::Indexed(number) => {
+            write_number(bytes, base + 8)?;
+            bytes.extend_from_slice(b";5;")?;
+            write_number(bytes, u64::from(number))
+        }
+        Color::Reset => write_number(bytes, base + 9),
+        Color::Black => write_number(bytes, base),
+        Color::Red => write_number(bytes, base + 1),
+        Color::Green => write_number(bytes, base + 2),
+        Color::Yellow => write_number(bytes, base + 3),
+        Color::Blue => write_number(bytes, base + 4),
+        Color::Magenta => write_number(bytes, base + 5),
+        Color::Cyan => write_number(bytes, base + 6),
+        Color::Gray => write_number(bytes, base + 7),
+        Color::DarkGray => write_number(bytes, base + 60),
+        Color::LightRed => write_number(bytes, base + 61),
+        Color::LightGreen => write_number(bytes, base + 62),
+        Color::LightYellow => write_number(bytes, base + 63),
+        Color::LightBlue => write_number(bytes, base + 64),
+        Color::LightMagenta => write_number(bytes, base + 65),
+        Color::LightCyan => write_number(bytes, base + 66),
+        Color::White => write_number(bytes, base + 67),
+    }
+}

@@ -1,0 +1,163 @@
+//! The cells that a terminal is to show of a buffer.
+ghost use Rattle.std.specs.Prelude.{◌≡◌, ℕ, ◌+◌, ◌-◌, ◌*◌, ◌/◌, ◌%◌, ◌<◌, ◌≤◌, ◌^◌, ◌++◌, ◌∷◌, ◌&&◌, [], map, take, length, nat_lt, nat_le, IfOk, IfSome, OnOk, OnErr, IsTrue, Some, None};
+ghost use Rattle.std.specs.Int.RustNames.{bit_and};
+ghost use Rattle.textarea_screen.specs.Cell.{shown_cell};
+ghost use Rattle.textarea_terminal.specs.Pen.{in_look, look_of};
+ghost use Rattle.textarea_terminal.specs.PaintSpot.{IsSpot};
+ghost use Rattle.textarea_terminal.specs.PaintCells.{begins_empty, cell_in, cells_from, displayed, frame_of, is_half, nine_of};
+
+use super::look::{Look, look_of};
+use super::spot::Spot;
+use super::width::cluster_columns;
+use std::alloc::{AllocError, Global};
+use textarea_screen::screen::{Buffer, Cell, Color, Modifier, Rect};
+
+/// The modifiers that a terminal has.
+const NINE: u16 = 511;
+
+/// The look of a cell of a terminal that was erased.
+const PLAIN: Look = Look {
+    fg: Color::Reset,
+    bg: Color::Reset,
+    modifier: Modifier(0),
+};
+
+/// The text and the look of a buffer's cell.
+#[derive(Clone, Copy)]
+struct Source<'a> {
+    symbol: &'a str,
+    look: Look,
+}
+
+/// Fills cells with what a terminal of an area is to show of a buffer.
+///
+/// Out of memory, some of the cells may be filled.
+pub(super) fn fill(
+    alloc: Global,
+    cells: &mut [Cell],
+    area: Rect,
+    buffer: &Buffer,
+) -> Result<(), AllocError>
+    requires { length cells.old ≡ area.height * area.width }
+    ensures { OnOk result (map shown_cell cells.new ≡ frame_of area buffer.now) }
+{
+    let columns = usize::from(area.width);
+    let mut halves = 0usize;
+    let mut spot = Spot::first(columns);
+    for place in 0..cells.len() {
+        halves = fill_cell(alloc, &mut cells[place], area, buffer, spot, halves)?;
+        spot = spot.next(columns);
+    }
+    Ok(())
+}
+
+/// Fills the cell at a spot. So many cells, with this one, belong to a cluster that began before it; returns how many of those after
+/// it belong to one.
+fn fill_cell(
+    alloc: Global,
+    cell: &mut Cell,
+    area: Rect,
+    buffer: &Buffer,
+    spot: Spot,
+    halves: usize,
+) -> Result<usize, AllocError>
+    requires place { spot.place < area.height * area.width }
+    requires spot { IsSpot area.width spot }
+    ensures { IfOk result (λ left. displayed area.width spot.place halves
+        (cells_from area buffer.now spot.place (area.height * area.width - spot.place))
+        ≡ shown_cell cell.new ∷ displayed area.width (spot.place + 1) left
+        (cells_from area buffer.now (spot.place + 1)
+        (area.height * area.width - (spot.place + 1)))) }
+{
+    if halves > 0 {
+        show(alloc, cell, "", PLAIN)?;
+        return Ok(halves - 1);
+    }
+    let source = source_at(buffer, area, spot);
+    let look = nine_of(source.look);
+    let columns = cluster_columns(source.symbol);
+    if can_show(buffer, area, spot, columns) {
+        show(alloc, cell, source.symbol, look)?;
+        Ok(columns - 1)
+    } else {
+        show(alloc, cell, " ", look)?;
+        Ok(0)
+    }
+}
+
+/// Puts a text in a look into a cell.
+fn show(alloc: Global, cell: &mut Cell, symbol: &str, look: Look) -> Result<(), AllocError>
+    ensures { OnOk result (shown_cell cell.new ≡ in_look look symbol.now) }
+{
+    if cell.symbol() != symbol {
+        cell.set_symbol(alloc, symbol)?;
+    }
+    cell.fg = look.fg;
+    cell.bg = look.bg;
+    cell.modifier = look.modifier;
+    Ok(())
+}
+
+/// The look with the modifiers that a terminal has.
+fn nine_of(look: Look) -> Look
+    ensures { result ≡ nine_of look }
+{
+    Look {
+        modifier: Modifier(look.modifier.0 & NINE),
+        ..look
+    }
+}
+
+/// The buffer's cell at a spot of an area; where the buffer has none, a fresh one.
+fn source_at<'a>(buffer: &'a Buffer, area: Rect, spot: Spot) -> Source<'a>
+    requires place { spot.place < area.height * area.width }
+    requires spot { IsSpot area.width spot }
+    ensures { in_look result.look result.symbol.now ≡ cell_in area buffer.entry.now spot.place }
+{
+    let x = area.x + spot.column as u16;
+    let y = area.y + spot.row as u16;
+    match buffer.cell(x, y) {
+        Some(cell) => Source {
+            symbol: cell.symbol(),
+            look: look_of(cell),
+        },
+        None => Source {
+            symbol: " ",
+            look: PLAIN,
+        },
+    }
+}
+
+/// Whether a terminal can show a cluster of so many columns at a spot: it doesn't reach past the row's end, and the cells after its
+/// first hold the empty text.
+fn can_show(buffer: &Buffer, area: Rect, spot: Spot, columns: usize) -> bool
+    requires place { spot.place < area.height * area.width }
+    requires spot { IsSpot area.width spot }
+    ensures { result ≡ (nat_lt 0 columns && nat_le (spot.place % area.width + columns) area.width
+        && begins_empty (columns - 1) (cells_from area buffer.now (spot.place + 1)
+        (area.height * area.width - (spot.place + 1)))) }
+{
+    if columns == 0 {
+        return false;
+    }
+    if columns > usize::from(area.width) - spot.column {
+        return false;
+    }
+    are_empty(buffer, area, spot.place + 1, columns - 1)
+}
+
+/// Whether so many cells of the buffer, from a place of an area on, hold the empty text.
+fn are_empty(buffer: &Buffer, area: Rect, from: usize, count: usize) -> bool
+    requires { from + count ≤ area.height * area.width }
+    ensures { result ≡ begins_empty count
+        (cells_from area buffer.now from (area.height * area.width - from)) }
+{
+    let columns = usize::from(area.width);
+    for place in from..from + count {
+        let spot = Spot::new(place, columns);
+        if !source_at(buffer, area, spot).symbol.is_empty() {
+            return false;
+        }
+    }
+    true
+}

@@ -1,0 +1,172 @@
+//! Paints buffers on a terminal.
+ghost use Rattle.std.specs.Prelude.{◌≡◌, ℕ, ◌*◌, ◌<◌, ◌≤◌, false, map, replicate, [], vec_len, IfOk, IfSome, OnOk, OnErr, IsTrue, Some, None};
+ghost use Rattle.textarea_screen.specs.Cell.{shown_cell, fresh_cell};
+ghost use Rattle.textarea_terminal.specs.PaintCells.{are_whole};
+
+use super::area::{caret_in, erase, fresh_cells};
+use super::frame::fill;
+use super::whole::write_frame;
+use std::alloc::{AllocError, Global};
+use std::mem;
+use textarea_screen::screen::{Buffer, Cell, Position, Rect};
+
+/// Paints buffers on a terminal, one after another: of each it writes what differs from the one before.
+#[derive(Drop)]
+pub struct Painter {
+    area: Rect,
+    /// The cells that the terminal shows, unless nothing is known of it.
+    shown: Vec<Cell>,
+    /// Room for the cells of the next frame.
+    next: Vec<Cell>,
+    /// Room for the bytes of a frame.
+    bytes: Vec<u8>,
+    caret: Option<usize>,
+    is_known: bool,
+    ghost shown_full: { vec_len shown ≡ area.height * area.width },
+    ghost next_full: { vec_len next ≡ area.height * area.width },
+    ghost whole: { IsTrue (are_whole area.width 0 0 (map shown_cell shown.items)) },
+}
+
+impl Painter {
+    ghost use Rattle.textarea_terminal.specs.Paint.{Wrote, Paints};
+    ghost use Rattle.textarea_terminal.specs.PaintCells.{frame_of};
+    ghost use Rattle.textarea_terminal.specs.Painter.{area_of, painted};
+    ghost use Rattle.textarea_terminal.specs.PaintArea.{size_of, frame_in};
+
+    /// A painter on a terminal of which nothing is known, and whose cells are those of a rectangle: the first of them is the cell in
+    /// the terminal's first column and row.
+    pub fn new(alloc: Global, area: Rect) -> Result<Painter, AllocError>
+        ensures area { IfOk result (λ painter. area_of painter ≡ area) }
+        ensures painted { IfOk result (λ painter. painted painter ≡ None) }
+    {
+        let count = usize::from(area.height) * usize::from(area.width);
+        let shown = fresh_cells(alloc, count)?;
+        let next = fresh_cells(alloc, count)?;
+        Ok(Painter {
+            area,
+            shown,
+            next,
+            bytes: Vec::new(alloc),
+            caret: None,
+            is_known: false,
+        })
+    }
+
+    /// Appends the bytes that bring the terminal from what was painted last to a buffer and a caret.
+    ///
+    /// A cell that the buffer doesn't have is shown as a fresh one. A text that is no cluster, or that finds no room before the row's
+    /// end or no empty cells after its own, is shown as a blank, and so is an empty text that belongs to no cluster. A caret outside
+    /// of the area isn't shown. Out of memory, the painter and the bytes are as they were.
+    pub fn paint(
+        &mut self,
+        buffer: &Buffer,
+        caret: Option<Position>,
+        out: &mut Vec<u8>,
+    ) -> Result<(), AllocError>
+        ensures area { area_of self.new ≡ area_of self.old }
+        ensures painted { OnOk result
+            (painted self.new ≡ Some (frame_in (area_of self.old) buffer.now caret)) }
+        ensures wrote { OnOk result (Wrote out.old.items out.new.items
+            (Paints (area_of self.old).width (size_of (area_of self.old)) (painted self.old)
+            (frame_in (area_of self.old) buffer.now caret))) }
+        // What is shown already is no byte.
+        ensures unchanged { painted self.old
+            ≡ Some (frame_in (area_of self.old) buffer.now caret) → out.new.items ≡ out.old.items }
+        ensures unpainted { OnErr result (painted self.new ≡ painted self.old) }
+        ensures unwritten { OnErr result (out.new.items ≡ out.old.items) }
+    {
+        let place = caret_in(self.area, caret);
+        self.fill_next(buffer)?;
+        self.write(place)?;
+        out.extend_from_slice(self.bytes.as_slice())?;
+        self.turn(place);
+        Ok(())
+    }
+
+    /// Forgets what was painted: nothing is known of the terminal any more, and the next paint erases it.
+    pub fn reset(&mut self)
+        ensures area { area_of self.new ≡ area_of self.old }
+        ensures painted { painted self.new ≡ None }
+    {
+        self.is_known = false;
+    }
+
+    /// The same for a terminal that has changed its size. Out of memory, nothing changes.
+    pub fn resize(&mut self, area: Rect) -> Result<(), AllocError>
+        ensures area { OnOk result (area_of self.new ≡ area) }
+        ensures painted { OnOk result (painted self.new ≡ None) }
+        ensures err { OnErr result (self.new ≡ self.old) }
+    {
+        let alloc = *self.bytes.allocator();
+        *self = Painter::new(alloc, area)?;
+        Ok(())
+    }
+
+    /// Fills the cells of the next frame, and where nothing is known of the terminal those that it shows once it is erased.
+    fn fill_next(&mut self, buffer: &Buffer) -> Result<(), AllocError>
+        ensures area { self.new.area ≡ self.old.area }
+        ensures known { self.new.is_known ≡ self.old.is_known }
+        ensures caret { self.new.caret ≡ self.old.caret }
+        ensures painted { painted self.new ≡ painted self.old }
+        ensures erased { OnOk result (self.new.is_known ≡ false
+            → map shown_cell self.new.shown.items ≡ replicate (size_of self.new.area) fresh_cell) }
+        ensures filled { OnOk result
+            (map shown_cell self.new.next.items ≡ frame_of self.old.area buffer.now) }
+    {
+        let alloc = *self.next.allocator();
+        self.erase_unknown();
+        fill(alloc, &mut self.next, self.area, buffer)
+    }
+
+    /// Where nothing is known of the terminal, makes the cells that are shown those of an erased one.
+    fn erase_unknown(&mut self)
+        ensures area { self.new.area ≡ self.old.area }
+        ensures known { self.new.is_known ≡ self.old.is_known }
+        ensures caret { self.new.caret ≡ self.old.caret }
+        ensures painted { painted self.new ≡ painted self.old }
+        ensures erased { self.new.is_known ≡ false
+            → map shown_cell self.new.shown.items ≡ replicate (size_of self.new.area) fresh_cell }
+    {
+        if self.is_known {
+            return;
+        }
+        erase(&mut self.shown);
+    }
+
+    /// Writes the bytes between the cells that are shown and those of the next frame.
+    fn write(&mut self, caret: Option<usize>) -> Result<(), AllocError>
+        requires caret { IfSome caret (λ place. place < size_of self.old.area) }
+        requires whole { IsTrue (are_whole self.old.area.width 0 0 (map shown_cell self.old.next.items)) }
+        requires erased { self.old.is_known ≡ false
+            → map shown_cell self.old.shown.items ≡ replicate (size_of self.old.area) fresh_cell }
+        ensures area { self.new.area ≡ self.old.area }
+        ensures next { self.new.next ≡ self.old.next }
+        ensures painted { painted self.new ≡ painted self.old }
+        ensures wrote { OnOk result (Wrote [] self.new.bytes.items
+            (Paints self.old.area.width (size_of self.old.area) (painted self.old)
+            (record { cells = map shown_cell self.old.next.items; caret = caret }))) }
+    {
+        self.bytes.clear();
+        write_frame(
+            &mut self.bytes,
+            usize::from(self.area.width),
+            self.is_known,
+            self.shown.as_slice(),
+            self.caret,
+            self.next.as_slice(),
+            caret,
+        )
+    }
+
+    /// The next frame is what is shown.
+    fn turn(&mut self, caret: Option<usize>)
+        requires whole { IsTrue (are_whole self.old.area.width 0 0 (map shown_cell self.old.next.items)) }
+        ensures area { self.new.area ≡ self.old.area }
+        ensures painted { painted self.new
+            ≡ Some (record { cells = map shown_cell self.old.next.items; caret = caret }) }
+    {
+        mem::swap(&mut self.shown, &mut self.next);
+        self.caret = caret;
+        self.is_known = true;
+    }
+}

@@ -1,0 +1,66 @@
+//! The columns of a cluster.
+ghost use Rattle.std.specs.Prelude.{◌≡◌, ◌^◌, ◌<◌, ◌≤◌, ◌*◌, ◌↔◌, ◌==◌, true, chars, length, sum_by, slice_index, IsTrue, if◌then◌else◌};
+ghost use Rattle.std.specs.Char.{is_control};
+ghost use Rattle.std.specs.List.{list_any};
+ghost use Rattle.textarea_paint.specs.Columns.{columns_of, char_columns};
+ghost use Rattle.textarea_paint.specs.Plain.{IsPrintable};
+ghost use Rattle.textarea_terminal.specs.PaintCells.{cluster_columns};
+ghost use Rattle.unicode_segmentation.specs.Grapheme.{graphemes};
+
+use unicode_segmentation::UnicodeSegmentation;
+use unicode_width::UnicodeWidthChar;
+
+/// The columns in which a terminal shows a text that is one grapheme cluster; 0 where it is none, or can't be shown.
+pub(super) fn cluster_columns(text: &str) -> usize
+    ensures value { result ≡ cluster_columns text.now }
+{
+    if is_plain(text.as_bytes()) {
+        1
+    } else if is_cluster(text) {
+        columns_of(text)
+    } else {
+        0
+    }
+}
+
+/// Whether a text of these bytes is one character of printable ASCII.
+fn is_plain(bytes: &[u8]) -> bool
+    ensures { IsTrue result → (length bytes.now ≡ 1) × IsPrintable (slice_index bytes.now 0) }
+{
+    match bytes {
+        [only] => 32 <= *only && *only < 127,
+        _ => false,
+    }
+}
+
+/// Whether a text is one grapheme cluster.
+fn is_cluster(text: &str) -> bool
+    ensures { result ≡ (length (graphemes true text.now) == 1) }
+{
+    let mut clusters = text.graphemes(true);
+    clusters.next().is_some() && clusters.next().is_none()
+}
+
+/// The columns of a cluster.
+fn columns_of(cluster: &str) -> usize
+    ensures { result ≡ columns_of cluster.now }
+{
+    if has_control(cluster) {
+        0
+    } else {
+        sum_of_columns(cluster)
+    }
+}
+
+fn has_control(text: &str) -> bool
+    ensures { result ≡ list_any is_control (chars text.now) }
+{
+    text.chars().any(|c| c.is_control())
+}
+
+fn sum_of_columns(text: &str) -> usize
+    requires { sum_by char_columns (chars text.now) < 2 ^ 64 }
+    ensures { result ≡ sum_by char_columns (chars text.now) }
+{
+    text.chars().map(|c| c.width().unwrap_or(0)).sum()
+}

@@ -1,0 +1,68 @@
+-- The nearest index that passes a test: what a search knows on its way, and what it may answer.
+use Rattle.std.proofs.Common.{◌≡◌, ℕ, zero, suc, ◌+◌, ◌-◌, ◌<◌, ◌≤◌, inl, inr, Bool, true, false, Some, None, arith, refl, sym, ap, subst, add-one}
+use Rattle.std.proofs.lemmas.Bool.{cases_lt}
+use Rattle.textarea_text.specs.Nearest.{IsGreatest, least_below, greatest_below}
+
+-- where no index below n passes, there is no least one
+pub least_below-none : (test : ℕ → Bool) (n : ℕ) → ((e : ℕ) → e < n → test e ≡ false) → least_below test n ≡ None
+least_below-none test zero failed = refl
+least_below-none test (suc n) failed =
+    let before = least_below-none test n (λ (e : ℕ) (below : e < n). failed e (omega arith)) in
+    let here : test n ≡ false = failed n (omega arith) in
+    rw (before, here) refl
+
+-- the first index that passes is the least one
+pub least_below-found : (test : ℕ → Bool) (n m : ℕ) → ((e : ℕ) → e < n → test e ≡ false) → test n ≡ true → n < m → least_below test m ≡ Some n
+least_below-found test n zero failed here within = absurd (omega arith)
+least_below-found test n (suc m) failed here within =
+    elim (cases_lt n m) [
+      | inl earlier ↦ let found = least_below-found test n m failed here earlier in rw found refl
+      | inr last ↦
+          let same : m ≡ n = omega arith in
+          let before = least_below-none test n failed in
+          rw (same, before, here) refl
+    ]
+
+-- one index more
+pub failed_more : (test : ℕ → Bool) (n : ℕ) → ((e : ℕ) → e < n → test e ≡ false) → test n ≡ false → (e : ℕ) → e < n + 1 → test e ≡ false
+failed_more test n failed here e below =
+    elim (cases_lt e n) [ inl earlier ↦ failed e earlier | inr last ↦ let same : e ≡ n = omega arith in rw same here ]
+
+pub greatest_below-here : (test : ℕ → Bool) (n : ℕ) → test n ≡ true → greatest_below test (n + 1) ≡ Some n
+greatest_below-here test n here = rw (add-one, here) refl
+
+pub greatest_below-more : (test : ℕ → Bool) (n : ℕ) → test n ≡ false → greatest_below test (n + 1) ≡ greatest_below test n
+greatest_below-more test n here = rw (add-one, here) refl
+
+-- indices that fail change nothing
+pub greatest_below-past : (test : ℕ → Bool) (n m : ℕ) → n ≤ m → ((e : ℕ) → n ≤ e → test e ≡ false) → greatest_below test m ≡ greatest_below test n
+greatest_below-past test n zero within past = let same : n ≡ 0 = omega arith in rw same refl
+greatest_below-past test n (suc m) within past =
+    elim (cases_lt m n) [
+      | inl last ↦ let same : suc m ≡ n = omega arith in ap (greatest_below test) same
+      | inr more ↦ let here = past m more in rw here (greatest_below-past test n m more past)
+    ]
+
+by_case : (test : ℕ → Bool) (n : ℕ) (b : Bool) → test n ≡ b → ((e : ℕ) → suc n ≤ e → test e ≡ false) →
+    (((e : ℕ) → n ≤ e → test e ≡ false) → IsGreatest test (greatest_below test n)) → IsGreatest test (greatest_below test (suc n))
+by_case test n true here past below =
+    let found : greatest_below test (suc n) ≡ Some n = rw here refl in
+    subst (IsGreatest test) (sym found) (here, λ e later. past e (omega arith))
+by_case test n false here past below =
+    let same : greatest_below test (suc n) ≡ greatest_below test n = rw here refl in
+    subst (IsGreatest test) (sym same) (below (λ e from.
+    elim (cases_lt n e) [ inl later ↦ past e (omega arith) | inr equal ↦ let at : e ≡ n = omega arith in rw at here ]))
+
+-- where only indices below n may pass, the greatest below n is the greatest of all
+pub IsGreatest-greatest_below : (test : ℕ → Bool) (n : ℕ) → ((e : ℕ) → n ≤ e → test e ≡ false) → IsGreatest test (greatest_below test n)
+IsGreatest-greatest_below test zero past = λ e. past e (omega arith)
+IsGreatest-greatest_below test (suc n) past = by_case test n (test n) refl past (IsGreatest-greatest_below test n)
+
+-- where no index passes, below n nor from n on
+pub IsLeast-none : (test : ℕ → Bool) (n : ℕ) → ((e : ℕ) → e < n → test e ≡ false) → ((e : ℕ) → n ≤ e → test e ≡ false) → (e : ℕ) → test e ≡ false
+IsLeast-none test n failed past e = elim (cases_lt e n) [ inl earlier ↦ failed e earlier | inr later ↦ past e later ]
+
+-- the same where the test is known to fail below n - 1, and then at n - 1
+pub failed_before : (test : ℕ → Bool) (n : ℕ) → ((e : ℕ) → suc e < n → test e ≡ false) → test (n - 1) ≡ false → (e : ℕ) → e < n → test e ≡ false
+failed_before test n failed here e below =
+    elim (cases_lt (suc e) n) [ inl earlier ↦ failed e earlier | inr last ↦ let same : e ≡ n - 1 = omega arith in rw same here ]

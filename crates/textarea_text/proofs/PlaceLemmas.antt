@@ -1,0 +1,105 @@
+-- Places as indices, rows one below another, and where pieces end.
+use Rattle.std.proofs.Common.{◌≡◌, ℕ, zero, suc, ◌+◌, ◌-◌, ◌<◌, ◌≤◌, List, [], ◌∷◌, ◌++◌, length, min, take, drop, get_or, refl, sym, ap, ap₂, subst, ◌∙◌, arith, String, string_bytes}
+use Rattle.std.proofs.lemmas.List.{append-nil, drop_all, length-append, length-take-le, take_all, take_more, take_at}
+use Rattle.std.proofs.lemmas.Str.{encodes-chars, IsUtf8-string_bytes, length-le-encodes}
+use Rattle.textarea_text.specs.Text.{Break, characters, characters_of, following, joined, leading, lines_of}
+use Rattle.textarea_text.specs.Place.{Place, IsPlace, IsPlaceOf, end, index_of, place_of, row_start}
+use Rattle.textarea_text.specs.Size.{size_of}
+use Rattle.textarea_text.proofs.Splices.{end-append, end-characters, end-leading, joined-append, lines-joined}
+use Rattle.textarea_text.proofs.TextPlaces.{part_rows, index_parted}
+use Rattle.textarea_text.proofs.Befores.{break_stands}
+use Rattle.textarea_text.proofs.StringRows.{stands_until}
+
+-- ---- a place is where its index says
+
+pub record IsAt (rows : List (List ℕ)) (place : Place) (index : ℕ) : Type 0 where
+  pub value : place ≡ place_of (joined rows) index
+  pub is_place : IsPlaceOf rows place
+  pub index_is : index_of (joined rows) place ≡ index
+  pub within : index ≤ length (joined rows)
+
+pub is_at : (rows : List (List ℕ)) (place : Place) (index : ℕ) → IsPlaceOf rows place → index_of (joined rows) place ≡ index → IsAt rows place index
+is_at rows place index h e =
+    let parts = part_rows rows place.0 place.1 h in
+    let here : index_of (joined rows) place ≡ length parts.front = ap (λ t. index_of t place) parts.is ∙ index_parted place parts.front parts.back parts.ends in
+    let front : take index (joined rows) ≡ parts.front = ap (take index) parts.is ∙ take_at parts.front parts.back index (sym here ∙ e) in
+    record {
+      value = sym (ap (end (0, 0)) front ∙ parts.ends);
+      is_place = h;
+      index_is = e;
+      within = omega (arith, ap length parts.is, length-append parts.front parts.back);
+    }
+
+-- the end of the last line is the text's end
+pub is_at_end : (rows : List (List ℕ)) (row column : ℕ) → row + 1 ≡ length rows → column ≡ length (get_or rows row []) → IsAt rows (row, column) (length (joined rows))
+unfolding part_rows
+is_at_end rows row column last at =
+    let h : IsPlaceOf rows (row, column) = (omega arith, omega arith) in
+    let parts = part_rows rows row column h in
+    let none : parts.back ≡ [] =
+    ap (λ t. characters t ++ following (drop (row + 1) rows)) (drop_all column (get_or rows row []) (omega arith)) ∙ ap following (drop_all (row + 1) rows (omega arith)) in
+    is_at rows (row, column) (length (joined rows)) h
+    (ap (λ t. index_of t (row, column)) parts.is ∙ index_parted (row, column) parts.front parts.back parts.ends
+    ∙ sym (ap length (parts.is ∙ ap (λ t. parts.front ++ t) none ∙ append-nil parts.front)))
+
+-- the next row begins behind its line and the break
+pub row_start-next : (rows : List (List ℕ)) (row : ℕ) → row + 1 < length rows → row_start (joined rows) (row + 1) ≡ row_start (joined rows) row + length (get_or rows row []) + 1
+row_start-next rows row within =
+    let line = get_or rows row [] in
+    let here : IsPlace (joined rows) (row, length line) =
+    subst (λ (r : List (List ℕ)). IsPlaceOf r (row, length line)) (sym (lines-joined rows (omega arith))) (omega arith, omega arith) in
+    omega (arith, (stands_until (joined rows) (row, length line) (Break ∷ []) here (break_stands rows row within)).1)
+
+-- ---- symbols ahead: where what is left ends in the row, and where the row is the last one
+
+pub ahead_inside : (rows : List (List ℕ)) (row column left wanted : ℕ) → row < length rows → column + left ≤ length (get_or rows row []) → row_start (joined rows) row + column + left ≡ wanted → IsAt rows (row, column + left) (min wanted (length (joined rows)))
+ahead_inside rows row column left wanted within inside e =
+    let at = is_at rows (row, column + left) wanted (within, inside) (omega arith) in
+    is_at rows (row, column + left) (min wanted (length (joined rows))) (within, inside) (omega (arith, at.within))
+
+pub ahead_last : (rows : List (List ℕ)) (row last column left step wanted : ℕ) → last + 1 ≡ length rows → row ≡ last → column ≤ length (get_or rows row []) → step ≡ min left (length (get_or rows last []) - column) → row_start (joined rows) row + column + left ≡ wanted → IsAt rows (last, column + step) (min wanted (length (joined rows)))
+ahead_last rows row last column left step wanted all same inside stepped e =
+    let end_at = (is_at_end rows last (length (get_or rows last [])) all refl).index_is in
+    let line = ap (λ n. length (get_or rows n [])) same in
+    let begins = ap (row_start (joined rows)) same in
+    is_at rows (last, column + step) (min wanted (length (joined rows))) (omega arith, omega arith) (omega arith)
+
+-- ---- where pieces end
+
+pub end_of_one : (place : Place) (line : List ℕ) → end place (joined (line ∷ [])) ≡ (place.0, place.1 + length line)
+end_of_one place line = ap (end place) (append-nil (characters line)) ∙ end-characters place.0 place.1 line
+
+end_of_lines : (place : Place) (first : List ℕ) (above : List (List ℕ)) (last : List ℕ) → end place (leading (first ∷ above) ++ characters last) ≡ (place.0 + length (first ∷ above), length last)
+end_of_lines place first above last =
+    rw (
+      end-append place (leading (first ∷ above)) (characters last),
+      end-append place (characters first) (Break ∷ leading above),
+      end-characters place.0 place.1 first,
+      end-leading (place.0 + 1) above,
+      end-characters (place.0 + 1 + length above) 0 last,
+    )
+    (ap₂ (λ (m n : ℕ). (m, n)) (omega arith) (omega arith))
+
+end_of_parts : (place : Place) (above : List (List ℕ)) (last : List ℕ) → 0 < length above → end place (joined (above ++ last ∷ [])) ≡ (place.0 + length above, length last)
+end_of_parts place [] last some = absurd (omega arith)
+end_of_parts place (first ∷ above) last some =
+    ap (end place) (joined-append (first ∷ above) (last ∷ []) (omega arith) ∙ ap (λ t. leading (first ∷ above) ++ t) (append-nil (characters last)))
+    ∙ end_of_lines place first above last
+
+pub end_of_more : (place : Place) (rows : List (List ℕ)) (last : ℕ) → last + 1 ≡ length rows → 0 < last → end place (joined rows) ≡ (place.0 + last, length (get_or rows last []))
+end_of_more place rows last all some =
+    ap (λ t. end place (joined t)) (sym (take_all (last + 1) rows (omega arith)) ∙ take_more rows last [] (omega arith))
+    ∙ end_of_parts place (take last rows) (get_or rows last []) (omega (arith, length-take-le last rows (omega arith)))
+    ∙ ap (λ (n : ℕ). (place.0 + n, length (get_or rows last []))) (length-take-le last rows (omega arith))
+
+pub end_of_single : (place : Place) (rows : List (List ℕ)) → length rows ≡ 1 → end place (joined rows) ≡ (place.0, place.1 + length (get_or rows 0 []))
+end_of_single place [] one = absurd (omega arith)
+end_of_single place (line ∷ []) one = end_of_one place line
+end_of_single place (line ∷ next ∷ rest) one = absurd (omega arith)
+
+-- a piece has at most as many characters as all pieces' size, less one
+pub length-piece : {Z : Type 0} (pieces : List (String Z)) (i : ℕ) → i < length pieces → length (get_or (lines_of pieces) i []) + 1 ≤ size_of pieces
+length-piece [] i within = absurd (omega arith)
+length-piece (piece ∷ rest) zero within =
+    omega (arith, length-le-encodes (characters_of piece), ap length (encodes-chars (string_bytes piece) (IsUtf8-string_bytes piece)))
+length-piece (piece ∷ rest) (suc i) within = omega (arith, length-piece rest i (omega arith))

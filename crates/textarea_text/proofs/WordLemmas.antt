@@ -1,0 +1,183 @@
+-- Where words begin and end, told from the classes of two neighbours.
+use Rattle.std.proofs.Common.{Option, Some, None, ◌≡◌, ℕ, zero, suc, ◌+◌, ◌-◌, ◌<◌, ◌≤◌, inl, inr, Bool, true, false, not, ◌&&◌, ◌==◌, nat_lt, nat_le, List, length, get_or, take, min, ◌++◌, ◌∷◌, [], arith, refl, ◌∙◌, ap, add-one, zero-add}
+use Rattle.std.proofs.Math.Bool.{and-true, and-false}
+use Rattle.std.proofs.lemmas.Bool.{cases_lt, ltb-true}
+use Rattle.std.specs.Cmp.{first_so, second_so}
+use Rattle.std.specs.Option.{IfSome}
+use Rattle.textarea_text.specs.Nearest.{IsGreatest}
+use Rattle.std.proofs.lemmas.List.{length_push, get_or_default, get_or-take, length-take}
+use Rattle.std.specs.List.{enumerate_from}
+use Rattle.std.proofs.lemmas.Bool.Decides.{nat_tests}
+use Rattle.std.proofs.lemmas.List.FromFn.{get_or-enumerate_from, length-enumerate_from}
+use Rattle.textarea_text.specs.Words.{class_of, class_at, is_space, begins, ends, is_edge, is_word_start, is_behind_word, is_word_last, is_later_edge, is_word_last_from, is_earlier_word_start, lies_between}
+use Rattle.textarea_text.specs.declared.word.CharKind.{CharKind}
+use Rattle.textarea_text.specs.declared.word.CharKind.TheVariants.{Space, Punct, Other}
+use Rattle.textarea_text.specs.declared.word.Edge.{Edge}
+use Rattle.textarea_text.specs.declared.word.Edge.TheVariants.{Start, Behind}
+
+-- the class of the character before a column, and Space at the line's start
+abbrev pub class_before : List ℕ → ℕ → CharKind
+class_before line zero = Space
+class_before line (suc e) = class_at line e
+
+-- one turn of a loop over the characters of a line with their columns, where `kind` is the class of the character
+pub record IsTurn (line : List ℕ) (n column : ℕ) (kind : CharKind) : Type 0 where
+  pub column_is : column ≡ n
+  pub within : n < length line
+  pub kind_is : kind ≡ class_at line n
+
+pub IsTurn-enumerate_from : (line : List ℕ) (n column c : ℕ) (kind : CharKind) → n < length (enumerate_from 0 line) → (column, c) ≡ get_or (enumerate_from 0 line) n (column, c) → kind ≡ class_of c → IsTurn line n column kind
+IsTurn-enumerate_from line n column c kind below item of_c =
+    let within : n < length line = rw length-enumerate_from at below in
+    let pair = item ∙ get_or-enumerate_from 0 line n (column, c) within in
+    let here : c ≡ get_or line n 0 = ap (λ (p : ℕ × ℕ). p.1) pair ∙ get_or_default line n c 0 within in
+    record { column_is = ap (λ (p : ℕ × ℕ). p.0) pair ∙ zero-add n; within = within; kind_is = of_c ∙ ap class_of here }
+
+-- the same in a loop over the characters alone, with a count of its own
+pub IsTurn-chars : (line : List ℕ) (n column c : ℕ) (kind : CharKind) → column ≡ n → n < length line → c ≡ get_or line n c → kind ≡ class_of c → IsTurn line column column kind
+IsTurn-chars line n column c kind counted below item of_c =
+    rw counted (record { column_is = refl; within = below; kind_is = of_c ∙ ap class_of (item ∙ get_or_default line n c 0 below) })
+
+-- a turn over the front of a line is one over the line
+pub IsTurn-take : (line : List ℕ) (front n column : ℕ) (kind : CharKind) → IsTurn (take front line) n column kind → (n < front) × IsTurn line n column kind
+IsTurn-take line front n column kind turn =
+    let bound : n < min front (length line) = rw length-take at turn.within in
+    let before : n < front = omega (arith, bound) in (
+      before,
+      record {
+        column_is = turn.column_is;
+        within = omega (arith, bound);
+        kind_is = turn.kind_is ∙ ap class_of (get_or-take front line n 0 before);
+      },
+    )
+
+-- behind a turn its class is the one before the next column
+pub class_before-after : (line : List ℕ) (column : ℕ) (kind : CharKind) → IsTurn line column column kind → kind ≡ class_before line (column + 1)
+class_before-after line column kind turn = rw add-one turn.kind_is
+
+-- the same where the columns are those of a list of what was yielded
+pub class_before-more : {X : Type 0} (line : List ℕ) (yielded : List X) (x : X) (column : ℕ) (kind : CharKind) → IsTurn line (length yielded) column kind → kind ≡ class_before line (length (yielded ++ x ∷ []))
+class_before-more line yielded x column kind turn = rw (length_push yielded x, add-one) turn.kind_is
+
+-- at the line's start a word begins with any character that is no Space
+begins_first : (kind : CharKind) → (not (is_space kind) && true) ≡ begins Space kind
+begins_first Space = refl
+begins_first Punct = refl
+begins_first Other = refl
+
+pub is_word_start-class_before : (line : List ℕ) (e : ℕ) → e < length line → is_word_start line e ≡ begins (class_before line e) (class_at line e)
+is_word_start-class_before line zero within =
+    let inside : nat_lt 0 (length line) ≡ true = grind (arith, nat_tests) in
+    rw inside (begins_first (class_at line 0))
+is_word_start-class_before line (suc e) within =
+    let inside : nat_lt (suc e) (length line) ≡ true = grind (arith, nat_tests) in
+    let later : (suc e == 0) ≡ false = grind (arith, nat_tests) in
+    let before : suc e - 1 ≡ e = omega arith in
+    rw (inside, later, before) refl
+
+pub is_behind_word-class_before : (line : List ℕ) (e : ℕ) → e < length line → is_behind_word line e ≡ ends (class_before line e) (class_at line e)
+is_behind_word-class_before line zero within =
+    let inside : nat_lt 0 (length line) ≡ true = grind (arith, nat_tests) in
+    rw inside refl
+is_behind_word-class_before line (suc e) within =
+    let inside : nat_lt (suc e) (length line) ≡ true = grind (arith, nat_tests) in
+    let later : nat_lt 0 (suc e) ≡ true = grind (arith, nat_tests) in
+    let before : suc e - 1 ≡ e = omega arith in
+    rw (inside, later, before) refl
+
+is_edge-class_before : (edge : Edge) (line : List ℕ) (e : ℕ) → e < length line → is_edge edge line e ≡ lies_between edge (class_before line e) (class_at line e)
+is_edge-class_before Start = is_word_start-class_before
+is_edge-class_before Behind = is_behind_word-class_before
+
+-- a word's last character is followed by one of another class
+pub is_word_last-inside : (line : List ℕ) (e : ℕ) → suc e < length line → is_word_last line e ≡ ends (class_at line e) (class_at line (suc e))
+is_word_last-inside line e within =
+    let inside : nat_lt e (length line) ≡ true = grind (arith, nat_tests) in
+    let more : (e + 1 == length line) ≡ false = grind (arith, nat_tests) in
+    rw (inside, more, add-one) refl
+
+-- or it is the line's last
+pub is_word_last-last : (line : List ℕ) (e : ℕ) → suc e ≡ length line → is_word_last line e ≡ not (is_space (class_at line e))
+is_word_last-last line e last =
+    let inside : nat_lt e (length line) ≡ true = grind (arith, nat_tests) in
+    let here : (e + 1 == length line) ≡ true = grind (arith, nat_tests) in
+    rw (inside, here) (and-true (not (is_space (class_at line e))))
+
+-- ---- what the test of each search says in a turn
+
+pub is_earlier_word_start-turn : (line : List ℕ) (start n column : ℕ) (before kind : CharKind) (b : Bool) → n < start → IsTurn line n column kind → before ≡ class_before line n → begins before kind ≡ b → is_earlier_word_start line start n ≡ b
+is_earlier_word_start-turn line start n column before kind b earlier turn behind tells =
+    let first : nat_lt n start ≡ true = grind (arith, nat_tests) in
+    rw (first, is_word_start-class_before line n turn.within, ← behind, ← turn.kind_is) tells
+
+pub is_later_edge-turn : (edge : Edge) (line : List ℕ) (start n column : ℕ) (before kind : CharKind) (b : Bool) → start < column → IsTurn line n column kind → before ≡ class_before line n → lies_between edge before kind ≡ b → is_later_edge edge line start n ≡ b
+is_later_edge-turn edge line start n column before kind b later turn behind tells =
+    let first : nat_lt start n ≡ true = grind (arith, nat_tests, turn.column_is) in
+    rw (first, is_edge-class_before edge line n turn.within, ← behind, ← turn.kind_is) tells
+
+-- ---- where a test can't hold: on the wrong side of the start, or past the line
+
+pub is_later_edge-early : (edge : Edge) (line : List ℕ) (start n column : ℕ) (kind : CharKind) → column ≤ start → IsTurn line n column kind → is_later_edge edge line start n ≡ false
+is_later_edge-early edge line start n column kind early turn =
+    let first : nat_lt start n ≡ false = grind (arith, nat_tests, turn.column_is) in
+    rw first refl
+
+pub is_later_edge-past : (edge : Edge) (line : List ℕ) (start e : ℕ) → length line ≤ e → is_later_edge edge line start e ≡ false
+is_later_edge-past edge line start e past =
+    let outside : nat_lt e (length line) ≡ false = grind (arith, nat_tests) in
+    by edge outside
+  where
+    by : (edge : Edge) → nat_lt e (length line) ≡ false → is_later_edge edge line start e ≡ false
+    by Start outside = rw outside (and-false (nat_lt start e))
+    by Behind outside = rw outside (and-false (nat_lt start e))
+
+pub is_word_last_from-past : (line : List ℕ) (start e : ℕ) → length line ≤ e → is_word_last_from line start e ≡ false
+is_word_last_from-past line start e past =
+    let outside : nat_lt e (length line) ≡ false = grind (arith, nat_tests) in
+    rw outside (and-false (nat_le start e))
+
+pub is_earlier_word_start-past : (line : List ℕ) (start e : ℕ) → min start (length line) ≤ e → is_earlier_word_start line start e ≡ false
+is_earlier_word_start-past line start e past =
+    elim (cases_lt e start) [
+      | inl earlier ↦
+          let outside : nat_lt e (length line) ≡ false = grind (arith, nat_tests) in
+          rw outside (and-false (nat_lt e start))
+      | inr late ↦
+          let not_before : nat_lt e start ≡ false = grind (arith, nat_tests) in
+          rw not_before refl
+    ]
+
+-- ---- the column before a turn's, which may be a word's last
+
+pub is_word_last_from-turn : (line : List ℕ) (start column : ℕ) (before kind : CharKind) (b : Bool) → start < column → IsTurn line column column kind → before ≡ class_before line column → ends before kind ≡ b → is_word_last_from line start (column - 1) ≡ b
+is_word_last_from-turn line start zero before kind b later turn behind tells = absurd (omega arith)
+is_word_last_from-turn line start (suc m) before kind b later turn behind tells =
+    let at : suc m - 1 ≡ m = omega arith in
+    let first : nat_le start m ≡ true = grind (arith, nat_tests) in
+    rw (at, first, is_word_last-inside line m turn.within, ← behind, ← turn.kind_is) tells
+
+-- what comes behind the line counts as Space
+last_before_space : (kind : CharKind) → not (is_space kind) ≡ ends kind Space
+last_before_space Space = refl
+last_before_space Punct = refl
+last_before_space Other = refl
+
+pub is_word_last_from-end : (line : List ℕ) (start column : ℕ) (before : CharKind) (b : Bool) → start < column → column ≡ length line → before ≡ class_before line column → ends before Space ≡ b → is_word_last_from line start (column - 1) ≡ b
+is_word_last_from-end line start zero before b later whole behind tells = absurd (omega arith)
+is_word_last_from-end line start (suc m) before b later whole behind tells =
+    let at : suc m - 1 ≡ m = omega arith in
+    let first : nat_le start m ≡ true = grind (arith, nat_tests) in
+    rw (at, first, is_word_last-last line m whole, ← behind) (last_before_space before ∙ tells)
+
+pub is_word_last_from-early : (line : List ℕ) (start e : ℕ) → e < start → is_word_last_from line start e ≡ false
+is_word_last_from-early line start e early =
+    let first : nat_le start e ≡ false = grind (arith, nat_tests) in
+    rw first refl
+
+-- a word start before `start` lies before it, and in the line
+pub IsGreatest-within : (line : List ℕ) (start : ℕ) (found : Option ℕ) → IsGreatest (is_earlier_word_start line start) found → IfSome found (λ e. (e < start) × (e < length line))
+IsGreatest-within line start None greatest = tt
+IsGreatest-within line start (Some e) greatest =
+    let earlier : nat_lt e start ≡ true = first_so (nat_lt e start) (is_word_start line e) greatest.0 in
+    let here : is_word_start line e ≡ true = second_so (nat_lt e start) (is_word_start line e) greatest.0 in
+    (ltb-true e start earlier, ltb-true e (length line) (first_so (nat_lt e (length line)) _ here))

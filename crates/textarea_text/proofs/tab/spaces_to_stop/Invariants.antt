@@ -1,0 +1,13 @@
+use Rattle.std.proofs.Common.{◌≡◌, ◌+◌, ◌%◌, ◌<◌, take}
+use Rattle.std.specs.Str.{chars, IsUtf8}
+use Rattle.std.specs.Str.Iter.{chars_rest}
+use Rattle.textarea_text.specs.Tab.{width_of}
+use Rattle.textarea_text.proofs.tab.spaces_to_stop.Given as goal
+
+-- the width so far, less whole tab lengths, and the width of the characters that are left
+abbrev pub invariant-loop-c : goal.invariant-loop-c
+invariant-loop-c l = record {
+  text : IsUtf8 (chars_rest l.c-iterator);
+  left : (l.behind_stop + width_of (chars (chars_rest l.c-iterator))) % l.tab_length ≡ width_of (take l.column (chars l.line)) % l.tab_length;
+  below : l.behind_stop < l.tab_length;
+}

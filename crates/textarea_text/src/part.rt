@@ -1,0 +1,109 @@
+//! Parts of a text, cut out of its lines.
+ghost use Rattle.std.specs.Prelude.{◌≡◌, ◌+◌, ◌≤◌, ◌++◌, ◌∷◌, length, take, drop, vec_len, string_bytes, IfOk, OnOk, []};
+ghost use Rattle.std.specs.Str.{chars};
+ghost use Rattle.textarea_text.specs.Text.{lines_of, text_of};
+ghost use Rattle.textarea_text.specs.Place.{IsPlaceOf, index_of};
+ghost use Rattle.textarea_text.specs.Part.{part};
+
+use crate::rows::{byte_offset, byte_offset_from};
+use std::alloc::{AllocError, Global};
+
+/// The text between two places as pieces: one for each row that it touches.
+pub fn between(
+    alloc: Global,
+    lines: &[String],
+    from: (usize, usize),
+    to: (usize, usize),
+) -> Result<Vec<String>, AllocError>
+    requires from { IsPlaceOf (lines_of lines.now) from }
+    requires to { IsPlaceOf (lines_of lines.now) to }
+    requires ordered { index_of (text_of lines.now) from ≤ index_of (text_of lines.now) to }
+    ensures len { IfOk result (λ pieces. vec_len pieces + from.0 ≡ to.0 + 1) }
+    ensures text { IfOk result (λ pieces. text_of pieces.items ≡ part (text_of lines.now) from to) }
+{
+    let mut pieces = Vec::with_capacity(alloc, to.0 - from.0 + 1)?;
+    push_between(&mut pieces, lines, from, to)?;
+    Ok(pieces)
+}
+
+// Puts the text between two places where there is no piece yet: a piece for each row that it touches.
+fn push_between(
+    pieces: &mut Vec<String>,
+    lines: &[String],
+    from: (usize, usize),
+    to: (usize, usize),
+) -> Result<(), AllocError>
+    requires none { pieces.old.items ≡ [] }
+    requires from { IsPlaceOf (lines_of lines.now) from }
+    requires to { IsPlaceOf (lines_of lines.now) to }
+    requires ordered { index_of (text_of lines.now) from ≤ index_of (text_of lines.now) to }
+    ensures len { OnOk result (vec_len pieces.new + from.0 ≡ to.0 + 1) }
+    ensures text { OnOk result
+        (text_of pieces.new.items ≡ part (text_of lines.now) from to) }
+{
+    let mut start = from.1;
+    for line in &lines[from.0..to.0] {
+        push_behind(pieces, line.as_str(), start)?;
+        start = 0;
+    }
+    push_text(pieces, lines[to.0].as_str(), start, to.1)?;
+    Ok(())
+}
+
+// Puts what stands in a line from the column on behind the other pieces.
+fn push_behind(pieces: &mut Vec<String>, line: &str, column: usize) -> Result<(), AllocError>
+    requires { column ≤ length (chars line.now) }
+    ensures rows { OnOk result (lines_of pieces.new.items
+        ≡ lines_of pieces.old.items ++ drop column (chars line.now) ∷ []) }
+    ensures len { OnOk result (vec_len pieces.new ≡ vec_len pieces.old + 1) }
+{
+    let piece = text_behind(*pieces.allocator(), line, column)?;
+    pieces.push(piece)?;
+    Ok(())
+}
+
+// Puts what stands between two columns of a line behind the other pieces.
+fn push_text(
+    pieces: &mut Vec<String>,
+    line: &str,
+    start: usize,
+    end: usize,
+) -> Result<(), AllocError>
+    requires start { start ≤ end }
+    requires end { end ≤ length (chars line.now) }
+    ensures rows { OnOk result (lines_of pieces.new.items
+        ≡ lines_of pieces.old.items ++ drop start (take end (chars line.now)) ∷ []) }
+    ensures len { OnOk result (vec_len pieces.new ≡ vec_len pieces.old + 1) }
+{
+    let piece = text_between(*pieces.allocator(), line, start, end)?;
+    pieces.push(piece)?;
+    Ok(())
+}
+
+/// What stands in a line before the column.
+pub(crate) fn text_before(line: &str, column: usize) -> &str
+    requires { column ≤ length (chars line.now) }
+    ensures { chars result.now ≡ take column (chars line.now) }
+{
+    &line[..byte_offset(line, column)]
+}
+
+// What stands in a line from the column on, as a text of its own.
+fn text_behind(alloc: Global, line: &str, column: usize) -> Result<String, AllocError>
+    requires { column ≤ length (chars line.now) }
+    ensures { IfOk result (λ s. chars (string_bytes s) ≡ drop column (chars line.now)) }
+{
+    String::from_str(alloc, &line[byte_offset(line, column)..])
+}
+
+// What stands between two columns of a line, as a text of its own.
+fn text_between(alloc: Global, line: &str, start: usize, end: usize) -> Result<String, AllocError>
+    requires start { start ≤ end }
+    requires end { end ≤ length (chars line.now) }
+    ensures { IfOk result (λ s.
+        chars (string_bytes s) ≡ drop start (take end (chars line.now))) }
+{
+    let from = byte_offset(line, start);
+    let to = byte_offset_from(line, (start, from), end);
+    String::from_str(alloc, &line[from..to])
+}

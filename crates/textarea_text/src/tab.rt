@@ -1,0 +1,21 @@
+//! Spaces up to the next tab stop.
+ghost use Rattle.std.specs.Prelude.{◌≡◌, ◌-◌, ◌%◌, ◌<◌, ◌≤◌, length, take};
+ghost use Rattle.std.specs.Str.{chars};
+ghost use Rattle.textarea_text.specs.Tab.{width_of};
+
+use crate::part::text_before;
+use unicode_width::UnicodeWidthChar;
+
+/// How many spaces reach from the column of a line, counted in characters, to the next tab stop: the tab length less the
+/// remainder of the width of the characters before the column, in which a tab counts 0. From 1 to the tab length.
+pub fn spaces_to_stop(line: &str, column: usize, tab_length: u8) -> u8
+    requires some { 0 < tab_length }
+    requires within { column ≤ length (chars line.now) }
+    ensures { result ≡ tab_length - (width_of (take column (chars line.now)) % tab_length) }
+{
+    let mut behind_stop = 0usize;
+    for c in text_before(line, column).chars() {
+        behind_stop = (behind_stop + c.width().unwrap_or(0)) % tab_length as usize;
+    }
+    tab_length - behind_stop as u8
+}

@@ -1,0 +1,146 @@
+//! The classes of characters, and searches for the words of a line.
+//!
+//! A word is a longest stretch of characters of one class other than [`CharKind::Space`]. Columns
+//! count characters from 0. A search goes over the line once, and takes any start column, also one
+//! past the line's end.
+
+ghost use Rattle.std.specs.Prelude.{◌≡◌, ◌<◌, ◌≤◌, length, IfSome};
+ghost use Rattle.std.specs.Str.{chars};
+ghost use Rattle.textarea_text.specs.Nearest.{IsLeast, IsGreatest};
+ghost use Rattle.textarea_text.specs.Words.{class_of, begins, ends, lies_between, is_later_edge, next_edge, is_later_word_start, next_word_start, is_later_behind_word, next_behind_word, is_word_last_from, next_word_last, is_earlier_word_start, previous_word_start};
+
+/// The class of a character.
+#[derive(Clone, Copy, Debug, PartialEq, Eq)]
+pub enum CharKind {
+    /// White space, as Unicode's `White_Space` property has it.
+    Space,
+    /// ASCII punctuation other than `_`.
+    Punct,
+    /// Any other character.
+    Other,
+}
+
+impl CharKind {
+    /// The class of `c`.
+    #[tactic(auto, unfolding(crate::specs::Words::class_of))]
+    pub fn new(c: char) -> Self
+        ensures { result ≡ class_of c }
+    {
+        if c.is_whitespace() {
+            CharKind::Space
+        } else if c.is_ascii_punctuation() && c != '_' {
+            CharKind::Punct
+        } else {
+            CharKind::Other
+        }
+    }
+
+    /// Whether a character of this class that follows one of class `before` begins a word.
+    fn begins_word(self, before: CharKind) -> bool
+        ensures { result ≡ begins before self }
+    {
+        self != CharKind::Space && self != before
+    }
+
+    /// Whether a character of this class that comes before one of class `after` ends a word.
+    fn ends_word(self, after: CharKind) -> bool
+        ensures { result ≡ ends self after }
+    {
+        self != CharKind::Space && self != after
+    }
+}
+
+/// An edge of a word: at its first character, or at the one right behind its last.
+#[derive(Clone, Copy)]
+enum Edge {
+    Start,
+    Behind,
+}
+
+impl Edge {
+    /// Whether it lies at a character of class `kind` that follows one of class `before`.
+    fn lies_between(self, before: CharKind, kind: CharKind) -> bool
+        ensures { result ≡ lies_between self before kind }
+    {
+        match self {
+            Edge::Start => kind.begins_word(before),
+            Edge::Behind => before.ends_word(kind),
+        }
+    }
+}
+
+/// The least column after `start_column` at which such an edge lies.
+fn find_edge_forward(line: &str, start_column: usize, edge: Edge) -> Option<usize>
+    ensures least { IsLeast (is_later_edge edge (chars line.now) start_column) result }
+    ensures value { result ≡ next_edge edge (chars line.now) start_column }
+    ensures within { IfSome result (λ e. (start_column < e) × (e < length (chars line.now))) }
+{
+    let mut before = CharKind::Space;
+    for (column, c) in line.chars().enumerate() {
+        let kind = CharKind::new(c);
+        if start_column < column && edge.lies_between(before, kind) {
+            return Some(column);
+        }
+        before = kind;
+    }
+    None
+}
+
+/// The least column after `start_column` at which a word begins.
+pub fn find_word_start_forward(line: &str, start_column: usize) -> Option<usize>
+    ensures least { IsLeast (is_later_word_start (chars line.now) start_column) result }
+    ensures value { result ≡ next_word_start (chars line.now) start_column }
+    ensures within { IfSome result (λ e. (start_column < e) × (e < length (chars line.now))) }
+{
+    find_edge_forward(line, start_column, Edge::Start)
+}
+
+/// The least column after `start_column` that holds a character right behind a word's last.
+pub fn find_word_exclusive_end_forward(line: &str, start_column: usize) -> Option<usize>
+    ensures least { IsLeast (is_later_behind_word (chars line.now) start_column) result }
+    ensures value { result ≡ next_behind_word (chars line.now) start_column }
+    ensures within { IfSome result (λ e. (start_column < e) × (e < length (chars line.now))) }
+{
+    find_edge_forward(line, start_column, Edge::Behind)
+}
+
+/// The least column from `start_column` on that holds a word's last character.
+pub fn find_word_inclusive_end_forward(line: &str, start_column: usize) -> Option<usize>
+    ensures least { IsLeast (is_word_last_from (chars line.now) start_column) result }
+    ensures value { result ≡ next_word_last (chars line.now) start_column }
+    ensures within { IfSome result (λ e. (start_column ≤ e) × (e < length (chars line.now))) }
+{
+    let mut before = CharKind::Space;
+    let mut count = 0;
+    for c in line.chars() {
+        let kind = CharKind::new(c);
+        if start_column < count && before.ends_word(kind) {
+            return Some(count - 1);
+        }
+        before = kind;
+        count += 1;
+    }
+    if start_column < count && before.ends_word(CharKind::Space) {
+        Some(count - 1)
+    } else {
+        None
+    }
+}
+
+/// The greatest column before `start_column` at which a word begins.
+pub fn find_word_start_backward(line: &str, start_column: usize) -> Option<usize>
+    ensures greatest { IsGreatest (is_earlier_word_start (chars line.now) start_column) result }
+    ensures value { result ≡ previous_word_start (chars line.now) start_column }
+    ensures within { IfSome result (λ e. (e < start_column) × (e < length (chars line.now))) }
+{
+    let mut found = None;
+    let mut before = CharKind::Space;
+    for (column, c) in line.chars().take(start_column).enumerate() {
+        let kind = CharKind::new(c);
+        if kind.begins_word(before) {
+            found = Some(column);
+        }
+        before = kind;
+    }
+    found
+}

@@ -1,0 +1,44 @@
+-- One visual row holds the cursor.
+use Rattle.std.proofs.Common.{◌≡◌, ◌≢◌, ℕ, ◌-◌, ◌<◌, ◌==◌, Bool, true, false, List, length, refl, sym, ap, ◌∙◌, arith, eq-eqb}
+use Rattle.std.proofs.lemmas.Bool.{eqb-true}
+use Rattle.std.proofs.lemmas.Bool.Decides.{nat_tests}
+use Rattle.textarea_text.specs.Place.{Place}
+use Rattle.textarea_wrap.specs.RowsView.{RowsView}
+use Rattle.textarea_screen_map.specs.declared.layout.Wrapping.{Wrapping}
+use Rattle.textarea_screen_map.specs.Layout.{AreRowsOf}
+use Rattle.textarea_screen_map.specs.Rows.{VisualRow, column_at, row_at, visual_rows}
+use Rattle.textarea_screen_map.specs.Seen.{IsInRow, IsVisualPosition}
+use Rattle.textarea_screen_map.proofs.Once.{seen_once}
+use Rattle.textarea_view.specs.Rows.{holds}
+
+in_row : (row : VisualRow) (place : Place) → holds row place ≡ true → IsInRow row place
+in_row row place h = record { line = grind (arith, nat_tests); from = grind (arith, nat_tests); to = grind (arith, nat_tests); before_next = λ last. grind (arith, nat_tests) }
+
+of_row : (row : VisualRow) (place : Place) → IsInRow row place → holds row place ≡ true
+of_row row place h = by row.is_last refl
+  where
+    by : (last : Bool) → row.is_last ≡ last → holds row place ≡ true
+    by true e = grind (arith, nat_tests, h.line, h.from, h.to)
+    by false e = grind (arith, nat_tests, h.line, h.from, h.before_next e)
+
+held_once : (w : Wrapping) (lines : List (List ℕ)) (rows : List RowsView) (place : Place) (row seen column : ℕ) → AreRowsOf w lines rows → IsVisualPosition w.tab_len lines rows place (seen, column) → row < length (visual_rows lines rows) → row ≢ seen → holds (row_at lines rows row) place ≡ false
+held_once w lines rows place row seen column h is within apart = by (holds (row_at lines rows row) place) refl
+  where
+    by : (b : Bool) → holds (row_at lines rows row) place ≡ b → b ≡ false
+    by false e = refl
+    by true e =
+        let shown = row_at lines rows row in
+        let other : IsVisualPosition w.tab_len lines rows place (row, column_at w.tab_len shown.text (place.1 - shown.first)) = record { row = within; holds = in_row shown place e; column = refl } in
+        absurd (apart (ap (λ (p : Place). p.0) (seen_once w lines rows place (row, column_at w.tab_len shown.text (place.1 - shown.first)) (seen, column) h other is)))
+
+-- the row in which the place is seen holds it
+held_here : (w : Wrapping) (lines : List (List ℕ)) (rows : List RowsView) (place : Place) (seen column : ℕ) → IsVisualPosition w.tab_len lines rows place (seen, column) → holds (row_at lines rows seen) place ≡ true
+held_here w lines rows place seen column is = of_row (row_at lines rows seen) place is.holds
+
+-- a visual row holds a place exactly if it is the one in which the place is seen
+pub holds_where_seen : (w : Wrapping) (lines : List (List ℕ)) (rows : List RowsView) (place : Place) (row seen column : ℕ) → AreRowsOf w lines rows → IsVisualPosition w.tab_len lines rows place (seen, column) → row < length (visual_rows lines rows) → (row == seen) ≡ holds (row_at lines rows row) place
+holds_where_seen w lines rows place row seen column h is within = by (row == seen) refl
+  where
+    by : (b : Bool) → (row == seen) ≡ b → b ≡ holds (row_at lines rows row) place
+    by true e = let same : row ≡ seen = eqb-true row seen e in sym (ap (λ n. holds (row_at lines rows n) place) same ∙ held_here w lines rows place seen column is)
+    by false e = sym (held_once w lines rows place row seen column h is within (λ same. cc (e, eq-eqb row seen same)))

@@ -1,0 +1,132 @@
+-- One layer of a frame after another, and the cells outside of them.
+use Rattle.std.proofs.Common.{◌≡◌, ℕ, Bool, true, false, IsTrue, List, Result, Ok, Err, OnOk, OnErr, IfOk, take, refl, sym, subst}
+use Rattle.std.proofs.lemmas.Bool.{cond-false}
+use Rattle.textarea_view.specs.Cells.{AreLinesOf, AreLinesWith, block_change, frame_change, inside_change, inside_with, lines_shown, placeholder_change, rows_change, style_change}
+use Rattle.textarea_view.specs.Placed.{row_area}
+use Rattle.textarea_view.specs.Frame.{FrameState, shows_placeholder}
+use Rattle.textarea_highlight.specs.declared.highlight.highlighter.CursorCellRender.{CursorCellRender}
+use Rattle.textarea_view.specs.declared.look.Look.{Look}
+use Rattle.textarea_paint.specs.Block.{block_cell}
+use Rattle.textarea_paint.specs.declared.paint.row.RowArea.{RowArea}
+use Rattle.textarea_view.proofs.Drawing.{lines_inside}
+use Rattle.textarea_view.specs.SceneDrawn.{FillsArea, lines_change, rows_above_end}
+use Rattle.textarea_view.specs.Placeholder.{in_style, placeholder_lines}
+use Rattle.textarea_view.specs.Rows.{cursor_cell}
+use Rattle.textarea_view.specs.Scene.{SceneState}
+use Rattle.textarea_screen.proofs.ChangeLemmas.{Changes-then, KeepsOutside-from_changes, KeepsOutside-then, KeepsOutside-wider}
+use Rattle.textarea_screen.specs.Block.{ShownBlock}
+use Rattle.textarea_screen.specs.Buffer.{Changes, KeepsOutside, area_of}
+use Rattle.textarea_screen.specs.Cell.{ShownCell}
+use Rattle.textarea_screen.specs.Rect.{contains}
+use Rattle.textarea_screen.specs.Text.{ShownLine, ShownText}
+use Rattle.textarea_screen.specs.declared.screen.buffer.Buffer.{Buffer}
+use Rattle.textarea_screen.specs.declared.screen.rect.Rect.{Rect}
+use Rattle.textarea_screen.specs.declared.screen.style.Style.{Style}
+use Rattle.textarea_view.specs.Viewport.{ViewportState}
+
+-- ---- around
+
+block_outside : (block : ShownBlock) (area : Rect) (x y : ℕ) (cell : ShownCell) → contains area x y ≡ false → block_cell block area x y cell ≡ cell
+unfolding block_cell
+block_outside block area x y cell outside = cond-false (contains area x y) _ _ outside
+
+pub around_outside : (block : ShownBlock) (area : Rect) (old new : Buffer) → Changes old new (block_cell block area) → KeepsOutside (contains area) old new
+around_outside block area old new change =
+    KeepsOutside-from_changes (contains area) change (λ x y cell outside. block_outside block area x y cell outside)
+
+-- ---- inside
+
+-- lines are drawn in a frame, and this is what they make of the cells
+abbrev pub IsFilledBy : FrameState → ViewportState → Rect → Buffer → Buffer → Type 0
+IsFilledBy frame viewport inner old new = (lines : List ShownLine) × AreLinesOf frame viewport inner (area_of old) lines × Changes old new (inside_change frame viewport inner lines)
+
+abbrev FilledWith : Bool → FrameState → ViewportState → Rect → Buffer → Buffer → Type 0
+FilledWith b frame viewport inner old new = (lines : List ShownLine) × AreLinesWith b frame viewport inner (area_of old) lines × Changes old new (inside_with b frame viewport inner lines)
+
+pub filled_by_placeholder : (frame : FrameState) (viewport : ViewportState) (inner : Rect) (old new : Buffer) → shows_placeholder frame ≡ true →
+    Changes old new (placeholder_change frame.scene.look frame.surround.placeholder.style viewport inner (lines_shown frame.scene.look frame.surround.placeholder.lines inner (area_of old))) →
+    IsFilledBy frame viewport inner old new
+filled_by_placeholder frame viewport inner old new shown change =
+    subst (λ b. FilledWith b frame viewport inner old new) (sym shown)
+    (lines_shown frame.scene.look frame.surround.placeholder.lines inner (area_of old), refl, change)
+
+pub filled_by_rows : (frame : FrameState) (viewport : ViewportState) (inner : Rect) (old new : Buffer) → shows_placeholder frame ≡ false →
+    ((lines : List ShownLine) × FillsArea frame.scene viewport.row inner (area_of old) lines × Changes old new (rows_change frame.scene.look viewport inner lines)) →
+    IsFilledBy frame viewport inner old new
+filled_by_rows frame viewport inner old new shown drawn =
+    subst (λ b. FilledWith b frame viewport inner old new) (sym shown) drawn
+
+style_outside : (inner : Rect) (style : Style) (x y : ℕ) (cell : ShownCell) → contains inner x y ≡ false → style_change inner style x y cell ≡ cell
+style_outside inner style x y cell outside = cond-false (contains inner x y) _ _ outside
+
+pub styled_inside : (inner : Rect) (style : Style) (old now : Buffer) → Changes old now (style_change inner style) → KeepsOutside (contains inner) old now
+styled_inside inner style old now change =
+    KeepsOutside-from_changes (contains inner) change (λ x y cell outside. style_outside inner style x y cell outside)
+
+-- ---- both
+
+-- a cell outside of the area is outside of the inner area
+outside_of : (area inner : Rect) → ((x y : ℕ) → IsTrue (contains inner x y) → IsTrue (contains area x y)) → (x y : ℕ) → contains area x y ≡ false → contains inner x y ≡ false
+outside_of area inner within x y outside = by (contains inner x y) refl
+  where
+    by : (b : Bool) → contains inner x y ≡ b → b ≡ false
+    by false e = refl
+    by true e = cc (within x y e, outside)
+
+pub kept_around : (area inner : Rect) (old now new : Buffer) → ((x y : ℕ) → IsTrue (contains inner x y) → IsTrue (contains area x y)) → KeepsOutside (contains area) old now → KeepsOutside (contains inner) now new → KeepsOutside (contains area) old new
+kept_around area inner old now new within around inside =
+    KeepsOutside-then around (KeepsOutside-wider (contains area) inside (outside_of area inner within))
+
+pub framed : (frame : FrameState) (viewport : ViewportState) (area inner : Rect) (old now new : Buffer) → Changes old now (block_change frame.surround.block area) → IsFilledBy frame viewport inner now new →
+    (lines : List ShownLine) × AreLinesOf frame viewport inner (area_of old) lines × Changes old new (frame_change frame viewport area inner lines)
+framed frame viewport area inner old now new around inside = (
+  inside.0,
+  subst (λ (a : Rect). AreLinesOf frame viewport inner a inside.0) around.area inside.1,
+  Changes-then (frame_change frame viewport area inner inside.0) around inside.2 (λ x y cell. refl),
+)
+
+-- ---- whether it succeeds or not
+
+pub either : {T E A B C : Type 0} (r : Result T E) → OnOk r A → OnErr r B → (A → C) → (B → C) → C
+either (Ok value) ok err from_ok from_err = from_ok ok
+either (Err error) ok err from_ok from_err = from_err err
+
+pub on_ok : {T E A C : Type 0} (r : Result T E) → OnOk r A → (A → C) → OnOk r C
+on_ok (Ok value) ok from_ok = from_ok ok
+on_ok (Err error) ok from_ok = ok
+
+pub if_ok : {T E : Type 0} {P Q : T → Type 0} (r : Result T E) → IfOk r P → ((value : T) → P value → Q value) → IfOk r Q
+if_ok (Ok value) ok from_ok = from_ok value ok
+if_ok (Err error) ok from_ok = ok
+
+-- ---- what the parts of a frame say by their own words
+
+pub lines_outside : (rows : RowArea) (inner : Rect) (lines : List ShownLine) (old new : Buffer) → rows.area ≡ inner → Changes old new (lines_change rows rows.area.y lines) → KeepsOutside (contains inner) old new
+lines_outside rows inner lines old new same change =
+    subst (λ (a : Rect). KeepsOutside (contains a) old new) same (lines_inside rows lines old new change)
+
+abbrev PlaceholderDrawn : Buffer → Buffer → RowArea → ShownText → CursorCellRender → Type 0
+PlaceholderDrawn old new rows text cell = Changes old new (lines_change (in_style rows text.style) rows.area.y (take (rows_above_end rows.area (area_of old)) (placeholder_lines cell text.lines)))
+
+pub placeholder_drawn : (look : Look) (placeholder : ShownText) (viewport : ViewportState) (inner : Rect) (old new : Buffer) (rows : RowArea) (text : ShownText) (cell : CursorCellRender) →
+    rows ≡ row_area look inner viewport.column → text ≡ placeholder → cell ≡ cursor_cell look → PlaceholderDrawn old new rows text cell →
+    Changes old new (placeholder_change look placeholder.style viewport inner (lines_shown look placeholder.lines inner (area_of old)))
+placeholder_drawn look placeholder viewport inner old new rows text cell of_rows of_text of_cell change =
+    subst (λ (r : RowArea). PlaceholderDrawn old new r placeholder (cursor_cell look)) of_rows
+    (subst (λ (t : ShownText). PlaceholderDrawn old new rows t (cursor_cell look)) of_text
+    (subst (λ (b : CursorCellRender). PlaceholderDrawn old new rows text b) of_cell change))
+
+abbrev RowsDrawn : SceneState → ℕ → Buffer → Buffer → RowArea → Type 0
+RowsDrawn scene top now new rows = (lines : List ShownLine) × FillsArea scene top rows.area (area_of now) lines × Changes now new (lines_change rows rows.area.y lines)
+
+pub rows_drawn : (scene : SceneState) (viewport : ViewportState) (inner : Rect) (old now new : Buffer) (rows : RowArea) (top : ℕ × ℕ) → rows ≡ row_area scene.look inner viewport.column → top ≡ (viewport.row, viewport.column) →
+    Changes old now (style_change inner scene.look.style) → RowsDrawn scene top.0 now new rows →
+    (lines : List ShownLine) × FillsArea scene viewport.row inner (area_of old) lines × Changes old new (rows_change scene.look viewport inner lines)
+rows_drawn scene viewport inner old now new rows top of_rows of_top styling drawn =
+    let there : RowsDrawn scene viewport.row now new (row_area scene.look inner viewport.column) =
+    subst (λ (t : ℕ × ℕ). RowsDrawn scene t.0 now new (row_area scene.look inner viewport.column)) of_top
+    (subst (λ (r : RowArea). RowsDrawn scene top.0 now new r) of_rows drawn) in (
+      there.0,
+      subst (λ (a : Rect). FillsArea scene viewport.row inner a there.0) styling.area there.1,
+      Changes-then (rows_change scene.look viewport inner there.0) styling there.2 (λ x y cell. refl),
+    )

@@ -1,0 +1,35 @@
+-- What is shown of a scene is shown by one list of lines.
+use Rattle.std.proofs.Common.{◌≡◌, ℕ, ◌+◌, List, [], ◌∷◌, length, refl, sym, ap, ◌∙◌, arith}
+use Rattle.textarea_highlight.specs.Highlights.{Highlights}
+use Rattle.textarea_highlight.specs.Row.{ShowsRow}
+use Rattle.textarea_paint.specs.Clusters.{row_clusters}
+use Rattle.textarea_paint.specs.Row.{row_start}
+use Rattle.textarea_paint.specs.declared.paint.row.RowArea.{RowArea}
+use Rattle.textarea_screen.specs.Text.{ShownLine}
+use Rattle.textarea_screen.specs.declared.screen.rect.Rect.{Rect}
+use Rattle.textarea_view.specs.SceneDrawn.{AreShown, FillsArea, IsRowStart}
+use Rattle.textarea_view.specs.Rows.{row_highlights}
+use Rattle.textarea_view.specs.Scene.{SceneState}
+
+module _ (one_line : (h : Highlights) (line other : ShownLine) → ShowsRow h line → ShowsRow h other → line ≡ other) where
+  shown_once : (scene : SceneState) (row : ℕ) (lines others : List ShownLine) → length lines ≡ length others →
+      AreShown scene row lines → AreShown scene row others → lines ≡ others
+  shown_once scene row [] [] e shown shown' = refl
+  shown_once scene row [] (other ∷ others) e shown shown' = absurd (omega (arith, e))
+  shown_once scene row (line ∷ lines) [] e shown shown' = absurd (omega (arith, e))
+  shown_once scene row (line ∷ lines) (other ∷ others) e shown shown' =
+      ap (λ l. l ∷ lines) (one_line (row_highlights scene row) line other shown.0 shown'.0)
+      ∙ ap (λ ls. other ∷ ls) (shown_once scene (row + 1) lines others (omega (arith, e)) shown.1 shown'.1)
+
+  pub filled_once : (scene : SceneState) (top : ℕ) (area buffer : Rect) (lines others : List ShownLine) →
+      FillsArea scene top area buffer lines → FillsArea scene top area buffer others → lines ≡ others
+  filled_once scene top area buffer lines others fills fills' =
+      shown_once scene top lines others (fills.all ∙ sym fills'.all) fills.shown fills'.shown
+
+  pub starts_once : (scene : SceneState) (rows : RowArea) (row start other : ℕ) →
+      IsRowStart scene rows row start → IsRowStart scene rows row other → start ≡ other
+  starts_once scene rows row start other begins begins' =
+      begins.2
+      ∙ ap (λ line. row_start rows.alignment rows.area.width (row_clusters rows.style line))
+      (one_line (row_highlights scene row) begins.0 begins'.0 begins.1 begins'.1)
+      ∙ sym begins'.2

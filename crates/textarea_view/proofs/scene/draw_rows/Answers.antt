@@ -1,0 +1,31 @@
+use Rattle.std.proofs.Common.{Result, Ok, Err, ◌∙◌}
+use Rattle.std.specs.Result.{OnErr}
+use Rattle.textarea_screen.specs.Text.{shown_line}
+use Rattle.textarea_view.proofs.Drawing.{drawn_inside, drawn_more, drawn_none, failed_inside}
+use Rattle.textarea_view.proofs.scene.draw_rows.Goals as goal
+
+-- what holds holds on an error too
+also_on_err : {T E : Type 0} {Fact : Type 0} (r : Result T E) → Fact → OnErr r Fact
+also_on_err (Ok x) fact = tt
+also_on_err (Err e) fact = fact
+
+pub returns-in_err-show_in-clause-err : goal.returns-in_err-show_in-clause-err
+returns-in_err-show_in-clause-err c =
+    also_on_err c.from_residual.result
+    (drawn_inside c.args.frame.now c.args.top c.args.rows c.args.buffer.now c.loop-i.buffer c.loop-i.i c.loop-i.invariant.1)
+
+pub returns-in_err-draw_below-clause-err : goal.returns-in_err-draw_below-clause-err
+returns-in_err-draw_below-clause-err c =
+    also_on_err c.from_residual-in_err-draw_below.result
+    (failed_inside c.args.frame.now c.args.top c.args.rows c.args.buffer.now c.loop-i.buffer c.draw_below.new.buffer c.loop-i.i _ c.loop-i.invariant.1 c.in_err-draw_below.ensures.err)
+
+pub loop-i-init : goal.loop-i-init
+loop-i-init c = (c.requires.matches, drawn_none c.args.frame.now c.args.top c.args.rows c.args.buffer.now)
+
+pub loop-i-preserved : goal.loop-i-preserved
+loop-i-preserved c =
+    let known = c.loop-i.invariant in (
+      c.in_ok-show_in.ensures.same ∙ known.0,
+      drawn_more c.args.frame.now c.args.top c.args.rows c.args.buffer.now c.loop-i.buffer c.draw_below.new.buffer c.loop-i.i (shown_line c.show_in.new.line) known.1
+          c.in_ok-show_in.ensures.shown c.in_ok-draw_below.ensures.ok,
+    )

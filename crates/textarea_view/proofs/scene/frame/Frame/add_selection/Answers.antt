@@ -1,0 +1,30 @@
+use Rattle.std.proofs.Common.{◌≡◌, ◌&&◌, nat_lt, sym, ap, ◌∙◌}
+use Rattle.std.specs.Option.{option_map}
+use Rattle.std.proofs.lemmas.Result.{on_ok_weaker}
+use Rattle.textarea_highlight.specs.Highlights.{with_segment}
+use Rattle.textarea_screen_map.specs.Shown.{shown_row}
+use Rattle.textarea_view.specs.Rows.{byte_range}
+use Rattle.textarea_view.specs.Scene.{SceneState}
+use Rattle.textarea_view.proofs.Told.{selected_part}
+use Rattle.textarea_view.proofs.scene.frame.Frame.add_selection.Goals as goal
+use Rattle.textarea_view.proofs.scene.frame.Frame.add_selection.Goals.{then-shown, else-shown}
+
+pub returns : goal.returns
+returns c =
+    let h = c.args.highlighter.now in
+    let shown = c.args.shown in
+    let range = c.in-Some.range in
+    let from = c.in-Some-part_of.from in
+    let to = c.in-Some-part_of.to in
+    let at_end : c.if-shown.selection_segment ≡ (shown.is_last && nat_lt shown.line range.1.0) = elim c.if-shown.branch [
+      | then-shown w ↦ w.selection_segment-is ∙ sym (ap (λ b. b && nat_lt shown.line range.1.0) w.if-shown.true)
+      | else-shown w ↦ w.selection_segment-is ∙ w.if-shown.false ∙ sym (ap (λ b. b && nat_lt shown.line range.1.0) w.if-shown.false)
+    ] in record {
+      ok = on_ok_weaker c.selection_segment.result
+          (λ told.
+          told ∙ ap (with_segment h from to) at_end
+          ∙ selected_part c.args.self.now (shown_row shown) h range from to
+          (sym c.in-Some.is ∙ c.self.invariant.selected_is ∙ ap (λ (s : SceneState). option_map (byte_range s.rows.lines) s.selection) c.self.view_is)
+          (sym c.in-Some-part_of.is ∙ c.part_of.ensures))
+          c.selection_segment.ensures.ok;
+    }

@@ -1,0 +1,24 @@
+use Rattle.std.proofs.Common.{◌<◌, ℕ, List, Option, Some, length, ap, sym, subst, ◌∙◌, string_bytes}
+use Rattle.textarea_text.specs.Text.{lines_of}
+use Rattle.textarea_view.specs.Rows.{AreMatchesOf, FoundIn, matches_in}
+use Rattle.textarea_view.proofs.Found.{found_in, none_without}
+use Rattle.textarea_view.proofs.scene.matches.FoundMatches.turn_to.Goals as goal
+
+pub invariant_of-self-2 : goal.invariant_of-self-2
+invariant_of-self-2 c =
+    let inside = c.self.inside in
+    let items = c.spans_into.new.spans.items in
+    let within = subst (λ (v : FoundIn). c.args.line < length v.searched.lines) (sym c.self.view_is) c.requires in
+    let is = c.in_ok-spans_into.ensures.found in
+    subst (λ (p : Option (List ℕ)). AreMatchesOf (record { pattern = p; lines = lines_of inside.lines.now }) (Some c.args.line) items) (sym c.in_ok-spans_into.ensures.same)
+    (record {
+      none = none_without inside.matcher c.as_str-text.result.now items is;
+      of_line = found_in inside.matcher inside.lines.now c.args.line c.index-self-line.result c.as_str-text.result.now items within c.index-self-line.is (c.as_str-text.ensures.value ∙ ap string_bytes (sym c.index-self-line.is)) is;
+    })
+
+pub returns-clause-found : goal.returns-clause-found
+returns-clause-found c =
+    let inside = c.self.inside in
+    let within = subst (λ (v : FoundIn). c.args.line < length v.searched.lines) (sym c.self.view_is) c.requires in
+    found_in inside.matcher inside.lines.now c.args.line c.index-self-line.result c.as_str-text.result.now c.spans_into.new.spans.items within c.index-self-line.is (c.as_str-text.ensures.value ∙ ap string_bytes (sym c.index-self-line.is)) c.in_ok-spans_into.ensures.found
+    ∙ ap (λ (v : FoundIn). matches_in v.searched c.args.line) c.self.view_is

@@ -1,0 +1,81 @@
+use Rattle.std.proofs.Common.{◌≡◌, ℕ, ◌<◌, ◌+◌, min, true, false, List, Result, Ok, Err, length, map, take, get_or, sym, ap, subst, ◌∙◌, arith}
+use Rattle.std.specs.Result.{OnErr}
+use Rattle.std.proofs.lemmas.List.{get_or-map, length-map, take_min}
+use Rattle.std.proofs.lemmas.List.Elements.{All-get_or}
+use Rattle.textarea_paint.specs.Clusters.{AreInline, row_clusters}
+use Rattle.textarea_paint.specs.Row.{row_cell}
+use Rattle.textarea_paint.specs.declared.paint.row.RowArea.{RowArea}
+use Rattle.textarea_highlight.specs.declared.highlight.highlighter.CursorCellRender.{CursorCellRender}
+use Rattle.textarea_screen.specs.Buffer.{area_of, Changes, KeepsOutside}
+use Rattle.textarea_screen.specs.Rect.{is_in_row}
+use Rattle.textarea_screen.specs.Text.{ShownLine, shown_line}
+use Rattle.textarea_view.specs.SceneDrawn.{lines_change, rows_above_end}
+use Rattle.textarea_view.specs.Placeholder.{behind_cursor, cell_of_line, in_style, placeholder_lines}
+use Rattle.textarea_view.proofs.Drawing.{lines_failed}
+use Rattle.textarea_view.proofs.Placeholder.{cell_of_line-hidden, length-placeholder_lines, line_at, lines_more}
+use Rattle.textarea_view.proofs.scene.placeholder.draw_placeholder.Goals as goal
+
+-- what holds holds on an error too
+also_on_err : {T E : Type 0} {Fact : Type 0} (r : Result T E) → Fact → OnErr r Fact
+also_on_err (Ok x) fact = tt
+also_on_err (Err e) fact = fact
+
+pub loop-i-preserved : goal.loop-i-preserved
+loop-i-preserved c =
+    let i = c.loop-i.i in
+    let items = c.args.placeholder.now.lines.items in
+    let all : List ShownLine = map shown_line items in
+    let cursor = c.args.cursor_cell in
+    let lines = placeholder_lines cursor all in
+    let rows = in_style c.args.rows c.args.placeholder.now.style in
+    let own = shown_line c.index-line.result.now in
+    let now = c.loop-i.buffer in
+    let new = c.draw_line.new.buffer in
+    let within : i < length items = omega arith in
+    let counted : i < length all = omega (arith, within, length-map items shown_line) in
+    let line = behind_cursor (cell_of_line cursor i) own in
+    let is : c.index-line.result.now ≡ get_or items i c.index-line.result.now = c.index-line.ensures in
+    let here : own ≡ get_or all i own = ap shown_line is ∙ sym (get_or-map shown_line items i c.index-line.result.now own within) in
+    let drawn : Changes now new (row_cell c.in_style-styled.result (c.y.result + i) (behind_cursor c.cell_of_line-cell.result own)) = c.in_ok-draw_line.ensures.ok in
+    lines_more rows lines c.args.buffer.now now new i line own (omega (arith, counted, length-placeholder_lines cursor all))
+    (ap (behind_cursor (cell_of_line cursor i)) here ∙ line_at cursor all i own counted) c.loop-i.invariant
+    (subst (λ (n : ℕ). Changes now new (row_cell rows (n + i) line)) c.y.ensures
+    (subst (λ (r : RowArea). Changes now new (row_cell r (c.y.result + i) line)) c.in_style-styled.ensures
+    (subst (λ (cell : CursorCellRender). Changes now new (row_cell c.in_style-styled.result (c.y.result + i) (behind_cursor cell own))) c.cell_of_line-cell.ensures drawn)))
+
+pub returns-clause-ok : goal.returns-clause-ok
+returns-clause-ok c =
+    let items = c.args.placeholder.now.lines.items in
+    let all : List ShownLine = map shown_line items in
+    let lines = placeholder_lines c.args.cursor_cell all in
+    let rows = in_style c.args.rows c.args.placeholder.now.style in
+    let room = rows_above_end c.args.rows.area (area_of c.args.buffer.now) in
+    let many : length lines ≡ length items = length-placeholder_lines c.args.cursor_cell all ∙ length-map items shown_line in
+    let count : c.loop-i.i ≡ min room (length lines) = omega (arith, many, c.rows_above_end-room.ensures, ap (rows_above_end c.args.rows.area) c.area.ensures) in
+    subst (λ (ls : List ShownLine). Changes c.args.buffer.now c.loop-i.buffer (lines_change rows c.args.rows.area.y ls)) (ap (λ n. take n lines) count ∙ take_min room lines) c.loop-i.invariant
+
+pub returns-in_err-draw_line-clause-err : goal.returns-in_err-draw_line-clause-err
+returns-in_err-draw_line-clause-err c =
+    let rows = in_style c.args.rows c.args.placeholder.now.style in
+    let lines = take c.loop-i.i (placeholder_lines c.args.cursor_cell (map shown_line c.args.placeholder.now.lines.items)) in
+    also_on_err c.from_residual.result
+    (lines_failed rows lines c.args.buffer.now c.loop-i.buffer c.draw_line.new.buffer (c.y.result + c.loop-i.i) c.loop-i.invariant
+    (subst (λ (r : RowArea). KeepsOutside (is_in_row r.area (c.y.result + c.loop-i.i)) c.loop-i.buffer c.draw_line.new.buffer) c.in_style-styled.ensures c.in_err-draw_line.ensures.err))
+
+-- without the blank the line takes no memory, if it is inline
+pub returns-in_err-draw_line-clause-inline : goal.returns-in_err-draw_line-clause-inline
+returns-in_err-draw_line-clause-inline c = λ hidden inline.
+    let i = c.loop-i.i in
+    let items = c.args.placeholder.now.lines.items in
+    let all : List ShownLine = map shown_line items in
+    let rows = in_style c.args.rows c.args.placeholder.now.style in
+    let item = c.index-line.result.now in
+    let within : i < length items = omega arith in
+    let counted : i < length all = omega (arith, within, length-map items shown_line) in
+    let is : item ≡ get_or items i item = c.index-line.ensures in
+    let here : get_or all i (shown_line item) ≡ shown_line item = get_or-map shown_line items i item (shown_line item) within ∙ ap shown_line (sym is) in
+    let short : AreInline (row_clusters rows.style (shown_line item)) = subst (λ (l : ShownLine). AreInline (row_clusters rows.style l)) here
+    (All-get_or (λ (l : ShownLine). AreInline (row_clusters rows.style l)) all i (shown_line item) counted inline) in
+    let never : false ≡ true = c.in_err-draw_line.ensures.inline (c.cell_of_line-cell.ensures ∙ ap (λ cell. cell_of_line cell i) hidden ∙ cell_of_line-hidden i)
+    (subst (λ (r : RowArea). AreInline (row_clusters r.style (shown_line item))) (sym c.in_style-styled.ensures) short) in
+    cc

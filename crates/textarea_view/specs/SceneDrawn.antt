@@ -1,0 +1,45 @@
+-- The lines that show visual rows, and what they make of the cells of an area.
+use Rattle.std.specs.Prelude.{◌≡◌, ℕ, ◌+◌, ◌-◌, min, List, [], ◌∷◌, length}
+use Rattle.textarea_highlight.specs.Row.{ShowsRow}
+use Rattle.textarea_blocks.specs.Sums.{row_total}
+use Rattle.textarea_paint.specs.Clusters.{row_clusters}
+use Rattle.textarea_paint.specs.Row.{row_cell, row_start}
+use Rattle.textarea_paint.specs.declared.paint.row.RowArea.{RowArea}
+use Rattle.textarea_screen.specs.Buffer.{Change, Changes}
+use Rattle.textarea_screen.specs.Text.{ShownLine}
+use Rattle.textarea_screen.specs.declared.screen.buffer.Buffer.{Buffer}
+use Rattle.textarea_screen.specs.declared.screen.rect.Rect.{Rect}
+use Rattle.textarea_view.specs.Rows.{row_highlights}
+use Rattle.textarea_view.specs.Scene.{SceneState}
+
+-- the lines show the visual rows from this one on, one each
+abbrev pub AreShown : SceneState → ℕ → List ShownLine → Type 0
+AreShown scene row [] = Unit {0}
+AreShown scene row (line ∷ lines) = ShowsRow (row_highlights scene row) line × AreShown scene (row + 1) lines
+
+-- how many rows of an area lie above the end of a buffer's area
+abbrev pub rows_above_end : Rect → Rect → ℕ
+rows_above_end area buffer = min (area.y + area.height) (buffer.y + buffer.height) - area.y
+
+-- The lines that an area shows of the rows from the top on: one for each visual row that there is, as far as area and buffer go.
+pub record FillsArea (scene : SceneState) (top : ℕ) (area buffer : Rect) (lines : List ShownLine) : Type 0 where
+  pub all : length lines ≡ min (rows_above_end area buffer) (row_total scene.rows.rows - top)
+  pub shown : AreShown scene top lines
+
+-- what lines make of a cell that are drawn one below the other, the first in row `y`
+abbrev pub lines_change : RowArea → ℕ → List ShownLine → Change
+lines_change rows y [] column row cell = cell
+lines_change rows y (line ∷ lines) column row cell = lines_change rows (y + 1) lines column row (row_cell rows y line column row cell)
+
+-- The buffer was `old`, and is `new`: so many visual rows from the top on are drawn one below the other.
+pub record DrawnTo (scene : SceneState) (top : ℕ) (rows : RowArea) (old new : Buffer) (count : ℕ) : Type 0 where
+  pub lines : List ShownLine
+  pub many : length lines ≡ count
+  pub shown : AreShown scene top lines
+  pub change : Changes old new (lines_change rows rows.area.y lines)
+
+-- the line that shows the visual row begins so many columns behind the left edge of the area
+abbrev pub IsRowStart : SceneState → RowArea → ℕ → ℕ → Type 0
+IsRowStart scene rows row start = (line : ShownLine)
+    × ShowsRow (row_highlights scene row) line
+    × (start ≡ row_start rows.alignment rows.area.width (row_clusters rows.style line))

@@ -1,0 +1,177 @@
+//! What one frame is drawn from, and the cells that it makes.
+ghost use Rattle.std.specs.Prelude.{◌≡◌, ℕ, IfOk, IsTrue, List, OnOk};
+ghost use Rattle.textarea_view.specs.Cells.{AreLinesOf, block_change, frame_change, inside_change, lines_shown, placeholder_change, rows_change};
+ghost use Rattle.textarea_view.specs.FrameDrawn.{IsFrameDrawn};
+ghost use Rattle.textarea_view.specs.Frame.{shows_placeholder};
+ghost use Rattle.textarea_view.specs.SceneDrawn.{FillsArea};
+ghost use Rattle.textarea_view.specs.Scene.{HasPlaces};
+ghost use Rattle.textarea_screen.specs.Buffer.{Changes, KeepsOutside, area_of};
+ghost use Rattle.textarea_screen.specs.Rect.{contains};
+ghost use Rattle.textarea_screen.specs.Text.{ShownLine};
+
+use crate::placing::{Placing, row_area};
+use crate::scene::Scene;
+use crate::scene::placeholder::draw_placeholder;
+use crate::{Surround, Viewport};
+use std::alloc::{AllocError, Global};
+use std::marker::Model;
+use textarea_paint::paint::block::draw_block;
+use textarea_screen::screen::{Buffer, Rect};
+use textarea_search::search::KeptMatches;
+use textarea_wrap::wrap::WrapMode;
+
+/// The parts of a text area that one frame is drawn from, lent.
+#[derive(Drop)]
+pub struct Frame<'f, 's> {
+    /// The visual rows.
+    pub scene: Scene<'f>,
+    /// The block and the placeholder.
+    pub surround: &'f Surround<'s>,
+    /// How lines are wrapped.
+    pub mode: WrapMode,
+    /// Whether the text is empty.
+    pub is_empty: bool,
+}
+
+impl<'f, 's> Model for Frame<'f, 's> {
+    ghost use Rattle.textarea_view.specs.Frame.{FrameState};
+
+    ghost Value = { FrameState };
+
+    ghost view = { λ frame. record {
+      scene = frame.scene;
+      surround = frame.surround.now;
+      mode = frame.mode;
+      is_empty = frame.is_empty;
+    } };
+}
+
+impl Frame<'_, '_> {
+    // Whether the placeholder is shown in the place of the rows.
+    pub(crate) fn shows_placeholder(&self) -> bool
+        ensures { result ≡ shows_placeholder self.now }
+    {
+        self.is_empty && self.surround.placeholder_rows() > 0
+    }
+
+    // Draws the block over the area, and into the inner area the rows or the placeholder.
+    fn draw(
+        &self,
+        alloc: Global,
+        kept: &mut KeptMatches,
+        buffer: &mut Buffer,
+        area: Rect,
+        viewport: Viewport,
+        inner: Rect,
+    ) -> Result<(), AllocError>
+        requires places { HasPlaces self.now.scene }
+        requires within { (x y : ℕ) → IsTrue (contains inner x y) → IsTrue (contains area x y) }
+        ensures ok { OnOk result ((lines : List ShownLine)
+            × AreLinesOf self.now viewport inner (area_of buffer.old) lines
+            × Changes buffer.old buffer.new (frame_change self.now viewport area inner lines)) }
+        ensures outside { KeepsOutside (contains area) buffer.old buffer.new }
+    {
+        self.draw_around(buffer, area)?;
+        self.draw_inside(alloc, kept, buffer, viewport, inner)
+    }
+
+    // Draws the rows or the placeholder into the inner area.
+    fn draw_inside(
+        &self,
+        alloc: Global,
+        kept: &mut KeptMatches,
+        buffer: &mut Buffer,
+        viewport: Viewport,
+        inner: Rect,
+    ) -> Result<(), AllocError>
+        requires { HasPlaces self.now.scene }
+        ensures ok { OnOk result ((lines : List ShownLine)
+            × AreLinesOf self.now viewport inner (area_of buffer.old) lines
+            × Changes buffer.old buffer.new (inside_change self.now viewport inner lines)) }
+        ensures outside { KeepsOutside (contains inner) buffer.old buffer.new }
+    {
+        if self.shows_placeholder() {
+            draw_placeholder_of(alloc, buffer, self.surround, &self.scene, viewport, inner)
+        } else {
+            draw_rows(alloc, kept, buffer, &self.scene, viewport, inner)
+        }
+    }
+
+    // Draws the block, if there is one.
+    fn draw_around(&self, buffer: &mut Buffer, area: Rect) -> Result<(), AllocError>
+        ensures ok { OnOk result
+            (Changes buffer.old buffer.new (block_change self.now.surround.block area)) }
+        ensures outside { KeepsOutside (contains area) buffer.old buffer.new }
+    {
+        match self.surround.block() {
+            Some(block) => draw_block(buffer, area, block),
+            None => Ok(()),
+        }
+    }
+}
+
+// Draws the placeholder into the inner area.
+fn draw_placeholder_of(
+    alloc: Global,
+    buffer: &mut Buffer,
+    surround: &Surround<'_>,
+    scene: &Scene<'_>,
+    viewport: Viewport,
+    inner: Rect,
+) -> Result<(), AllocError>
+    ensures ok { OnOk result (Changes buffer.old buffer.new
+        (placeholder_change scene.now.look surround.now.placeholder.style viewport inner
+        (lines_shown scene.now.look surround.now.placeholder.lines inner (area_of buffer.old)))) }
+    ensures outside { KeepsOutside (contains inner) buffer.old buffer.new }
+{
+    let rows = row_area(scene.look, viewport, inner);
+    draw_placeholder(
+        alloc,
+        buffer,
+        rows,
+        surround.placeholder(),
+        scene.cursor_cell(),
+    )
+}
+
+// Draws the visual rows over the style of the text area.
+fn draw_rows(
+    alloc: Global,
+    kept: &mut KeptMatches,
+    buffer: &mut Buffer,
+    scene: &Scene<'_>,
+    viewport: Viewport,
+    inner: Rect,
+) -> Result<(), AllocError>
+    requires { HasPlaces scene.now }
+    ensures ok { OnOk result ((lines : List ShownLine)
+        × FillsArea scene.now viewport.row inner (area_of buffer.old) lines
+        × Changes buffer.old buffer.new (rows_change scene.now.look viewport inner lines)) }
+    ensures outside { KeepsOutside (contains inner) buffer.old buffer.new }
+{
+    let rows = row_area(scene.look, viewport, inner);
+    let (top, _) = viewport.scroll_top();
+    buffer.set_style(inner, scene.look.style);
+    scene.draw(alloc, kept, buffer, rows, top)
+}
+
+/// Draws the frame, where this part was shown before, and gives what is shown then: the part that is shown follows the cursor. The
+/// inner area lies in the area. Out of memory, cells of the area may be drawn already.
+pub fn draw_frame(
+    frame: &Frame<'_, '_>,
+    alloc: Global,
+    kept: &mut KeptMatches,
+    buffer: &mut Buffer,
+    area: Rect,
+    viewport: Viewport,
+    inner: Rect,
+) -> Result<Placing, AllocError>
+    requires places { HasPlaces frame.now.scene }
+    requires within { (x y : ℕ) → IsTrue (contains inner x y) → IsTrue (contains area x y) }
+    ensures ok { IfOk result (IsFrameDrawn frame.now viewport area inner buffer.old buffer.new) }
+    ensures outside { KeepsOutside (contains area) buffer.old buffer.new }
+{
+    let placing = frame.placing(alloc, viewport, inner)?;
+    frame.draw(alloc, kept, buffer, area, placing.viewport, inner)?;
+    Ok(placing)
+}

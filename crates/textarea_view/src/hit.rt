@@ -1,0 +1,64 @@
+//! Which place of a frame's rows a cell of the screen shows.
+ghost use Rattle.std.specs.Prelude.{◌≡◌, ◌-◌, ◌<◌, IfOk, IfSome, IsOk, Some};
+ghost use Rattle.textarea_view.specs.Hit.{IsHitInRows, IsHitOf};
+ghost use Rattle.textarea_blocks.specs.Sums.{row_total};
+ghost use Rattle.textarea_view.specs.Scene.{HasPlaces};
+ghost use Rattle.textarea_screen.specs.declared.screen.alignment.Alignment.TheVariants.{Left};
+ghost use Rattle.textarea_text.specs.Place.{IsPlaceOf};
+ghost use Rattle.textarea_view.specs.Caret.{hit_row};
+
+use crate::Viewport;
+use crate::frame::Frame;
+use crate::placing::row_view;
+use crate::scene::Scene;
+use std::alloc::{AllocError, Global};
+use textarea_screen::screen::{Position, Rect};
+
+impl Frame<'_, '_> {
+    /// The place that a cell of the screen shows, if it is one of the inner area, where this part is shown: a cell below the last visual
+    /// row shows that row, and one behind a row its greatest cursor column; with a placeholder each shows the start.
+    pub fn hit(
+        &self,
+        alloc: Global,
+        viewport: Viewport,
+        inner: Rect,
+        position: Position,
+    ) -> Result<Option<(usize, usize)>, AllocError>
+        requires { HasPlaces self.now.scene }
+        ensures hit { IfOk result (IsHitOf self.now viewport inner position.x position.y) }
+        ensures place { IfOk result (λ found.
+            IfSome found (IsPlaceOf self.now.scene.rows.lines)) }
+        ensures left { self.now.scene.look.alignment ≡ Left → IsOk result }
+    {
+        let last_row = self.scene.rows.row_count() - 1;
+        let Some(row) = viewport.hit_row(inner, last_row, position) else {
+            return Ok(None);
+        };
+        if self.shows_placeholder() {
+            return Ok(Some((0, 0)));
+        }
+        Ok(Some(hit_in_row(alloc, &self.scene, viewport, inner, row, position)?))
+    }
+}
+
+// The place that a cell of the inner area shows, in the visual row that it shows.
+fn hit_in_row(
+    alloc: Global,
+    scene: &Scene<'_>,
+    viewport: Viewport,
+    inner: Rect,
+    row: usize,
+    position: Position,
+) -> Result<(usize, usize), AllocError>
+    requires places { HasPlaces scene.now }
+    requires row { row < row_total scene.now.rows.rows }
+    requires hit { hit_row viewport.row inner (row_total scene.now.rows.rows - 1)
+        position.x position.y ≡ Some row }
+    ensures hit { IfOk result (IsHitInRows scene.now viewport inner position.x position.y) }
+    ensures place { IfOk result (IsPlaceOf scene.now.rows.lines) }
+    ensures left { scene.now.look.alignment ≡ Left → IsOk result }
+{
+    let view = row_view(alloc, scene, viewport, inner, row)?;
+    let column = view.hit_column(position, scene.rows.greatest_column(row));
+    Ok(scene.rows.place_near((row, column)))
+}

@@ -1,0 +1,177 @@
+//! Which part of the rows is shown once a frame is drawn, and where the caret is.
+ghost use Rattle.std.specs.Prelude.{◌≡◌, ◌<◌, IfOk, IsOk};
+ghost use Rattle.std.specs.Option.{option_map};
+ghost use Rattle.textarea_view.specs.Frame.{number_width};
+ghost use Rattle.textarea_view.specs.Placed.{IsPlaced, IsPlacedInRows, LiesAs, corner_caret, placed_at_corner, row_area, row_view, viewport_at};
+ghost use Rattle.textarea_view.specs.Placed.{cell_of_position};
+ghost use Rattle.textarea_blocks.specs.Sums.{row_total};
+ghost use Rattle.textarea_view.specs.Scene.{HasPlaces};
+ghost use Rattle.textarea_screen.specs.declared.screen.alignment.Alignment.TheVariants.{Left};
+
+use crate::frame::Frame;
+use crate::look::Look;
+use crate::scene::Scene;
+use crate::{RowView, Viewport};
+use std::alloc::{AllocError, Global};
+use std::marker::Model;
+use textarea_paint::paint::row::RowArea;
+use textarea_screen::screen::{Alignment, Position, Rect, Style};
+use textarea_wrap::layout::LayoutMetrics;
+use textarea_wrap::wrap::WrapMode;
+
+/// The part that is shown, and the cell of the caret, if it is shown.
+#[derive(Drop)]
+pub struct Placing {
+    /// The part that is shown.
+    pub viewport: Viewport,
+    /// The cell of the caret, if it is shown.
+    pub caret: Option<Position>,
+}
+
+impl Model for Placing {
+    ghost use Rattle.std.specs.Option.{option_map};
+    ghost use Rattle.textarea_view.specs.Placed.{cell_of_position};
+    ghost use Rattle.textarea_view.specs.Placed.{Placing as Placed};
+
+    ghost Value = { Placed };
+
+    ghost view = { λ placing. record {
+      viewport = placing.viewport;
+      caret = option_map cell_of_position placing.caret;
+    } };
+}
+
+impl Frame<'_, '_> {
+    // What is shown once the frame is drawn into the inner area, where this part was shown before.
+    pub(crate) fn placing(
+        &self,
+        alloc: Global,
+        viewport: Viewport,
+        inner: Rect,
+    ) -> Result<Placing, AllocError>
+        requires { HasPlaces self.now.scene }
+        ensures { IfOk result (λ placing. IsPlaced self.now viewport inner placing) }
+    {
+        if self.shows_placeholder() {
+            Ok(placing_at_corner(inner))
+        } else {
+            placing_in_rows(alloc, &self.scene, self.mode, viewport, inner)
+        }
+    }
+}
+
+// The same where the rows are shown.
+fn placing_in_rows(
+    alloc: Global,
+    scene: &Scene<'_>,
+    mode: WrapMode,
+    viewport: Viewport,
+    inner: Rect,
+) -> Result<Placing, AllocError>
+    requires { HasPlaces scene.now }
+    ensures { IfOk result (λ placing. IsPlacedInRows scene.now mode viewport inner placing) }
+{
+    let seen = scene.rows.visual_position(scene.cursor);
+    let viewport = viewport_at(mode, viewport, inner, number_width(scene), seen);
+    let view = row_view(alloc, scene, viewport, inner, seen.0)?;
+    Ok(Placing {
+        viewport,
+        caret: view.caret(seen.0, seen.1),
+    })
+}
+
+// How a visual row lies in the inner area. At the left that is known without the row, and takes no memory.
+pub(crate) fn row_view(
+    alloc: Global,
+    scene: &Scene<'_>,
+    viewport: Viewport,
+    inner: Rect,
+    row: usize,
+) -> Result<RowView, AllocError>
+    requires places { HasPlaces scene.now }
+    requires row { row < row_total scene.now.rows.rows }
+    ensures view { IfOk result (λ view. LiesAs scene.now viewport inner row view) }
+    ensures left { scene.now.look.alignment ≡ Left → IsOk result }
+{
+    let columns = number_width(scene);
+    let rows = row_area(scene.look, viewport, inner);
+    let start = scene.row_start(alloc, rows, row)?;
+    Ok(view_from(rows.alignment, viewport, inner, start, columns))
+}
+
+// How a row lies in the inner area that begins so many columns behind its left edge.
+fn view_from(
+    alignment: Alignment,
+    viewport: Viewport,
+    inner: Rect,
+    start: u16,
+    columns: usize,
+) -> RowView
+    ensures { result ≡ row_view alignment viewport inner start columns }
+{
+    match alignment {
+        Alignment::Left => RowView::at_left(viewport, inner, columns),
+        _ => RowView::at_offset(viewport, inner, start, columns),
+    }
+}
+
+// The rows of the inner area, from the first column on that is shown.
+pub(crate) fn row_area(look: Look, viewport: Viewport, inner: Rect) -> RowArea
+    ensures { result ≡ row_area look inner viewport.column }
+{
+    let (_, left) = viewport.scroll_top();
+    RowArea {
+        area: inner,
+        alignment: look.alignment,
+        left,
+        style: Style::new(),
+    }
+}
+
+// The columns of line numbers, 0 without them.
+fn number_width(scene: &Scene<'_>) -> usize
+    ensures { result ≡ number_width scene.now }
+{
+    let line_count = scene.rows.lines().len();
+    LayoutMetrics::new(0, line_count, scene.line_numbers, WrapMode::None).line_number_width()
+}
+
+// The part that is shown once the cursor is seen in this visual row at this display column.
+fn viewport_at(
+    mode: WrapMode,
+    viewport: Viewport,
+    inner: Rect,
+    number_width: usize,
+    seen: (usize, usize),
+) -> Viewport
+    ensures { result ≡ viewport_at mode viewport inner number_width seen }
+{
+    match mode {
+        WrapMode::None => viewport.showing_row_and_column(inner, seen.0, seen.1, number_width),
+        _ => viewport.showing_row(inner, seen.0),
+    }
+}
+
+// What is shown with a placeholder: nothing is scrolled, and the caret stands in the corner.
+fn placing_at_corner(inner: Rect) -> Placing
+    ensures { result ≡ placed_at_corner inner }
+{
+    Placing {
+        viewport: Viewport::at_start(inner),
+        caret: corner_caret(inner),
+    }
+}
+
+// The corner of an area that has a cell.
+fn corner_caret(inner: Rect) -> Option<Position>
+    ensures { option_map cell_of_position result ≡ corner_caret inner }
+{
+    if inner.width() == 0 || inner.height() == 0 {
+        None
+    } else {
+        Some(Position {
+            x: inner.x(),
+            y: inner.y(),
+        })
+    }
+}

@@ -1,0 +1,99 @@
+//! The cell of the caret in a visual row, and the column that a cell of the row shows.
+ghost use Rattle.std.specs.Prelude.{◌≡◌, ◌+◌, ◌≤◌};
+ghost use Rattle.std.specs.Option.{option_map};
+ghost use Rattle.textarea_view.specs.Caret.{caret_at, cell_of, hit_column, left_view, offset_view};
+
+use crate::viewport::Viewport;
+use textarea_screen::screen::{Position, Rect};
+
+/// How a visual row lies in the area that it is shown in.
+///
+/// A row that begins at the left of the area is scrolled by its first column, and its offset is 0. A row in the middle or
+/// at the right begins at an offset and isn't scrolled: its first column is 0.
+#[derive(Clone, Copy, Debug, PartialEq, Eq)]
+pub struct RowView {
+    /// The cells that show the text.
+    pub inner_area: Rect,
+    /// The first visual row that is shown.
+    pub top_row: usize,
+    /// The first column of the row that is shown, counted with those of the line number.
+    pub left_column: usize,
+    /// How many columns behind the left edge the row begins.
+    pub offset: u16,
+    /// How many columns the line number takes, 0 where there are no line numbers.
+    pub line_number_width: usize,
+}
+
+impl RowView {
+    /// A row that begins at the left of the area, scrolled by the viewport's first column.
+    pub fn at_left(viewport: Viewport, inner_area: Rect, line_number_width: usize) -> RowView
+        ensures { result ≡ left_view viewport inner_area line_number_width }
+    {
+        let (top_row, left_column) = viewport.scroll_top();
+        RowView {
+            inner_area,
+            top_row,
+            left_column,
+            offset: 0,
+            line_number_width,
+        }
+    }
+
+    /// A row in the middle or at the right of the area, which begins this many columns behind its left edge and isn't
+    /// scrolled.
+    pub fn at_offset(
+        viewport: Viewport,
+        inner_area: Rect,
+        offset: u16,
+        line_number_width: usize,
+    ) -> RowView
+        ensures { result ≡ offset_view viewport inner_area offset line_number_width }
+    {
+        let (top_row, _) = viewport.scroll_top();
+        RowView {
+            inner_area,
+            top_row,
+            left_column: 0,
+            offset,
+            line_number_width,
+        }
+    }
+
+    /// The cell of a caret in this visual row, at this display column of the text; none where the row or the column isn't
+    /// shown. No sum is cut, whatever the numbers are.
+    pub fn caret(&self, row: usize, column: usize) -> Option<Position>
+        ensures { option_map (λ position. (position.x, position.y)) result
+            ≡ caret_at self.now row column }
+    {
+        let place = u128::from(self.offset) + column as u128 + self.line_number_width as u128;
+        let area = self.inner_area;
+        let x = cell_of(area.x(), area.width(), self.left_column, place)?;
+        let y = cell_of(area.y(), area.height(), self.top_row, row as u128)?;
+        Some(Position { x, y })
+    }
+
+    /// The display column of the row that a cell of it shows, as its column on the screen tells: 0 in the line number and
+    /// before the row, and behind the row its greatest cursor column. No sum is cut.
+    pub fn hit_column(&self, position: Position, greatest_column: usize) -> usize
+        ensures { result ≡ hit_column self.now greatest_column position.x }
+    {
+        let right = position.x.saturating_sub(self.inner_area.x());
+        let shown = u128::from(right.saturating_sub(self.offset)) + self.left_column as u128;
+        let column = shown.saturating_sub(self.line_number_width as u128);
+        column.min(greatest_column as u128) as usize
+    }
+}
+
+// The cell of a row or column, of an area that begins at a cell and shows `len` of them from the first on; none where it
+// isn't shown.
+fn cell_of(start: u16, len: u16, first: usize, at: u128) -> Option<u16>
+    requires { start + len ≤ 65535 }
+    ensures { result ≡ cell_of start len first at }
+{
+    let behind = at.checked_sub(first as u128)?;
+    if behind < u128::from(len) {
+        Some(start + behind as u16)
+    } else {
+        None
+    }
+}

@@ -1,0 +1,192 @@
+//! The visual rows of a text, drawn below one another.
+mod frame;
+pub mod laws;
+mod matches;
+mod parts;
+pub mod placeholder;
+
+ghost use Rattle.std.specs.Prelude.{◌≡◌, ◌≢◌, ◌+◌, ◌-◌, ◌^◌, ◌<◌, ◌≤◌, min, List, IfOk, OnErr, OnOk};
+ghost use Rattle.textarea_highlight.specs.Row.{ShowsRow};
+ghost use Rattle.textarea_blocks.specs.Sums.{row_total};
+ghost use Rattle.textarea_screen.specs.Buffer.{area_of, Changes, KeepsOutside};
+ghost use Rattle.textarea_screen.specs.Rect.{contains, is_in_row};
+ghost use Rattle.textarea_screen.specs.Text.{ShownLine, shown_line};
+ghost use Rattle.textarea_paint.specs.Row.{row_cell};
+ghost use Rattle.textarea_view.specs.SceneDrawn.{DrawnTo, FillsArea, IsRowStart, lines_change, rows_above_end};
+ghost use Rattle.textarea_view.specs.Rows.{cursor_cell, row_highlights, searched};
+ghost use Rattle.textarea_view.specs.Scene.{HasPlaces};
+
+use crate::look::{CursorRenderMode, CustomHighlight, Look};
+use frame::Frame;
+use matches::FoundMatches;
+use std::alloc::{AllocError, Global};
+use std::marker::Model;
+use textarea_highlight::highlight::CursorCellRender;
+use textarea_paint::paint::row::{RowArea, draw_row, row_start};
+use textarea_screen::screen::{Alignment, Buffer, Line, Rect};
+use textarea_screen_map::view::LaidOutView;
+use textarea_search::search::{KeptMatches, Search};
+
+/// What a frame is drawn from, lent.
+#[derive(Drop)]
+pub struct Scene<'a> {
+    pub rows: LaidOutView<'a>,
+    pub cursor: (usize, usize),
+    /// From its start to its end.
+    pub selection: Option<((usize, usize), (usize, usize))>,
+    pub search: &'a Search,
+    pub look: Look,
+    /// In the order in which they were added.
+    pub highlights: &'a [CustomHighlight],
+    pub line_numbers: bool,
+}
+
+impl<'a> Model for Scene<'a> {
+    ghost use Rattle.textarea_view.specs.Scene.{SceneState};
+
+    ghost Value = { SceneState };
+
+    ghost view = { λ scene. record {
+      rows = scene.rows;
+      cursor = scene.cursor;
+      selection = scene.selection;
+      pattern = scene.search.now;
+      look = scene.look;
+      highlights = scene.highlights.now;
+      line_numbers = scene.line_numbers;
+    } };
+}
+
+impl<'a> Scene<'a> {
+    /// Draws the visual rows from `top` on into the rows of the area, as far as there are rows of both and the buffer goes.
+    ///
+    /// A cell on which nothing stands is left as it is. Matches that are kept aren't looked for again, and those that are found
+    /// are kept. Out of memory, cells of the area may be drawn already.
+    pub fn draw(
+        &self,
+        alloc: Global,
+        kept: &mut KeptMatches,
+        buffer: &mut Buffer,
+        rows: RowArea,
+        top: usize,
+    ) -> Result<(), AllocError>
+        requires { HasPlaces self.now }
+        ensures ok { OnOk result ((lines : List ShownLine)
+            × FillsArea self.now top rows.area (area_of buffer.old) lines
+            × Changes buffer.old buffer.new (lines_change rows rows.area.y lines)) }
+        ensures err { OnErr result (KeepsOutside (contains rows.area) buffer.old buffer.new) }
+    {
+        let room = rows_above_end(rows.area, buffer.area());
+        let frame = Frame::new(self);
+        let lines = self.rows.lines();
+        let mut matches = FoundMatches::new(alloc, self.search, lines, kept, usize::from(room))?;
+        let count = rows_drawn(room, self.rows.row_count(), top);
+        draw_rows(alloc, &frame, &mut matches, buffer, rows, top, count)
+    }
+
+    /// How the cell at the cursor is drawn: in the cursor's style, or as any other.
+    pub fn cursor_cell(&self) -> CursorCellRender
+        ensures { result ≡ cursor_cell self.now.look }
+    {
+        match self.look.cursor_render_mode {
+            CursorRenderMode::Cell => CursorCellRender::Draw(self.look.cursor_style),
+            CursorRenderMode::Hidden => CursorCellRender::Hidden,
+        }
+    }
+
+    /// How many columns behind the left edge of the area a visual row begins that is drawn in it. At the left that is known
+    /// without the row, and takes no memory.
+    pub fn row_start(&self, alloc: Global, rows: RowArea, row: usize) -> Result<u16, AllocError>
+        requires places { HasPlaces self.now }
+        requires row { row < row_total self.now.rows.rows }
+        ensures left { rows.alignment ≡ Alignment.Left → result ≡ Ok 0 }
+        ensures other { rows.alignment ≢ Alignment.Left
+            → IfOk result (λ start. IsRowStart self.now rows row start) }
+    {
+        match rows.alignment {
+            Alignment::Left => Ok(0),
+            _ => self.shown_start(alloc, rows, row),
+        }
+    }
+
+    // The same for any alignment, by the line that shows the row.
+    fn shown_start(&self, alloc: Global, rows: RowArea, row: usize) -> Result<u16, AllocError>
+        requires places { HasPlaces self.now }
+        requires row { row < row_total self.now.rows.rows }
+        ensures { IfOk result (λ start. IsRowStart self.now rows row start) }
+    {
+        let line = self.row_line(alloc, row)?;
+        Ok(row_start(rows, &line))
+    }
+
+    // The line that shows a visual row.
+    fn row_line(&self, alloc: Global, row: usize) -> Result<Line<'a>, AllocError>
+        requires places { HasPlaces self.now }
+        requires row { row < row_total self.now.rows.rows }
+        ensures { IfOk result (λ line. ShowsRow (row_highlights self.now row) (shown_line line)) }
+    {
+        let frame = Frame::new(self);
+        let mut kept = KeptMatches::new(alloc);
+        let lines = self.rows.lines();
+        let mut matches = FoundMatches::new(alloc, self.search, lines, &mut kept, 0)?;
+        frame.row_line(alloc, row, &mut matches)
+    }
+}
+
+// Draws so many visual rows from `top` on, one below the other.
+fn draw_rows<'a>(
+    alloc: Global,
+    frame: &Frame<'_, 'a>,
+    matches: &mut FoundMatches<'_, '_>,
+    buffer: &mut Buffer,
+    rows: RowArea,
+    top: usize,
+    count: usize,
+) -> Result<(), AllocError>
+    requires matches { matches.old.searched ≡ searched frame.now }
+    requires shown { count ≤ row_total frame.now.rows.rows - top }
+    requires end { top + count < 2 ^ 64 }
+    requires room { count ≤ rows.area.height }
+    ensures ok { OnOk result (DrawnTo frame.now top rows buffer.old buffer.new count) }
+    ensures err { OnErr result (KeepsOutside (contains rows.area) buffer.old buffer.new) }
+{
+    let mut highlighter = frame.highlighter(alloc);
+    let mut line = Line::from_spans(Vec::new(alloc));
+    for i in 0..count {
+        frame.show_in(&mut line, top + i, matches, &mut highlighter)?;
+        draw_below(buffer, rows, i, &line)?;
+    }
+    Ok(())
+}
+
+// How many of so many visual rows are drawn from `top` on, where there is room for so many.
+fn rows_drawn(room: u16, row_count: usize, top: usize) -> usize
+    ensures { result ≡ min room (row_count - top) }
+{
+    row_count.saturating_sub(top).min(usize::from(room))
+}
+
+// Draws a line into the row of the area that lies so many rows below its first.
+fn draw_below(
+    buffer: &mut Buffer,
+    rows: RowArea,
+    below: usize,
+    line: &Line<'_>,
+) -> Result<(), AllocError>
+    requires { below < rows.area.height }
+    ensures ok { OnOk result (Changes buffer.old buffer.new
+        (row_cell rows (rows.area.y + below) (shown_line line.now))) }
+    ensures err { OnErr result
+        (KeepsOutside (is_in_row rows.area (rows.area.y + below)) buffer.old buffer.new) }
+{
+    draw_row(buffer, rows, rows.area.y() + below as u16, line)
+}
+
+// How many rows of the area lie above the end of the buffer's area.
+fn rows_above_end(area: Rect, buffer: Rect) -> u16
+    ensures { result ≡ rows_above_end area buffer }
+{
+    let area_end = area.y() + area.height();
+    let buffer_end = buffer.y() + buffer.height();
+    area_end.min(buffer_end).saturating_sub(area.y())
+}

@@ -1,0 +1,176 @@
+//! One visual row after another, cut into spans.
+ghost use Rattle.std.specs.Prelude.{◌≡◌, ◌<◌, chars, encode_utf8_all, length, IfOk, OnOk};
+ghost use Rattle.textarea_highlight.specs.Highlights.{plain_row};
+ghost use Rattle.textarea_highlight.specs.Row.{ShowsRow};
+ghost use Rattle.textarea_blocks.specs.Sums.{row_total};
+ghost use Rattle.textarea_screen_map.specs.Rows.{row_at};
+ghost use Rattle.textarea_screen_map.specs.Shown.{shown_row};
+ghost use Rattle.textarea_screen.specs.Text.{shown_line};
+ghost use Rattle.textarea_view.specs.Rows.{cursor_cell, matches_in, row_highlights, searched, with_customs, with_found, with_selected};
+ghost use Rattle.textarea_view.specs.Scene.{HasPlaces};
+
+use super::Scene;
+use super::matches::FoundMatches;
+use super::parts::{Range, byte_place};
+use std::alloc::{AllocError, Global};
+use std::marker::Model;
+use textarea_highlight::highlight::LineHighlighter;
+use textarea_screen::screen::Line;
+use textarea_screen_map::screen_map::RowText;
+
+/// A scene, and what each of its rows needs to know: the visual row that holds the cursor, and the lines' bytes at which the
+/// selection starts and ends.
+#[derive(Drop)]
+pub(super) struct Frame<'f, 'a> {
+    pub(super) scene: &'f Scene<'a>,
+    pub(super) cursor_row: usize,
+    pub(super) selected: Option<Range>,
+}
+
+impl<'f, 'a> Model for Frame<'f, 'a> {
+    ghost use Rattle.textarea_view.specs.Scene.{SceneState};
+    ghost use Rattle.textarea_view.specs.Rows.{IsKnown};
+
+    ghost Value = { SceneState };
+
+    ghost view = { λ frame. frame.scene.now };
+
+    ghost invariant = { λ frame. IsKnown frame.scene.now frame.cursor_row frame.selected };
+}
+
+impl<'f, 'a> Frame<'f, 'a> {
+    pub(super) fn new(scene: &'f Scene<'a>) -> Frame<'f, 'a>
+        requires { HasPlaces scene.now }
+        ensures { result ≡ scene.now }
+    {
+        let lines = scene.rows.lines();
+        let selected = match scene.selection {
+            Some((start, end)) => Some((byte_place(lines, start), byte_place(lines, end))),
+            None => None,
+        };
+        let (cursor_row, _) = scene.rows.visual_position(scene.cursor);
+        Frame {
+            scene,
+            cursor_row,
+            selected,
+        }
+    }
+
+    /// What cuts one row after another into spans.
+    pub(super) fn highlighter(&self, alloc: Global) -> LineHighlighter<'a> {
+        let scene = self.scene;
+        LineHighlighter::new(
+            alloc,
+            "",
+            scene.cursor_cell(),
+            scene.rows.tab_len(),
+            scene.look.mask,
+            scene.look.selection_style,
+        )
+    }
+
+    /// Puts the spans of a visual row into a line.
+    pub(super) fn show_in(
+        &self,
+        line: &mut Line<'a>,
+        row: usize,
+        matches: &mut FoundMatches<'_, '_>,
+        highlighter: &mut LineHighlighter<'a>,
+    ) -> Result<(), AllocError>
+        requires row { row < row_total self.now.rows.rows }
+        requires matches { matches.old.searched ≡ searched self.now }
+        ensures shown { OnOk result (ShowsRow (row_highlights self.now row) (shown_line line.new)) }
+        ensures same { matches.new.searched ≡ matches.old.searched }
+    {
+        self.tell_row(highlighter, row, matches)?;
+        highlighter.show_in(line)
+    }
+
+    /// A new line with the spans of a visual row.
+    pub(super) fn row_line(
+        &self,
+        alloc: Global,
+        row: usize,
+        matches: &mut FoundMatches<'_, '_>,
+    ) -> Result<Line<'a>, AllocError>
+        requires row { row < row_total self.now.rows.rows }
+        requires matches { matches.old.searched ≡ searched self.now }
+        ensures { IfOk result (λ line. ShowsRow (row_highlights self.now row) (shown_line line)) }
+    {
+        let mut highlighter = self.highlighter(alloc);
+        let mut line = Line::from_spans(Vec::new(alloc));
+        self.show_in(&mut line, row, matches, &mut highlighter)?;
+        Ok(line)
+    }
+
+    // Begins with the visual row of this number, and tells all that it shows.
+    fn tell_row(
+        &self,
+        highlighter: &mut LineHighlighter<'a>,
+        row: usize,
+        matches: &mut FoundMatches<'_, '_>,
+    ) -> Result<(), AllocError>
+        requires row { row < row_total self.now.rows.rows }
+        requires matches { matches.old.searched ≡ searched self.now }
+        ensures told { OnOk result (highlighter.new ≡ row_highlights self.now row) }
+        ensures same { matches.new.searched ≡ matches.old.searched }
+    {
+        let scene = self.scene;
+        let shown = scene.rows.row_at(row);
+        matches.turn_to(shown.line)?;
+        self.tell(highlighter, row, shown, matches.as_slice())
+    }
+
+    // Begins with a visual row that is cut out already, and tells all that it shows.
+    fn tell<'t>(
+        &self,
+        highlighter: &mut LineHighlighter<'t>,
+        row: usize,
+        shown: RowText<'t>,
+        matches: &[(usize, usize)],
+    ) -> Result<(), AllocError>
+        requires row { row < row_total self.now.rows.rows }
+        requires shown { shown_row shown ≡ row_at self.now.rows.lines self.now.rows.rows row }
+        requires line { shown.line < length self.now.rows.lines }
+        requires matches { matches.now ≡ matches_in (searched self.now) shown.line }
+        ensures { OnOk result (highlighter.new ≡ row_highlights self.now row) }
+    {
+        self.begin(highlighter, shown.text);
+        self.add_number(highlighter, shown)?;
+        self.add_cursor(highlighter, row, shown)?;
+        self.add_ranges(highlighter, shown, matches)
+    }
+
+    // The row's parts of ranges, one kind after another: the later ones lie over the earlier ones.
+    fn add_ranges(
+        &self,
+        highlighter: &mut LineHighlighter<'_>,
+        shown: RowText<'_>,
+        matches: &[(usize, usize)],
+    ) -> Result<(), AllocError>
+        requires { matches.now ≡ matches_in (searched self.now) shown.line }
+        ensures { let row = shown_row shown.entry in OnOk result (highlighter.new
+            ≡ with_customs self.now row (with_selected self.now row
+            (with_found self.now row highlighter.old))) }
+    {
+        self.add_matches(highlighter, shown, matches)?;
+        self.add_selection(highlighter, shown)?;
+        self.add_customs(highlighter, shown)
+    }
+
+    // Begins with a row of this text, with no highlight.
+    fn begin<'t>(&self, highlighter: &mut LineHighlighter<'t>, text: &'t str)
+        ensures { highlighter.new ≡ plain_row (encode_utf8_all (chars text.now))
+            (cursor_cell self.now.look) self.now.rows.wrapping.tab_len self.now.look.mask
+            self.now.look.selection_style }
+    {
+        let scene = self.scene;
+        highlighter.restart(
+            text,
+            scene.cursor_cell(),
+            scene.rows.tab_len(),
+            scene.look.mask,
+            scene.look.selection_style,
+        )
+    }
+}

@@ -1,0 +1,26 @@
+//! Laws of drawn rows, each the contract of a function that does nothing.
+ghost use Rattle.std.specs.Prelude.{◌≡◌, ℕ, List};
+ghost use Rattle.textarea_screen.specs.Text.{ShownLine};
+ghost use Rattle.textarea_screen.specs.declared.screen.rect.Rect.{Rect};
+ghost use Rattle.textarea_paint.specs.declared.paint.row.RowArea.{RowArea};
+ghost use Rattle.textarea_view.specs.SceneDrawn.{FillsArea, IsRowStart};
+ghost use Rattle.textarea_view.specs.Scene.{SceneState};
+
+use textarea_highlight::laws::one_line_shows_a_row;
+
+/// The lines that an area shows of a scene are settled by the scene, the first row, and the areas.
+pub fn one_filling()
+    ensures { (scene : SceneState) (top : ℕ) (area buffer : Rect) (lines others : List ShownLine) →
+        FillsArea scene top area buffer lines → FillsArea scene top area buffer others →
+        lines ≡ others }
+{
+    one_line_shows_a_row();
+}
+
+/// A visual row begins at one column.
+pub fn one_row_start()
+    ensures { (scene : SceneState) (rows : RowArea) (row start other : ℕ) →
+        IsRowStart scene rows row start → IsRowStart scene rows row other → start ≡ other }
+{
+    one_line_shows_a_row();
+}

@@ -1,0 +1,76 @@
+//! The matches of one line after another, looked for once a line.
+ghost use Rattle.std.specs.Prelude.{◌≡◌, ◌<◌, length, IfOk, OnOk};
+ghost use Rattle.textarea_text.specs.Text.{lines_of};
+ghost use Rattle.textarea_view.specs.Rows.{matches_in};
+
+use std::alloc::{AllocError, Global};
+use std::marker::Model;
+use textarea_search::search::{KeepingMatcher, KeptMatches, Search};
+
+/// The matches of the line that was asked for last, kept or found by one matcher.
+#[derive(Drop)]
+pub(super) struct FoundMatches<'a, 'k> {
+    matcher: KeepingMatcher<'a, 'k>,
+    lines: &'a [String],
+    line: Option<usize>,
+    found: Vec<(usize, usize)>,
+}
+
+impl<'a, 'k> Model for FoundMatches<'a, 'k> {
+    ghost use Rattle.textarea_text.specs.Text.{lines_of};
+    ghost use Rattle.textarea_view.specs.Rows.{FoundIn, AreMatchesOf};
+
+    ghost Value = { FoundIn };
+
+    ghost view = { λ m. record {
+      searched = record { pattern = m.matcher; lines = lines_of m.lines.now };
+      found = m.found.items;
+    } };
+
+    ghost invariant = { λ m. AreMatchesOf
+        (record { pattern = m.matcher; lines = lines_of m.lines.now }) m.line m.found.items };
+}
+
+impl<'a, 'k> FoundMatches<'a, 'k> {
+    /// Keeps the matches of up to `count` lines in a row.
+    pub(super) fn new(
+        alloc: Global,
+        search: &'a Search,
+        lines: &'a [String],
+        kept: &'k mut KeptMatches,
+        count: usize,
+    ) -> Result<FoundMatches<'a, 'k>, AllocError>
+        ensures { IfOk result (λ m. m.searched
+            ≡ record { pattern = search.now; lines = lines_of lines.now }) }
+    {
+        Ok(FoundMatches {
+            matcher: search.keeping_matcher(kept, count)?,
+            lines,
+            line: None,
+            found: Vec::new(alloc),
+        })
+    }
+
+    /// Looks for the matches of this line, if they aren't those that are known.
+    pub(super) fn turn_to(&mut self, line: usize) -> Result<(), AllocError>
+        requires { line < length self.old.searched.lines }
+        ensures found { OnOk result (self.new.found ≡ matches_in self.old.searched line) }
+        ensures same { self.new.searched ≡ self.old.searched }
+    {
+        if self.line == Some(line) {
+            return Ok(());
+        }
+        self.line = None;
+        let text = self.lines[line].as_str();
+        self.matcher.spans_into(line, text, &mut self.found)?;
+        self.line = Some(line);
+        Ok(())
+    }
+
+    /// For each match the bytes of its line at which it begins and ends, as `regex` lists them.
+    pub(super) fn as_slice(&self) -> &[(usize, usize)]
+        ensures { result.now ≡ self.now.found }
+    {
+        self.found.as_slice()
+    }
+}

@@ -1,0 +1,207 @@
+//! What a row's highlighter is told, one thing after another.
+ghost use Rattle.std.specs.Prelude.{◌≡◌, ◌<◌, chars, encode_utf8_all, length, OnOk};
+ghost use Rattle.textarea_blocks.specs.Sums.{row_total};
+ghost use Rattle.textarea_screen_map.specs.Rows.{row_at};
+ghost use Rattle.textarea_screen_map.specs.Shown.{shown_row};
+ghost use Rattle.textarea_text.specs.Place.{IsPlaceOf};
+ghost use Rattle.textarea_text.specs.Text.{lines_of};
+ghost use Rattle.textarea_view.specs.Rows.{byte_place, from_in, holds, matches_in, numbered, part_of, searched, to_in, with_cursor, with_customs, with_found, with_part, with_selected};
+
+use super::frame::Frame;
+use std::alloc::AllocError;
+use textarea_highlight::highlight::LineHighlighter;
+use textarea_screen::screen::Style;
+use textarea_screen_map::screen_map::RowText;
+use textarea_text::rows::{byte_offset, column_count};
+use textarea_wrap::layout::num_digits;
+
+/// From a line and a byte of it to a line and a byte of it.
+pub(super) type Range = ((usize, usize), (usize, usize));
+
+const SEARCH_RANK: u8 = 20;
+
+/// A place as its line and the line's byte there.
+pub(super) fn byte_place(lines: &[String], place: (usize, usize)) -> (usize, usize)
+    requires { IsPlaceOf (lines_of lines.now) place }
+    ensures { result ≡ byte_place (lines_of lines.now) place }
+{
+    (place.0, byte_offset(lines[place.0].as_str(), place.1))
+}
+
+impl Frame<'_, '_> {
+    // On a line's first row its number, on the others as many blanks, if there are line numbers.
+    pub(super) fn add_number(
+        &self,
+        highlighter: &mut LineHighlighter<'_>,
+        shown: RowText<'_>,
+    ) -> Result<(), AllocError>
+        requires { shown.line < length self.now.rows.lines }
+        ensures ok { OnOk result
+            (highlighter.new ≡ numbered self.now (shown_row shown.entry) highlighter.old) }
+    {
+        let scene = self.scene;
+        if !scene.line_numbers {
+            return Ok(());
+        }
+        let digits = num_digits(scene.rows.lines().len());
+        if shown.before.is_empty() {
+            return highlighter.line_number(shown.line, digits, scene.look.line_number_style);
+        }
+        highlighter.line_number_placeholder(digits, scene.look.line_number_style)
+    }
+
+    // The cursor's cell in the row that holds it, and the style of its line in all rows of that line.
+    pub(super) fn add_cursor(
+        &self,
+        highlighter: &mut LineHighlighter<'_>,
+        row: usize,
+        shown: RowText<'_>,
+    ) -> Result<(), AllocError>
+        requires row { row < row_total self.now.rows.rows }
+        requires shown { shown_row shown ≡ row_at self.now.rows.lines self.now.rows.rows row }
+        ensures ok { OnOk result
+            (highlighter.new ≡ with_cursor self.now (shown_row shown.entry) highlighter.old) }
+    {
+        let scene = self.scene;
+        let style = scene.look.cursor_line_style;
+        if self.is_cursor_row(row) {
+            return highlighter.cursor_line(scene.cursor.1 - column_count(shown.before), style);
+        }
+        if scene.cursor.0 == shown.line {
+            highlighter.set_line_style(style);
+        }
+        Ok(())
+    }
+
+    // Whether the visual row holds the cursor.
+    fn is_cursor_row(&self, row: usize) -> bool
+        requires { row < row_total self.now.rows.rows }
+        ensures { result ≡ holds (row_at self.now.rows.lines self.now.rows.rows row) self.now.cursor }
+    {
+        row == self.cursor_row
+    }
+
+    // The matches of the row's line.
+    pub(super) fn add_matches(
+        &self,
+        highlighter: &mut LineHighlighter<'_>,
+        shown: RowText<'_>,
+        matches: &[(usize, usize)],
+    ) -> Result<(), AllocError>
+        requires { matches.now ≡ matches_in (searched self.now) shown.line }
+        ensures ok { OnOk result
+            (highlighter.new ≡ with_found self.now (shown_row shown.entry) highlighter.old) }
+    {
+        let scene = self.scene;
+        let style = scene.look.search_style;
+        for found in matches {
+            let range = ((shown.line, found.0), (shown.line, found.1));
+            add_part(highlighter, shown, range, style, SEARCH_RANK)?;
+        }
+        Ok(())
+    }
+
+    // The row's part of the selection.
+    pub(super) fn add_selection(
+        &self,
+        highlighter: &mut LineHighlighter<'_>,
+        shown: RowText<'_>,
+    ) -> Result<(), AllocError>
+        ensures ok { OnOk result
+            (highlighter.new ≡ with_selected self.now (shown_row shown.entry) highlighter.old) }
+    {
+        let Some(range) = self.selected else {
+            return Ok(());
+        };
+        let Some((from, to)) = part_of(shown, range) else {
+            return Ok(());
+        };
+        let goes_on = shown.line < range.1.0;
+        highlighter.selection_segment(from, to, shown.is_last && goes_on)
+    }
+
+    // The caller's own highlights, in their order.
+    pub(super) fn add_customs(
+        &self,
+        highlighter: &mut LineHighlighter<'_>,
+        shown: RowText<'_>,
+    ) -> Result<(), AllocError>
+        ensures ok { OnOk result
+            (highlighter.new ≡ with_customs self.now (shown_row shown.entry) highlighter.old) }
+    {
+        let scene = self.scene;
+        for own in scene.highlights {
+            add_part(
+                highlighter,
+                shown,
+                (own.start, own.end),
+                own.style,
+                own.priority,
+            )?;
+        }
+        Ok(())
+    }
+}
+
+// A highlight of the row's part of a range, if it has one.
+fn add_part(
+    highlighter: &mut LineHighlighter<'_>,
+    shown: RowText<'_>,
+    range: Range,
+    style: Style,
+    rank: u8,
+) -> Result<(), AllocError>
+    ensures ok { OnOk result
+        (highlighter.new ≡ with_part (shown_row shown.entry) range style rank highlighter.old) }
+{
+    match part_of(shown, range) {
+        Some((from, to)) => {
+            highlighter.custom(
+                shown.line,
+                ((shown.line, from), (shown.line, to)),
+                style,
+                rank,
+            )
+        }
+        None => Ok(()),
+    }
+}
+
+// The row's part of a range, as bytes of the row; none where the row's line isn't one of the range's.
+fn part_of(shown: RowText<'_>, range: Range) -> Option<(usize, usize)>
+    ensures { result ≡ part_of (shown_row shown.entry) range }
+{
+    if shown.line < range.0.0 || range.1.0 < shown.line {
+        return None;
+    }
+    Some((from_in(shown, range), to_in(shown, range)))
+}
+
+// The byte of the row at which its part of a range begins; in the rows of the lines behind the range's first the row's start.
+fn from_in(shown: RowText<'_>, range: Range) -> usize
+    ensures { result ≡ from_in (shown_row shown.entry) range }
+{
+    if shown.line == range.0.0 {
+        range.0.1.saturating_sub(shown.before.len())
+    } else {
+        0
+    }
+}
+
+// The byte of the row behind its part of a range; in the rows of the lines before the range's last the row's end.
+fn to_in(shown: RowText<'_>, range: Range) -> usize
+    ensures { result ≡ to_in (shown_row shown.entry) range }
+{
+    if shown.line == range.1.0 {
+        range.1.1.saturating_sub(shown.before.len())
+    } else {
+        size_of(shown.text)
+    }
+}
+
+// The bytes of the text.
+fn size_of(text: &str) -> usize
+    ensures { result ≡ length (encode_utf8_all (chars text.now)) }
+{
+    text.len()
+}

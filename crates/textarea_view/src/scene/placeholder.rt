@@ -1,0 +1,108 @@
+//! A placeholder, drawn in the place of the rows.
+ghost use Rattle.std.specs.Prelude.{◌≡◌, IfOk, IsOk, OnErr, OnOk, take};
+ghost use Rattle.textarea_screen.specs.Buffer.{area_of, Changes, KeepsOutside};
+ghost use Rattle.textarea_screen.specs.Rect.{contains, is_in_row};
+ghost use Rattle.textarea_screen.specs.Text.{shown_line, shown_text};
+ghost use Rattle.textarea_paint.specs.Clusters.{AreInline, row_clusters};
+ghost use Rattle.textarea_paint.specs.Row.{row_cell};
+ghost use Rattle.textarea_view.specs.SceneDrawn.{lines_change, rows_above_end};
+ghost use Rattle.textarea_view.specs.Placeholder.{AreLinesInline, behind_cursor, cell_of_line, in_style, lent_line, placeholder_lines};
+
+use super::rows_above_end;
+use std::alloc::{AllocError, Global};
+use textarea_highlight::highlight::CursorCellRender;
+use textarea_paint::paint::row::{RowArea, draw_row};
+use textarea_screen::screen::{Buffer, Line, Span, Style, Text};
+
+/// Draws a placeholder into the rows of the area, each of its lines into one, as far as there are rows and the buffer goes.
+///
+/// Where the cursor's cell is drawn, one blank in the cursor's style stands in front of the first line. The placeholder's
+/// texts are lent; without the blank nothing is built. A cell on which nothing stands is left as it is. Out of memory, cells
+/// of the area may be drawn already.
+pub fn draw_placeholder(
+    alloc: Global,
+    buffer: &mut Buffer,
+    rows: RowArea,
+    placeholder: &Text<'_>,
+    cursor_cell: CursorCellRender,
+) -> Result<(), AllocError>
+    ensures ok { OnOk result (Changes buffer.old buffer.new
+        (lines_change (in_style rows placeholder.now.style) rows.area.y
+        (take (rows_above_end rows.area (area_of buffer.old))
+        (placeholder_lines cursor_cell (shown_text placeholder.now).lines)))) }
+    ensures inline { cursor_cell ≡ CursorCellRender.Hidden
+        → AreLinesInline (in_style rows placeholder.now.style).style (shown_text placeholder.now).lines
+        → IsOk result }
+    ensures err { OnErr result (KeepsOutside (contains rows.area) buffer.old buffer.new) }
+{
+    let styled = in_style(rows, placeholder.style);
+    let room = rows_above_end(rows.area, buffer.area());
+    let count = placeholder.lines.len().min(usize::from(room));
+    for i in 0..count {
+        let cell = cell_of_line(cursor_cell, i);
+        let line = &placeholder.lines[i];
+        draw_line(alloc, buffer, styled, rows.area.y() + i as u16, line, cell)?;
+    }
+    Ok(())
+}
+
+// The rows, with a style over their own.
+fn in_style(rows: RowArea, style: Style) -> RowArea
+    ensures { result ≡ in_style rows style }
+{
+    RowArea {
+        style: rows.style.patch(style),
+        ..rows
+    }
+}
+
+// How the cursor's cell is drawn in front of the line of this number: it stands in front of the first alone.
+fn cell_of_line(cursor_cell: CursorCellRender, line: usize) -> CursorCellRender
+    ensures { result ≡ cell_of_line cursor_cell line }
+{
+    if line == 0 {
+        cursor_cell
+    } else {
+        CursorCellRender::Hidden
+    }
+}
+
+// Draws a line, with the cursor in front of it where its cell is drawn.
+fn draw_line(
+    alloc: Global,
+    buffer: &mut Buffer,
+    rows: RowArea,
+    y: u16,
+    line: &Line<'_>,
+    cursor_cell: CursorCellRender,
+) -> Result<(), AllocError>
+    ensures ok { OnOk result (Changes buffer.old buffer.new
+        (row_cell rows y (behind_cursor cursor_cell (shown_line line.now)))) }
+    ensures inline { cursor_cell ≡ CursorCellRender.Hidden
+        → AreInline (row_clusters rows.style (shown_line line.now)) → IsOk result }
+    ensures err { OnErr result (KeepsOutside (is_in_row rows.area y) buffer.old buffer.new) }
+{
+    match cursor_cell {
+        CursorCellRender::Draw(style) => {
+            let shown = behind_blank(alloc, line, style)?;
+            draw_row(buffer, rows, y, &shown)
+        }
+        CursorCellRender::Hidden => draw_row(buffer, rows, y, line),
+    }
+}
+
+// The line, its texts lent, behind one blank in a style.
+fn behind_blank<'t>(alloc: Global, line: &'t Line<'_>, style: Style) -> Result<Line<'t>, AllocError>
+    ensures { IfOk result (λ shown. shown_line shown
+        ≡ behind_cursor (CursorCellRender.Draw style) (lent_line (shown_line line.now))) }
+{
+    let mut spans = Vec::new(alloc);
+    spans.push(Span::styled(" ", style))?;
+    for span in &line.spans {
+        spans.push(Span::styled(span.content.as_str(), span.style))?;
+    }
+    Ok(Line {
+        spans,
+        style: line.style,
+    })
+}

@@ -1,0 +1,131 @@
+//! The surround: a block, a placeholder, and the least and the greatest height.
+pub mod measure;
+mod placeholder;
+
+ghost use Rattle.std.specs.Prelude.{◌≡◌, IfOk, None, Some};
+ghost use Rattle.std.specs.Option.{option_map};
+ghost use Rattle.textarea_screen.specs.Block.{shown_block};
+ghost use Rattle.textarea_view.specs.State.{AreBounds, new_surround};
+ghost use Rattle.textarea_view.specs.Outcomes.{with_max_rows, with_min_rows};
+
+use std::alloc::{AllocError, Global};
+use std::marker::Model;
+use textarea_screen::screen::{Block, Color, Style, Text};
+
+/// What is around the rows of a text area, what is shown in place of an empty text, and between which heights a measured
+/// height lies.
+///
+/// The placeholder is shown where the text is empty and the placeholder has lines. The least height is one row or more and
+/// the greatest is no less, both in rows of the whole area. A call that runs out of memory leaves the surround as it was.
+#[derive(Drop)]
+pub struct Surround<'a> {
+    block: Option<Block<'a>>,
+    placeholder: Text<'a>,
+    min_rows: u16,
+    max_rows: u16,
+}
+
+impl<'a> Model for Surround<'a> {
+    ghost use Rattle.std.specs.Option.{option_map};
+    ghost use Rattle.textarea_screen.specs.Block.{shown_block};
+    ghost use Rattle.textarea_screen.specs.Text.{shown_text};
+    ghost use Rattle.textarea_view.specs.State.{AreBounds, SurroundState};
+
+    ghost Value = { SurroundState };
+
+    ghost view = { λ surround. record {
+      block = option_map shown_block surround.block;
+      placeholder = shown_text surround.placeholder;
+      min_rows = surround.min_rows;
+      max_rows = surround.max_rows;
+    } };
+
+    ghost invariant = { λ surround. AreBounds surround.min_rows surround.max_rows };
+}
+
+impl<'a> Surround<'a> {
+    /// A surround without a block and without a line of a placeholder, whose style is dark gray; heights from 1 to 65535 rows.
+    pub fn new(alloc: Global) -> Surround<'a>
+        ensures { result ≡ new_surround }
+    {
+        Surround {
+            block: None,
+            placeholder: Text {
+                lines: Vec::new(alloc),
+                style: Style::new().fg(Color::DarkGray),
+            },
+            min_rows: 1,
+            max_rows: u16::MAX,
+        }
+    }
+
+    /// The same surround, the texts copied that its title and its placeholder own, or an error where there is no memory for
+    /// them.
+    pub fn clone(&self) -> Result<Surround<'a>, AllocError>
+        ensures { IfOk result (λ surround. surround ≡ self.now) }
+    {
+        let block = match &self.block {
+            Some(block) => Some(block.clone()?),
+            None => None,
+        };
+        Ok(Surround {
+            block,
+            placeholder: self.placeholder.clone()?,
+            min_rows: self.min_rows,
+            max_rows: self.max_rows,
+        })
+    }
+
+    /// Puts this block around the rows, in place of the one that was there.
+    pub fn set_block(&mut self, block: Block<'a>)
+        ensures { self.new ≡ record self.old { block = Some (shown_block block.entry) } }
+    {
+        self.block = Some(block);
+    }
+
+    /// Takes the block away, if there is one.
+    pub fn remove_block(&mut self)
+        ensures { self.new ≡ record self.old { block = None } }
+    {
+        self.block = None;
+    }
+
+    /// The block around the rows, if there is one.
+    pub fn block(&self) -> Option<&Block<'a>>
+        ensures { option_map (λ block. shown_block block.now) result ≡ self.now.block }
+    {
+        self.block.as_ref()
+    }
+
+    /// Sets the least height, in rows of the whole area; 0 counts as 1. The greatest height is raised to it where it is
+    /// less.
+    pub fn set_min_rows(&mut self, rows: u16)
+        ensures { self.new ≡ with_min_rows self.old rows }
+    {
+        self.min_rows = rows.max(1);
+        self.max_rows = self.max_rows.max(self.min_rows);
+    }
+
+    /// The least height, in rows of the whole area: 1 or more, and at most the greatest.
+    pub fn min_rows(&self) -> u16
+        ensures value { result ≡ self.now.min_rows }
+        ensures bounds { AreBounds result self.now.max_rows }
+    {
+        self.min_rows
+    }
+
+    /// Sets the greatest height, in rows of the whole area; 0 counts as 1, and less than the least height as that.
+    pub fn set_max_rows(&mut self, rows: u16)
+        ensures { self.new ≡ with_max_rows self.old rows }
+    {
+        self.max_rows = rows.max(1).max(self.min_rows);
+    }
+
+    /// The greatest height, in rows of the whole area: no less than the least.
+    pub fn max_rows(&self) -> u16
+        ensures value { result ≡ self.now.max_rows }
+        ensures bounds { AreBounds self.now.min_rows result }
+    {
+        self.max_rows
+    }
+}

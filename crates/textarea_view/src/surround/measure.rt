@@ -1,0 +1,96 @@
+//! What the surround takes of an area, and the height that is measured.
+ghost use Rattle.std.specs.Prelude.{◌≡◌, ◌≤◌, ℕ, IsTrue};
+ghost use Rattle.textarea_screen.specs.Rect.{contains};
+ghost use Rattle.textarea_view.specs.Inner.{IsInner};
+ghost use Rattle.textarea_view.specs.State.{AreBounds};
+ghost use Rattle.textarea_view.specs.Measure.{chrome_of, measure_of, rows_shown, saturated, width_inside};
+
+use crate::surround::Surround;
+use textarea_screen::screen::Rect;
+
+/// A measured height, in rows.
+#[derive(Clone, Copy, Debug, PartialEq, Eq)]
+pub struct TextAreaMeasure {
+    /// The rows of the text, or of the placeholder where that is shown.
+    pub content_rows: u16,
+    /// The height of the whole area that shows the content, from `min_rows` to `max_rows`.
+    pub preferred_rows: u16,
+    /// The least height: that which is set, or what the block takes and one row where that is more.
+    pub min_rows: u16,
+    /// The greatest height: that which is set, or the least where that is more.
+    pub max_rows: u16,
+}
+
+impl<'a> Surround<'a> {
+    /// What the block leaves of an area; all of it without a block.
+    pub fn inner_area(&self, area: Rect) -> Rect
+        ensures inner { IsInner self.now.block area result }
+        ensures within { (x y : ℕ) → IsTrue (contains result x y) → IsTrue (contains area x y) }
+    {
+        match &self.block {
+            Some(block) => block.inner(area),
+            None => area,
+        }
+    }
+
+    /// The columns that are left inside of the block of an area of this width; all of them without a block.
+    pub fn inner_width(&self, width: u16) -> u16
+        ensures { result ≡ width_inside self.now.block width }
+    {
+        match &self.block {
+            Some(block) => block.inner(Rect::new(0, 0, width, u16::MAX)).width(),
+            None => width,
+        }
+    }
+
+    /// The rows that the block takes of an area of this width and 65535 rows; 0 without a block.
+    pub fn chrome(&self, width: u16) -> u16
+        ensures { result ≡ chrome_of self.now.block }
+    {
+        match &self.block {
+            Some(block) => u16::MAX - block.inner(Rect::new(0, 0, width, u16::MAX)).height(),
+            None => 0,
+        }
+    }
+
+    /// The height that is measured in an area of this width for a text that has so many visual rows at the inner width, and
+    /// that is empty or not.
+    pub fn measure(&self, width: u16, rows: usize, is_empty: bool) -> TextAreaMeasure
+        ensures value { result ≡ measure_of self.now rows is_empty }
+        ensures bounds { AreBounds result.min_rows result.max_rows }
+        ensures within { (result.min_rows ≤ result.preferred_rows)
+            × (result.preferred_rows ≤ result.max_rows) }
+    {
+        let chrome = self.chrome(width);
+        let content_rows = saturate(self.shown_rows(rows, is_empty));
+        let min_rows = self.min_rows.max(chrome.saturating_add(1));
+        let max_rows = self.max_rows.max(min_rows);
+        TextAreaMeasure {
+            content_rows,
+            preferred_rows: content_rows
+                .saturating_add(chrome)
+                .max(min_rows)
+                .min(max_rows),
+            min_rows,
+            max_rows,
+        }
+    }
+
+    // The rows that are shown of a text of so many rows: the placeholder's where the text is empty and it has lines.
+    fn shown_rows(&self, rows: usize, is_empty: bool) -> usize
+        ensures { result ≡ rows_shown self.now.placeholder.lines rows is_empty }
+    {
+        if is_empty && self.placeholder_rows() > 0 {
+            self.placeholder_rows()
+        } else {
+            rows
+        }
+    }
+}
+
+// The number, or 65535 where it is greater.
+fn saturate(number: usize) -> u16
+    ensures { result ≡ saturated number }
+{
+    number.min(usize::from(u16::MAX)) as u16
+}

@@ -1,0 +1,87 @@
+//! What is shown in place of an empty text.
+ghost use Rattle.std.specs.Prelude.{◌≡◌, [], IfOk, IsOk, OnErr, OnOk, length, map};
+ghost use Rattle.textarea_screen.specs.Text.{shown_line, shown_text};
+ghost use Rattle.textarea_view.specs.State.{first_bytes, style_with_lines};
+ghost use Rattle.textarea_view.specs.Outcomes.{plain_lines, with_placeholder_style, with_placeholder_text};
+
+use crate::surround::Surround;
+use std::alloc::{AllocError, Global};
+use textarea_screen::screen::{Line, Style, Text};
+
+impl<'a> Surround<'a> {
+    /// Sets the placeholder to one line of this text, a line feed in it included; with the empty text it has no line, so that
+    /// none is shown. The placeholder's style stays.
+    pub fn set_placeholder_text(&mut self, text: &str) -> Result<(), AllocError>
+        ensures ok { OnOk result (self.new ≡ with_placeholder_text self.old text.now) }
+        ensures err { OnErr result (self.new ≡ self.old) }
+        ensures empty { text.now ≡ [] → IsOk result }
+    {
+        let alloc = *self.placeholder.lines.allocator();
+        self.placeholder.lines = plain_lines(alloc, text)?;
+        Ok(())
+    }
+
+    /// Sets the whole placeholder, its lines and its style; a text without lines means that none is shown.
+    pub fn set_styled_placeholder(&mut self, placeholder: Text<'a>)
+        ensures { self.new ≡ record self.old { placeholder = shown_text placeholder.entry } }
+    {
+        self.placeholder = placeholder;
+    }
+
+    /// Sets the style under those of the placeholder's lines, also where it has none.
+    pub fn set_placeholder_style(&mut self, style: Style)
+        ensures { self.new ≡ with_placeholder_style self.old style }
+    {
+        self.placeholder.style = style;
+    }
+
+    /// The whole placeholder, its lines and its style, also where it has no line.
+    pub fn placeholder(&self) -> &Text<'a>
+        ensures { shown_text result.now ≡ self.now.placeholder }
+    {
+        &self.placeholder
+    }
+
+    /// The text of the first span of the placeholder's first line, whichever call set it; empty where there is none.
+    pub fn placeholder_text(&self) -> &str
+        ensures { result.now ≡ first_bytes self.now.placeholder.lines }
+    {
+        let Some(line) = self.placeholder.lines.first() else {
+            return "";
+        };
+        match line.spans.first() {
+            Some(span) => span.content.as_str(),
+            None => "",
+        }
+    }
+
+    /// The style of the placeholder, or `None` where it has no line.
+    pub fn placeholder_style(&self) -> Option<Style>
+        ensures { result ≡ style_with_lines self.now.placeholder.lines self.now.placeholder.style }
+    {
+        if self.placeholder.lines.is_empty() {
+            None
+        } else {
+            Some(self.placeholder.style)
+        }
+    }
+
+    /// How many lines the placeholder has; it is shown where it has one or more.
+    pub fn placeholder_rows(&self) -> usize
+        ensures { result ≡ length self.now.placeholder.lines }
+    {
+        self.placeholder.lines.len()
+    }
+}
+
+// One line of this text, a line feed in it included, and of the empty text no line.
+fn plain_lines<'a>(alloc: Global, text: &str) -> Result<Vec<Line<'a>>, AllocError>
+    ensures ok { IfOk result (λ lines. map shown_line lines.items ≡ plain_lines text.now) }
+    ensures empty { text.now ≡ [] → IsOk result }
+{
+    let mut lines = Vec::new(alloc);
+    if !text.is_empty() {
+        lines.push(Line::raw(String::from_str(alloc, text)?)?)?;
+    }
+    Ok(lines)
+}

@@ -1,0 +1,253 @@
+//! The part of a text's visual rows that is shown, which follows the cursor and is scrolled.
+ghost use Rattle.std.specs.Prelude.{◌≡◌};
+ghost use Rattle.textarea_view.specs.Caret.{hit_row};
+ghost use Rattle.textarea_view.specs.Scrolled.{scrolled, scrolled_by, scrolled_viewport};
+ghost use Rattle.textarea_view.specs.Shown.{
+  at_start,
+  column_to_show,
+  first_shown,
+  showing_row,
+  showing_row_and_column,
+};
+ghost use Rattle.textarea_view.specs.Viewport.{clamped, initial_viewport, last_shown};
+
+use std::marker::Model;
+use textarea_data::scroll::Scrolling;
+use textarea_screen::screen::{Position, Rect};
+
+pub mod laws;
+
+/// The first visual row and the first column that are shown, and the width and height of the area they are shown in. All
+/// four are 0 before anything is drawn.
+///
+/// Rows and columns are never cut to 16 bits: what would pass the greatest `usize` is that one, and what would fall below
+/// 0 is 0. The first column counts the columns of the line number too.
+#[derive(Clone, Copy, Debug, PartialEq, Eq)]
+pub struct Viewport {
+    row: usize,
+    column: usize,
+    width: usize,
+    height: usize,
+}
+
+impl Model for Viewport {
+    ghost use Rattle.textarea_view.specs.Viewport.{ViewportState};
+
+    ghost Value = { ViewportState };
+
+    ghost view = { λ viewport. record {
+      row = viewport.row;
+      column = viewport.column;
+      width = viewport.width;
+      height = viewport.height;
+    } };
+
+    ghost inverse = { λ state. record {
+      row = state.row;
+      column = state.column;
+      width = state.width;
+      height = state.height;
+    } };
+}
+
+impl Default for Viewport {
+    ghost is_default = { λ viewport. viewport ≡ initial_viewport };
+
+    /// The viewport before anything is drawn: all four numbers are 0.
+    fn default() -> Viewport {
+        Viewport {
+            row: 0,
+            column: 0,
+            width: 0,
+            height: 0,
+        }
+    }
+}
+
+impl Viewport {
+    /// The viewport of an area that shows a text from its first row and column on, as it shows a placeholder.
+    pub fn at_start(inner_area: Rect) -> Viewport
+        ensures { result ≡ at_start inner_area }
+    {
+        Viewport::showing_from(inner_area, 0, 0)
+    }
+
+    /// The first row and the first column that are shown.
+    pub fn scroll_top(&self) -> (usize, usize)
+        ensures { result ≡ (self.now.row, self.now.column) }
+    {
+        (self.row, self.column)
+    }
+
+    /// The four numbers, in the order: row, column, width, height.
+    pub fn rect(&self) -> (usize, usize, usize, usize)
+        ensures { result ≡ (self.now.row, self.now.column, self.now.width, self.now.height) }
+    {
+        (self.row, self.column, self.width, self.height)
+    }
+
+    /// The first row and the first column that are shown, then the last row and the last column, in this order. Where the
+    /// height is 0 the last row is the first one, and so for columns.
+    pub fn position(&self) -> (usize, usize, usize, usize)
+        ensures { result ≡ (
+          self.now.row,
+          self.now.column,
+          last_shown self.now.row self.now.height,
+          last_shown self.now.column self.now.width,
+        ) }
+    {
+        (
+            self.row,
+            self.column,
+            last_shown(self.row, self.height),
+            last_shown(self.column, self.width),
+        )
+    }
+
+    /// Scrolls down by so many rows and to the right by so many columns, or up and to the left where they are negative.
+    pub fn scroll(&mut self, rows: i32, cols: i32)
+        ensures { self.new ≡ scrolled_viewport self.old rows cols }
+    {
+        self.row = scroll_from(self.row, rows);
+        self.column = scroll_from(self.column, cols);
+    }
+
+    /// Scrolls by rows and columns, or by a page, which is the height, or by half of it, rounded down.
+    pub fn scroll_by(&mut self, scrolling: Scrolling)
+        ensures { self.new ≡ scrolled_by self.old scrolling }
+    {
+        match scrolling {
+            Scrolling::Delta { rows, cols } => self.scroll(i32::from(rows), i32::from(cols)),
+            Scrolling::PageDown => self.row = self.row.saturating_add(self.height),
+            Scrolling::PageUp => self.row = self.row.saturating_sub(self.height),
+            Scrolling::HalfPageDown => self.row = self.row.saturating_add(self.height / 2),
+            Scrolling::HalfPageUp => self.row = self.row.saturating_sub(self.height / 2),
+        }
+    }
+
+    /// The viewport once a text whose lines are wrapped is drawn in the area, with the cursor in this visual row: its first
+    /// row is moved no further than it takes to show that row, and its first column is 0.
+    pub fn showing_row(self, inner_area: Rect, row: usize) -> Viewport
+        ensures { result ≡ showing_row self inner_area row }
+    {
+        let top = first_shown(self.row, inner_area.height(), row);
+        Viewport::showing_from(inner_area, top, 0)
+    }
+
+    /// The viewport once a text whose lines aren't wrapped is drawn in the area, with the cursor in this visual row, at this
+    /// display column: its first row and its first column are moved no further than it takes to show them. Behind a line
+    /// number a column that is at most as great as the line number is wide counts twice, so that the line number slides in
+    /// smoothly as the cursor goes left.
+    pub fn showing_row_and_column(
+        self,
+        inner_area: Rect,
+        row: usize,
+        column: usize,
+        line_number_width: usize,
+    ) -> Viewport
+        ensures { result ≡ showing_row_and_column self inner_area row column line_number_width }
+    {
+        let top = first_shown(self.row, inner_area.height(), row);
+        let wanted = column_to_show(line_number_width, column);
+        let left = first_shown(self.column, inner_area.width(), wanted);
+        Viewport::showing_from(inner_area, top, left)
+    }
+
+    /// The row that is nearest to a visual row among those from the first to the last that is shown, or the text's last row
+    /// where it is less.
+    pub fn clamp_row(&self, row: usize, last_row: usize) -> usize
+        ensures { result ≡ clamped self.now.row self.now.height last_row row }
+    {
+        clamp(self.row, self.height, last_row, row)
+    }
+
+    /// The column that is nearest to a display column among those from the first to the last that is shown, or the row's
+    /// greatest cursor column where it is less.
+    pub fn clamp_column(&self, column: usize, greatest_column: usize) -> usize
+        ensures { result ≡ clamped self.now.column self.now.width greatest_column column }
+    {
+        clamp(self.column, self.width, greatest_column, column)
+    }
+
+    /// The visual row that a cell of the area shows, or the text's last row where the cell lies below it; none for a cell
+    /// outside of the area. The area is the one that was drawn in last. Once the row is known, so is how it lies in the
+    /// area, and then the column that is hit, by `RowView::hit_column`.
+    pub fn hit_row(&self, inner_area: Rect, last_row: usize, position: Position) -> Option<usize>
+        ensures { result ≡ hit_row self.now.row inner_area last_row position.x position.y }
+    {
+        if inner_area.contains(position) {
+            let down = usize::from(position.y - inner_area.y());
+            Some(self.row.saturating_add(down).min(last_row))
+        } else {
+            None
+        }
+    }
+
+    // The viewport of the area from this row and column on.
+    fn showing_from(inner_area: Rect, row: usize, column: usize) -> Viewport
+        ensures { result ≡ record {
+          row = row;
+          column = column;
+          width = inner_area.width;
+          height = inner_area.height;
+        } }
+    {
+        Viewport {
+            row,
+            column,
+            width: usize::from(inner_area.width()),
+            height: usize::from(inner_area.height()),
+        }
+    }
+}
+
+// The last of so many rows or columns from the first on, or the first where there are none.
+fn last_shown(first: usize, len: usize) -> usize
+    ensures { result ≡ last_shown first len }
+{
+    first.max(first.saturating_add(len).saturating_sub(1))
+}
+
+// A first row or column that is scrolled.
+fn scroll_from(first: usize, by: i32) -> usize
+    ensures { result ≡ scrolled first by }
+{
+    let distance = by.unsigned_abs() as usize;
+    if by < 0 {
+        first.saturating_sub(distance)
+    } else {
+        first.saturating_add(distance)
+    }
+}
+
+// The first of `len` rows or columns that are shown, moved no further than it takes to show this one.
+fn first_shown(first: usize, len: u16, at: usize) -> usize
+    ensures { result ≡ first_shown first len at }
+{
+    let len = usize::from(len);
+    if at < first {
+        at
+    } else if at - first >= len {
+        (at - len).saturating_add(1)
+    } else {
+        first
+    }
+}
+
+// The column that is to be shown for a cursor at this display column, behind a line number of this width.
+fn column_to_show(line_number_width: usize, column: usize) -> usize
+    ensures { result ≡ column_to_show line_number_width column }
+{
+    if column <= line_number_width {
+        column.saturating_mul(2)
+    } else {
+        column.saturating_add(line_number_width)
+    }
+}
+
+// The nearest of `len` rows or columns from the first on, or the greatest where it is less.
+fn clamp(first: usize, len: usize, greatest: usize, at: usize) -> usize
+    ensures { result ≡ clamped first len greatest at }
+{
+    at.max(first).min(last_shown(first, len)).min(greatest)
+}

@@ -1,0 +1,48 @@
+//! Laws of the caret, each the contract of a function that does nothing.
+ghost use Rattle.std.specs.Prelude.{◌≡◌, ◌⊎◌, ◌+◌, ◌*◌, ◌^◌, ◌<◌, ◌≤◌, ℕ, IsSome};
+ghost use Rattle.textarea_screen.specs.declared.screen.rect.Rect.{Rect};
+ghost use Rattle.textarea_view.specs.Caret.{caret_at, hit_column, hit_row, left_view};
+ghost use Rattle.textarea_view.specs.Shown.{at_start, showing_row, showing_row_and_column};
+ghost use Rattle.textarea_view.specs.Viewport.{ViewportState};
+ghost use Rattle.textarea_view.specs.declared.row_view.RowView.{RowView};
+
+/// A caret that is shown is hit back: its cell leads to its row, and from there to its column, where the row is one of the
+/// text's and the column one at which a cursor can stand in it.
+pub fn shown_caret_is_hit_back()
+    ensures row { (view : RowView) (row column last_row x y : ℕ) →
+        caret_at view row column ≡ Some (x, y) → row ≤ last_row →
+        hit_row view.top_row view.inner_area last_row x y ≡ Some row }
+    ensures column { (view : RowView) (row column greatest x y : ℕ) →
+        (view.offset ≡ 0) ⊎ (view.left_column ≡ 0) →
+        caret_at view row column ≡ Some (x, y) → column ≤ greatest →
+        hit_column view greatest x ≡ column }
+{}
+
+/// Where lines aren't wrapped and rows begin at the left, the caret is shown in an area that is wider than two line numbers
+/// and has a row.
+pub fn caret_is_shown()
+    ensures { (viewport : ViewportState) (area : Rect) (row column line_number_width : ℕ) →
+        0 < area.height → 2 * line_number_width < area.width →
+        row < 2 ^ 64 → column + line_number_width < 2 ^ 64 →
+        let shown = showing_row_and_column viewport area row column line_number_width in
+        IsSome (caret_at (left_view shown area line_number_width) row column) }
+{}
+
+/// Where lines are wrapped and rows begin at the left, the caret is shown in an area that has a row and is wider than the
+/// line number and the cursor's column together.
+pub fn wrapped_caret_is_shown()
+    ensures { (viewport : ViewportState) (area : Rect) (row column line_number_width : ℕ) →
+        0 < area.height → column + line_number_width < area.width → row < 2 ^ 64 →
+        let shown = showing_row viewport area row in
+        IsSome (caret_at (left_view shown area line_number_width) row column) }
+{}
+
+/// Where a placeholder is shown, the caret of row 0 and column 0 stands in the area's corner. In an area without a cell no
+/// caret is shown at all.
+pub fn placeholder_has_its_caret_in_the_corner()
+    ensures corner { (area : Rect) → 0 < area.width → 0 < area.height →
+        caret_at (left_view (at_start area) area 0) 0 0 ≡ Some (area.x, area.y) }
+    ensures none { (view : RowView) (row column : ℕ) →
+        (view.inner_area.width ≡ 0) ⊎ (view.inner_area.height ≡ 0) →
+        caret_at view row column ≡ None }
+{}

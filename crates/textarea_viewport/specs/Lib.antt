@@ -1,4 +1,0 @@
-pub mod Viewport
-pub mod Scrolled
-pub mod Shown
-pub mod Caret

@@ -1,2 +1,0 @@
-pub mod NearestLemmas
-mod WordLemmas

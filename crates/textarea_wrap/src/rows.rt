@@ -1,0 +1,69 @@
+//! The byte ranges of a line's rows, with the number of the call that cut them.
+ghost use Rattle.std.specs.Prelude.{◌≡◌, ◌+◌, ◌≤◌, ◌↔◌, length, IfOk, IsOk};
+
+use crate::count::WrapCount;
+use smallvec::SmallVec;
+use std::alloc::AllocError;
+use std::marker::Model;
+
+/// Byte ranges of rows. One row lies in the value itself, and only more take an allocation.
+pub type Ranges = SmallVec<(usize, usize), 1>;
+
+/// The byte ranges of a line's rows, and the number that the call which wrapped the line counted to. Only
+/// `line_ranges` and `clone` return one.
+#[derive(Drop)]
+pub struct Rows {
+    ranges: Ranges,
+    tick: WrapCount,
+}
+
+impl Model for Rows {
+    ghost use Rattle.textarea_wrap.specs.RowsView.{RowsView};
+
+    ghost Value = { RowsView };
+
+    ghost view = { λ rows. record { ranges = rows.ranges.items; tick = rows.tick } };
+}
+
+impl Rows {
+    // Counts a call that wraps a line, and returns its rows with the number that the count has then. A call that ran out of
+    // memory is counted too, and its error is returned. This takes no memory. Only `line_ranges` calls it, and nothing else
+    // counts.
+    pub(crate) fn counted(
+        cut: Result<Ranges, AllocError>,
+        count: &mut WrapCount,
+    ) -> Result<Rows, AllocError>
+        ensures counted { count.new ≡ count.old + 1 }
+        ensures tick { IfOk result (λ rows. rows.tick ≡ count.new) }
+        ensures ranges { IfOk cut (λ ranges.
+            IfOk result (λ rows. rows.ranges ≡ ranges.items)) }
+        ensures refused { IsOk result ↔ IsOk cut }
+    {
+        count.tick();
+        Ok(Rows {
+            ranges: cut?,
+            tick: count.clone()?,
+        })
+    }
+
+    /// For each row the offset of its first byte, and the offset behind its last one.
+    pub fn as_slice(&self) -> &[(usize, usize)]
+        ensures { result.now ≡ self.now.ranges }
+    {
+        self.ranges.as_slice()
+    }
+}
+
+impl Clone for Rows {
+    ghost is_clone = { λ rows copy. copy ≡ rows };
+
+    ghost is_infallible = { λ rows. length rows.ranges ≤ 1 };
+
+    /// The same rows with the same tick. A single row takes no memory.
+    fn clone(&self) -> Result<Rows, AllocError> {
+        Ok(Rows {
+            ranges: self.ranges.clone()?,
+            tick: self.tick.clone()?,
+        })
+    }
+}

@@ -1,0 +1,382 @@
+-- How the atomic ranges go with the text over each call, by what the text area says of its outcomes; and what becomes of them in a run.
+use Rattle.std.proofs.Common.{◌≡◌, ◌⊎◌, ℕ, ◌<◌, Bor, List, [], ◌∷◌, ◌++◌, ◌+◌, length, get_or, map, take, Option, None, Some, is_some, ap, refl, subst, sym, ◌∙◌, inl, inr, ⊎_elim}
+use Rattle.std.proofs.lemmas.List.{append-nil, append_assoc, map-append}
+use Rattle.std.specs.Str.{chars}
+use Rattle.textarea_calls.specs.declared.action.Action.{Action}
+use Rattle.textarea_calls.specs.declared.action.Action.TheVariants as action
+use Rattle.textarea_text.specs.Given.{given}
+use Rattle.textarea_data.specs.declared.range.AtomicDeleteDirection.{AtomicDeleteDirection}
+use Rattle.textarea_data.specs.declared.range.AtomicRange.{AtomicRange}
+use Rattle.textarea_data.specs.declared.range.RejectedAtomicRange.{RejectedAtomicRange}
+use Rattle.textarea_screen.specs.declared.screen.buffer.Buffer.{Buffer}
+use Rattle.textarea_screen.specs.declared.screen.rect.Rect.{Rect}
+use Rattle.textarea_text.specs.Place.{Place}
+use Rattle.textarea_text.specs.Text.{Symbol}
+use Rattle.textarea_text.specs.Splice.{CanApply, Splice}
+use Rattle.textarea_document.specs.Goes.{CutNone, GoesOver, GoesUncut}
+use Rattle.textarea_document.specs.Outcomes.{redone, undone}
+use Rattle.textarea_document.specs.Sound.{IsSound}
+use Rattle.textarea_document.specs.Splices.{break_splices, hit_splices, selected_splices}
+use Rattle.textarea_document.specs.State.{DocumentState}
+use Rattle.textarea_document.proofs.Going.{all_stay_or_are_dropped, all_stem, goes_on, stays}
+use Rattle.tui_textarea.specs.Drawing.{IsRendered}
+use Rattle.tui_textarea.specs.Edits.{char_inserted, newline_inserted, str_inserted, tab_inserted}
+use Rattle.tui_textarea.specs.Goes.{GoesByAct}
+use Rattle.tui_textarea.specs.Input.{IsActed, IsLeftBy, asked_by, asked_without_shortcuts}
+use Rattle.tui_textarea.specs.Ranges.{hit_range_removed}
+use Rattle.tui_textarea.specs.Removals.{break_before_removed, line_end_removed, line_head_removed, symbol_before_removed, symbol_behind_removed, symbols_ahead_removed, text_cleared, unselected_or, word_before_removed, word_behind_removed}
+use Rattle.tui_textarea.specs.Search.{next_match, previous_match, searched}
+use Rattle.tui_textarea.specs.Selection.{selection_cut, unselected}
+use Rattle.tui_textarea.specs.Selection as selection
+use Rattle.tui_textarea.specs.Splices.{ahead_splices, clear_splices, selected_splices_or, splices_by, str_splices}
+use Rattle.tui_textarea.specs.State.{State, with_document}
+use Rattle.tui_textarea.specs.Calls.{IsLeft, ranges_answer, rejected_ranges, with_ranges_if}
+use Rattle.tui_textarea.specs.CallGoes.{GivesRanges, GoesByCall, IsUndoOrRedo, IsUndoOrRedoAct, NoneGives, RangesGo, RangesInRun, RangesOfRun, SinceGiven}
+use Rattle.tui_textarea.specs.Outcomes.{IsAnswer, IsBehind, behind_pattern}
+use Rattle.tui_textarea.specs.Run.{Leads, Makes}
+use Rattle.tui_textarea.specs.Said.{Said, Done, PatternRefused, said}
+use Rattle.tui_textarea.specs.CallSplices.{LeadsBy, OfLeft, splices_of}
+use Rattle.textarea_calls.specs.declared.call.Call.{Call}
+use Rattle.textarea_calls.specs.declared.call.Call.TheVariants as call
+use Rattle.textarea_calls.specs.declared.answer.Answer.{Answer}
+use Rattle.tui_textarea.proofs.Runs.{Leads-append, one_more as one_call_more}
+
+-- ---- what the laws of the text area say
+
+pub record TheLaws : Type 0 where
+  pub inputs : (old new : State) (asked : Action) → IsSound old.document → IsActed old asked new → GoesByAct asked old.document (splices_by old asked) new.document
+  pub text : (state : State) (symbols : List Symbol) → IsSound state.document → GoesUncut state.document (str_splices state symbols) (str_inserted state symbols).document
+  pub ahead : (state : State) (count : ℕ) → IsSound state.document → GoesUncut state.document (selected_splices_or state.document (ahead_splices state.document count)) (unselected_or state (symbols_ahead_removed state count)).document
+  pub break_before : (state : State) → IsSound state.document → GoesUncut state.document (selected_splices_or state.document (break_splices state.document)) (unselected_or state (break_before_removed state)).document
+  pub all : (state : State) → IsSound state.document → GoesUncut state.document (clear_splices state.document) (text_cleared state).document
+  pub range : (state : State) (direction : AtomicDeleteDirection) → IsSound state.document → GoesUncut state.document (hit_splices state.document direction) (hit_range_removed state direction).document
+  pub selected : (state : State) → IsSound state.document → GoesUncut state.document (selected_splices state.document) (unselected state).document
+  pub drawing : (old new : State) (area : Rect) → IsRendered old area new → GoesUncut old.document [] new.document
+
+-- ---- calls that leave text and ranges
+
+kept : (old new outcome : State) → new ≡ outcome → outcome.document.text ≡ old.document.text → outcome.document.ranges ≡ old.document.ranges → GoesUncut old.document [] new.document
+kept old new outcome is text ranges =
+    stays old.document new.document (ap (λ (s : State). s.document.text) is ∙ text) (ap (λ (s : State). s.document.ranges) is ∙ ranges)
+
+searched_text : (state : State) (found : Option Place) → (searched state found).document.text ≡ state.document.text
+searched_text state None = refl
+searched_text state (Some place) = refl
+
+searched_ranges : (state : State) (found : Option Place) → (searched state found).document.ranges ≡ state.document.ranges
+searched_ranges state None = refl
+searched_ranges state (Some place) = refl
+
+pattern_text : (state : State) (text : List ℕ) (answer : Said) → (behind_pattern state text answer).document.text ≡ state.document.text
+pattern_text state text PatternRefused = refl
+pattern_text state text answer = refl
+
+pattern_ranges : (state : State) (text : List ℕ) (answer : Said) → (behind_pattern state text answer).document.ranges ≡ state.document.ranges
+pattern_ranges state text PatternRefused = refl
+pattern_ranges state text answer = refl
+
+-- ranges that are set, where none is rejected
+set_ranges : (old new : State) (ranges : Bor (List AtomicRange)) (rejected : List RejectedAtomicRange) (answer : Said) → answer ≡ ranges_answer rejected → new ≡ with_ranges_if rejected old ranges.now → GoesByCall old (call.TrySetAtomicRanges ranges) answer new
+set_ranges old new ranges [] answer e k =
+    subst (λ (a : Said). GoesByCall old (call.TrySetAtomicRanges ranges) a new) (sym e)
+    (record { text = ap (λ (s : State). s.document.text) k; ranges = ap (λ (s : State). s.document.ranges) k })
+set_ranges old new ranges (range ∷ rejected) answer e k =
+    subst (λ (a : Said). GoesByCall old (call.TrySetAtomicRanges ranges) a new) (sym e) (kept old new old k refl refl)
+
+-- ---- each call
+
+-- what a call that runs out of memory leaves, by the splices that it has made
+abbrev pub LeftUncut : State → State → Type 0
+LeftUncut old new = OfLeft old (λ splices. GoesUncut old.document splices new.document)
+
+-- splices fit the text one after another, and cut no range, unless they take back an edit or make one again
+abbrev Fitting : State → Type 0 → List Splice → Type 0
+Fitting state Free splices = CanApply state.document.text splices × ((¬ Free) → CutNone state.document.ranges splices)
+
+uncut : {Free : Type 0} (state : State) (splices : List Splice) (new : DocumentState) → GoesUncut state.document splices new → Fitting state Free splices
+uncut state splices new h = (h.0.text.can, λ no. h.1)
+
+module _ (laws : TheLaws) where
+  edited : (old new outcome : State) (splices : List Splice) → new ≡ outcome → GoesUncut old.document splices outcome.document → GoesUncut old.document splices new.document
+  edited old new outcome splices is h = subst (λ (s : State). GoesUncut old.document splices s.document) (sym is) h
+
+  pub call_goes : (old new : State) (made : Call) (answer : Said) → IsSound old.document → IsAnswer old made answer → IsBehind old made answer new → GoesByCall old made answer new
+  call_goes old new (call.InsertChar c) answer h e k = laws.inputs old new (action.InsertChar c) h k
+  call_goes old new (call.InsertStr text) answer h e k = edited old new _ _ k (laws.text old (given (chars text.now)) h)
+  call_goes old new call.InsertTab answer h e k = laws.inputs old new action.InsertTab h k
+  call_goes old new call.InsertNewline answer h e k = laws.inputs old new action.InsertNewline h k
+  call_goes old new call.Paste answer h e k = laws.inputs old new action.Paste h k
+  call_goes old new (call.DeleteStr count) answer h e k = edited old new _ _ k (laws.ahead old count h)
+  call_goes old new call.DeleteNewline answer h e k = edited old new _ _ k (laws.break_before old h)
+  call_goes old new call.DeleteChar answer h e k = laws.inputs old new action.DeleteChar h k
+  call_goes old new call.DeleteNextChar answer h e k = laws.inputs old new action.DeleteNextChar h k
+  call_goes old new call.DeleteLineByEnd answer h e k = laws.inputs old new action.DeleteLineByEnd h k
+  call_goes old new call.DeleteLineByHead answer h e k = laws.inputs old new action.DeleteLineByHead h k
+  call_goes old new call.DeleteWord answer h e k = laws.inputs old new action.DeleteWord h k
+  call_goes old new call.DeleteNextWord answer h e k = laws.inputs old new action.DeleteNextWord h k
+  call_goes old new call.Clear answer h e k = edited old new _ _ k (laws.all old h)
+  call_goes old new call.Cut answer h e k = laws.inputs old new action.Cut h k
+  call_goes old new call.Copy answer h e k = laws.inputs old new action.Copy h k
+  call_goes old new call.Undo answer h e k = laws.inputs old new action.Undo h k
+  call_goes old new call.Redo answer h e k = laws.inputs old new action.Redo h k
+  call_goes old new (call.DeleteAtomicRangeAtCursor direction) answer h e k = edited old new _ _ k (laws.range old direction h)
+  call_goes old new (call.SetLines lines cursor) answer h e k = ap (λ (s : State). s.document.ranges) k
+  call_goes old new call.ClearAtomicRanges answer h e k = ap (λ (s : State). s.document.ranges) k
+  call_goes old new (call.TrySetAtomicRanges ranges) answer h e k = set_ranges old new ranges (rejected_ranges old ranges.now) answer e k
+  call_goes old new (call.Render area) answer h e k = laws.drawing old new area k
+  call_goes old new (call.Input input) answer h e k = laws.inputs old new (asked_by input.now) h k
+  call_goes old new (call.InputWithoutShortcuts input) answer h e k = laws.inputs old new (asked_without_shortcuts input.now) h k
+  call_goes old new (call.Move cursor_move) answer h e k = laws.inputs old new (action.MoveWithShift cursor_move (is_some old.document.anchor)) h k
+  call_goes old new (call.Scroll scrolling) answer h e k = laws.inputs old new (action.Scroll scrolling) h k
+  call_goes old new (call.SearchForward at_cursor) answer h e k = kept old new _ k (searched_text old (next_match old at_cursor)) (searched_ranges old (next_match old at_cursor))
+  call_goes old new (call.SearchBack at_cursor) answer h e k = kept old new _ k (searched_text old (previous_match old at_cursor)) (searched_ranges old (previous_match old at_cursor))
+  call_goes old new (call.SetSearchPattern text) answer h e k = kept old new _ k (pattern_text old text.now answer) (pattern_ranges old text.now answer)
+  call_goes old new made answer h e k = kept old new _ k refl refl
+
+  -- a call that runs out of memory
+  left_goes : (old new : State) → IsSound old.document → selection.IsLeft old new → LeftUncut old new
+  left_goes old new h k =
+      ⊎_elim
+      (λ same. inl (kept old new old same refl refl))
+      (λ gone. inr (edited old new (unselected old) (selected_splices old.document) gone (laws.selected old h)))
+      k
+
+  act_left : (old new : State) (asked : Action) → IsSound old.document → IsLeftBy old asked new → LeftUncut old new
+  act_left old new (action.InsertChar c) h k = left_goes old new h k
+  act_left old new action.InsertNewline h k = left_goes old new h k
+  act_left old new action.InsertTab h k = left_goes old new h k
+  act_left old new action.Paste h k = left_goes old new h k
+  act_left old new asked h k = inl (kept old new old k refl refl)
+
+  pub refused_goes : (old new : State) (made : Call) → IsSound old.document → IsLeft old made new → LeftUncut old new
+  refused_goes old new (call.InsertChar c) h k = left_goes old new h k
+  refused_goes old new (call.InsertStr text) h k = left_goes old new h k
+  refused_goes old new call.InsertTab h k = left_goes old new h k
+  refused_goes old new call.InsertNewline h k = left_goes old new h k
+  refused_goes old new call.Paste h k = left_goes old new h k
+  refused_goes old new (call.Input input) h k = act_left old new (asked_by input.now) h k
+  refused_goes old new (call.InputWithoutShortcuts input) h k = act_left old new (asked_without_shortcuts input.now) h k
+  refused_goes old new made h k = inl (kept old new old k refl refl)
+
+  -- ---- the splices of each call, whatever it leaves
+
+  act_fits : (state : State) (asked : Action) → IsSound state.document → Fitting state (IsUndoOrRedoAct asked) (splices_by state asked)
+  act_fits state (action.InsertChar c) h = uncut state _ _ (laws.inputs state (char_inserted state c) (action.InsertChar c) h refl)
+  act_fits state action.InsertNewline h = uncut state _ _ (laws.inputs state (newline_inserted state) action.InsertNewline h refl)
+  act_fits state action.InsertTab h = uncut state _ _ (laws.inputs state (tab_inserted state) action.InsertTab h refl)
+  act_fits state action.DeleteChar h = uncut state _ _ (laws.inputs state (unselected_or state (symbol_before_removed state)) action.DeleteChar h refl)
+  act_fits state action.DeleteNextChar h = uncut state _ _ (laws.inputs state (unselected_or state (symbol_behind_removed state)) action.DeleteNextChar h refl)
+  act_fits state action.DeleteLineByEnd h = uncut state _ _ (laws.inputs state (unselected_or state (line_end_removed state)) action.DeleteLineByEnd h refl)
+  act_fits state action.DeleteLineByHead h = uncut state _ _ (laws.inputs state (unselected_or state (line_head_removed state)) action.DeleteLineByHead h refl)
+  act_fits state action.DeleteWord h = uncut state _ _ (laws.inputs state (unselected_or state (word_before_removed state)) action.DeleteWord h refl)
+  act_fits state action.DeleteNextWord h = uncut state _ _ (laws.inputs state (unselected_or state (word_behind_removed state)) action.DeleteNextWord h refl)
+  act_fits state action.Undo h = ((laws.inputs state (with_document state (undone state.document)) action.Undo h refl).text.can, λ no. absurd (no tt))
+  act_fits state action.Redo h = ((laws.inputs state (with_document state (redone state.document)) action.Redo h refl).text.can, λ no. absurd (no tt))
+  act_fits state action.Paste h = uncut state _ _ (laws.inputs state (str_inserted state state.yank) action.Paste h refl)
+  act_fits state action.Cut h = uncut state _ _ (laws.inputs state (selection_cut state) action.Cut h refl)
+  act_fits state asked h = (tt, λ no. tt)
+
+  pub call_fits : (state : State) (made : Call) → IsSound state.document → Fitting state (IsUndoOrRedo made) (splices_of state made)
+  call_fits state (call.InsertChar c) h = act_fits state (action.InsertChar c) h
+  call_fits state (call.InsertStr text) h = uncut state _ _ (laws.text state (given (chars text.now)) h)
+  call_fits state call.InsertTab h = act_fits state action.InsertTab h
+  call_fits state call.InsertNewline h = act_fits state action.InsertNewline h
+  call_fits state call.Paste h = act_fits state action.Paste h
+  call_fits state (call.DeleteStr count) h = uncut state _ _ (laws.ahead state count h)
+  call_fits state call.DeleteNewline h = uncut state _ _ (laws.break_before state h)
+  call_fits state call.DeleteChar h = act_fits state action.DeleteChar h
+  call_fits state call.DeleteNextChar h = act_fits state action.DeleteNextChar h
+  call_fits state call.DeleteLineByEnd h = act_fits state action.DeleteLineByEnd h
+  call_fits state call.DeleteLineByHead h = act_fits state action.DeleteLineByHead h
+  call_fits state call.DeleteWord h = act_fits state action.DeleteWord h
+  call_fits state call.DeleteNextWord h = act_fits state action.DeleteNextWord h
+  call_fits state call.Clear h = uncut state _ _ (laws.all state h)
+  call_fits state call.Cut h = act_fits state action.Cut h
+  call_fits state call.Undo h = act_fits state action.Undo h
+  call_fits state call.Redo h = act_fits state action.Redo h
+  call_fits state (call.DeleteAtomicRangeAtCursor direction) h = uncut state _ _ (laws.range state direction h)
+  call_fits state (call.Input input) h = act_fits state (asked_by input.now) h
+  call_fits state (call.InputWithoutShortcuts input) h = act_fits state (asked_without_shortcuts input.now) h
+  call_fits state made h = (tt, λ no. tt)
+
+-- ---- a run
+
+act_goes : (asked : Action) (old new : DocumentState) (splices : List Splice) → GoesByAct asked old splices new → GoesOver old splices new
+act_goes action.Undo old new splices h = h
+act_goes action.Redo old new splices h = h
+act_goes asked old new splices h = h.0
+
+-- a call that gives no ranges anew: they go with the text over its splices
+goes_of_call : (old new : State) (made : Call) (answer : Said) → ¬ GivesRanges made answer → GoesByCall old made answer new → GoesOver old.document (splices_of old made) new.document
+goes_of_call old new call.Undo answer none h = h
+goes_of_call old new call.Redo answer none h = h
+goes_of_call old new (call.Input input) answer none h = act_goes (asked_by input.now) old.document new.document _ h
+goes_of_call old new (call.InputWithoutShortcuts input) answer none h = act_goes (asked_without_shortcuts input.now) old.document new.document _ h
+goes_of_call old new (call.SetLines lines cursor) answer none h = absurd (none tt)
+goes_of_call old new call.ClearAtomicRanges answer none h = absurd (none tt)
+goes_of_call old new (call.TrySetAtomicRanges ranges) Done none h = absurd (none tt)
+goes_of_call old new made answer none h = h.0
+
+gives_or_not : (made : Call) (answer : Said) → GivesRanges made answer ⊎ (¬ GivesRanges made answer)
+gives_or_not (call.TrySetAtomicRanges ranges) Done = inl tt
+gives_or_not call.ClearAtomicRanges answer = inl tt
+gives_or_not (call.SetLines lines cursor) answer = inl tt
+gives_or_not made answer = inr (λ h. h)
+
+NoneGives-append : (calls : List Call) (answers : List Said) (made : Call) (answer : Said) → NoneGives calls answers → ¬ GivesRanges made answer → NoneGives (calls ++ made ∷ []) (answers ++ answer ∷ [])
+NoneGives-append [] [] made answer h none = (none, tt)
+NoneGives-append [] (a ∷ answers) made answer h none = absurd h
+NoneGives-append (c ∷ calls) [] made answer h none = absurd h
+NoneGives-append (c ∷ calls) (a ∷ answers) made answer h none = (h.0, NoneGives-append calls answers made answer h.1 none)
+
+LeadsBy-append : (old mid new : State) (buffer screen shown : Buffer) (calls : List Call) (answers : List Said) (splices : List Splice) (made : Call) (answer : Said) → LeadsBy old buffer calls answers splices mid screen → Makes mid screen made answer new shown → LeadsBy old buffer (calls ++ made ∷ []) (answers ++ answer ∷ []) (splices ++ splices_of mid made) new shown
+LeadsBy-append old mid new buffer screen shown [] [] splices made answer so_far makes = (
+  new,
+  shown,
+  [],
+  ap (λ (l : List Splice). l ++ splices_of mid made) so_far.0 ∙ ap (λ (s : State). splices_of s made) so_far.1 ∙ sym (append-nil (splices_of old made)),
+  subst (λ (b : Buffer). Makes old b made answer new shown) so_far.2 (subst (λ (s : State). Makes s screen made answer new shown) so_far.1 makes),
+  (refl, refl, refl),
+)
+LeadsBy-append old mid new buffer screen shown [] (a ∷ answers) splices made answer so_far makes = absurd so_far
+LeadsBy-append old mid new buffer screen shown (first ∷ calls) [] splices made answer so_far makes = absurd so_far
+LeadsBy-append old mid new buffer screen shown (first ∷ calls) (a ∷ answers) splices made answer so_far makes = (
+  so_far.0,
+  so_far.1,
+  so_far.2 ++ splices_of mid made,
+  ap (λ (l : List Splice). l ++ splices_of mid made) so_far.3 ∙ append_assoc (splices_of old first) so_far.2 (splices_of mid made),
+  so_far.4,
+  LeadsBy-append so_far.0 mid new so_far.1 screen shown calls answers so_far.2 made answer so_far.5 makes,
+)
+
+-- what is known of a run so far: since when the ranges go with the text, and that they do
+pub record SoFar (old : State) (buffer : Buffer) (calls : List Call) (answers : List Said) (newest : State) (shown : Buffer) : Type 0 where
+  pub since : SinceGiven old buffer calls answers newest shown
+  pub goes : GoesOver since.then.document since.splices newest.document
+  pub sound : IsSound since.then.document
+
+unmoved : (document : DocumentState) → GoesOver document [] document
+unmoved document = (stays document document refl refl).0
+
+-- before any call
+pub at_start : (old : State) (buffer : Buffer) → IsSound old.document → SoFar old buffer [] [] old buffer
+at_start old buffer sound = record {
+  since = record {
+    until = [];
+    later = [];
+    calls_are = refl;
+    answers_until = [];
+    answers_later = [];
+    answers_are = refl;
+    then = old;
+    screen = buffer;
+    led = (refl, refl);
+    given = inl refl;
+    none_later = tt;
+    splices = [];
+    led_on = (refl, refl, refl);
+  };
+  goes = unmoved old.document;
+  sound = sound;
+}
+
+-- a call that gives ranges anew
+given_anew : (old mid new : State) (buffer screen shown : Buffer) (calls : List Call) (answers : List Said) (made : Call) (answer : Said) → IsSound new.document → Leads old buffer calls answers mid screen → Makes mid screen made answer new shown → GivesRanges made answer → SoFar old buffer (calls ++ made ∷ []) (answers ++ answer ∷ []) new shown
+given_anew old mid new buffer screen shown calls answers made answer sound led makes gives = record {
+  since = record {
+    until = calls ++ made ∷ [];
+    later = [];
+    calls_are = sym (append-nil (calls ++ made ∷ []));
+    answers_until = answers ++ answer ∷ [];
+    answers_later = [];
+    answers_are = sym (append-nil (answers ++ answer ∷ []));
+    then = new;
+    screen = shown;
+    led = Leads-append old mid new buffer screen shown calls answers made answer led makes;
+    given = inr (record { front = calls; last = made; calls_are = refl; before = answers; answer = answer; answers_are = refl; gives = gives });
+    none_later = tt;
+    splices = [];
+    led_on = (refl, refl, refl);
+  };
+  goes = unmoved new.document;
+  sound = sound;
+}
+
+-- a call over which the ranges go on
+gone_on : (old mid new : State) (buffer screen shown : Buffer) (calls : List Call) (answers : List Said) (made : Call) (answer : Said) → Makes mid screen made answer new shown → ¬ GivesRanges made answer → GoesOver mid.document (splices_of mid made) new.document → SoFar old buffer calls answers mid screen → SoFar old buffer (calls ++ made ∷ []) (answers ++ answer ∷ []) new shown
+gone_on old mid new buffer screen shown calls answers made answer makes none on h =
+    let since = h.since in
+    record {
+      since = record {
+        until = since.until;
+        later = since.later ++ made ∷ [];
+        calls_are = ap (λ (c : List Call). c ++ made ∷ []) since.calls_are ∙ append_assoc since.until since.later (made ∷ []);
+        answers_until = since.answers_until;
+        answers_later = since.answers_later ++ answer ∷ [];
+        answers_are = ap (λ (a : List Said). a ++ answer ∷ []) since.answers_are ∙ append_assoc since.answers_until since.answers_later (answer ∷ []);
+        then = since.then;
+        screen = since.screen;
+        led = since.led;
+        given = since.given;
+        none_later = NoneGives-append since.later since.answers_later made answer since.none_later none;
+        splices = since.splices ++ splices_of mid made;
+        led_on = LeadsBy-append since.then mid new since.screen screen shown since.later since.answers_later since.splices made answer since.led_on makes;
+      };
+      goes = goes_on since.then.document mid.document new.document since.splices (splices_of mid made) h.goes on;
+      sound = h.sound;
+    }
+
+one_more : (old mid new : State) (buffer screen shown : Buffer) (calls : List Call) (answers : List Said) (made : Call) (answer : Said) → IsSound new.document → Leads old buffer calls answers mid screen → Makes mid screen made answer new shown → GoesByCall mid made answer new → SoFar old buffer calls answers mid screen → SoFar old buffer (calls ++ made ∷ []) (answers ++ answer ∷ []) new shown
+one_more old mid new buffer screen shown calls answers made answer sound led makes on h =
+    elim (gives_or_not made answer) [
+      | inl gives ↦ given_anew old mid new buffer screen shown calls answers made answer sound led makes gives
+      | inr none ↦ gone_on old mid new buffer screen shown calls answers made answer makes none (goes_of_call mid new made answer none on) h
+    ]
+
+-- the call at the index, of a run that has come so far
+pub so_far_next : (old mid new : State) (buffer screen shown : Buffer) (calls : List Call) (answers : List Answer) (index : ℕ) (made : Call) (answer : Answer) → index < length calls → made ≡ get_or calls index made → IsSound new.document → Leads old buffer (take index calls) (map said answers) mid screen → Makes mid screen made (said answer) new shown → GoesByCall mid made (said answer) new → SoFar old buffer (take index calls) (map said answers) mid screen → SoFar old buffer (take (index + 1) calls) (map said (answers ++ answer ∷ [])) new shown
+so_far_next old mid new buffer screen shown calls answers index made answer within is_call sound led makes on h =
+    subst (λ (a : List Said). SoFar old buffer (take (index + 1) calls) a new shown) (sym (map-append said answers (answer ∷ [])))
+    (subst (λ (done : List Call). SoFar old buffer done (map said answers ++ said answer ∷ []) new shown) (one_call_more calls index made within is_call)
+    (one_more old mid new buffer screen shown (take index calls) (map said answers) made (said answer) sound led makes on h))
+
+-- ---- what becomes of the ranges
+
+ranges_go : (first last : DocumentState) (splices : List Splice) → IsSound first → GoesOver first splices last → RangesGo first splices last
+ranges_go first last splices sound h = record { goes = h; stem = all_stem first last splices sound h; dropped = all_stay_or_are_dropped first last splices h }
+
+ranges_left : (old mid new : State) (buffer screen : Buffer) (calls : List Call) (answers : List Said) (left : List Splice) → (left ≡ []) ⊎ (left ≡ selected_splices mid.document) → GoesOver mid.document left new.document → SoFar old buffer calls answers mid screen → RangesInRun old buffer calls answers left new
+ranges_left old mid new buffer screen calls answers left left_are on h = record {
+  newest = mid;
+  shown = screen;
+  since = h.since;
+  left_are = left_are;
+  go = ranges_go h.since.then.document new.document (h.since.splices ++ left) h.sound
+      (goes_on h.since.then.document mid.document new.document h.since.splices left h.goes on);
+}
+
+-- as many calls as are answered
+counted : (old new : State) (buffer : Buffer) (calls : List Call) (answers : List Answer) (index : ℕ) (left : List Splice) → length answers ≡ index → RangesInRun old buffer (take index calls) (map said answers) left new → RangesOfRun old buffer calls answers new
+counted old new buffer calls answers index left same h =
+    (left, subst (λ (n : ℕ). RangesInRun old buffer (take n calls) (map said answers) left new) (sym same) h)
+
+pub ranges_at_end : (old new : State) (buffer screen : Buffer) (calls : List Call) (answers : List Answer) (index : ℕ) → length answers ≡ index → SoFar old buffer (take index calls) (map said answers) new screen → RangesOfRun old buffer calls answers new
+ranges_at_end old new buffer screen calls answers index same h =
+    counted old new buffer calls answers index [] same
+    (ranges_left old new new buffer screen (take index calls) (map said answers) [] (inl refl) (unmoved new.document) h)
+
+-- the call at the index ran out of memory
+pub ranges_at_refused : (old mid new : State) (buffer screen : Buffer) (calls : List Call) (answers : List Answer) (index : ℕ) → length answers ≡ index → LeftUncut mid new → SoFar old buffer (take index calls) (map said answers) mid screen → RangesOfRun old buffer calls answers new
+ranges_at_refused old mid new buffer screen calls answers index same on h =
+    elim on [
+      | inl none ↦ counted old new buffer calls answers index [] same
+          (ranges_left old mid new buffer screen (take index calls) (map said answers) [] (inl refl) none.0 h)
+      | inr gone ↦ counted old new buffer calls answers index (selected_splices mid.document) same
+          (ranges_left old mid new buffer screen (take index calls) (map said answers) (selected_splices mid.document) (inr refl) gone.0 h)
+    ]
+
+-- where no call is answered
+pub ranges_at_first : (old : State) (buffer : Buffer) (calls : List Call) (answers : List Answer) → IsSound old.document → answers ≡ [] → RangesOfRun old buffer calls answers old
+ranges_at_first old buffer calls answers sound none =
+    subst (λ (a : List Answer). RangesOfRun old buffer calls a old) (sym none)
+    (ranges_at_end old old buffer buffer calls [] 0 refl (at_start old buffer sound))

@@ -1,0 +1,219 @@
+-- Worked runs on an empty text, computed.
+use Rattle.std.proofs.Common.{◌≡◌, List, [], ◌∷◌, Option, None, Some, is_some, true, false, refl, subst}
+use Rattle.textarea_text.specs.Text.{Character, Break}
+use Rattle.textarea_text.specs.Place.{Place}
+use Rattle.textarea_ranges.specs.Moved.{moved_ranges}
+use Rattle.textarea_document.specs.Edits.{removed_before, removed_behind, part_removed}
+use Rattle.tui_textarea.specs.Removals.{yanked}
+use Rattle.textarea_screen.specs.declared.screen.buffer.Buffer.{Buffer}
+use Rattle.textarea_document.specs.Target.{VisualTargets, target}
+use Rattle.tui_textarea.specs.Moves.{IsMoved, IsTarget, moved_by, pushed}
+use Rattle.tui_textarea.specs.State.{State, new_state}
+use Rattle.textarea_data.specs.declared.cursor.CursorMove.{CursorMove}
+use Rattle.textarea_data.specs.declared.cursor.CursorMove.TheVariants.{Back, Down, Head, InViewport, Up}
+use Rattle.tui_textarea.specs.Calls.{answer_of, state_after}
+use Rattle.tui_textarea.specs.Outcomes.{IsAnswer, IsBehind, IsShown}
+use Rattle.tui_textarea.specs.Run.{Leads, Makes}
+use Rattle.tui_textarea.specs.Said as told
+use Rattle.tui_textarea.specs.Said.{Said, Done, Flag, Text}
+use Rattle.textarea_calls.specs.declared.call.Call.{Call}
+use Rattle.textarea_calls.specs.declared.call.Call.TheVariants.{InsertChar, InsertNewline, DeleteChar, DeleteStr, Cut, Paste, Undo, Redo, StartSelection, SelectAll, YankText, Measure, Move, SetSearchPattern, Render, CursorAtPosition, Scroll, Input, InputWithoutShortcuts, SetMaskChar, ClearMaskChar, MaskChar, RenderedCursorPosition}
+
+abbrev empty : State
+empty = new_state []
+
+-- the move goes over no visual rows
+abbrev IsPlain : CursorMove → Type 0
+IsPlain Up = ⊥
+IsPlain Down = ⊥
+IsPlain InViewport = ⊥
+IsPlain cursor_move = Unit {0}
+
+-- the call sets no pattern, takes no input, measures, draws and hits nothing and goes over no visual rows, so its answer and the state behind it are
+-- computed
+abbrev IsSettled : Call → Type 0
+IsSettled (SetSearchPattern text) = ⊥
+IsSettled (Measure width) = ⊥
+IsSettled (Render area) = ⊥
+IsSettled (CursorAtPosition cell) = ⊥
+IsSettled (Scroll scrolling) = ⊥
+IsSettled (Input input) = ⊥
+IsSettled (InputWithoutShortcuts input) = ⊥
+IsSettled (Move cursor_move) = IsPlain cursor_move
+IsSettled call = Unit {0}
+
+abbrev AreSettled : List Call → Type 0
+AreSettled [] = Unit {0}
+AreSettled (call ∷ calls) = IsSettled call × AreSettled calls
+
+-- no visual row is gone over
+abbrev nowhere : VisualTargets
+nowhere = record { above = None; below = None; inside = (0, 0) }
+
+-- where such a move leads
+abbrev plain_target : State → CursorMove → Option Place
+plain_target state cursor_move = target nowhere state.document.text state.document.cursor cursor_move
+
+-- the state behind a move that goes over no visual rows
+abbrev after_move : State → CursorMove → State
+after_move state cursor_move = moved_by state (is_some state.document.anchor) (pushed state.document.ranges cursor_move (plain_target state cursor_move))
+
+-- the state behind a settled call
+abbrev behind : State → Call → State
+behind state (Move cursor_move) = after_move state cursor_move
+behind state call = state_after state call
+
+-- what such calls answer, and the state that they lead to
+abbrev answers_of : State → List Call → List Said
+answers_of state [] = []
+answers_of state (call ∷ calls) = answer_of state call ∷ answers_of (behind state call) calls
+
+abbrev end_of : State → List Call → State
+end_of state [] = state
+end_of state (call ∷ calls) = end_of (behind state call) calls
+
+settled-answer : (state : State) (call : Call) → IsSettled call → IsAnswer state call (answer_of state call)
+settled-answer state (SetSearchPattern text) settled = absurd settled
+settled-answer state (Measure width) settled = absurd settled
+settled-answer state (Render area) settled = absurd settled
+settled-answer state (CursorAtPosition cell) settled = absurd settled
+settled-answer state (Scroll scrolling) settled = absurd settled
+settled-answer state (Input input) settled = absurd settled
+settled-answer state (InputWithoutShortcuts input) settled = absurd settled
+settled-answer state call settled = refl
+
+plain-target : (state : State) (cursor_move : CursorMove) → IsPlain cursor_move → IsTarget state cursor_move (plain_target state cursor_move)
+plain-target state cursor_move plain = record {
+  visual = nowhere;
+  above_is = λ up. absurd (subst IsPlain up plain);
+  below_is = λ down. absurd (subst IsPlain down plain);
+  inside_is = λ inside. absurd (subst IsPlain inside plain);
+  found_is = refl;
+}
+
+plain-moved : (state : State) (cursor_move : CursorMove) → IsPlain cursor_move → IsMoved state cursor_move (after_move state cursor_move)
+plain-moved state cursor_move plain = record {
+  found = plain_target state cursor_move;
+  target_is = plain-target state cursor_move plain;
+  new_is = refl;
+}
+
+settled-behind : (state : State) (call : Call) → IsSettled call → IsBehind state call (answer_of state call) (behind state call)
+settled-behind state (SetSearchPattern text) settled = absurd settled
+settled-behind state (Measure width) settled = absurd settled
+settled-behind state (Render area) settled = absurd settled
+settled-behind state (CursorAtPosition cell) settled = absurd settled
+settled-behind state (Scroll scrolling) settled = absurd settled
+settled-behind state (Input input) settled = absurd settled
+settled-behind state (InputWithoutShortcuts input) settled = absurd settled
+settled-behind state (Move cursor_move) settled = plain-moved state cursor_move settled
+settled-behind state call settled = refl
+
+settled-shown : (state : State) (buffer : Buffer) (call : Call) → IsSettled call → IsShown call state buffer buffer
+settled-shown state buffer (Render area) settled = absurd settled
+settled-shown state buffer call settled = refl
+
+settled-made : (state : State) (buffer : Buffer) (call : Call) → IsSettled call → Makes state buffer call (answer_of state call) (behind state call) buffer
+settled-made state buffer call settled = record {
+  answered = settled-answer state call settled;
+  behind = settled-behind state call settled;
+  drawn = settled-shown (behind state call) buffer call settled;
+}
+
+settled-leads : (state : State) (buffer : Buffer) (calls : List Call) → AreSettled calls → Leads state buffer calls (answers_of state calls) (end_of state calls) buffer
+settled-leads state buffer [] settled = (refl, refl)
+settled-leads state buffer (call ∷ calls) settled =
+    (behind state call, buffer, settled-made state buffer call settled.0, settled-leads (behind state call) buffer calls settled.1)
+
+abbrev reached : List Call → State
+reached calls = end_of empty calls
+
+-- `a`, a break, `b`, the removal of `b`, and its undo
+abbrev two_lines : List Call
+two_lines = InsertChar 97 ∷ InsertNewline ∷ InsertChar 98 ∷ DeleteChar ∷ Undo ∷ []
+
+two_lines-answers : answers_of empty two_lines ≡ Done ∷ Done ∷ Done ∷ Flag true ∷ Flag true ∷ []
+unfolding removed_before removed_behind part_removed yanked moved_ranges
+two_lines-answers = refl
+
+-- so a run leads there
+two_lines-leads : (buffer : Buffer) → Leads empty buffer two_lines (answers_of empty two_lines) (reached two_lines) buffer
+two_lines-leads buffer = settled-leads empty buffer two_lines (tt, (tt, (tt, (tt, (tt, tt)))))
+
+two_lines-text : (reached two_lines).document.text ≡ Character 97 ∷ Break ∷ Character 98 ∷ []
+unfolding removed_before removed_behind part_removed yanked moved_ranges
+two_lines-text = refl
+
+-- the cursor stands behind the restored text
+two_lines-cursor : (reached two_lines).document.cursor ≡ (1, 1)
+unfolding removed_before removed_behind part_removed yanked moved_ranges
+two_lines-cursor = refl
+
+-- the removal can be made again
+two_lines-undone : (reached two_lines).document.log.undone ≡ (record { place = (1, 0); symbols = Character 98 ∷ []; inserts = false }) ∷ []
+unfolding removed_before removed_behind part_removed yanked moved_ranges
+two_lines-undone = refl
+
+-- a new edit drops what was undone
+abbrev replaced_edit : List Call
+replaced_edit = InsertChar 97 ∷ Undo ∷ InsertChar 98 ∷ Redo ∷ []
+
+replaced_edit-answers : answers_of empty replaced_edit ≡ Done ∷ Flag true ∷ Done ∷ Flag false ∷ []
+unfolding removed_before removed_behind part_removed yanked moved_ranges
+replaced_edit-answers = refl
+
+replaced_edit-text : (reached replaced_edit).document.text ≡ Character 98 ∷ []
+unfolding removed_before removed_behind part_removed yanked moved_ranges
+replaced_edit-text = refl
+
+-- a carriage return breaks the line
+return-text : (reached (InsertChar 13 ∷ [])).document.text ≡ Break ∷ []
+unfolding removed_before removed_behind part_removed yanked moved_ranges
+return-text = refl
+
+-- nothing to do
+idle-answers : answers_of empty (DeleteChar ∷ Undo ∷ Redo ∷ Cut ∷ Paste ∷ []) ≡ Flag false ∷ Flag false ∷ Flag false ∷ Flag false ∷ Flag false ∷ []
+unfolding removed_before removed_behind part_removed yanked moved_ranges
+idle-answers = refl
+
+idle-state : reached (DeleteChar ∷ Undo ∷ Redo ∷ Cut ∷ Paste ∷ []) ≡ empty
+unfolding removed_before removed_behind part_removed yanked moved_ranges
+idle-state = refl
+
+-- `a`, a break and `b`, all selected and cut: the yank has a line feed for the break
+abbrev cut_all : List Call
+cut_all = InsertChar 97 ∷ InsertNewline ∷ InsertChar 98 ∷ SelectAll ∷ Cut ∷ YankText ∷ []
+
+cut_all-answers : answers_of empty cut_all ≡ Done ∷ Done ∷ Done ∷ Done ∷ Flag true ∷ Text (97 ∷ 10 ∷ 98 ∷ []) ∷ []
+unfolding removed_before removed_behind part_removed yanked moved_ranges
+cut_all-answers = refl
+
+cut_all-text : (reached cut_all).document.text ≡ []
+unfolding removed_before removed_behind part_removed yanked moved_ranges
+cut_all-text = refl
+
+-- what is typed takes the place of what is selected, as two edits
+abbrev typed_over : List Call
+typed_over = InsertChar 97 ∷ StartSelection ∷ Move Back ∷ InsertChar 98 ∷ Undo ∷ []
+
+typed_over-text : (reached typed_over).document.text ≡ []
+unfolding removed_before removed_behind part_removed yanked moved_ranges
+typed_over-text = refl
+
+-- the removal of two symbols behind the cursor, a break among them
+abbrev removed_count : List Call
+removed_count = InsertNewline ∷ InsertChar 97 ∷ Move Head ∷ Move Back ∷ DeleteStr 2 ∷ []
+
+removed_count-yank : (reached removed_count).yank ≡ Break ∷ Character 97 ∷ []
+unfolding removed_before removed_behind part_removed yanked moved_ranges
+removed_count-yank = refl
+
+-- a mask is read until it is taken away; before the first drawing there is no caret
+abbrev masked : List Call
+masked = SetMaskChar 42 ∷ MaskChar ∷ ClearMaskChar ∷ MaskChar ∷ RenderedCursorPosition ∷ []
+
+masked-answers : answers_of empty masked ≡ Done ∷ told.Character (Some 42) ∷ Done ∷ told.Character None ∷ told.Position None ∷ []
+masked-answers = refl
+
+masked-state : reached masked ≡ empty
+masked-state = refl

@@ -1,0 +1,15 @@
+use Rattle.tui_textarea.proofs.CallCuts.{Never, call_grows, left_grows}
+use Rattle.tui_textarea.proofs.outcomes.laws.count_never_falls.Goals as goal
+
+pub returns : goal.returns
+returns c =
+    let never : Never = record {
+      splices = c.count_never_falls.ensures.splices;
+      width = c.count_never_falls.ensures.width;
+      settings = c.count_never_falls.ensures.settings;
+      lines = c.count_never_falls.ensures.lines;
+    } in
+    record {
+      made = λ old new call answer sound h. call_grows never old new call (c.each_call_cuts.ensures.made old new call answer sound h);
+      refused = λ old new call sound h. left_grows never old new (c.each_call_cuts.ensures.refused old new call sound h);
+    }

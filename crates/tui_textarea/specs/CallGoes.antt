@@ -1,0 +1,124 @@
+-- How the atomic ranges go with the text over calls, and from which ranges those stem that a run leaves.
+use Rattle.std.specs.Prelude.{◌≡◌, ◌⊎◌, List, [], ◌∷◌, ◌++◌, length, map, take}
+use Rattle.textarea_text.specs.Splice.{Splice}
+use Rattle.textarea_document.specs.Goes.{AllStayOrAreDropped, AllStemFrom, GoesOver, GoesUncut}
+use Rattle.textarea_document.specs.Splices.{selected_splices}
+use Rattle.textarea_document.specs.State.{DocumentState}
+use Rattle.textarea_data.specs.declared.range.AtomicRange.{AtomicRange}
+use Rattle.textarea_ranges.specs.Order.{in_order}
+use Rattle.textarea_screen.specs.declared.screen.buffer.Buffer.{Buffer}
+use Rattle.textarea_calls.specs.declared.action.Action.{Action}
+use Rattle.textarea_calls.specs.declared.action.Action.TheVariants as action
+use Rattle.tui_textarea.specs.Goes.{GoesByAct}
+use Rattle.tui_textarea.specs.Input.{asked_by, asked_without_shortcuts}
+use Rattle.tui_textarea.specs.State.{State}
+use Rattle.tui_textarea.specs.Run.{Leads}
+use Rattle.tui_textarea.specs.Said.{Said, Done, said}
+use Rattle.tui_textarea.specs.CallSplices.{LeadsBy, splices_of}
+use Rattle.textarea_calls.specs.declared.answer.Answer.{Answer}
+use Rattle.textarea_calls.specs.declared.call.Call.{Call}
+use Rattle.textarea_calls.specs.declared.call.Call.TheVariants.{Undo, Redo, SetLines, TrySetAtomicRanges, ClearAtomicRanges, Input, InputWithoutShortcuts}
+
+-- ---- one call
+
+-- no range is held
+abbrev pub HoldsNone : State → Type 0
+HoldsNone state = state.document.ranges ≡ []
+
+-- the ranges given are held, in order, and the text stays
+pub record Holds (old : State) (given : List AtomicRange) (new : State) : Type 0 where
+  pub text : new.document.text ≡ old.document.text
+  pub ranges : new.document.ranges ≡ in_order given
+
+-- The splices of the call lead from the old text to the new one, none where nothing is edited, and the ranges go with it; only those
+-- of an undo and a redo may cut a range. Other lines and the call that clears leave no range, and ranges that are set replace the old
+-- ones.
+abbrev pub GoesByCall : State → Call → Said → State → Type 0
+GoesByCall old Undo answer new = GoesOver old.document (splices_of old Undo) new.document
+GoesByCall old Redo answer new = GoesOver old.document (splices_of old Redo) new.document
+GoesByCall old (Input input) answer new = GoesByAct (asked_by input.now) old.document (splices_of old (Input input)) new.document
+GoesByCall old (InputWithoutShortcuts input) answer new = GoesByAct (asked_without_shortcuts input.now) old.document (splices_of old (InputWithoutShortcuts input)) new.document
+GoesByCall old (SetLines lines cursor) answer new = HoldsNone new
+GoesByCall old ClearAtomicRanges answer new = HoldsNone new
+GoesByCall old (TrySetAtomicRanges ranges) Done new = Holds old ranges.now new
+GoesByCall old call answer new = GoesUncut old.document (splices_of old call) new.document
+
+-- ---- a run
+
+-- the call gives the ranges anew: it sets them, and answers that they are accepted; it clears them; or it sets other lines, which have
+-- none
+abbrev pub GivesRanges : Call → Said → Type 0
+GivesRanges (TrySetAtomicRanges ranges) Done = Unit {0}
+GivesRanges ClearAtomicRanges answer = Unit {0}
+GivesRanges (SetLines lines cursor) answer = Unit {0}
+GivesRanges call answer = ⊥
+
+-- none of the calls, which answer so, gives ranges anew
+abbrev pub NoneGives : List Call → List Said → Type 0
+NoneGives [] [] = Unit {0}
+NoneGives (call ∷ calls) (answer ∷ answers) = (¬ GivesRanges call answer) × NoneGives calls answers
+NoneGives calls answers = ⊥
+
+-- the last of the calls, which answer so, gives ranges anew
+pub record LastGives (calls : List Call) (answers : List Said) : Type 0 where
+  pub front : List Call
+  pub last : Call
+  pub calls_are : calls ≡ front ++ last ∷ []
+  pub before : List Said
+  pub answer : Said
+  pub answers_are : answers ≡ before ++ answer ∷ []
+  pub gives : GivesRanges last answer
+
+-- The calls, where they answer so, lead to the newest state over the last one in which the ranges were given: the state after the last
+-- call that gave them anew, or without such a call the one at the start. From there the later calls lead on by these splices.
+pub record SinceGiven (old : State) (buffer : Buffer) (calls : List Call) (answers : List Said) (newest : State) (shown : Buffer) : Type 0 where
+  pub until : List Call
+  pub later : List Call
+  pub calls_are : calls ≡ until ++ later
+  pub answers_until : List Said
+  pub answers_later : List Said
+  pub answers_are : answers ≡ answers_until ++ answers_later
+  pub then : State
+  pub screen : Buffer
+  pub led : Leads old buffer until answers_until then screen
+  pub given : (until ≡ []) ⊎ LastGives until answers_until
+  pub none_later : NoneGives later answers_later
+  pub splices : List Splice
+  pub led_on : LeadsBy then screen later answers_later splices newest shown
+
+-- What becomes of the ranges of the first document over these splices: they go with the text; each that is held in the end stems
+-- from one of them, and covers the same characters, all in one line; and each of them is held in the end, as the splices carry it, or
+-- one of the splices disturbs it.
+pub record RangesGo (first : DocumentState) (splices : List Splice) (last : DocumentState) : Type 0 where
+  pub goes : GoesOver first splices last
+  pub stem : AllStemFrom first splices last
+  pub dropped : AllStayOrAreDropped first splices last
+
+-- What becomes of the ranges over the calls, where these answer so and lead to the newest state, and a last call that ran out of
+-- memory leads on by the splices left, if there is one: those given last go with the text over the splices of the later calls.
+pub record RangesInRun (old : State) (buffer : Buffer) (calls : List Call) (answers : List Said) (left : List Splice) (new : State) : Type 0 where
+  pub newest : State
+  pub shown : Buffer
+  pub since : SinceGiven old buffer calls answers newest shown
+  pub left_are : (left ≡ []) ⊎ (left ≡ selected_splices newest.document)
+  pub go : RangesGo since.then.document (since.splices ++ left) new.document
+
+-- and so over a run, of the calls that were answered
+abbrev pub RangesOfRun : State → Buffer → List Call → List Answer → State → Type 0
+RangesOfRun old buffer calls answers new =
+    (left : List Splice) × RangesInRun old buffer (take (length answers) calls) (map said answers) left new
+
+-- ---- no call cuts a range
+
+-- the call takes back an edit or makes one again, which may cut a range
+abbrev pub IsUndoOrRedoAct : Action → Type 0
+IsUndoOrRedoAct action.Undo = Unit {0}
+IsUndoOrRedoAct action.Redo = Unit {0}
+IsUndoOrRedoAct asked = ⊥
+
+abbrev pub IsUndoOrRedo : Call → Type 0
+IsUndoOrRedo Undo = Unit {0}
+IsUndoOrRedo Redo = Unit {0}
+IsUndoOrRedo (Input input) = IsUndoOrRedoAct (asked_by input.now)
+IsUndoOrRedo (InputWithoutShortcuts input) = IsUndoOrRedoAct (asked_without_shortcuts input.now)
+IsUndoOrRedo call = ⊥

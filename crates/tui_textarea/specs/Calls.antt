@@ -1,0 +1,239 @@
+-- What each call answers and makes of the state of a text area, and where it may answer out of memory.
+use Rattle.std.specs.Prelude.{◌≡◌, ◌≢◌, ◌<◌, true, false, List, [], ◌∷◌, length, is_some, not, None, Some, String}
+use Rattle.std.specs.Coded.{le_prop, Unit-prop}
+use Rattle.std.specs.Duration.{as_nanos}
+use Rattle.std.specs.Str.{chars}
+use Rattle.textarea_text.specs.Place.{Place}
+use Rattle.textarea_text.specs.Text.{lines, lines_of, text_of}
+use Rattle.textarea_data.specs.declared.range.AtomicRange.{AtomicRange}
+use Rattle.textarea_data.specs.declared.range.RejectedAtomicRange.{RejectedAtomicRange}
+use Rattle.textarea_ranges.specs.Held.{inside}
+use Rattle.textarea_ranges.specs.Order.{in_order}
+use Rattle.textarea_ranges.specs.Rejected.{rejected_of}
+use Rattle.textarea_history.specs.Log.{empty_log, newest, next}
+use Rattle.textarea_text.specs.Given.{given, written}
+use Rattle.textarea_text.specs.Part.{clip}
+use Rattle.textarea_document.specs.State.{fresh_document}
+use Rattle.textarea_document.specs.Edits.{hit_at_cursor, is_filled}
+use Rattle.textarea_document.specs.Outcomes.{redone, run_ended, undone}
+use Rattle.textarea_document.specs.Selection.{is_selected}
+use Rattle.textarea_document.specs.Selection as document_selection
+use Rattle.tui_textarea.specs.State.{State, with_document, with_other_lines}
+use Rattle.tui_textarea.specs.Edits.{inserts_tab, inserts_text, char_inserted, newline_inserted, tab_inserted, str_inserted}
+use Rattle.tui_textarea.specs.Removals.{break_before_removed, text_cleared, has_ahead, has_before, has_behind, has_break_before, has_line_before, has_line_behind, has_word_before, has_word_behind, line_end_removed, line_head_removed, removes_or, symbol_before_removed, symbol_behind_removed, symbols_ahead_removed, unselected_or, word_before_removed, word_behind_removed}
+use Rattle.tui_textarea.specs.Selection.{all_selected, selection_copied, selection_cut, selection_cancelled, selection_started, unselected}
+use Rattle.tui_textarea.specs.Selection as selection
+use Rattle.textarea_screen.specs.Block.{shown_block}
+use Rattle.textarea_screen.specs.Text.{shown_text}
+use Rattle.textarea_view.specs.State.{style_with_lines}
+use Rattle.textarea_view.specs.Outcomes.{with_max_rows, with_min_rows, with_placeholder_style, with_placeholder_text}
+use Rattle.textarea_screen.specs.declared.screen.alignment.Alignment.TheVariants.{Left}
+use Rattle.tui_textarea.specs.Drawing.{highlighted, unhighlighted, with_look}
+use Rattle.tui_textarea.specs.Input.{IsLeftBy, MayRefuseAct, acts, asked_by, asked_without_shortcuts}
+use Rattle.tui_textarea.specs.Layout.{alignment_set, mode_set, number_style, numbers_set, stays_cut, tab_length, tab_length_set, with_alignment, with_line_numbers, with_tab_length, with_wrap_mode, without_line_numbers}
+use Rattle.tui_textarea.specs.Measure.{reads_rows, with_surround}
+use Rattle.tui_textarea.specs.Search.{next_match, previous_match, searched, with_pattern}
+use Rattle.tui_textarea.specs.Patterns.{IsNewPattern}
+use Rattle.tui_textarea.specs.Ranges.{cursor_normalized, hit_range_removed, ranges_accepted, ranges_cleared}
+use Rattle.tui_textarea.specs.Said as told
+use Rattle.tui_textarea.specs.Said.{Said, Done, Flag, Range, Rejected, Text}
+use Rattle.textarea_calls.specs.declared.call.Call.{Call}
+use Rattle.textarea_calls.specs.declared.call.Call.TheVariants.{InsertChar, InsertStr, InsertTab, InsertNewline, DeleteStr, DeleteNewline, DeleteChar, DeleteNextChar, DeleteLineByEnd, DeleteLineByHead, DeleteWord, DeleteNextWord, Clear, Cut, Copy, Paste, Undo, Redo, StartSelection, CancelSelection, SelectAll, SetYankText, YankText, SetTabLength, SetHardTabIndent, SetMaxHistories, SetUndoCoalescing, SetNow, SetLines, TrySetAtomicRanges, ClearAtomicRanges, NormalizeCursorAroundAtomicRanges, AtomicRangeAtCursor, DeleteAtomicRangeAtCursor, SetSearchPattern, SearchForward, SearchBack, SetWrapMode, SetLineNumberStyle, RemoveLineNumber, Measure, SetBlock, RemoveBlock, SetPlaceholderText, SetStyledPlaceholder, SetPlaceholderStyle, SetMinRows, SetMaxRows, SetStyle, Style, SetCursorStyle, CursorStyle, SetCursorLineStyle, CursorLineStyle, SetSelectionStyle, SelectionStyle, SetSearchStyle, SearchStyle, SetMaskChar, ClearMaskChar, MaskChar, SetCursorRenderMode, CursorRenderMode, SetAlignment, Alignment, CustomHighlight, ClearCustomHighlight, Render, RenderedCursorPosition, CursorAtPosition, Input, InputWithoutShortcuts, Cursor, IsEmpty, IsSelecting, SelectionRange, TabLength, HardTabIndent, MaxHistories, UndoCoalescing, WrapMode, LineNumberStyle, PlaceholderStyle, MinRows, MaxRows}
+
+-- the given ranges that are rejected, in their order, each with its reason
+abbrev pub rejected_ranges : State → List AtomicRange → List RejectedAtomicRange
+rejected_ranges state ranges = rejected_of (lines state.document.text) (in_order ranges)
+
+-- the rejected ranges are named; where there are none, the ranges were set
+abbrev pub ranges_answer : List RejectedAtomicRange → Said
+ranges_answer [] = Done
+ranges_answer (range ∷ rejected) = Rejected (range ∷ rejected)
+
+-- the ranges are set where none is rejected, and else nothing changes
+abbrev pub with_ranges_if : List RejectedAtomicRange → State → List AtomicRange → State
+with_ranges_if [] state ranges = ranges_accepted state ranges
+with_ranges_if (range ∷ rejected) state ranges = state
+
+-- what the call answers; a pattern that is set, where it isn't refused. What is measured or hit isn't said here
+abbrev pub answer_of : State → Call → Said
+answer_of state (InsertStr text) = Flag (inserts_text state (given (chars text.now)))
+answer_of state InsertTab = Flag (inserts_tab state)
+answer_of state (DeleteStr count) = Flag (removes_or state (has_ahead state count))
+answer_of state DeleteNewline = Flag (removes_or state (has_break_before state))
+answer_of state DeleteChar = Flag (removes_or state (has_before state))
+answer_of state DeleteNextChar = Flag (removes_or state (has_behind state))
+answer_of state DeleteLineByEnd = Flag (removes_or state (has_line_behind state))
+answer_of state DeleteLineByHead = Flag (removes_or state (has_line_before state))
+answer_of state DeleteWord = Flag (removes_or state (has_word_before state))
+answer_of state DeleteNextWord = Flag (removes_or state (has_word_behind state))
+answer_of state Clear = Flag (is_filled state.document.text)
+answer_of state Cut = Flag (is_selected state.document)
+answer_of state Paste = Flag (is_filled state.yank)
+answer_of state Undo = Flag (is_some (newest state.document.log))
+answer_of state Redo = Flag (is_some (next state.document.log))
+answer_of state YankText = Text (written state.yank)
+answer_of state (TrySetAtomicRanges ranges) = ranges_answer (rejected_ranges state ranges.now)
+answer_of state (NormalizeCursorAroundAtomicRanges bias) = Flag (is_some (inside state.document.ranges state.document.cursor))
+answer_of state (AtomicRangeAtCursor direction) = Range (hit_at_cursor state.document direction)
+answer_of state (DeleteAtomicRangeAtCursor direction) = Range (hit_at_cursor state.document direction)
+answer_of state (SearchForward at_cursor) = Flag (is_some (next_match state at_cursor))
+answer_of state (SearchBack at_cursor) = Flag (is_some (previous_match state at_cursor))
+answer_of state Style = told.Style state.drawing.look.style
+answer_of state CursorStyle = told.Style state.drawing.look.cursor_style
+answer_of state CursorLineStyle = told.Style state.drawing.look.cursor_line_style
+answer_of state SelectionStyle = told.Style state.drawing.look.selection_style
+answer_of state SearchStyle = told.Style state.drawing.look.search_style
+answer_of state MaskChar = told.Character state.drawing.look.mask
+answer_of state CursorRenderMode = told.CursorRenderMode state.drawing.look.cursor_render_mode
+answer_of state Alignment = told.Alignment state.drawing.look.alignment
+answer_of state RenderedCursorPosition = told.Position state.drawing.caret
+answer_of state (Input input) = Flag (acts state (asked_by input.now))
+answer_of state (InputWithoutShortcuts input) = Flag (acts state (asked_without_shortcuts input.now))
+answer_of state Cursor = told.Cursor state.document.cursor
+answer_of state IsEmpty = Flag (not (is_filled state.document.text))
+answer_of state IsSelecting = Flag (is_some state.document.anchor)
+answer_of state SelectionRange = told.Selection (document_selection.selection state.document)
+answer_of state TabLength = told.Number (tab_length state.document)
+answer_of state HardTabIndent = Flag state.settings.hard_tab_indent
+answer_of state MaxHistories = told.Number state.document.log.maximum
+answer_of state UndoCoalescing = Flag state.settings.undo_coalescing
+answer_of state WrapMode = told.WrapMode state.document.layout.settings.mode
+answer_of state LineNumberStyle = told.StyleIfShown (number_style state)
+answer_of state PlaceholderStyle = told.StyleIfShown (style_with_lines state.surround.placeholder.lines state.surround.placeholder.style)
+answer_of state MinRows = told.Number state.surround.min_rows
+answer_of state MaxRows = told.Number state.surround.max_rows
+answer_of state call = Done
+
+-- the lines take the place of the old ones, and all edits and highlights of the caller's own are forgotten: the cursor goes to the
+-- nearest place of theirs, nothing is selected, and nothing is scrolled
+abbrev pub with_lines : {Z : Type 0} → State → List (String Z) → Place → State
+with_lines state lines cursor =
+    with_other_lines state (fresh_document (text_of lines) state.document.layout.settings state.document.layout.count (clip (lines_of lines) cursor) state.document.log.maximum)
+
+-- the state after the call; after a pattern that is set, where it isn't refused. Where a move, a scroll or an input leads, and what a
+-- drawing leaves, isn't said here
+abbrev pub state_after : State → Call → State
+state_after state (InsertChar c) = char_inserted state c
+state_after state (InsertStr text) = str_inserted state (given (chars text.now))
+state_after state InsertTab = tab_inserted state
+state_after state InsertNewline = newline_inserted state
+state_after state (DeleteStr count) = unselected_or state (symbols_ahead_removed state count)
+state_after state DeleteNewline = unselected_or state (break_before_removed state)
+state_after state DeleteChar = unselected_or state (symbol_before_removed state)
+state_after state DeleteNextChar = unselected_or state (symbol_behind_removed state)
+state_after state DeleteLineByEnd = unselected_or state (line_end_removed state)
+state_after state DeleteLineByHead = unselected_or state (line_head_removed state)
+state_after state DeleteWord = unselected_or state (word_before_removed state)
+state_after state DeleteNextWord = unselected_or state (word_behind_removed state)
+state_after state Clear = text_cleared state
+state_after state Cut = selection_cut state
+state_after state Copy = selection_copied state
+state_after state Paste = str_inserted state state.yank
+state_after state Undo = with_document state (undone state.document)
+state_after state Redo = with_document state (redone state.document)
+state_after state (SetYankText text) = record state { yank = given (chars text.now) }
+state_after state YankText = state
+state_after state (TrySetAtomicRanges ranges) = with_ranges_if (rejected_ranges state ranges.now) state ranges.now
+state_after state (NormalizeCursorAroundAtomicRanges bias) = cursor_normalized state bias
+state_after state (AtomicRangeAtCursor direction) = state
+state_after state (DeleteAtomicRangeAtCursor direction) = hit_range_removed state direction
+state_after state (SetLines lines cursor) = with_lines state lines.now cursor
+state_after state (SetSearchPattern text) = with_pattern state text.now
+state_after state (SearchForward at_cursor) = searched state (next_match state at_cursor)
+state_after state (SearchBack at_cursor) = searched state (previous_match state at_cursor)
+state_after state StartSelection = selection_started state
+state_after state CancelSelection = selection_cancelled state
+state_after state SelectAll = all_selected state
+state_after state (SetTabLength columns) = with_tab_length state columns
+state_after state (SetWrapMode mode) = with_wrap_mode state mode
+state_after state (SetLineNumberStyle style) = with_line_numbers state style
+state_after state RemoveLineNumber = without_line_numbers state
+state_after state (SetBlock block) = with_surround state (record state.surround { block = Some (shown_block block.now) })
+state_after state RemoveBlock = with_surround state (record state.surround { block = None })
+state_after state (SetPlaceholderText text) = with_surround state (with_placeholder_text state.surround text.now)
+state_after state (SetStyledPlaceholder text) = with_surround state (record state.surround { placeholder = shown_text text.now })
+state_after state (SetPlaceholderStyle style) = with_surround state (with_placeholder_style state.surround style)
+state_after state (SetMinRows rows) = with_surround state (with_min_rows state.surround rows)
+state_after state (SetMaxRows rows) = with_surround state (with_max_rows state.surround rows)
+state_after state (SetHardTabIndent hard) = record state { settings = record state.settings { hard_tab_indent = hard } }
+state_after state (SetMaxHistories maximum) =
+    with_document state (record state.document { log = empty_log maximum })
+state_after state (SetUndoCoalescing joins) =
+    record state { document = record state.document { log = run_ended state.document.log }; settings = record state.settings { undo_coalescing = joins } }
+state_after state (SetNow moment) = record state { moment = as_nanos moment }
+state_after state ClearAtomicRanges = ranges_cleared state
+state_after state (SetStyle style) = with_look state (record state.drawing.look { style = style })
+state_after state (SetCursorStyle style) = with_look state (record state.drawing.look { cursor_style = style })
+state_after state (SetCursorLineStyle style) = with_look state (record state.drawing.look { cursor_line_style = style })
+state_after state (SetSelectionStyle style) = with_look state (record state.drawing.look { selection_style = style })
+state_after state (SetSearchStyle style) = with_look state (record state.drawing.look { search_style = style })
+state_after state (SetMaskChar mask) = with_look state (record state.drawing.look { mask = Some mask })
+state_after state ClearMaskChar = with_look state (record state.drawing.look { mask = None })
+state_after state (SetCursorRenderMode mode) = with_look state (record state.drawing.look { cursor_render_mode = mode })
+state_after state (SetAlignment alignment) = with_alignment state alignment
+state_after state (CustomHighlight range style priority) = highlighted state range style priority
+state_after state ClearCustomHighlight = unhighlighted state
+state_after state call = state
+
+-- the call may answer out of memory: not where it has nothing to do, where a setting cuts no line, where a measure reads the rows
+-- that are kept, and where a hit is in rows at the left; and a move, a scroll, any other setting and what reads one, a begun, dropped
+-- or whole selection, ranges that are forgotten or looked up, and highlights that are forgotten never
+abbrev pub MayRefuse : State → Call → Type 0
+MayRefuse state (InsertChar c) = Unit {0}
+MayRefuse state (InsertStr text) = inserts_text state (given (chars text.now)) ≢ false
+MayRefuse state InsertTab = inserts_tab state ≢ false
+MayRefuse state InsertNewline = Unit {0}
+MayRefuse state (DeleteStr count) = removes_or state (has_ahead state count) ≢ false
+MayRefuse state DeleteNewline = removes_or state (has_break_before state) ≢ false
+MayRefuse state DeleteChar = removes_or state (has_before state) ≢ false
+MayRefuse state DeleteNextChar = removes_or state (has_behind state) ≢ false
+MayRefuse state DeleteLineByEnd = removes_or state (has_line_behind state) ≢ false
+MayRefuse state DeleteLineByHead = removes_or state (has_line_before state) ≢ false
+MayRefuse state DeleteWord = removes_or state (has_word_before state) ≢ false
+MayRefuse state DeleteNextWord = removes_or state (has_word_behind state) ≢ false
+MayRefuse state Clear = is_filled state.document.text ≢ false
+MayRefuse state Cut = is_selected state.document ≢ false
+MayRefuse state Copy = is_selected state.document ≢ false
+MayRefuse state Paste = inserts_text state state.yank ≢ false
+MayRefuse state Undo = newest state.document.log ≢ None
+MayRefuse state Redo = next state.document.log ≢ None
+MayRefuse state (SetYankText text) = Unit {0}
+MayRefuse state YankText = Unit {0}
+MayRefuse state (TrySetAtomicRanges ranges) = Unit {0}
+MayRefuse state (DeleteAtomicRangeAtCursor direction) = hit_at_cursor state.document direction ≢ None
+MayRefuse state (SetLines lines cursor) = Unit {0}
+MayRefuse state (SetSearchPattern text) = IsNewPattern state text.now
+MayRefuse state (SearchForward at_cursor) = state.pattern ≢ None
+MayRefuse state (SearchBack at_cursor) = state.pattern ≢ None
+MayRefuse state (SetTabLength columns) = stays_cut state (tab_length_set state columns) ≢ true
+MayRefuse state (SetWrapMode mode) = stays_cut state (mode_set state mode) ≢ true
+MayRefuse state (SetLineNumberStyle style) = stays_cut state (numbers_set state true) ≢ true
+MayRefuse state RemoveLineNumber = stays_cut state (numbers_set state false) ≢ true
+MayRefuse state (Measure width) = reads_rows state width ≢ true
+MayRefuse state (SetBlock block) = Unit {0}
+MayRefuse state (SetPlaceholderText text) = text.now ≢ []
+MayRefuse state (SetStyledPlaceholder text) = Unit {0}
+MayRefuse state (SetAlignment alignment) = stays_cut state (alignment_set state alignment) ≢ true
+MayRefuse state (CustomHighlight range style priority) = Unit {0}
+MayRefuse state (Render area) = Unit {0}
+MayRefuse state (CursorAtPosition position) = state.drawing.look.alignment ≢ Left
+MayRefuse state (Input input) = MayRefuseAct state (asked_by input.now)
+MayRefuse state (InputWithoutShortcuts input) = MayRefuseAct state (asked_without_shortcuts input.now)
+MayRefuse state call = ⊥
+
+-- what a call that answered out of memory leaves: the state as it was, or, of an insertion, also one that an input asks for, the one
+-- without what was selected
+abbrev pub IsLeft : State → Call → State → Type 0
+IsLeft old (InsertChar c) new = selection.IsLeft old new
+IsLeft old (InsertStr text) new = selection.IsLeft old new
+IsLeft old InsertTab new = selection.IsLeft old new
+IsLeft old InsertNewline new = selection.IsLeft old new
+IsLeft old Paste new = selection.IsLeft old new
+IsLeft old (Input input) new = IsLeftBy old (asked_by input.now) new
+IsLeft old (InputWithoutShortcuts input) new = IsLeftBy old (asked_without_shortcuts input.now) new
+IsLeft old call new = new ≡ old
+
+-- the call answered out of memory, which it may, and this is the state that it left
+pub record Refused (old : State) (call : Call) (new : State) : Type 0 where
+  pub may : MayRefuse old call
+  pub left : IsLeft old call new

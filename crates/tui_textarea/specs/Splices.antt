@@ -1,0 +1,98 @@
+-- The splices by which each call that edits the text changes it, and by which an input does: one function from the state to their list.
+use Rattle.std.specs.Prelude.{ℕ, ◌==◌, List, [], ◌∷◌, ◌++◌, length, nat_lt, replicate, if◌then◌else◌}
+use Rattle.textarea_text.specs.Place.{place_of}
+use Rattle.textarea_text.specs.Splice.{Splice}
+use Rattle.textarea_text.specs.Text.{Symbol, Break, Character}
+use Rattle.textarea_document.specs.Edits.{cursor_index, hit_before, hit_behind, is_filled}
+use Rattle.textarea_document.specs.Selection.{is_selected}
+use Rattle.textarea_document.specs.Splices.{after_splices, before_splices, break_splices, insertion_splices, range_splices_or, redo_splices, removal_splices, selected_splices, undo_splices}
+use Rattle.textarea_document.specs.State.{DocumentState}
+use Rattle.textarea_calls.specs.declared.action.Action.{Action}
+use Rattle.textarea_calls.specs.declared.action.Action.TheVariants.{InsertChar, InsertNewline, InsertTab, DeleteChar, DeleteNextChar, DeleteLineByEnd, DeleteLineByHead, DeleteWord, DeleteNextWord, Undo, Redo, Paste, Cut}
+use Rattle.textarea_document.specs.Target.{word_end_after, word_start_before}
+use Rattle.tui_textarea.specs.Edits.{breaks_line, spaces_to_stop}
+use Rattle.tui_textarea.specs.Layout.{tab_length}
+use Rattle.tui_textarea.specs.Removals.{cursor_line, in_line, index_ahead, is_at_line_end}
+use Rattle.tui_textarea.specs.Selection.{unselected}
+use Rattle.tui_textarea.specs.State.{State}
+
+-- ---- insertions
+
+-- the removal of what is selected, and then the insertion of the symbols into the text that this leaves
+abbrev pub str_splices : State → List Symbol → List Splice
+str_splices state symbols =
+    selected_splices state.document ++ insertion_splices (unselected state).document symbols
+
+-- a character, or the break that a line feed and a carriage return stand for
+abbrev pub char_splices : State → ℕ → List Splice
+char_splices state c =
+    if breaks_line c then str_splices state (Break ∷ []) else str_splices state (Character c ∷ [])
+
+-- a tab: nothing at tab length 0, else a tab character or the spaces to the next tab stop
+abbrev pub tab_splices : State → List Splice
+tab_splices state =
+    if tab_length state.document == 0 then str_splices state []
+    else (if state.settings.hard_tab_indent then str_splices state (Character 9 ∷ [])
+    else str_splices state (replicate (spaces_to_stop (unselected state).document (tab_length state.document)) (Character 32)))
+
+-- ---- removals
+
+-- the removal of what is selected, where a symbol is, and else the other splices
+abbrev pub selected_splices_or : DocumentState → List Splice → List Splice
+selected_splices_or document other = if is_selected document then selected_splices document else other
+
+-- this many symbols after the cursor, or all that there are
+abbrev pub ahead_splices : DocumentState → ℕ → List Splice
+ahead_splices document count =
+    if nat_lt (cursor_index document) (index_ahead document count)
+    then removal_splices document document.cursor (place_of document.text (index_ahead document count)) else []
+
+-- from the cursor to the line's end, and there the symbol after the cursor
+abbrev pub line_end_splices : DocumentState → List Splice
+line_end_splices document =
+    if is_at_line_end document then after_splices document
+    else removal_splices document document.cursor (in_line document (length (cursor_line document)))
+
+-- from the line's start to the cursor, and there the break before
+abbrev pub line_head_splices : DocumentState → List Splice
+line_head_splices document =
+    if document.cursor.1 == 0 then break_splices document
+    else removal_splices document (in_line document 0) document.cursor
+
+-- the range that is hit before the cursor, or else from the word's start to the cursor, and at the line's start the break before
+abbrev pub word_before_splices : DocumentState → List Splice
+word_before_splices document =
+    range_splices_or (hit_before document) document
+    (if document.cursor.1 == 0 then break_splices document
+    else removal_splices document (in_line document (word_start_before (cursor_line document) document.cursor.1)) document.cursor)
+
+-- the range that is hit after the cursor, or else from the cursor to the word's end, and at the line's end the symbol after the cursor
+abbrev pub word_after_splices : DocumentState → List Splice
+word_after_splices document =
+    range_splices_or (hit_behind document) document
+    (if is_at_line_end document then after_splices document
+    else removal_splices document document.cursor (in_line document (word_end_after (cursor_line document) document.cursor.1)))
+
+-- the whole text, if there is any
+abbrev pub clear_splices : DocumentState → List Splice
+clear_splices document =
+    if is_filled document.text then removal_splices document (0, 0) (place_of document.text (length document.text)) else []
+
+-- ---- inputs
+
+-- the splices of an input that asks for the action: those of its call
+abbrev pub splices_by : State → Action → List Splice
+splices_by state (InsertChar c) = char_splices state c
+splices_by state InsertNewline = str_splices state (Break ∷ [])
+splices_by state InsertTab = tab_splices state
+splices_by state DeleteChar = selected_splices_or state.document (before_splices state.document)
+splices_by state DeleteNextChar = selected_splices_or state.document (after_splices state.document)
+splices_by state DeleteLineByEnd = selected_splices_or state.document (line_end_splices state.document)
+splices_by state DeleteLineByHead = selected_splices_or state.document (line_head_splices state.document)
+splices_by state DeleteWord = selected_splices_or state.document (word_before_splices state.document)
+splices_by state DeleteNextWord = selected_splices_or state.document (word_after_splices state.document)
+splices_by state Undo = undo_splices state.document
+splices_by state Redo = redo_splices state.document
+splices_by state Paste = str_splices state state.yank
+splices_by state Cut = selected_splices state.document
+splices_by state action = []

@@ -1,0 +1,3 @@
+//! What each call does to a text area, as definitions, and laws of these.
+
+pub mod laws;

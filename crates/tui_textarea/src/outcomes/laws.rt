@@ -1,0 +1,103 @@
+//! Laws of runs, each the contract of a function that does nothing.
+ghost use Rattle.std.specs.Prelude.{◌≡◌, ◌≤◌, List};
+ghost use Rattle.textarea_text.specs.Splice.{CanApply};
+ghost use Rattle.textarea_document.specs.Cuts.{SplicedBy};
+ghost use Rattle.textarea_document.specs.Goes.{CutNone, GoesUncut};
+ghost use Rattle.textarea_document.specs.Sound.{IsSound};
+ghost use Rattle.textarea_screen.specs.declared.screen.buffer.Buffer.{Buffer};
+ghost use Rattle.tui_textarea.specs.State.{State};
+ghost use Rattle.tui_textarea.specs.Calls.{IsLeft};
+ghost use Rattle.tui_textarea.specs.CallCuts.{CutsByCall};
+ghost use Rattle.textarea_calls.specs.declared.call.Call.{Call};
+ghost use Rattle.tui_textarea.specs.CallGoes.{GoesByCall, IsUndoOrRedo};
+ghost use Rattle.tui_textarea.specs.Outcomes.{IsAnswer, IsBehind};
+ghost use Rattle.tui_textarea.specs.Run.{Leads, ShowsSame};
+ghost use Rattle.tui_textarea.specs.Said.{Said};
+ghost use Rattle.tui_textarea.specs.CallSplices.{OfLeft, splices_of};
+
+use crate::laws::{
+    calls_cut, inputs_cut, layouts_are_cut, one_input, one_move, ranges_go_behind_calls,
+    ranges_go_behind_inputs,
+};
+use textarea_drawing::laws::{one_drawing, one_rendering};
+
+/// Calls that answer so lead to one state, whatever the buffers: the answers settle all that a run leaves of a text area.
+pub fn one_end()
+    ensures { (calls : List Call) (answers : List Said) (old first second : State)
+        (buffer other shown drawn : Buffer) →
+        Leads old buffer calls answers first shown → Leads old other calls answers second drawn →
+        first ≡ second }
+{
+    one_move();
+    one_input();
+    one_rendering();
+}
+
+/// And from buffers of the same cells they lead to buffers of the same cells.
+pub fn one_screen()
+    ensures { (calls : List Call) (answers : List Said) (old first second : State)
+        (buffer other shown drawn : Buffer) →
+        Leads old buffer calls answers first shown → Leads old other calls answers second drawn →
+        ShowsSame buffer other → ShowsSame shown drawn }
+{
+    one_move();
+    one_input();
+    one_rendering();
+    one_drawing();
+}
+
+/// What each call cuts, of every state that a text area has: an edit, an undo and a redo what their splices cut, which lead from the
+/// old text and its rows to the new ones; lines that are set, a setting that cuts the text in another way and a drawing that changes
+/// the width of the map all lines; and every other call none, so that it leaves the text, its rows and the count. A call that runs out
+/// of memory has made none of its splices, or the one that removes what was selected.
+pub fn each_call_cuts()
+    ensures made { (old new : State) (call : Call) (answer : Said) → IsSound old.document →
+        IsBehind old call answer new → CutsByCall old call new }
+    ensures refused { (old new : State) (call : Call) → IsSound old.document →
+        IsLeft old call new →
+        OfLeft old (λ splices. SplicedBy old.document splices new.document) }
+{
+    inputs_cut();
+    calls_cut();
+    layouts_are_cut();
+}
+
+/// No call sets the count back, also none that runs out of memory.
+pub fn count_never_falls()
+    ensures made { (old new : State) (call : Call) (answer : Said) → IsSound old.document →
+        IsBehind old call answer new →
+        old.document.layout.count ≤ new.document.layout.count }
+    ensures refused { (old new : State) (call : Call) → IsSound old.document →
+        IsLeft old call new → old.document.layout.count ≤ new.document.layout.count }
+{
+    each_call_cuts();
+    textarea_lines::laws::count_never_falls();
+}
+
+/// How the ranges go over each call, of every state that a text area has: they go with the text over its splices, which lead from the
+/// old text to the new one, and only those of an undo and a redo may cut a range. Other lines and the call that clears leave none, and
+/// ranges that are accepted replace the old ones. A call that runs out of memory has made none of its splices, or the one that removes
+/// what was selected.
+pub fn ranges_go_with_each_call()
+    ensures made { (old new : State) (call : Call) (answer : Said) → IsSound old.document →
+        IsAnswer old call answer → IsBehind old call answer new →
+        GoesByCall old call answer new }
+    ensures refused { (old new : State) (call : Call) → IsSound old.document →
+        IsLeft old call new →
+        OfLeft old (λ splices. GoesUncut old.document splices new.document) }
+{
+    ranges_go_behind_inputs();
+    ranges_go_behind_calls();
+}
+
+/// The splices of each call fit the text, one after another, of every state that a text area has; and those of no call but an undo and
+/// a redo cut a range: what they insert goes strictly inside none, and what they remove takes each whole or not at all.
+pub fn splices_cut_none()
+    ensures fit { (state : State) (call : Call) → IsSound state.document →
+        CanApply state.document.text (splices_of state call) }
+    ensures cut_none { (state : State) (call : Call) → IsSound state.document →
+        ¬ IsUndoOrRedo call → CutNone state.document.ranges (splices_of state call) }
+{
+    ranges_go_behind_inputs();
+    ranges_go_behind_calls();
+}
