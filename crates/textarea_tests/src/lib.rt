@@ -4,8 +4,6 @@
 #[cfg(test)]
 mod broken;
 #[cfg(test)]
-mod byte_texts;
-#[cfg(test)]
 mod given;
 #[cfg(test)]
 mod many_lines;

@@ -1,5 +1,6 @@
 // Texts, as strings and as lines.
 use std::alloc::{AllocError, Global};
+use std::str::from_utf8;
 
 /// A string of each text.
 pub fn strings(alloc: Global, texts: &[&str]) -> Result<Vec<String>, AllocError> {
@@ -18,4 +19,9 @@ pub fn are_lines(lines: &[String], wanted: &[&str]) -> bool {
         }
     }
     lines.len() == wanted.len()
+}
+
+/// The text of these bytes, where they are one.
+pub fn text_of(bytes: &[u8]) -> &str {
+    from_utf8(bytes).unwrap_or("no UTF-8")
 }
