@@ -5,7 +5,7 @@
 use std::env::Env;
 use std::process::ExitCode;
 use std::{env, io};
-use textarea_script::session::{serve_no_words, serve_words};
+use textarea_script::words::{serve_no_words, serve_words};
 
 fn main(rt: HostRuntime) -> ExitCode {
     let status = match words_behind_name(&rt) {

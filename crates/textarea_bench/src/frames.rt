@@ -5,6 +5,7 @@
 //! characters and a hundred times Backspace, and lines are wrapped so. With the words `plain` and `full` nothing is done between
 //! the frames, lines are wrapped at words, and the end of the text is seen; with `full` it has line numbers, all of it is selected,
 //! and a pattern matches in each row. A frame is 80 columns wide and 24 rows high.
+use crate::paint::first_row;
 use anyhow::Result;
 use std::alloc::{AllocError, Global};
 use tui_textarea::{Buffer, Rect, Style, TextArea, WrapMode};
@@ -14,12 +15,10 @@ const PARAGRAPH: &str =
     over more than one row of the screen, since it is wrapped at its words, and whoever types into the middle of it sees the \
     words behind the cursor go on to the next row. Then come further sentences, about what was bought and what it cost. ";
 
-const WIDTH: u16 = 80;
-
 const AREA: Rect = Rect {
     x: 0,
     y: 0,
-    width: WIDTH,
+    width: 80,
     height: 24,
 };
 
@@ -136,15 +135,4 @@ impl Job {
             Kind::Plain | Kind::Full => Ok(()),
         }
     }
-}
-
-// The texts of the cells of the first row.
-fn first_row(alloc: Global, buffer: &Buffer) -> Result<String, AllocError> {
-    let mut row = String::new(alloc);
-    for x in 0..WIDTH {
-        if let Some(cell) = buffer.cell(x, 0) {
-            row.push_str(cell.symbol())?;
-        }
-    }
-    Ok(row)
 }

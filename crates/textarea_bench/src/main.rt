@@ -1,11 +1,12 @@
 //! Does jobs by which the parts of a text area are timed, and prints what each answers with.
 //!
-//! Each line of standard input is a job: its topic, which is `paint`, `wrap`, `typing` or `frames`, and behind one space what the
+//! Each line of standard input is a job: its topic, which is `paint`, `wrap`, `typing`, `frames` or `terminal`, and behind one space what the
 //! module of that name says.
 #![tactic(auto)]
 
 mod frames;
 mod paint;
+mod terminal;
 mod typing;
 mod wrap;
 
@@ -19,6 +20,7 @@ enum Job<'a> {
     Wrap(wrap::Job<'a>),
     Typing(typing::Job),
     Frames(frames::Job),
+    Terminal(terminal::Job),
 }
 
 impl<'a> Job<'a> {
@@ -30,6 +32,7 @@ impl<'a> Job<'a> {
             "wrap" => Some(Job::Wrap(wrap::Job::parse(job)?)),
             "typing" => Some(Job::Typing(typing::Job::parse(job)?)),
             "frames" => Some(Job::Frames(frames::Job::parse(job)?)),
+            "terminal" => Some(Job::Terminal(terminal::Job::parse(job)?)),
             _ => None,
         }
     }
@@ -44,6 +47,7 @@ impl<'a> Job<'a> {
                 Ok(format!(in alloc; "{rows} {column}")?)
             }
             Job::Frames(job) => job.run(alloc),
+            Job::Terminal(job) => Ok(format!(in alloc; "{}", job.run(alloc)?)?),
         }
     }
 }

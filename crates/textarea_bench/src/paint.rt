@@ -89,7 +89,8 @@ fn draw_frame(buffer: &mut Buffer, area: Rect, line: &Line) -> Result<(), AllocE
     Ok(())
 }
 
-fn first_row(alloc: Global, buffer: &Buffer) -> Result<String, AllocError> {
+/// The symbols of the cells of the first row.
+pub fn first_row(alloc: Global, buffer: &Buffer) -> Result<String, AllocError> {
     let mut row = String::new(alloc);
     let area = buffer.area();
     for x in area.x()..area.x() + area.width() {

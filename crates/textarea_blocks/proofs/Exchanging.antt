@@ -1,4 +1,5 @@
 -- Rows that take the place of others in two steps.
+use Rattle.std.proofs.lemmas.Grind.{common_steps}
 use Rattle.std.proofs.Common.{◌≡◌, ℕ, ◌+◌, ◌≤◌, List, [], ◌++◌, length, take, drop, sym, ap, ◌∙◌, arith}
 use Rattle.std.proofs.lemmas.List.{append_assoc, drop_at, drop-drop, length-take-le, take-append-drop, take-append-le, take-take}
 use Rattle.textarea_util.specs.Replaced.{replaced}
@@ -19,16 +20,8 @@ rest_removed items new row first rest within =
 
 -- first the last of the lines that go, then those before them
 pub first_removed : {X : Type 0} (items : List X) (row first rest : ℕ) → row + first ≤ length items → replaced (replaced items (row + first) rest []) row first [] ≡ replaced items row (first + rest) []
-first_removed items row first rest within =
-    let above = take (row + first) items in
-    let below = drop (row + first + rest) items in
-    let size : length above ≡ row + first = length-take-le (row + first) items within in
-    let sum : row + first + rest ≡ row + (first + rest) = omega arith in
-    ap (λ t. t ++ drop (row + first) (above ++ below)) (take-append-le row above below (omega (arith, size)) ∙ take-take row (row + first) items (omega arith))
-    ∙ ap (λ t. take row items ++ t) (drop_at above below (row + first) size ∙ ap (λ n. drop n items) sum)
+first_removed items row first rest within = grind (arith, common_steps, length-take-le (row + first) items within, take-append-le, take-take, drop_at)
 
 -- nothing goes, and nothing comes
 pub none_removed : {X : Type 0} (items : List X) (n : ℕ) → replaced items n 0 [] ≡ items
-none_removed items n =
-    let same : n + 0 ≡ n = omega arith in
-    ap (λ m. take n items ++ drop m items) same ∙ take-append-drop n items
+none_removed items n = grind (arith, common_steps, take-append-drop n items)

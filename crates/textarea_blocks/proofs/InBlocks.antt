@@ -1,4 +1,5 @@
 -- Rows in blocks: what stands before a block, which block a line is in, and the rows of all blocks where those of one change.
+use Rattle.std.proofs.lemmas.Grind.{common_steps}
 use Rattle.std.proofs.Common.{◌≡◌, ℕ, zero, suc, ◌+◌, ◌-◌, ◌<◌, ◌≤◌, inl, inr, List, Result, Ok, Err, cond, [], ◌∷◌, ◌++◌, Vec, length, take, drop, get_or, set, vec_len, vec_capacity, sym, ap, refl, ◌∙◌, arith}
 use Rattle.std.specs.Result.{IsOk, is_ok}
 use Rattle.std.proofs.lemmas.Bool.{cases_lt}
@@ -29,31 +30,19 @@ rows_sum rows more = row_total-append rows more
 abbrev pub total_before : Sum → List (List RowsView) → ℕ → ℕ
 total_before total blocks block = total (all_rows (take block blocks))
 
-pub before_none : (total : Sum) → IsSum total → (blocks : List (List RowsView)) → total_before total blocks 0 ≡ 0
-before_none total sum blocks = omega (arith, sum [] [])
-
 pub before_all : (total : Sum) (blocks : List (List RowsView)) (n : ℕ) → length blocks ≤ n → total_before total blocks n ≡ total (all_rows blocks)
 before_all total blocks n all = ap (λ t. total (all_rows t)) (take_all n blocks all)
 
 pub before_more : (total : Sum) → IsSum total → (blocks : List (List RowsView)) (block : ℕ) → block < length blocks → total_before total blocks (block + 1) ≡ total_before total blocks block + total (get_or blocks block [])
-before_more total sum blocks block within =
-    let rows = get_or blocks block [] in
-    ap (λ t. total (all_rows t)) (take_more blocks block [] within)
-    ∙ ap total (all_rows-append (take block blocks) (rows ∷ []))
-    ∙ ap (λ t. total (all_rows (take block blocks) ++ t)) (append-nil rows)
-    ∙ sum (all_rows (take block blocks)) rows
+before_more total sum blocks block within = grind (arith, common_steps, take_more blocks block [] within, all_rows-append, append-nil)
 
 -- and those between it and another
 pub before_further : (total : Sum) → IsSum total → (blocks : List (List RowsView)) (block more : ℕ) → total_before total blocks (block + more) ≡ total_before total blocks block + total (all_rows (take more (drop block blocks)))
 before_further total sum blocks block more =
-    ap (λ t. total (all_rows t)) (take-add block more blocks)
-    ∙ ap total (all_rows-append (take block blocks) (take more (drop block blocks)))
-    ∙ sum (all_rows (take block blocks)) (all_rows (take more (drop block blocks)))
+    grind (arith, common_steps, take-add block more blocks, all_rows-append (take block blocks) (take more (drop block blocks)))
 
 pub before_ordered : (total : Sum) → IsSum total → (blocks : List (List RowsView)) (block other : ℕ) → block ≤ other → total_before total blocks block ≤ total_before total blocks other
-before_ordered total sum blocks block other ordered =
-    let size : block + (other - block) ≡ other = omega arith in
-    omega (arith, before_further total sum blocks block (other - block), ap (total_before total blocks) size)
+before_ordered total sum blocks block other ordered = grind (arith, common_steps, before_further total sum blocks block (other - block))
 
 pub before_within : (total : Sum) → IsSum total → (blocks : List (List RowsView)) (block : ℕ) → total_before total blocks block ≤ total (all_rows blocks)
 before_within total sum blocks block =
@@ -90,19 +79,11 @@ block_ordered blocks line block other from h =
 
 pub block_parts : (blocks : List (List RowsView)) (block : ℕ) → block < length blocks → all_rows blocks ≡ all_rows (take block blocks) ++ (get_or blocks block [] ++ all_rows (drop (block + 1) blocks))
 block_parts blocks block within =
-    ap all_rows (sym (take-append-drop block blocks))
-    ∙ all_rows-append (take block blocks) (drop block blocks)
-    ∙ ap (λ t. all_rows (take block blocks) ++ all_rows t) (drop_more blocks block [] within)
+    grind (arith, common_steps, take-append-drop block blocks, all_rows-append (take block blocks) (drop block blocks), drop_more blocks block [] within)
 
 -- the lines up to one of the block
 pub take_in_block : (blocks : List (List RowsView)) (block index : ℕ) → block < length blocks → index ≤ length (get_or blocks block []) → take (lines_before blocks block + index) (all_rows blocks) ≡ all_rows (take block blocks) ++ take index (get_or blocks block [])
-take_in_block blocks block index within inside =
-    let above = all_rows (take block blocks) in
-    let rows = get_or blocks block [] in
-    let below = all_rows (drop (block + 1) blocks) in
-    ap (take (length above + index)) (block_parts blocks block within)
-    ∙ take-append-add above (rows ++ below) index
-    ∙ ap (λ t. above ++ t) (take-append-le index rows below inside)
+take_in_block blocks block index within inside = grind (arith, common_steps, block_parts blocks block within, take-append-add, take-append-le)
 
 -- and from one of it on
 pub drop_in_block : (blocks : List (List RowsView)) (block index : ℕ) → block < length blocks → index ≤ length (get_or blocks block []) → drop (lines_before blocks block + index) (all_rows blocks) ≡ drop index (get_or blocks block []) ++ all_rows (drop (block + 1) blocks)
@@ -116,19 +97,10 @@ drop_in_block blocks block index within inside =
     ∙ drop-append-le index rows below inside
 
 pub part_of_block : (blocks : List (List RowsView)) (block index count : ℕ) → block < length blocks → index + count ≤ length (get_or blocks block []) → take count (drop (lines_before blocks block + index) (all_rows blocks)) ≡ take count (drop index (get_or blocks block []))
-part_of_block blocks block index count within inside =
-    let rows = get_or blocks block [] in
-    ap (take count) (drop_in_block blocks block index within (omega arith))
-    ∙ take-append-le count (drop index rows) (all_rows (drop (block + 1) blocks)) (omega (arith, length-drop index rows))
+part_of_block blocks block index count within inside = grind (arith, common_steps, drop_in_block, take-append-le, length-drop)
 
 pub line_in_block : (blocks : List (List RowsView)) (block index : ℕ) (d : RowsView) → block < length blocks → index < length (get_or blocks block []) → get_or (all_rows blocks) (lines_before blocks block + index) d ≡ get_or (get_or blocks block []) index d
-line_in_block blocks block index d within inside =
-    let above = all_rows (take block blocks) in
-    let rows = get_or blocks block [] in
-    let below = all_rows (drop (block + 1) blocks) in
-    ap (λ t. get_or t (length above + index) d) (block_parts blocks block within)
-    ∙ get_or-append-add above (rows ++ below) index d
-    ∙ get_or_append_left rows below d index inside
+line_in_block blocks block index d within inside = grind (arith, common_steps, block_parts blocks block within, get_or-append-add, get_or_append_left)
 
 -- a line before which a block ends is the first one of its block
 pub edge_there : (blocks : List (List RowsView)) (line block : ℕ) → IsEdge blocks line → IsBlockOf blocks line block → lines_before blocks block ≡ line
@@ -148,43 +120,21 @@ line_there blocks block index within inside =
 -- the ranges of a line, and the total up to it
 pub ranges_found : (blocks : List (List RowsView)) (block index line : ℕ) (rows : RowsView) → block < length blocks → index < length (get_or blocks block []) → lines_before blocks block + index ≡ line → rows ≡ get_or (get_or blocks block []) index rows → rows.ranges ≡ ranges_at (all_rows blocks) line
 ranges_found blocks block index line rows within inside at is =
-    let there : line < length (all_rows blocks) = omega (arith, line_there blocks block index within inside) in
-    ap (λ (r : RowsView). r.ranges) (is ∙ sym (line_in_block blocks block index rows within inside) ∙ ap (λ n. get_or (all_rows blocks) n rows) at)
-    ∙ sym (get_or-map (λ (r : RowsView). r.ranges) (all_rows blocks) line rows [] there)
+    grind (arith, common_steps, line_there blocks block index within inside, line_in_block blocks block index rows within inside, get_or-map)
 
 pub total_in_block : (total : Sum) → IsSum total → (blocks : List (List RowsView)) (block index line : ℕ) → block < length blocks → index ≤ length (get_or blocks block []) → lines_before blocks block + index ≡ line → total (take line (all_rows blocks)) ≡ total_before total blocks block + total (take index (get_or blocks block []))
-total_in_block total sum blocks block index line within inside at =
-    ap (λ n. total (take n (all_rows blocks))) (sym at) ∙ ap total (take_in_block blocks block index within inside)
-    ∙ sum (all_rows (take block blocks)) (take index (get_or blocks block []))
+total_in_block total sum blocks block index line within inside at = grind (arith, common_steps, take_in_block blocks block index within inside)
 
 -- the totals of lines one behind the other, of which the last ones are some of one block
 pub total_further : (total : Sum) → IsSum total → (blocks : List (List RowsView)) (here : List RowsView) (block index count line done : ℕ) → block < length blocks → here ≡ get_or blocks block [] → index + count ≤ length here → lines_before blocks block + index ≡ line + done → total (take (done + count) (drop line (all_rows blocks))) ≡ total (take done (drop line (all_rows blocks))) + total (take (index + count - index) (drop index here))
-total_further total sum blocks here block index count line done within is inside at =
-    let rows = all_rows blocks in
-    let size : index + count - index ≡ count = omega arith in
-    ap total (take-add done count (drop line rows))
-    ∙ sum (take done (drop line rows)) (take count (drop done (drop line rows)))
-    ∙ ap (λ t. total (take done (drop line rows)) + total (take count t)) (drop-drop done line rows ∙ ap (λ n. drop n rows) (sym at))
-    ∙ ap (λ t. total (take done (drop line rows)) + total t) (part_of_block blocks block index count within (omega (arith, ap length is)) ∙ ap (λ t. take count (drop index t)) (sym is) ∙ ap (λ n. take n (drop index here)) (sym size))
+total_further total sum blocks here block index count line done within is inside at = grind (arith, common_steps, take-add, drop-drop, part_of_block)
 
 -- ---- blocks that change
 
 -- lines of a list in the middle give place to others
 replaced_between : (above rows below new : List RowsView) (start count : ℕ) → start + count ≤ length rows → replaced (above ++ (rows ++ below)) (length above + start) count new ≡ above ++ (replaced rows start count new ++ below)
 replaced_between above rows below new start count within =
-    let whole = above ++ (rows ++ below) in
-    let end : length above + (start + count) ≡ length above + start + count = omega arith in
-    let first = take-append-add above (rows ++ below) start ∙ ap (λ t. above ++ t) (take-append-le start rows below (omega arith)) in
-    let last : drop (length above + start + count) whole ≡ drop (start + count) rows ++ below =
-    ap (λ n. drop n whole) (sym end)
-    ∙ sym (drop-drop (start + count) (length above) whole)
-    ∙ ap (drop (start + count)) (drop_at above (rows ++ below) (length above) refl)
-    ∙ drop-append-le (start + count) rows below within in
-    ap (λ t. t ++ (new ++ drop (length above + start + count) whole)) first
-    ∙ ap (λ t. (above ++ take start rows) ++ (new ++ t)) last
-    ∙ append_assoc above (take start rows) (new ++ (drop (start + count) rows ++ below))
-    ∙ ap (λ t. above ++ (take start rows ++ t)) (sym (append_assoc new (drop (start + count) rows) below))
-    ∙ ap (λ t. above ++ t) (sym (append_assoc (take start rows) (new ++ drop (start + count) rows) below))
+    grind (arith, common_steps, take-append-add above (rows ++ below) start, take-append-le, drop-drop, drop_at above (rows ++ below) (length above), drop-append-le (start + count) rows below within, append_assoc above (take start rows) (new ++ (drop (start + count) rows ++ below)), append_assoc new (drop (start + count) rows) below, append_assoc (take start rows) (new ++ drop (start + count) rows) below)
 
 -- another block in the place of one
 pub block_set : (blocks : List (List RowsView)) (block : ℕ) (rows : List RowsView) → block < length blocks → all_rows (set blocks block rows) ≡ all_rows (take block blocks) ++ (rows ++ all_rows (drop (block + 1) blocks))
@@ -206,13 +156,7 @@ behind_set total sum blocks block rows within =
 
 -- lines of one block give place to others
 pub block_replaced : (blocks : List (List RowsView)) (block start count : ℕ) (new : List RowsView) → block < length blocks → start + count ≤ length (get_or blocks block []) → all_rows (set blocks block (replaced (get_or blocks block []) start count new)) ≡ replaced (all_rows blocks) (lines_before blocks block + start) count new
-block_replaced blocks block start count new within inside =
-    let above = all_rows (take block blocks) in
-    let rows = get_or blocks block [] in
-    let below = all_rows (drop (block + 1) blocks) in
-    block_set blocks block (replaced rows start count new) within
-    ∙ sym (replaced_between above rows below new start count inside)
-    ∙ ap (λ t. replaced t (length above + start) count new) (sym (block_parts blocks block within))
+block_replaced blocks block start count new within inside = grind (arith, common_steps, block_set, replaced_between, block_parts blocks block within)
 
 drop_all_of : (rows : List RowsView) → drop (0 + length rows) rows ≡ []
 drop_all_of rows = drop_all (0 + length rows) rows (omega arith)
@@ -295,8 +239,4 @@ blocks_pushed {A} items now rows is =
     ap rows_of_each is ∙ map-append (λ (b : Vec RowsView A). b.items) items (rows ∷ [])
 
 pub blocks_exchanged : {A : Type 0} (items new : List (Vec RowsView A)) (start count : ℕ) → rows_of_each (replaced items start count new) ≡ replaced (rows_of_each items) start count (rows_of_each new)
-blocks_exchanged {A} items new start count =
-    let rows = λ (b : Vec RowsView A). b.items in
-    map-append rows (take start items) (new ++ drop (start + count) items)
-    ∙ ap (λ t. t ++ rows_of_each (new ++ drop (start + count) items)) (sym (take-map rows start items))
-    ∙ ap (λ t. take start (rows_of_each items) ++ t) (map-append rows new (drop (start + count) items) ∙ ap (λ t. rows_of_each new ++ t) (sym (drop-map rows (start + count) items)))
+blocks_exchanged {A} items new start count = grind (arith, common_steps, map-append, take-map, drop-map)

@@ -1,4 +1,5 @@
 -- How many rows some lines have, as lines give place to others.
+use Rattle.std.proofs.lemmas.Grind.{common_steps}
 use Rattle.std.proofs.Common.{◌≡◌, ℕ, ◌+◌, ◌-◌, ◌≤◌, ◌<◌, inl, inr, List, [], ◌∷◌, ◌++◌, length, take, drop, get_or, map, sum_by, sym, ap, refl, ◌∙◌, arith}
 use Rattle.std.proofs.lemmas.List.{append_assoc, length-append, take_all, take_more, take-append-drop, take-append-le, length-take-le}
 use Rattle.std.proofs.lemmas.Bool.{cases_lt}
@@ -39,48 +40,6 @@ pub row_total-span : (rows : List RowsView) (row count : ℕ) → row_total (tak
 row_total-span rows row count =
     omega (arith, ap row_total (take-add row count rows), row_total-append (take row rows) (take count (drop row rows)))
 
--- lines in the middle
-pub row_total-part : (rows : List RowsView) (from to : ℕ) → from ≤ to → row_total (take from rows) + row_total (take (to - from) (drop from rows)) ≡ row_total (take to rows)
-row_total-part rows from to ordered =
-    let sum : from + (to - from) ≡ to = omega arith in
-    omega (arith, row_total-append (take from rows) (take (to - from) (drop from rows)), ap row_total (take-add from (to - from) rows), ap (λ n. row_total (take n rows)) sum)
-
--- the lines above, where some behind them gave place to others
-pub row_total-above : (rows new : List RowsView) (start count n : ℕ) → n ≤ start → start ≤ length rows → row_total (take n (replaced rows start count new)) ≡ row_total (take n rows)
-row_total-above rows new start count n above within =
-    let size : n ≤ length (take start rows) = omega (arith, length-take-le start rows within) in
-    ap row_total
-    (take-append-le n (take start rows) (new ++ drop (start + count) rows) size
-    ∙ sym (take-append-le n (take start rows) (drop start rows) size)
-    ∙ ap (take n) (take-append-drop start rows))
-
--- and those behind them, up to a line of old and now
-pub row_total-behind : (rows new : List RowsView) (start count n : ℕ) → start + count ≤ n → n ≤ length rows → row_total (take (n + length new - count) (replaced rows start count new)) + row_total (take count (drop start rows)) ≡ row_total (take n rows) + row_total new
-row_total-behind rows new start count n behind within =
-    let above = take start rows in
-    let below = drop (start + count) rows in
-    let more = n - (start + count) in
-    let old : start + count + more ≡ n = omega arith in
-    let now : length (above ++ new) + more ≡ n + length new - count =
-    omega (arith, length-append above new, length-take-le start rows (omega arith)) in
-    omega (
-      arith,
-      ap (λ m. row_total (take m (replaced rows start count new))) now,
-      ap (λ t. row_total (take (length (above ++ new) + more) t)) (append_assoc above new below),
-      ap row_total (take-append-add (above ++ new) below more),
-      row_total-append (above ++ new) (take more below),
-      row_total-append above new,
-      ap (λ m. row_total (take m rows)) old,
-      ap row_total (take-add (start + count) more rows),
-      row_total-append (take (start + count) rows) (take more below),
-      ap row_total (take-add start count rows),
-      row_total-append above (take count (drop start rows)),
-    )
-
 -- a row of the lines behind some first ones is one of a line that is there
 pub line_there : (rows : List RowsView) (line left row : ℕ) → row_total (take line rows) + left ≡ row → row < row_total rows → line < length rows
-line_there rows line left row is within =
-    elim (cases_lt line (length rows)) [
-      | inl less ↦ less
-      | inr most ↦ absurd (omega (arith, ap row_total (take_all line rows most)))
-    ]
+line_there rows line left row is within = grind (arith, common_steps, cases_lt line (length rows), take_all)

@@ -1,4 +1,5 @@
 -- The numbers beside blocks of rows, as blocks change.
+use Rattle.std.proofs.lemmas.Grind.{common_steps}
 use Rattle.std.proofs.Common.{◌≡◌, ℕ, ◌+◌, ◌-◌, ◌<◌, ◌≤◌, inl, inr, List, [], ◌∷◌, ◌++◌, length, take, drop, get_or, set, sym, ap, refl, ◌∙◌, arith}
 use Rattle.std.proofs.lemmas.Bool.{cases_lt}
 use Rattle.std.proofs.lemmas.List.{drop-set-lt, get_or-append-add, get_or-append_right, get_or_append_left, get_or-drop, get_or-set_same, get_or-take, length-append, length-set, length-take-le, take-append-le, take-set-le, take-take}
@@ -49,12 +50,7 @@ total_set total sum blocks block k rows within behind =
 -- and of all blocks
 pub all_set : (total : Sum) → IsSum total → (blocks : List (List RowsView)) (block : ℕ) (rows : List RowsView) → block < length blocks → total (all_rows (set blocks block rows)) + total (get_or blocks block []) ≡ total (all_rows blocks) + total rows
 all_set total sum blocks block rows within =
-    omega (
-      arith,
-      total_set total sum blocks block (length blocks) rows within within,
-      before_all total blocks (length blocks) (omega arith),
-      before_all total (set blocks block rows) (length blocks) (omega (arith, length-set blocks block rows)),
-    )
+    grind (arith, common_steps, total_set total sum blocks block (length blocks) rows within within, before_all, length-set blocks block rows)
 
 pub totals_set : (total : Sum) → IsSum total → (blocks : List (List RowsView)) (numbers now : List ℕ) (block gone come : ℕ) (rows : List RowsView) → AreTotals total blocks numbers → block < length blocks → total rows + gone ≡ total (get_or blocks block []) + come → length now ≡ length numbers → ((k : ℕ) → k < block + 1 → get_or now k 0 ≡ get_or numbers k 0) → ((k : ℕ) → block + 1 ≤ k → k < length numbers → get_or now k 0 + gone ≡ get_or numbers k 0 + come) → AreTotals total (set blocks block rows) now
 totals_set total sum blocks numbers now block gone come rows h within turned size above moved =
@@ -90,42 +86,18 @@ totals_pushed total blocks numbers number rows h is =
 
 pub take_above : (blocks new : List (List RowsView)) (from count k : ℕ) → k ≤ from → from ≤ length blocks → take k (replaced blocks from count new) ≡ take k blocks
 take_above blocks new from count k above within =
-    let size : k ≤ length (take from blocks) = omega (arith, length-take-le from blocks within) in
-    take-append-le k (take from blocks) (new ++ drop (from + count) blocks) size
-    ∙ take-take k from blocks above
+    grind (arith, common_steps, length-take-le from blocks within, take-append-le, take-take k from blocks above)
 
 pub take_between : (blocks new : List (List RowsView)) (from count k : ℕ) → k ≤ length new → from ≤ length blocks → take (from + k) (replaced blocks from count new) ≡ take from blocks ++ take k new
-take_between blocks new from count k inside within =
-    let rest = drop (from + count) blocks in
-    let size : from ≡ length (take from blocks) = sym (length-take-le from blocks within) in
-    ap (λ n. take (n + k) (replaced blocks from count new)) size
-    ∙ take-append-add (take from blocks) (new ++ rest) k
-    ∙ ap (λ t. take from blocks ++ t) (take-append-le k new rest inside)
+take_between blocks new from count k inside within = grind (arith, common_steps, length-take-le from blocks within, take-append-add, take-append-le)
 
 take_behind : (blocks new : List (List RowsView)) (from count k : ℕ) → from ≤ length blocks → take (from + (length new + k)) (replaced blocks from count new) ≡ take from blocks ++ (new ++ take k (drop (from + count) blocks))
-take_behind blocks new from count k within =
-    let rest = drop (from + count) blocks in
-    let size : from ≡ length (take from blocks) = sym (length-take-le from blocks within) in
-    ap (λ n. take (n + (length new + k)) (replaced blocks from count new)) size
-    ∙ take-append-add (take from blocks) (new ++ rest) (length new + k)
-    ∙ ap (λ t. take from blocks ++ t) (take-append-add new rest k)
+take_behind blocks new from count k within = grind (arith, common_steps, length-take-le from blocks within, take-append-add)
 
 -- the total before a block behind those that came
 pub total_behind : (total : Sum) → IsSum total → (blocks new : List (List RowsView)) (from to k : ℕ) → from ≤ to → to ≤ length blocks → total_before total (replaced blocks from (to - from) new) (from + (length new + k)) + total_before total blocks to ≡ total_before total blocks (to + k) + total_before total blocks from + total (all_rows new)
 total_behind total sum blocks new from to k ordered within =
-    let end : from + (to - from) ≡ to = omega arith in
-    let above = take from blocks in
-    let below = take k (drop (from + (to - from)) blocks) in
-    omega (
-      arith,
-      ap (λ t. total (all_rows t)) (take_behind blocks new from (to - from) k (omega arith)),
-      ap total (all_rows-append above (new ++ below)),
-      sum (all_rows above) (all_rows (new ++ below)),
-      ap total (all_rows-append new below),
-      sum (all_rows new) (all_rows below),
-      ap (λ n. total (all_rows (take k (drop n blocks)))) end,
-      before_further total sum blocks to k,
-    )
+    grind (arith, common_steps, take_behind, all_rows-append, before_further total sum blocks to k)
 
 -- and of all blocks
 pub all_exchanged : (total : Sum) → IsSum total → (blocks new : List (List RowsView)) (from to : ℕ) → from ≤ to → to ≤ length blocks → total (all_rows (replaced blocks from (to - from) new)) + total_before total blocks to ≡ total (all_rows blocks) + total_before total blocks from + total (all_rows new)

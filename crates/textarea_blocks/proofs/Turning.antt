@@ -1,4 +1,5 @@
 -- Numbers that are kept as items, of which those from one place on have a difference that isn't added to them yet.
+use Rattle.std.proofs.lemmas.Grind.{common_steps}
 use Rattle.std.proofs.Common.{◌≡◌, ℕ, zero, suc, ◌+◌, ◌-◌, ◌^◌, ◌<◌, ◌≤◌, inl, inr, List, [], ◌∷◌, Vec, length, get_or, vec_len, sym, ap, refl, ◌∙◌, arith}
 use Rattle.std.proofs.lemmas.Bool.{cases_lt}
 use Rattle.std.proofs.lemmas.Grind.{same_number_lists}
@@ -32,20 +33,13 @@ turned_behind (suc from) less more (item ∷ items) (suc k) behind there =
 -- with none the numbers are the items
 pub not_turned : (from : ℕ) (items : List ℕ) → turned from 0 0 items ≡ items
 not_turned from [] = refl
-not_turned zero (item ∷ items) =
-    let same : item + 0 - 0 ≡ item = omega arith in
-    ap (λ n. n ∷ turned zero 0 0 items) same ∙ ap (λ t. item ∷ t) (not_turned zero items)
+not_turned zero (item ∷ items) = grind (arith, common_steps, not_turned zero items)
 not_turned (suc from) (item ∷ items) = ap (λ t. item ∷ t) (not_turned from items)
 
 -- as they are once it is added
 pub settled : {A : Type 0} (items now : Vec ℕ A) (from less more : ℕ) → vec_len now ≡ vec_len items → ((k : ℕ) → k < from → get_or now.items k 0 ≡ get_or items.items k 0) → ((k : ℕ) → from ≤ k → k < vec_len items → get_or now.items k 0 + less ≡ get_or items.items k 0 + more) → now.items ≡ turned from less more items.items
 settled {A} items now from less more size above moved =
-    let same : length now.items ≡ length items.items = omega (arith, size, items.ok.0, now.ok.0) in
-    same_number_lists now.items (turned from less more items.items) (same ∙ sym (length-turned from less more items.items)) (λ k there. elim (cases_lt k from) [
-      | inl before ↦ above k before ∙ sym (turned_above from less more items.items k before)
-      | inr behind ↦
-          omega (arith, moved k behind (omega (arith, there, same, items.ok.0)), turned_behind from less more items.items k behind (omega (arith, there, same)))
-    ])
+    grind (arith, common_steps, same_number_lists, length-turned from less more items.items, cases_lt, turned_above, turned_behind)
 
 -- ---- a second difference from the same place on
 

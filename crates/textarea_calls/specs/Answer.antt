@@ -2,6 +2,7 @@
 use Rattle.std.specs.Prelude.{Bool, true, false}
 use Rattle.textarea_calls.specs.declared.action.Action.{Action}
 use Rattle.textarea_calls.specs.declared.action.Action.TheVariants as action
+use Rattle.textarea_calls.specs.declared.kind.Write.TheVariants as write
 
 -- what an input answers: that the text was changed, that it was not, or what the call answers
 pub data Answer : Type 0 where
@@ -18,11 +19,7 @@ told as_called called = called
 -- The answer of an input that asks for an action. An inserted character or line break changes the text whatever was there.
 -- Copying, moving and scrolling don't change it, nor does no call. Each other call says itself whether it changed it.
 abbrev pub answer_of : Action → Answer
-answer_of (action.InsertChar character) = changed
-answer_of action.InsertNewline = changed
-answer_of action.Copy = unchanged
-answer_of (action.MoveWithShift cursor_move shift) = unchanged
-answer_of (action.ScrollWithShift scrolling shift) = unchanged
-answer_of (action.Scroll scrolling) = unchanged
-answer_of action.Nothing = unchanged
-answer_of other = as_called
+answer_of (action.Edit edit) = as_called
+answer_of (action.Write write.Copy) = unchanged
+answer_of (action.Write other) = changed
+answer_of other = unchanged

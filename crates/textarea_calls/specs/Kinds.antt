@@ -1,138 +1,146 @@
--- The kinds of calls, by how they answer.
+-- Calls in groups: the call of each group's item, and of a group.
 use Rattle.std.specs.Prelude.{Bool, true, false}
 use Rattle.textarea_calls.specs.declared.call.Call.{Call}
-use Rattle.textarea_calls.specs.declared.call.Call.TheVariants.{DeleteStr, DeleteNewline, DeleteChar, DeleteNextChar, DeleteLineByEnd, DeleteLineByHead, DeleteWord, DeleteNextWord, InsertStr, InsertTab, Clear, Cut, Paste, Undo, Redo, SearchForward, SearchBack, Input, InputWithoutShortcuts, InsertChar, InsertNewline, Copy, SetYankText, SetLines, SetTabLength, SetWrapMode, SetLineNumberStyle, RemoveLineNumber, SetAlignment, SetBlock, SetPlaceholderText, SetStyledPlaceholder, CustomHighlight, Render, StartSelection, CancelSelection, SelectAll, SetHardTabIndent, SetMaxHistories, SetUndoCoalescing, SetNow, ClearAtomicRanges, RemoveBlock, SetPlaceholderStyle, SetMinRows, SetMaxRows, SetStyle, SetCursorStyle, SetCursorLineStyle, SetSelectionStyle, SetSearchStyle, SetMaskChar, ClearMaskChar, SetCursorRenderMode, ClearCustomHighlight, Style, CursorStyle, CursorLineStyle, SelectionStyle, SearchStyle, MaskChar, CursorRenderMode, Alignment, RenderedCursorPosition, Cursor, IsEmpty, IsSelecting, SelectionRange, TabLength, HardTabIndent, MaxHistories, UndoCoalescing, WrapMode, LineNumberStyle, PlaceholderStyle, MinRows, MaxRows, Move, Scroll, TrySetAtomicRanges, NormalizeCursorAroundAtomicRanges, AtomicRangeAtCursor, DeleteAtomicRangeAtCursor}
+use Rattle.textarea_calls.specs.declared.call.Call.TheVariants as call
 use Rattle.textarea_calls.specs.declared.kind.Kind.{Kind}
-use Rattle.textarea_calls.specs.declared.kind.Kind.TheVariants.{Deletes, DeletesFar, Edits, Searches, Presses, Writes, LaysOut, Shows, Draws, Sets, Surrounds, Styles, Looks, Reads, Asks, AsksSettings, Goes, Ranges, Tells}
+use Rattle.textarea_calls.specs.declared.kind.Kind.TheVariants as kind
+use Rattle.textarea_calls.specs.declared.kind.Edit.{Edit}
+use Rattle.textarea_calls.specs.declared.kind.Edit.TheVariants as edit
+use Rattle.textarea_calls.specs.declared.kind.Write.{Write}
+use Rattle.textarea_calls.specs.declared.kind.Write.TheVariants as write
+use Rattle.textarea_calls.specs.declared.kind.Attempt.{Attempt}
+use Rattle.textarea_calls.specs.declared.kind.Attempt.TheVariants as attempt
+use Rattle.textarea_calls.specs.declared.kind.Change.{Change}
+use Rattle.textarea_calls.specs.declared.kind.Change.TheVariants as change
+use Rattle.textarea_calls.specs.declared.kind.Setting.{Setting}
+use Rattle.textarea_calls.specs.declared.kind.Setting.TheVariants as setting
+use Rattle.textarea_calls.specs.declared.kind.Appearance.{Appearance}
+use Rattle.textarea_calls.specs.declared.kind.Appearance.TheVariants as appearance
+use Rattle.textarea_calls.specs.declared.kind.Question.{Question}
+use Rattle.textarea_calls.specs.declared.kind.Question.TheVariants as question
+use Rattle.textarea_calls.specs.declared.kind.Special.{Special}
+use Rattle.textarea_calls.specs.declared.kind.Special.TheVariants as special
 
--- the kind of a call that goes somewhere, or that is about atomic ranges. Any other call is of no kind that is told here
-abbrev pub kind_with_form_of : Call → Kind
-kind_with_form_of (Move cursor_move) = Goes
-kind_with_form_of (Scroll scrolling) = Goes
-kind_with_form_of (TrySetAtomicRanges ranges) = Ranges
-kind_with_form_of (NormalizeCursorAroundAtomicRanges bias) = Ranges
-kind_with_form_of (AtomicRangeAtCursor direction) = Ranges
-kind_with_form_of (DeleteAtomicRangeAtCursor direction) = Ranges
-kind_with_form_of call = Tells
+abbrev pub call_of_edit : Edit → Call
+call_of_edit edit.InsertTab = call.InsertTab
+call_of_edit edit.DeleteNewline = call.DeleteNewline
+call_of_edit edit.DeleteChar = call.DeleteChar
+call_of_edit edit.DeleteNextChar = call.DeleteNextChar
+call_of_edit edit.DeleteLineByEnd = call.DeleteLineByEnd
+call_of_edit edit.DeleteLineByHead = call.DeleteLineByHead
+call_of_edit edit.DeleteWord = call.DeleteWord
+call_of_edit edit.DeleteNextWord = call.DeleteNextWord
+call_of_edit edit.Clear = call.Clear
+call_of_edit edit.Cut = call.Cut
+call_of_edit edit.Paste = call.Paste
+call_of_edit edit.Undo = call.Undo
+call_of_edit edit.Redo = call.Redo
 
--- the kind of a call that reads how the text looks or where the caret is, the cursor or the selection, or a setting. Any other call is of no
--- kind that is told here
-abbrev pub kind_of_asking : Call → Kind
-kind_of_asking Style = Reads
-kind_of_asking CursorStyle = Reads
-kind_of_asking CursorLineStyle = Reads
-kind_of_asking SelectionStyle = Reads
-kind_of_asking SearchStyle = Reads
-kind_of_asking MaskChar = Reads
-kind_of_asking CursorRenderMode = Reads
-kind_of_asking Alignment = Reads
-kind_of_asking RenderedCursorPosition = Reads
-kind_of_asking Cursor = Asks
-kind_of_asking IsEmpty = Asks
-kind_of_asking IsSelecting = Asks
-kind_of_asking SelectionRange = Asks
-kind_of_asking TabLength = AsksSettings
-kind_of_asking HardTabIndent = AsksSettings
-kind_of_asking MaxHistories = AsksSettings
-kind_of_asking UndoCoalescing = AsksSettings
-kind_of_asking WrapMode = AsksSettings
-kind_of_asking LineNumberStyle = AsksSettings
-kind_of_asking PlaceholderStyle = AsksSettings
-kind_of_asking MinRows = AsksSettings
-kind_of_asking MaxRows = AsksSettings
-kind_of_asking call = kind_with_form_of call
+abbrev pub call_of_write : Write → Call
+call_of_write (write.InsertChar c) = call.InsertChar c
+call_of_write write.InsertNewline = call.InsertNewline
+call_of_write write.Copy = call.Copy
 
--- the kind of a call that sets something, has nothing to say and takes no memory in any state: what is selected, recorded and held, what is
--- around the text, its styles, or how else it looks. Any other call is of no kind that is told here
-abbrev pub kind_without_memory_of : Call → Kind
-kind_without_memory_of StartSelection = Sets
-kind_without_memory_of CancelSelection = Sets
-kind_without_memory_of SelectAll = Sets
-kind_without_memory_of (SetHardTabIndent hard) = Sets
-kind_without_memory_of (SetMaxHistories maximum) = Sets
-kind_without_memory_of (SetUndoCoalescing joins) = Sets
-kind_without_memory_of (SetNow moment) = Sets
-kind_without_memory_of ClearAtomicRanges = Sets
-kind_without_memory_of RemoveBlock = Surrounds
-kind_without_memory_of (SetPlaceholderStyle style) = Surrounds
-kind_without_memory_of (SetMinRows rows) = Surrounds
-kind_without_memory_of (SetMaxRows rows) = Surrounds
-kind_without_memory_of (SetStyle style) = Styles
-kind_without_memory_of (SetCursorStyle style) = Styles
-kind_without_memory_of (SetCursorLineStyle style) = Styles
-kind_without_memory_of (SetSelectionStyle style) = Styles
-kind_without_memory_of (SetSearchStyle style) = Styles
-kind_without_memory_of (SetMaskChar mask) = Looks
-kind_without_memory_of ClearMaskChar = Looks
-kind_without_memory_of (SetCursorRenderMode mode) = Looks
-kind_without_memory_of ClearCustomHighlight = Looks
-kind_without_memory_of call = kind_of_asking call
+abbrev pub call_of_attempt : Attempt → Call
+call_of_attempt (attempt.InsertStr text) = call.InsertStr text
+call_of_attempt (attempt.DeleteStr count) = call.DeleteStr count
+call_of_attempt (attempt.SearchForward match_cursor) = call.SearchForward match_cursor
+call_of_attempt (attempt.SearchBack match_cursor) = call.SearchBack match_cursor
+call_of_attempt (attempt.Input input) = call.Input input
+call_of_attempt (attempt.InputWithoutShortcuts input) = call.InputWithoutShortcuts input
 
--- the kind of a call that has nothing to say and may run out of memory: it writes text or yank, sets how the text is laid out, or what is
--- around it or highlighted of it, or draws. Any other call is of no kind that is told here
-abbrev pub kind_of_change : Call → Kind
-kind_of_change (InsertChar c) = Writes
-kind_of_change InsertNewline = Writes
-kind_of_change Copy = Writes
-kind_of_change (SetYankText text) = Writes
-kind_of_change (SetLines lines cursor) = Writes
-kind_of_change (SetTabLength columns) = LaysOut
-kind_of_change (SetWrapMode mode) = LaysOut
-kind_of_change (SetLineNumberStyle style) = LaysOut
-kind_of_change RemoveLineNumber = LaysOut
-kind_of_change (SetAlignment alignment) = LaysOut
-kind_of_change (SetBlock block) = Shows
-kind_of_change (SetPlaceholderText text) = Shows
-kind_of_change (SetStyledPlaceholder text) = Shows
-kind_of_change (CustomHighlight range style priority) = Shows
-kind_of_change (Render area) = Draws
-kind_of_change call = kind_without_memory_of call
+abbrev pub call_of_change : Change → Call
+call_of_change (change.SetYankText text) = call.SetYankText text
+call_of_change (change.SetLines lines cursor) = call.SetLines lines cursor
+call_of_change (change.SetTabLength columns) = call.SetTabLength columns
+call_of_change (change.SetWrapMode mode) = call.SetWrapMode mode
+call_of_change (change.SetLineNumberStyle style) = call.SetLineNumberStyle style
+call_of_change change.RemoveLineNumber = call.RemoveLineNumber
+call_of_change (change.SetAlignment alignment) = call.SetAlignment alignment
+call_of_change (change.SetBlock block) = call.SetBlock block
+call_of_change (change.SetPlaceholderText text) = call.SetPlaceholderText text
+call_of_change (change.SetStyledPlaceholder text) = call.SetStyledPlaceholder text
+call_of_change (change.CustomHighlight range style priority) = call.CustomHighlight range style priority
 
--- the kind of the call: it answers whether it removed something, near or far, whether it made another edit, whether it found a match, or
--- whether an input that it takes changed the text; or it is none of these
-abbrev pub kind_of : Call → Kind
-kind_of (DeleteStr count) = Deletes
-kind_of DeleteNewline = Deletes
-kind_of DeleteChar = Deletes
-kind_of DeleteNextChar = Deletes
-kind_of DeleteLineByEnd = DeletesFar
-kind_of DeleteLineByHead = DeletesFar
-kind_of DeleteWord = DeletesFar
-kind_of DeleteNextWord = DeletesFar
-kind_of (InsertStr text) = Edits
-kind_of InsertTab = Edits
-kind_of Clear = Edits
-kind_of Cut = Edits
-kind_of Paste = Edits
-kind_of Undo = Edits
-kind_of Redo = Edits
-kind_of (SearchForward at_cursor) = Searches
-kind_of (SearchBack at_cursor) = Searches
-kind_of (Input input) = Presses
-kind_of (InputWithoutShortcuts input) = Presses
-kind_of call = kind_of_change call
+abbrev pub call_of_setting : Setting → Call
+call_of_setting (setting.Move cursor_move) = call.Move cursor_move
+call_of_setting (setting.Scroll scrolling) = call.Scroll scrolling
+call_of_setting setting.StartSelection = call.StartSelection
+call_of_setting setting.CancelSelection = call.CancelSelection
+call_of_setting setting.SelectAll = call.SelectAll
+call_of_setting (setting.SetHardTabIndent hard) = call.SetHardTabIndent hard
+call_of_setting (setting.SetMaxHistories maximum) = call.SetMaxHistories maximum
+call_of_setting (setting.SetUndoCoalescing joins) = call.SetUndoCoalescing joins
+call_of_setting (setting.SetNow moment) = call.SetNow moment
+call_of_setting setting.ClearAtomicRanges = call.ClearAtomicRanges
 
--- a call of this kind answers whether it found something to do, and may run out of memory
-abbrev pub tries : Kind → Bool
-tries Deletes = true
-tries DeletesFar = true
-tries Edits = true
-tries Searches = true
-tries Presses = true
-tries kind = false
+abbrev pub call_of_appearance : Appearance → Call
+call_of_appearance appearance.RemoveBlock = call.RemoveBlock
+call_of_appearance (appearance.SetPlaceholderStyle style) = call.SetPlaceholderStyle style
+call_of_appearance (appearance.SetMinRows rows) = call.SetMinRows rows
+call_of_appearance (appearance.SetMaxRows rows) = call.SetMaxRows rows
+call_of_appearance (appearance.SetStyle style) = call.SetStyle style
+call_of_appearance (appearance.SetCursorStyle style) = call.SetCursorStyle style
+call_of_appearance (appearance.SetCursorLineStyle style) = call.SetCursorLineStyle style
+call_of_appearance (appearance.SetSelectionStyle style) = call.SetSelectionStyle style
+call_of_appearance (appearance.SetSearchStyle style) = call.SetSearchStyle style
+call_of_appearance (appearance.SetMaskChar mask) = call.SetMaskChar mask
+call_of_appearance appearance.ClearMaskChar = call.ClearMaskChar
+call_of_appearance (appearance.SetCursorRenderMode mode) = call.SetCursorRenderMode mode
+call_of_appearance appearance.ClearCustomHighlight = call.ClearCustomHighlight
 
--- a call of this kind has nothing to say, and may run out of memory
-abbrev pub changes : Kind → Bool
-changes Writes = true
-changes LaysOut = true
-changes Shows = true
-changes kind = false
+abbrev pub call_of_question : Question → Call
+call_of_question question.Cursor = call.Cursor
+call_of_question question.IsEmpty = call.IsEmpty
+call_of_question question.IsSelecting = call.IsSelecting
+call_of_question question.SelectionRange = call.SelectionRange
+call_of_question question.RenderedCursorPosition = call.RenderedCursorPosition
+call_of_question question.TabLength = call.TabLength
+call_of_question question.HardTabIndent = call.HardTabIndent
+call_of_question question.MaxHistories = call.MaxHistories
+call_of_question question.UndoCoalescing = call.UndoCoalescing
+call_of_question question.WrapMode = call.WrapMode
+call_of_question question.LineNumberStyle = call.LineNumberStyle
+call_of_question question.PlaceholderStyle = call.PlaceholderStyle
+call_of_question question.MinRows = call.MinRows
+call_of_question question.MaxRows = call.MaxRows
+call_of_question question.Style = call.Style
+call_of_question question.CursorStyle = call.CursorStyle
+call_of_question question.CursorLineStyle = call.CursorLineStyle
+call_of_question question.SelectionStyle = call.SelectionStyle
+call_of_question question.SearchStyle = call.SearchStyle
+call_of_question question.MaskChar = call.MaskChar
+call_of_question question.CursorRenderMode = call.CursorRenderMode
+call_of_question question.Alignment = call.Alignment
 
--- a call of this kind has nothing to say, and takes no memory in any state
-abbrev pub puts : Kind → Bool
-puts Sets = true
-puts Surrounds = true
-puts Styles = true
-puts Looks = true
-puts Goes = true
-puts kind = false
+abbrev pub call_of_special : Special → Call
+call_of_special special.YankText = call.YankText
+call_of_special (special.TrySetAtomicRanges ranges) = call.TrySetAtomicRanges ranges
+call_of_special (special.NormalizeCursorAroundAtomicRanges bias) = call.NormalizeCursorAroundAtomicRanges bias
+call_of_special (special.AtomicRangeAtCursor direction) = call.AtomicRangeAtCursor direction
+call_of_special (special.DeleteAtomicRangeAtCursor direction) = call.DeleteAtomicRangeAtCursor direction
+call_of_special (special.SetSearchPattern pattern) = call.SetSearchPattern pattern
+call_of_special (special.Measure width) = call.Measure width
+call_of_special (special.CursorAtPosition position) = call.CursorAtPosition position
+
+-- the call of a group, with its arguments
+abbrev pub call_of : Kind → Call
+call_of (kind.Edit edit) = call_of_edit edit
+call_of (kind.Write write) = call_of_write write
+call_of (kind.Attempt attempt) = call_of_attempt attempt
+call_of (kind.Change change) = call_of_change change
+call_of (kind.Setting setting) = call_of_setting setting
+call_of (kind.Appearance appearance) = call_of_appearance appearance
+call_of (kind.Question question) = call_of_question question
+call_of (kind.Special special) = call_of_special special
+call_of (kind.Render area) = call.Render area
+
+-- whether the call draws
+abbrev pub draws : Call → Bool
+draws (call.Render area) = true
+draws other = false
+
+-- whether the group's calls draw
+abbrev pub is_drawing : Kind → Bool
+is_drawing (kind.Render area) = true
+is_drawing other = false

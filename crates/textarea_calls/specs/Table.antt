@@ -8,6 +8,7 @@ use Rattle.textarea_data.specs.declared.cursor.CursorMove.{CursorMove}
 use Rattle.textarea_data.specs.declared.scroll.Scrolling.{Scrolling}
 use Rattle.textarea_calls.specs.declared.action.Action.{Action}
 use Rattle.textarea_calls.specs.declared.action.Action.TheVariants as action
+use Rattle.textarea_calls.specs.declared.kind.Write.TheVariants as write
 use Rattle.textarea_calls.specs.Answer.{Answer, unchanged, answer_of}
 
 -- ---- the inputs of a row
@@ -133,7 +134,7 @@ always action input = action
 
 -- that the character of the input's key is inserted
 abbrev pub inserted : Key → Action
-inserted (key.Char c) = action.InsertChar c
+inserted (key.Char c) = action.Write (write.InsertChar c)
 inserted other = action.Nothing
 
 abbrev pub insert_its_char : Input → Action

@@ -3,6 +3,7 @@
 ghost use Rattle.std.specs.Prelude.{◌≡◌};
 ghost use Rattle.textarea_calls.specs.Answer.{answer_of, told};
 
+use crate::kind::{Edit, Write};
 use textarea_data::cursor::CursorMove;
 use textarea_data::scroll::Scrolling;
 
@@ -11,34 +12,10 @@ use textarea_data::scroll::Scrolling;
 pub enum Action {
     /// No call.
     Nothing,
-    /// `insert_char` of the character.
-    InsertChar(char),
-    /// `insert_newline`.
-    InsertNewline,
-    /// `insert_tab`.
-    InsertTab,
-    /// `delete_char`.
-    DeleteChar,
-    /// `delete_next_char`.
-    DeleteNextChar,
-    /// `delete_line_by_end`.
-    DeleteLineByEnd,
-    /// `delete_line_by_head`.
-    DeleteLineByHead,
-    /// `delete_word`.
-    DeleteWord,
-    /// `delete_next_word`.
-    DeleteNextWord,
-    /// `undo`.
-    Undo,
-    /// `redo`.
-    Redo,
-    /// `paste`.
-    Paste,
-    /// `cut`.
-    Cut,
-    /// `copy`.
-    Copy,
+    /// An edit, an undo or a redo, which answers whether the text was changed.
+    Edit(Edit),
+    /// A character or a break that is inserted, or a copy.
+    Write(Write),
     /// A move of the cursor, and whether Shift is held with it: if so, the move selects, else it drops the selection.
     MoveWithShift(CursorMove, bool),
     /// A scroll, and whether Shift is held with it, which the move into what is then shown follows.
@@ -54,19 +31,9 @@ impl Action {
         ensures { result ≡ told (answer_of self) called }
     {
         match self {
-            Action::InsertChar(_) | Action::InsertNewline => true,
-            Action::InsertTab
-            | Action::DeleteChar
-            | Action::DeleteNextChar
-            | Action::DeleteLineByEnd
-            | Action::DeleteLineByHead
-            | Action::DeleteWord
-            | Action::DeleteNextWord
-            | Action::Undo
-            | Action::Redo
-            | Action::Paste
-            | Action::Cut => called,
-            Action::Copy
+            Action::Edit(_) => called,
+            Action::Write(Write::InsertChar(_) | Write::InsertNewline) => true,
+            Action::Write(Write::Copy)
             | Action::MoveWithShift(..)
             | Action::ScrollWithShift(..)
             | Action::Scroll(_)

@@ -1,166 +1,273 @@
-//! The kinds of calls, by how they answer.
+//! Calls in groups: the calls of a group answer in the same form, and one function makes them all.
 ghost use Rattle.std.specs.Prelude.{◌≡◌};
-ghost use Rattle.textarea_calls.specs.Kinds.{kind_of, kind_of_asking, kind_of_change, kind_with_form_of, kind_without_memory_of};
+ghost use Rattle.textarea_calls.specs.Kinds.{call_of, draws, is_drawing};
 
 use crate::call::Call;
+use std::time::Duration;
+use textarea_data::cursor::CursorMove;
+use textarea_data::input::Input;
+use textarea_data::range::{AtomicCursorBias, AtomicDeleteDirection, AtomicRange};
+use textarea_data::scroll::Scrolling;
+use textarea_screen::screen::{Alignment, Block, Position, Rect, Style, Text};
+use textarea_view::look::CursorRenderMode;
+use textarea_wrap::wrap::WrapMode;
 
-/// How a call answers.
+/// A call by its group, with its arguments.
 #[derive(Clone, Copy)]
-pub enum Kind {
-    /// Whether symbols beside the cursor, or what is selected, were removed; it may run out of memory.
-    Deletes,
-    /// Whether a word or the part of a line beside the cursor, or what is selected, was removed; it may run out of memory.
-    DeletesFar,
-    /// Whether it made another edit, or took one back or made it again; it may run out of memory.
-    Edits,
-    /// Whether a match was found; it may run out of memory.
-    Searches,
-    /// It makes the call that an input asks for, and says whether the text was changed; it may run out of memory.
-    Presses,
-    /// It sets a character, a break, all lines or what was yanked, has nothing to say, and may run out of memory.
-    Writes,
-    /// It sets how the text is laid out, has nothing to say, and may run out of memory.
-    LaysOut,
-    /// It sets what is around the text or highlighted of it, has nothing to say, and may run out of memory.
-    Shows,
-    /// It draws into the buffer, has nothing to say, and may run out of memory.
-    Draws,
-    /// It sets what is selected, recorded or held, has nothing to say, and takes no memory in any state.
-    Sets,
-    /// It sets what is around the text, has nothing to say, and takes no memory in any state.
-    Surrounds,
-    /// It sets a style of the text, has nothing to say, and takes no memory in any state.
-    Styles,
-    /// It sets how else the text looks, has nothing to say, and takes no memory in any state.
-    Looks,
-    /// It reads how the text looks or where the caret is, changes nothing, and takes no memory in any state.
-    Reads,
-    /// It reads the cursor or the selection, changes nothing, and takes no memory in any state.
-    Asks,
-    /// It reads a setting, changes nothing, and takes no memory in any state.
-    AsksSettings,
-    /// It goes to another place or scrolls, has nothing to say, and takes no memory in any state.
-    Goes,
-    /// It sets atomic ranges, or does something with the one at the cursor; its answer has a form of its own.
-    Ranges,
-    /// Its answer has a form of its own.
-    Tells,
+pub enum Kind<'a> {
+    Edit(Edit),
+    Write(Write),
+    Attempt(Attempt<'a>),
+    Change(Change<'a>),
+    Setting(Setting),
+    Appearance(Appearance),
+    Question(Question),
+    Special(Special<'a>),
+    /// It draws into the buffer.
+    Render(Rect),
 }
 
-/// The kind of the call.
-pub fn kind_of(call: &Call<'_>) -> Kind
-    ensures { result ≡ kind_of call.now }
-{
-    match call {
-        Call::DeleteStr(_) | Call::DeleteNewline | Call::DeleteChar | Call::DeleteNextChar =>
-            Kind::Deletes,
-        Call::DeleteLineByEnd | Call::DeleteLineByHead | Call::DeleteWord | Call::DeleteNextWord =>
-            Kind::DeletesFar,
-        Call::InsertStr(_)
-        | Call::InsertTab
-        | Call::Clear
-        | Call::Cut
-        | Call::Paste
-        | Call::Undo
-        | Call::Redo => Kind::Edits,
-        Call::SearchForward(_) | Call::SearchBack(_) => Kind::Searches,
-        Call::Input(_) | Call::InputWithoutShortcuts(_) => Kind::Presses,
-        _ => kind_of_change(call),
-    }
+/// Edits that take no argument, an undo and a redo. Each answers whether there was something to do, and may run out of memory.
+#[derive(Clone, Copy, Debug, PartialEq, Eq)]
+pub enum Edit {
+    InsertTab,
+    DeleteNewline,
+    DeleteChar,
+    DeleteNextChar,
+    DeleteLineByEnd,
+    DeleteLineByHead,
+    DeleteWord,
+    DeleteNextWord,
+    Clear,
+    Cut,
+    Paste,
+    Undo,
+    Redo,
 }
 
-// The kind of a call that has nothing to say and may run out of memory, and of any other that is of no kind above.
-fn kind_of_change(call: &Call<'_>) -> Kind
-    ensures { result ≡ kind_of_change call.now }
-{
-    match call {
-        Call::InsertChar(_)
-        | Call::InsertNewline
-        | Call::Copy
-        | Call::SetYankText(_)
-        | Call::SetLines { .. } => Kind::Writes,
-        Call::SetTabLength(_)
-        | Call::SetWrapMode(_)
-        | Call::SetLineNumberStyle(_)
-        | Call::RemoveLineNumber
-        | Call::SetAlignment(_) => Kind::LaysOut,
-        Call::SetBlock(_)
-        | Call::SetPlaceholderText(_)
-        | Call::SetStyledPlaceholder(_)
-        | Call::CustomHighlight { .. } => Kind::Shows,
-        Call::Render(_) => Kind::Draws,
-        _ => kind_without_memory(call),
-    }
+/// A character, a break and a copy. They have nothing to say, and may run out of memory.
+#[derive(Clone, Copy, Debug, PartialEq, Eq)]
+pub enum Write {
+    InsertChar(char),
+    InsertNewline,
+    Copy,
 }
 
-// The kind of a call that sets something and takes no memory in any state, and of any other that is of no kind above.
-fn kind_without_memory(call: &Call<'_>) -> Kind
-    ensures { result ≡ kind_without_memory_of call.now }
-{
-    match call {
-        Call::StartSelection
-        | Call::CancelSelection
-        | Call::SelectAll
-        | Call::SetHardTabIndent(_)
-        | Call::SetMaxHistories(_)
-        | Call::SetUndoCoalescing(_)
-        | Call::SetNow(_)
-        | Call::ClearAtomicRanges => Kind::Sets,
-        Call::RemoveBlock
-        | Call::SetPlaceholderStyle(_)
-        | Call::SetMinRows(_)
-        | Call::SetMaxRows(_) => Kind::Surrounds,
-        Call::SetStyle(_)
-        | Call::SetCursorStyle(_)
-        | Call::SetCursorLineStyle(_)
-        | Call::SetSelectionStyle(_)
-        | Call::SetSearchStyle(_) => Kind::Styles,
-        Call::SetMaskChar(_)
-        | Call::ClearMaskChar
-        | Call::SetCursorRenderMode(_)
-        | Call::ClearCustomHighlight => Kind::Looks,
-        _ => kind_of_asking(call),
-    }
+/// Other calls that answer whether there was something to do, and may run out of memory.
+#[derive(Clone, Copy)]
+pub enum Attempt<'a> {
+    InsertStr(&'a str),
+    DeleteStr(usize),
+    SearchForward(bool),
+    SearchBack(bool),
+    Input(&'a Input),
+    InputWithoutShortcuts(&'a Input),
 }
 
-// The kind of a call that reads what is set or where the cursor is, and of any other that is of no kind above.
-fn kind_of_asking(call: &Call<'_>) -> Kind
-    ensures { result ≡ kind_of_asking call.now }
-{
-    match call {
-        Call::Style
-        | Call::CursorStyle
-        | Call::CursorLineStyle
-        | Call::SelectionStyle
-        | Call::SearchStyle
-        | Call::MaskChar
-        | Call::CursorRenderMode
-        | Call::Alignment
-        | Call::RenderedCursorPosition => Kind::Reads,
-        Call::Cursor | Call::IsEmpty | Call::IsSelecting | Call::SelectionRange => Kind::Asks,
-        Call::TabLength
-        | Call::HardTabIndent
-        | Call::MaxHistories
-        | Call::UndoCoalescing
-        | Call::WrapMode
-        | Call::LineNumberStyle
-        | Call::PlaceholderStyle
-        | Call::MinRows
-        | Call::MaxRows => Kind::AsksSettings,
-        _ => kind_with_form(call),
-    }
+/// Settings and texts that may run out of memory. They have nothing to say.
+#[derive(Clone, Copy)]
+pub enum Change<'a> {
+    SetYankText(&'a str),
+    SetLines {
+        lines: &'a [String],
+        cursor: (usize, usize),
+    },
+    SetTabLength(u8),
+    SetWrapMode(WrapMode),
+    SetLineNumberStyle(Style),
+    RemoveLineNumber,
+    SetAlignment(Alignment),
+    SetBlock(&'a Block<'static>),
+    SetPlaceholderText(&'a str),
+    SetStyledPlaceholder(&'a Text<'static>),
+    CustomHighlight {
+        range: ((usize, usize), (usize, usize)),
+        style: Style,
+        priority: u8,
+    },
 }
 
-// The kind of a call that goes somewhere or is about atomic ranges, and of any other that is of no kind above.
-fn kind_with_form(call: &Call<'_>) -> Kind
-    ensures { result ≡ kind_with_form_of call.now }
+/// Moves, scrolls, selections and settings that take no memory in any state. They have nothing to say.
+#[derive(Clone, Copy)]
+pub enum Setting {
+    Move(CursorMove),
+    Scroll(Scrolling),
+    StartSelection,
+    CancelSelection,
+    SelectAll,
+    SetHardTabIndent(bool),
+    SetMaxHistories(usize),
+    SetUndoCoalescing(bool),
+    SetNow(Duration),
+    ClearAtomicRanges,
+}
+
+/// Settings of how the text looks and what is around it, which take no memory in any state. They have nothing to say.
+#[derive(Clone, Copy)]
+pub enum Appearance {
+    RemoveBlock,
+    SetPlaceholderStyle(Style),
+    SetMinRows(u16),
+    SetMaxRows(u16),
+    SetStyle(Style),
+    SetCursorStyle(Style),
+    SetCursorLineStyle(Style),
+    SetSelectionStyle(Style),
+    SetSearchStyle(Style),
+    SetMaskChar(char),
+    ClearMaskChar,
+    SetCursorRenderMode(CursorRenderMode),
+    ClearCustomHighlight,
+}
+
+/// Calls that read where the cursor is, or what is set. They change nothing, and take no memory in any state.
+#[derive(Clone, Copy)]
+pub enum Question {
+    Cursor,
+    IsEmpty,
+    IsSelecting,
+    SelectionRange,
+    RenderedCursorPosition,
+    TabLength,
+    HardTabIndent,
+    MaxHistories,
+    UndoCoalescing,
+    WrapMode,
+    LineNumberStyle,
+    PlaceholderStyle,
+    MinRows,
+    MaxRows,
+    Style,
+    CursorStyle,
+    CursorLineStyle,
+    SelectionStyle,
+    SearchStyle,
+    MaskChar,
+    CursorRenderMode,
+    Alignment,
+}
+
+/// Calls whose answers have forms of their own.
+#[derive(Clone, Copy)]
+pub enum Special<'a> {
+    YankText,
+    TrySetAtomicRanges(&'a [AtomicRange]),
+    NormalizeCursorAroundAtomicRanges(AtomicCursorBias),
+    AtomicRangeAtCursor(AtomicDeleteDirection),
+    DeleteAtomicRangeAtCursor(AtomicDeleteDirection),
+    SetSearchPattern(&'a str),
+    Measure(u16),
+    CursorAtPosition(Position),
+}
+
+/// The group of the call, with the call's arguments.
+pub fn kind_of(call: Call<'_>) -> Kind<'_>
+    ensures call { call_of result ≡ call.entry }
+    ensures drawing { draws call.entry ≡ is_drawing result }
 {
     match call {
-        Call::Move(_) | Call::Scroll(_) => Kind::Goes,
-        Call::TrySetAtomicRanges(_)
-        | Call::NormalizeCursorAroundAtomicRanges(_)
-        | Call::AtomicRangeAtCursor(_)
-        | Call::DeleteAtomicRangeAtCursor(_) => Kind::Ranges,
-        _ => Kind::Tells,
+        Call::InsertTab => Kind::Edit(Edit::InsertTab),
+        Call::DeleteNewline => Kind::Edit(Edit::DeleteNewline),
+        Call::DeleteChar => Kind::Edit(Edit::DeleteChar),
+        Call::DeleteNextChar => Kind::Edit(Edit::DeleteNextChar),
+        Call::DeleteLineByEnd => Kind::Edit(Edit::DeleteLineByEnd),
+        Call::DeleteLineByHead => Kind::Edit(Edit::DeleteLineByHead),
+        Call::DeleteWord => Kind::Edit(Edit::DeleteWord),
+        Call::DeleteNextWord => Kind::Edit(Edit::DeleteNextWord),
+        Call::Clear => Kind::Edit(Edit::Clear),
+        Call::Cut => Kind::Edit(Edit::Cut),
+        Call::Paste => Kind::Edit(Edit::Paste),
+        Call::Undo => Kind::Edit(Edit::Undo),
+        Call::Redo => Kind::Edit(Edit::Redo),
+        Call::InsertChar(c) => Kind::Write(Write::InsertChar(c)),
+        Call::InsertNewline => Kind::Write(Write::InsertNewline),
+        Call::Copy => Kind::Write(Write::Copy),
+        Call::InsertStr(text) => Kind::Attempt(Attempt::InsertStr(text)),
+        Call::DeleteStr(count) => Kind::Attempt(Attempt::DeleteStr(count)),
+        Call::SearchForward(match_cursor) => Kind::Attempt(Attempt::SearchForward(match_cursor)),
+        Call::SearchBack(match_cursor) => Kind::Attempt(Attempt::SearchBack(match_cursor)),
+        Call::Input(input) => Kind::Attempt(Attempt::Input(input)),
+        Call::InputWithoutShortcuts(input) => Kind::Attempt(Attempt::InputWithoutShortcuts(input)),
+        Call::SetYankText(text) => Kind::Change(Change::SetYankText(text)),
+        Call::SetLines { lines, cursor } => Kind::Change(Change::SetLines { lines, cursor }),
+        Call::SetTabLength(columns) => Kind::Change(Change::SetTabLength(columns)),
+        Call::SetWrapMode(mode) => Kind::Change(Change::SetWrapMode(mode)),
+        Call::SetLineNumberStyle(style) => Kind::Change(Change::SetLineNumberStyle(style)),
+        Call::RemoveLineNumber => Kind::Change(Change::RemoveLineNumber),
+        Call::SetAlignment(alignment) => Kind::Change(Change::SetAlignment(alignment)),
+        Call::SetBlock(block) => Kind::Change(Change::SetBlock(block)),
+        Call::SetPlaceholderText(text) => Kind::Change(Change::SetPlaceholderText(text)),
+        Call::SetStyledPlaceholder(text) => Kind::Change(Change::SetStyledPlaceholder(text)),
+        Call::CustomHighlight {
+            range,
+            style,
+            priority,
+        } => Kind::Change(Change::CustomHighlight {
+            range,
+            style,
+            priority,
+        }),
+        Call::Move(cursor_move) => Kind::Setting(Setting::Move(cursor_move)),
+        Call::Scroll(scrolling) => Kind::Setting(Setting::Scroll(scrolling)),
+        Call::StartSelection => Kind::Setting(Setting::StartSelection),
+        Call::CancelSelection => Kind::Setting(Setting::CancelSelection),
+        Call::SelectAll => Kind::Setting(Setting::SelectAll),
+        Call::SetHardTabIndent(hard) => Kind::Setting(Setting::SetHardTabIndent(hard)),
+        Call::SetMaxHistories(maximum) => Kind::Setting(Setting::SetMaxHistories(maximum)),
+        Call::SetUndoCoalescing(joins) => Kind::Setting(Setting::SetUndoCoalescing(joins)),
+        Call::SetNow(moment) => Kind::Setting(Setting::SetNow(moment)),
+        Call::ClearAtomicRanges => Kind::Setting(Setting::ClearAtomicRanges),
+        Call::RemoveBlock => Kind::Appearance(Appearance::RemoveBlock),
+        Call::SetPlaceholderStyle(style) => Kind::Appearance(Appearance::SetPlaceholderStyle(
+            style,
+        )),
+        Call::SetMinRows(rows) => Kind::Appearance(Appearance::SetMinRows(rows)),
+        Call::SetMaxRows(rows) => Kind::Appearance(Appearance::SetMaxRows(rows)),
+        Call::SetStyle(style) => Kind::Appearance(Appearance::SetStyle(style)),
+        Call::SetCursorStyle(style) => Kind::Appearance(Appearance::SetCursorStyle(style)),
+        Call::SetCursorLineStyle(style) => Kind::Appearance(Appearance::SetCursorLineStyle(style)),
+        Call::SetSelectionStyle(style) => Kind::Appearance(Appearance::SetSelectionStyle(style)),
+        Call::SetSearchStyle(style) => Kind::Appearance(Appearance::SetSearchStyle(style)),
+        Call::SetMaskChar(mask) => Kind::Appearance(Appearance::SetMaskChar(mask)),
+        Call::ClearMaskChar => Kind::Appearance(Appearance::ClearMaskChar),
+        Call::SetCursorRenderMode(mode) => Kind::Appearance(Appearance::SetCursorRenderMode(mode)),
+        Call::ClearCustomHighlight => Kind::Appearance(Appearance::ClearCustomHighlight),
+        Call::Cursor => Kind::Question(Question::Cursor),
+        Call::IsEmpty => Kind::Question(Question::IsEmpty),
+        Call::IsSelecting => Kind::Question(Question::IsSelecting),
+        Call::SelectionRange => Kind::Question(Question::SelectionRange),
+        Call::RenderedCursorPosition => Kind::Question(Question::RenderedCursorPosition),
+        Call::TabLength => Kind::Question(Question::TabLength),
+        Call::HardTabIndent => Kind::Question(Question::HardTabIndent),
+        Call::MaxHistories => Kind::Question(Question::MaxHistories),
+        Call::UndoCoalescing => Kind::Question(Question::UndoCoalescing),
+        Call::WrapMode => Kind::Question(Question::WrapMode),
+        Call::LineNumberStyle => Kind::Question(Question::LineNumberStyle),
+        Call::PlaceholderStyle => Kind::Question(Question::PlaceholderStyle),
+        Call::MinRows => Kind::Question(Question::MinRows),
+        Call::MaxRows => Kind::Question(Question::MaxRows),
+        Call::Style => Kind::Question(Question::Style),
+        Call::CursorStyle => Kind::Question(Question::CursorStyle),
+        Call::CursorLineStyle => Kind::Question(Question::CursorLineStyle),
+        Call::SelectionStyle => Kind::Question(Question::SelectionStyle),
+        Call::SearchStyle => Kind::Question(Question::SearchStyle),
+        Call::MaskChar => Kind::Question(Question::MaskChar),
+        Call::CursorRenderMode => Kind::Question(Question::CursorRenderMode),
+        Call::Alignment => Kind::Question(Question::Alignment),
+        Call::YankText => Kind::Special(Special::YankText),
+        Call::TrySetAtomicRanges(ranges) => Kind::Special(Special::TrySetAtomicRanges(ranges)),
+        Call::NormalizeCursorAroundAtomicRanges(bias) => Kind::Special(
+            Special::NormalizeCursorAroundAtomicRanges(bias),
+        ),
+        Call::AtomicRangeAtCursor(direction) => Kind::Special(Special::AtomicRangeAtCursor(
+            direction,
+        )),
+        Call::DeleteAtomicRangeAtCursor(direction) => Kind::Special(
+            Special::DeleteAtomicRangeAtCursor(direction),
+        ),
+        Call::SetSearchPattern(pattern) => Kind::Special(Special::SetSearchPattern(pattern)),
+        Call::Measure(width) => Kind::Special(Special::Measure(width)),
+        Call::CursorAtPosition(position) => Kind::Special(Special::CursorAtPosition(position)),
+        Call::Render(area) => Kind::Render(area),
     }
 }

@@ -47,6 +47,14 @@ pub fn counted(text: &str) -> (usize, &str) {
     }
 }
 
+/// The number behind a `times ` that begins a line, and what is behind it; 1 and the line where none does.
+pub fn timed(line: &str) -> (usize, &str) {
+    match line.strip_prefix("times ") {
+        Some(rest) => counted(rest),
+        None => (1, line),
+    }
+}
+
 /// As many times the line, each with a line's end.
 pub fn repeated(alloc: Global, times: usize, line: &str) -> Result<String, AllocError> {
     let mut lines = String::new(alloc);

@@ -1,150 +1,57 @@
 //! Styles by their names.
+use textarea_screen::screen::Color::*;
 use textarea_screen::screen::{Color, Modifier, Style};
 
-/// The empty style.
-const PLAIN: Style = Style {
-    fg: None,
-    bg: None,
-    add_modifier: Modifier(0),
-    sub_modifier: Modifier(0),
-};
+const NONE: Modifier = Modifier(0);
 
-const GRAY: Style = Style {
-    fg: Some(Color::DarkGray),
-    ..PLAIN
-};
-
-const ON_YELLOW: Style = Style {
-    bg: Some(Color::Yellow),
-    ..PLAIN
-};
-
-const RED_ON_YELLOW: Style = Style {
-    fg: Some(Color::Red),
-    ..ON_YELLOW
-};
-
-/// The styles that have a name: those of a text area at first (`cursor`, `cursor_line`, `selected`, `matched`, and `gray` of a
-/// placeholder), and some others.
-const STYLES: [(&str, Style); 19] = [
-    ("plain", PLAIN),
-    (
-        "cursor",
-        Style {
-            add_modifier: Modifier::REVERSED,
-            ..PLAIN
-        },
-    ),
-    (
-        "cursor_line",
-        Style {
-            add_modifier: Modifier::UNDERLINED,
-            ..PLAIN
-        },
-    ),
-    (
-        "selected",
-        Style {
-            bg: Some(Color::LightBlue),
-            ..PLAIN
-        },
-    ),
-    (
-        "matched",
-        Style {
-            bg: Some(Color::Blue),
-            ..PLAIN
-        },
-    ),
-    ("gray", GRAY),
-    (
-        "gray_cursor",
-        Style {
-            add_modifier: Modifier::REVERSED,
-            ..GRAY
-        },
-    ),
-    (
-        "red",
-        Style {
-            fg: Some(Color::Red),
-            ..PLAIN
-        },
-    ),
-    (
-        "bold_red",
-        Style {
-            fg: Some(Color::Red),
-            add_modifier: Modifier::BOLD,
-            ..PLAIN
-        },
-    ),
-    (
-        "green",
-        Style {
-            fg: Some(Color::Green),
-            ..PLAIN
-        },
-    ),
-    (
-        "cyan",
-        Style {
-            fg: Some(Color::Cyan),
-            ..PLAIN
-        },
-    ),
-    (
-        "red_cursor",
-        Style {
-            fg: Some(Color::Red),
-            add_modifier: Modifier::REVERSED,
-            ..PLAIN
-        },
-    ),
-    ("on_yellow", ON_YELLOW),
-    (
-        "cursor_on_yellow",
-        Style {
-            add_modifier: Modifier::REVERSED,
-            ..ON_YELLOW
-        },
-    ),
-    ("red_on_yellow", RED_ON_YELLOW),
+/// The styles that have a name, by their colours and what they add: those of a text area at first (`cursor`, `cursor_line`,
+/// `selected`, `matched`, and `gray` of a placeholder), and some others.
+const STYLES: [(&str, Option<Color>, Option<Color>, Modifier); 19] = [
+    ("plain", None, None, NONE),
+    ("cursor", None, None, Modifier::REVERSED),
+    ("cursor_line", None, None, Modifier::UNDERLINED),
+    ("selected", None, Some(LightBlue), NONE),
+    ("matched", None, Some(Blue), NONE),
+    ("gray", Some(DarkGray), None, NONE),
+    ("gray_cursor", Some(DarkGray), None, Modifier::REVERSED),
+    ("red", Some(Red), None, NONE),
+    ("bold_red", Some(Red), None, Modifier::BOLD),
+    ("green", Some(Green), None, NONE),
+    ("cyan", Some(Cyan), None, NONE),
+    ("red_cursor", Some(Red), None, Modifier::REVERSED),
+    ("on_yellow", None, Some(Yellow), NONE),
+    ("cursor_on_yellow", None, Some(Yellow), Modifier::REVERSED),
+    ("red_on_yellow", Some(Red), Some(Yellow), NONE),
     (
         "line_in_block",
-        Style {
-            add_modifier: Modifier::UNDERLINED,
-            ..RED_ON_YELLOW
-        },
+        Some(Red),
+        Some(Yellow),
+        Modifier::UNDERLINED,
     ),
     (
         "cursor_in_block",
-        Style {
-            add_modifier: Modifier::REVERSED,
-            ..RED_ON_YELLOW
-        },
+        Some(Red),
+        Some(Yellow),
+        Modifier::REVERSED,
     ),
-    (
-        "cyan_on_yellow",
-        Style {
-            fg: Some(Color::Cyan),
-            ..ON_YELLOW
-        },
-    ),
-    (
-        "green_on_yellow",
-        Style {
-            fg: Some(Color::Green),
-            ..ON_YELLOW
-        },
-    ),
+    ("cyan_on_yellow", Some(Cyan), Some(Yellow), NONE),
+    ("green_on_yellow", Some(Green), Some(Yellow), NONE),
 ];
+
+fn style_of(fg: Option<Color>, bg: Option<Color>, add_modifier: Modifier) -> Style {
+    Style {
+        fg,
+        bg,
+        add_modifier,
+        sub_modifier: NONE,
+    }
+}
 
 /// The style of this name.
 pub fn style_named(name: &str) -> Option<Style> {
-    for (own, style) in &STYLES {
+    for (own, fg, bg, modifier) in &STYLES {
         if *own == name {
-            return Some(*style);
+            return Some(style_of(*fg, *bg, *modifier));
         }
     }
     None
@@ -152,8 +59,8 @@ pub fn style_named(name: &str) -> Option<Style> {
 
 /// The name of this style, if it has one.
 pub fn style_name(style: Style) -> Option<&'static str> {
-    for (name, own) in &STYLES {
-        if *own == style {
+    for (name, fg, bg, modifier) in &STYLES {
+        if style_of(*fg, *bg, *modifier) == style {
             return Some(*name);
         }
     }

@@ -34,51 +34,25 @@ fn told_viewport(alloc: Global, area: &TextArea<'_>) -> Result<String, AllocErro
 // What other calls read, where it isn't as of a new text area that holds a text.
 fn unprinted(alloc: Global, area: &TextArea<'_>) -> Result<String, AllocError> {
     let mut parts = Parts::new(alloc);
-    tell_state(&mut parts, area)?;
-    tell_tabs(&mut parts, area)?;
-    tell_edits(&mut parts, area)?;
-    tell_rows(&mut parts, area)?;
-    tell_surround(&mut parts, area)?;
-    tell_placeholder(&mut parts, area)?;
+    tell(&mut parts, area)?;
     parts.told(alloc)
 }
 
-// Tells whether there is a text, and a selection.
-fn tell_state(parts: &mut Parts, area: &TextArea<'_>) -> Result<(), AllocError> {
+fn tell(parts: &mut Parts, area: &TextArea<'_>) -> Result<(), AllocError> {
     parts.flag(area.is_empty(), "empty")?;
-    parts.flag(area.is_selecting(), "selecting")
-}
-
-// Tells what a tab is.
-fn tell_tabs(parts: &mut Parts, area: &TextArea<'_>) -> Result<(), AllocError> {
+    parts.flag(area.is_selecting(), "selecting")?;
     parts.number(usize::from(area.tab_length()), 4, "tab_length")?;
     parts.indent(area.indent())?;
-    parts.flag(area.hard_tab_indent(), "hard_tab_indent")
-}
-
-// Tells how edits are remembered.
-fn tell_edits(parts: &mut Parts, area: &TextArea<'_>) -> Result<(), AllocError> {
+    parts.flag(area.hard_tab_indent(), "hard_tab_indent")?;
     parts.flag(area.undo_coalescing(), "undo_coalescing")?;
-    parts.number(area.max_histories(), 50, "max_histories")
-}
-
-// Tells how lines become rows, and what is looked for and held in them.
-fn tell_rows(parts: &mut Parts, area: &TextArea<'_>) -> Result<(), AllocError> {
+    parts.number(area.max_histories(), 50, "max_histories")?;
     parts.mode(area.wrap_mode())?;
     parts.style(area.line_number_style(), "line_number_style")?;
     parts.pattern(area.search_pattern())?;
-    parts.ranges(area.atomic_ranges())
-}
-
-// Tells what is around the rows.
-fn tell_surround(parts: &mut Parts, area: &TextArea<'_>) -> Result<(), AllocError> {
+    parts.ranges(area.atomic_ranges())?;
     parts.flag(area.block().is_some(), "block")?;
     parts.number(usize::from(area.min_rows()), 1, "min_rows")?;
-    parts.number(usize::from(area.max_rows()), 65535, "max_rows")
-}
-
-// Tells the placeholder.
-fn tell_placeholder(parts: &mut Parts, area: &TextArea<'_>) -> Result<(), AllocError> {
+    parts.number(usize::from(area.max_rows()), 65535, "max_rows")?;
     parts.placeholder(area.placeholder().lines.len(), area.placeholder_text())?;
     parts.style(area.placeholder_style(), "placeholder_style")
 }

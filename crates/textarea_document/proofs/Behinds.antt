@@ -1,21 +1,14 @@
 -- What stands directly behind a place.
 use Rattle.std.proofs.Common.{◌≡◌, ◌≢◌, ℕ, Bool, false, cond, ◌==◌, ◌+◌, ◌-◌, ◌≤◌, ◌<◌, List, [], ◌∷◌, ◌++◌, length, take, drop, get_or, sym, ap, refl, ◌∙◌, arith, String, subst, Option, Some, None, ◌^◌, encode_utf8, encode_utf8_all}
-use Rattle.std.specs.Option.{MatchOption}
-use Rattle.std.specs.Str.{chars, IsCharBoundary, IsUtf8}
+use Rattle.std.specs.Str.{IsCharBoundary}
 use Rattle.std.proofs.lemmas.List.{drop_all, length-drop}
 use Rattle.std.proofs.lemmas.Str.{length-le-encodes}
 use Rattle.textarea_text.proofs.Columns.{IsCharBoundary-column, offset_in}
 use Rattle.textarea_text.proofs.Befores.{next_is}
 use Rattle.textarea_document.proofs.Area.{column_bound}
-use Rattle.textarea_text.specs.Text.{Symbol, Character, Break, joined, lines, lines_of, text_of}
-use Rattle.textarea_text.specs.Place.{Place, IsPlace, IsPlaceOf, IsSymbolBefore, StandsAt, index_of, line_end}
+use Rattle.textarea_document.specs.Prelude.{MatchOption, chars, IsUtf8, Symbol, Character, Break, joined, lines, lines_of, text_of, Place, IsPlace, IsPlaceOf, IsSymbolBefore, StandsAt, index_of, line_end, Fits, inserts_of, symbols_of, EditKind, DocumentState, edited, unanchored, IsSymbolBehind, break_removal, symbol_removal, symbol_removed_before, symbol_removed_behind}
 use Rattle.textarea_text.proofs.Befores.{break_stands, character_stands}
-use Rattle.textarea_text.specs.Splice.{Fits}
-use Rattle.textarea_history.specs.Edit.{inserts_of, splice_of, symbols_of}
-use Rattle.textarea_history.specs.declared.edit.EditKind.{EditKind}
-use Rattle.textarea_document.specs.State.{DocumentState}
-use Rattle.textarea_document.specs.Outcomes.{edited, unanchored}
-use Rattle.textarea_document.specs.Edits.{IsSymbolBehind, break_removal, symbol_removal, symbol_removed_before, symbol_removed_behind}
+use Rattle.textarea_history.specs.Edit.{splice_of}
 use Rattle.textarea_text.proofs.TextPlaces.{joined-lines, place_of-index}
 use Rattle.std.proofs.lemmas.Bool.Decides.{nat_tests}
 

@@ -1,16 +1,6 @@
 -- What the edits of a document cut, where each splice of a text cuts what it cuts.
 use Rattle.std.proofs.Common.{◌≡◌, ℕ, Bool, Option, Some, subst, sym}
-use Rattle.textarea_text.specs.Splice.{Splice, Fits, inverse}
-use Rattle.textarea_history.specs.Log.{newest, next}
-use Rattle.textarea_lines.specs.Cuts.{IsSpliced, IsSetTo, IsWidened}
-use Rattle.textarea_lines.specs.Layout.{LaidOut, applied_to, at_width, laid_out_with}
-use Rattle.textarea_lines.specs.declared.settings.LayoutSettings.{LayoutSettings}
-use Rattle.textarea_document.specs.Cuts.{CutsBySettings, CutsByWidth, SplicesBy}
-use Rattle.textarea_document.specs.Edits.{IsMade, Step, splice_of, stepped}
-use Rattle.textarea_document.specs.Outcomes.{edited, redone, redone_by, undone, undone_by}
-use Rattle.textarea_document.specs.Rows.{laid_out_of, with_inner_width, with_layout_settings}
-use Rattle.textarea_document.specs.Sound.{IsSound}
-use Rattle.textarea_document.specs.State.{DocumentState}
+use Rattle.textarea_document.specs.Prelude.{Splice, Fits, inverse, newest, next, IsSpliced, IsSetTo, IsWidened, LaidOut, applied_to, at_width, laid_out_with, LayoutSettings, CutsBySettings, CutsByWidth, SplicesBy, IsMade, Step, splice_of, stepped, edited, redone, redone_by, undone, undone_by, laid_out_of, with_inner_width, with_layout_settings, IsSound, DocumentState}
 use Rattle.textarea_document.proofs.Sounds.{laid_out_seen, newest_fits, next_fits}
 use Rattle.textarea_document.proofs.StepLaw.{step_kept}
 

@@ -1,23 +1,9 @@
 -- How the atomic ranges of a document go with its text, over one splice after another.
 use Rattle.std.proofs.Common.{◌≡◌, ℕ, zero, suc, Bool, true, false, List, [], ◌∷◌, ◌++◌, get_or, filter_map, Contains, Option, None, Some, sym, ap, refl, subst, ◌∙◌, arith, inl, inr, ◌⊎◌, suc-le-suc}
-use Rattle.std.specs.List.{cons_option}
 use Rattle.std.proofs.lemmas.Bool.Decides.{nat_tests}
 use Rattle.std.proofs.lemmas.List.Elements.{All-cons, All-contains, All-nil, Contains-get_or}
-use Rattle.textarea_text.specs.Text.{Symbol, lines}
-use Rattle.textarea_text.specs.Place.{Place, end}
-use Rattle.textarea_text.specs.Splice.{CanApply, Fits, Splice, StoodBefore, applied, applied_all, inverse}
-use Rattle.textarea_history.specs.Log.{newest, next}
-use Rattle.textarea_data.specs.declared.range.AtomicRange.{AtomicRange}
-use Rattle.textarea_ranges.specs.Held.{IsBeside, IsInside, IsWithin, Overlaps}
-use Rattle.textarea_ranges.specs.Moved.{CoversTheSame, DisturbsBy, moved_range, moved_ranges}
-use Rattle.textarea_ranges.specs.Valid.{AreValid, IsPart}
+use Rattle.textarea_document.specs.Prelude.{cons_option, Symbol, lines, Place, end, CanApply, Fits, Splice, StoodBefore, applied, applied_all, inverse, newest, next, AtomicRange, IsBeside, IsInside, IsWithin, Overlaps, CoversTheSame, DisturbsBy, moved_range, moved_ranges, AreValid, IsPart, IsMade, Step, splice_of, stepped, AllStayOrAreDropped, AllStemFrom, CutNone, GoesOver, GoesUncut, IsDroppedBy, StemsFrom, carried_over, moved_over, CutsNone, CutsNoneBy, redone, redone_by, undone, undone_by, IsSound, DocumentState}
 use Rattle.textarea_ranges.proofs.Moving.{covers_the_same, dropped, valid_moved}
-use Rattle.textarea_document.specs.Edits.{IsMade, Step, splice_of, stepped}
-use Rattle.textarea_document.specs.Goes.{AllStayOrAreDropped, AllStemFrom, CutNone, GoesOver, GoesUncut, IsDroppedBy, StemsFrom, carried_over, moved_over}
-use Rattle.textarea_document.specs.Ranges.{CutsNone, CutsNoneBy}
-use Rattle.textarea_document.specs.Outcomes.{redone, redone_by, undone, undone_by}
-use Rattle.textarea_document.specs.Sound.{IsSound}
-use Rattle.textarea_document.specs.State.{DocumentState}
 use Rattle.textarea_document.proofs.Sounds.{newest_fits, next_fits}
 use Rattle.textarea_document.proofs.StepLaw.{step_kept}
 

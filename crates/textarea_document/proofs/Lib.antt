@@ -8,7 +8,6 @@ pub mod Ranges
 pub mod Sounds
 pub mod StepLaw
 pub mod Cuts
-pub mod Failures
 pub mod Moves
 pub mod Going
 pub mod Steps

@@ -1,12 +1,6 @@
 -- Ranges of a document that go with its text.
 use Rattle.std.proofs.Common.{◌≤◌, ◌<◌, List, All, get_or, arith}
-use Rattle.textarea_util.specs.Limit.{size_limit}
-use Rattle.textarea_text.specs.Text.{Symbol, lines}
-use Rattle.textarea_text.specs.Place.{IsPlace, Place}
-use Rattle.textarea_data.specs.declared.range.AtomicRange.{AtomicRange}
-use Rattle.textarea_ranges.specs.Held.{range_end}
-use Rattle.textarea_ranges.specs.Moved.{IsMovable}
-use Rattle.textarea_ranges.specs.Valid.{AreValid}
+use Rattle.textarea_document.specs.Prelude.{size_limit, Symbol, lines, IsPlace, Place, AtomicRange, range_end, IsMovable, AreValid}
 
 -- each place of the text has a row and a column that are small
 abbrev pub HasSmallPlaces : List Symbol → Type 0

@@ -1,19 +1,12 @@
 -- Places in the order of the text.
 use Rattle.std.proofs.Common.{◌≡◌, ◌<◌, nat_lt, Bool, true, false, List, arith, refl}
 use Rattle.std.proofs.lemmas.Bool.Decides.{nat_tests}
-use Rattle.textarea_text.specs.Text.{Symbol}
-use Rattle.textarea_text.specs.Place.{Place, IsBefore, IsPlace, IsUpTo, index_of, is_before}
+use Rattle.textarea_document.specs.Prelude.{Symbol, Place, IsBefore, IsPlace, IsUpTo, index_of, is_before}
 use Rattle.textarea_document.proofs.Ranges.{up_to_from_index}
 
 -- the test of two places, and the relation
 pub IsBefore-is_before : (first second : Place) → is_before first second ≡ true → IsBefore first second
 IsBefore-is_before first second e = (grind (arith, nat_tests), λ same. grind (arith, nat_tests))
-
-pub IsUpTo-is_before : (first second : Place) → is_before first second ≡ false → IsUpTo second first
-IsUpTo-is_before first second e = (grind (arith, nat_tests), λ same. grind (arith, nat_tests))
-
-pub IsUpTo-IsBefore : (first second : Place) → IsBefore first second → IsUpTo first second
-IsUpTo-IsBefore first second h = (h.0, λ same. omega (arith, h.1 same))
 
 -- a place that comes before another is not behind it
 not_behind : (first second : Place) → IsBefore first second → IsUpTo second first → ⊥

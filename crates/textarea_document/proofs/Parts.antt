@@ -1,16 +1,10 @@
 -- What stands between two places of a text.
 use Rattle.std.proofs.Common.{◌≡◌, ◌+◌, ◌-◌, ◌≤◌, ◌<◌, List, [], ◌∷◌, length, take, drop, sym, ap, ◌∙◌, subst, arith, String}
-use Rattle.std.specs.Option.{IfSome}
 use Rattle.std.proofs.lemmas.List.{length-drop, length-take-le}
 use Rattle.std.proofs.Math.Seq.{take-add}
-use Rattle.textarea_text.specs.Text.{Symbol, text_of}
-use Rattle.textarea_text.specs.Place.{Place, IsPlace, StandsAt, end, index_of}
-use Rattle.textarea_text.specs.Splice.{Splice, Fits}
+use Rattle.textarea_document.specs.Prelude.{IfSome, Symbol, text_of, Place, IsPlace, StandsAt, end, index_of, Splice, Fits, Stored, IsWellFormed, part, removal}
 use Rattle.textarea_text.proofs.TextPlaces.{index_within, place_of-index}
 use Rattle.textarea_text.proofs.Splices.{end-append}
-use Rattle.textarea_history.specs.Edit.{Stored, IsWellFormed}
-use Rattle.textarea_text.specs.Part.{part}
-use Rattle.textarea_document.specs.Edits.{removal}
 
 length-part : (text : List Symbol) (from to : Place) → IsPlace text to → index_of text from ≤ index_of text to → length (part text from to) ≡ index_of text to - index_of text from
 length-part text from to h ordered =

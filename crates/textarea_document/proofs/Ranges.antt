@@ -1,25 +1,16 @@
 -- Ranges of a text, and what an edit keeps of them.
 use Rattle.std.proofs.Common.{◌≡◌, ℕ, ◌+◌, ◌<◌, ◌≤◌, ◌==◌, inl, inr, Bool, true, false, cond, List, [], ◌∷◌, length, drop, take, get_or, Option, Some, None, All, Contains, MatchOption, refl, sym, ap, subst, ◌∙◌, arith}
-use Rattle.std.specs.Option.{IfSome}
 use Rattle.std.proofs.lemmas.Bool.{cases_lt}
 use Rattle.std.proofs.lemmas.Bool.Decides.{nat_tests}
 use Rattle.std.proofs.lemmas.List.{drop_more, map-id}
 use Rattle.std.proofs.lemmas.List.Elements.{All-contains}
-use Rattle.std.specs.List.{AllZip}
 use Rattle.std.proofs.lemmas.Slice.Zip.{AllZip-map}
-use Rattle.textarea_text.specs.Text.{Symbol, Character, Break, lines}
-use Rattle.textarea_text.specs.Place.{Place, IsPlace, IsSymbolBefore, IsUpTo, StandsAt, end, index_of, is_same_place}
-use Rattle.textarea_text.specs.Splice.{Fits}
+use Rattle.textarea_document.specs.Prelude.{IfSome, AllZip, Symbol, Character, Break, lines, Place, IsPlace, IsSymbolBefore, IsUpTo, StandsAt, end, index_of, is_same_place, Fits, AtomicRange, AtomicDeleteDirection, CutsNone, anchor_out, unless_empty, IsHit, IsInside, TakesWhole, hit, moved_out, range_start, range_end, AreValid, IsPart}
 use Rattle.textarea_text.proofs.Befores.{character_stands}
 use Rattle.textarea_text.proofs.TextPlaces.{index_within, joined-lines}
 use Rattle.textarea_text.proofs.PartLemmas.{up_to_from_index as up_to_in_lines}
-use Rattle.textarea_data.specs.declared.range.AtomicRange.{AtomicRange}
 use Rattle.textarea_data.specs.declared.range.AtomicCursorBias.TheVariants.{Backward}
-use Rattle.textarea_data.specs.declared.range.AtomicDeleteDirection.{AtomicDeleteDirection}
-use Rattle.textarea_document.specs.Ranges.{CutsNone, anchor_out, unless_empty}
 use Rattle.textarea_data.specs.declared.range.AtomicDeleteDirection.TheVariants.{Backward as DeleteBackward, Forward as DeleteForward}
-use Rattle.textarea_ranges.specs.Held.{IsHit, IsInside, TakesWhole, hit, moved_out, range_start, range_end}
-use Rattle.textarea_ranges.specs.Valid.{AreValid, IsPart}
 use Rattle.textarea_ranges.proofs.HeldLemmas.{IsPlaceOf-moved_out, MatchOption-hit, taken}
 
 -- no range is valid for all lines

@@ -2,14 +2,8 @@
 use Rattle.std.proofs.Common.{◌≡◌, ℕ, ◌==◌, ◌<◌, nat_lt, ◌&&◌, Bool, List, [], ◌∷◌, length, encode_utf8_all, sym, ap, refl, ◌∙◌, arith, Option, String, string_len, string_bytes}
 use Rattle.std.proofs.lemmas.Bool.Decides.{nat_tests}
 use Rattle.std.proofs.lemmas.Str.{encodes-chars, length-le-encodes, IsUtf8-string_bytes}
-use Rattle.std.specs.Option.{is_some}
-use Rattle.textarea_text.specs.Text.{characters_of, lines, lines_of, text_of}
-use Rattle.textarea_text.specs.Place.{Place, IsPlaceOf, line_of}
+use Rattle.textarea_document.specs.Prelude.{is_some, characters_of, lines, lines_of, text_of, Place, IsPlaceOf, line_of, is_empty_line, is_paragraph_start, is_later_paragraph_start, is_earlier_paragraph_start, next_word_last, VisualTargets, is_later_word_row, target, CursorMove}
 use Rattle.textarea_text.proofs.Splices.{lines-joined}
-use Rattle.textarea_text.specs.Paragraphs.{is_empty_line, is_paragraph_start, is_later_paragraph_start, is_earlier_paragraph_start}
-use Rattle.textarea_text.specs.Words.{next_word_last}
-use Rattle.textarea_document.specs.Target.{VisualTargets, is_later_word_row, target}
-use Rattle.textarea_data.specs.declared.cursor.CursorMove.{CursorMove}
 
 -- the lines that some `String`s hold are those of the text that they hold
 pub rows_of_text : {Z : Type 0} (items : List (String Z)) (place : Place) → IsPlaceOf (lines_of items) place → lines_of items ≡ lines (text_of items)

@@ -1,24 +1,10 @@
 -- Each step keeps what each document keeps.
 use Rattle.std.proofs.Common.{◌≡◌, ℕ, Bool, true, false, cond, List, [], length, Option, Some, None, Result, Ok, Err, sym, ap, refl, ◌∙◌, subst, arith}
-use Rattle.std.specs.Result.{OnErr, OnOk}
-use Rattle.textarea_text.specs.Text.{Symbol, lines}
-use Rattle.textarea_text.specs.Place.{Place, IsPlace}
-use Rattle.textarea_text.specs.Splice.{Splice, Fits, applied, inverse, place_after}
+use Rattle.textarea_document.specs.Prelude.{OnErr, OnOk, Symbol, lines, Place, IsPlace, Splice, Fits, applied, inverse, place_after, Log, empty_log, made_again, newest, next, recorded, taken_back, AtomicRange, moved_ranges, LayoutSettings, LaidOut, Layout, all_cut, applied_to, laid_out_anew, laid_out_with, wrapping_of, is_same, wrapping_for, DocumentState, document_of, fresh_document, logged, after_change, edited, redone_by, undone_by, laid_out_of, with_layout_settings, IsSound}
 use Rattle.textarea_text.proofs.TextPlaces.{IsPlace-end, takes_back}
-use Rattle.textarea_history.specs.Log.{Log, empty_log, made_again, newest, next, recorded, taken_back}
 use Rattle.textarea_history.specs.Law.{IsSound as LogIsSound}
 use Rattle.textarea_history.proofs.LogLaws.{each_fits, newest_back, sound_redone_by, sound_undone_by, sound_edited as log_edited}
-use Rattle.textarea_data.specs.declared.range.AtomicRange.{AtomicRange}
-use Rattle.textarea_ranges.specs.Moved.{moved_ranges}
-use Rattle.textarea_ranges.specs.Order.{AreInOrder}
 use Rattle.textarea_ranges.proofs.Moving.{in_order_moved, valid_moved}
-use Rattle.textarea_lines.specs.declared.settings.LayoutSettings.{LayoutSettings}
-use Rattle.textarea_lines.specs.Layout.{LaidOut, Layout, all_cut, applied_to, laid_out_anew, laid_out_with, wrapping_of}
-use Rattle.textarea_lines.specs.Wrappings.{is_same, wrapping_for}
-use Rattle.textarea_document.specs.State.{DocumentState, document_of, fresh_document, logged}
-use Rattle.textarea_document.specs.Outcomes.{after_change, edited, redone_by, undone_by}
-use Rattle.textarea_document.specs.Rows.{laid_out_of, with_layout_settings}
-use Rattle.textarea_document.specs.Sound.{IsSound}
 use Rattle.textarea_document.proofs.Ranges.{valid_none}
 
 -- the log of a sound document is sound
@@ -41,14 +27,6 @@ pub sound_edited : (document : DocumentState) (splice : Splice) (typed : Bool) (
 sound_edited document splice typed now h fits =
     sound_after document splice (recorded document.log splice typed now) h fits (log_edited (logged document) splice typed now (logged_sound document h) fits)
 
--- parts that an edit left are those of the edited document
-pub edited_is : (laid new : LaidOut) (cursor ahead : Place) (anchor : Option Place) (ranges held : List AtomicRange) (log after : Log) (splice : Splice) (typed : Bool) (now : ℕ) → new ≡ applied_to laid splice → ahead ≡ place_after splice → held ≡ moved_ranges ranges splice → after ≡ recorded log splice typed now → document_of new ahead None held after ≡ edited (document_of laid cursor anchor ranges log) splice typed now
-edited_is laid new cursor ahead anchor ranges held log after splice typed now laid_is cursor_is held_is log_is =
-    ap (λ (l : LaidOut). document_of l ahead None held after) laid_is
-    ∙ ap (λ (p : Place). document_of (applied_to laid splice) p None held after) cursor_is
-    ∙ ap (λ (r : List AtomicRange). document_of (applied_to laid splice) (place_after splice) None r after) held_is
-    ∙ ap (λ (l : Log). document_of (applied_to laid splice) (place_after splice) None (moved_ranges ranges splice) l) log_is
-
 -- parts that a change left, with this log, are those of the document after it
 pub changed_is : (laid new : LaidOut) (cursor ahead : Place) (anchor : Option Place) (ranges held : List AtomicRange) (log after left : Log) (splice : Splice) → new ≡ applied_to laid splice → ahead ≡ place_after splice → held ≡ moved_ranges ranges splice → after ≡ left → document_of new ahead None held after ≡ after_change (document_of laid cursor anchor ranges log) splice left
 changed_is laid new cursor ahead anchor ranges held log after left splice laid_is cursor_is held_is log_is =
@@ -60,18 +38,6 @@ changed_is laid new cursor ahead anchor ranges held log after left splice laid_i
 -- what is seen of the text changes nothing of this
 pub resound : (document : DocumentState) (layout : Layout) → IsSound document → IsSound (record document { layout = layout })
 resound document layout h = record { cursor = h.cursor; anchor = h.anchor; ranges = h.ranges; in_order = h.in_order; undo = h.undo; redo = h.redo; bounded = h.bounded }
-
--- the same, of what a step left that has nothing selected
-pub sound_left : (outcome : DocumentState) (text : List Symbol) (layout : Layout) (cursor : Place) (held : List AtomicRange) (log : Log) → IsSound outcome → text ≡ outcome.text → cursor ≡ outcome.cursor → held ≡ outcome.ranges → log ≡ outcome.log → IsSound (record { text = text; layout = layout; cursor = cursor; anchor = None; ranges = held; log = log })
-sound_left outcome text layout cursor held log h text_is cursor_is held_is log_is = record {
-  cursor = rw (text_is, cursor_is) h.cursor;
-  anchor = tt;
-  ranges = rw (text_is, held_is) h.ranges;
-  in_order = subst AreInOrder (sym held_is) h.in_order;
-  undo = rw (text_is, log_is) h.undo;
-  redo = rw (text_is, log_is) h.redo;
-  bounded = rw log_is h.bounded;
-}
 
 -- ---- undo and redo
 

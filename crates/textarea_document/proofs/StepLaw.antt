@@ -2,19 +2,12 @@
 use Rattle.std.proofs.Common.{◌≡◌, ◌+◌, ◌-◌, ◌<◌, ℕ, List, [], ◌∷◌, length, take, drop, get_or, None, sym, ap, subst, ◌∙◌, arith}
 use Rattle.std.proofs.lemmas.List.{drop_more, length-take-le, take-append-drop}
 use Rattle.std.proofs.Math.Seq.{take-add}
-use Rattle.textarea_text.specs.Text.{Symbol, Break, lines}
-use Rattle.textarea_text.specs.Place.{IsPlace, StandsAt, end, index_of, line_end, place_of}
-use Rattle.textarea_text.specs.Splice.{Fits}
+use Rattle.textarea_document.specs.Prelude.{Symbol, Break, lines, IsPlace, StandsAt, end, index_of, line_end, place_of, Fits, TakesWhole, hit, widened, DocumentState, IsSound, IsMade, Insert, Remove, RemoveBefore, RemoveBehind, RemoveBreak, Step, cursor_index, splice_of, symbol_removal, CutsNone}
 use Rattle.textarea_text.proofs.TextPlaces.{IsPlace-end, index_of-end, index_within, place_of-index}
 use Rattle.textarea_text.proofs.Splices.{end-append}
 use Rattle.textarea_data.specs.declared.range.AtomicCursorBias.TheVariants.{Backward, Forward}
 use Rattle.textarea_data.specs.declared.range.AtomicDeleteDirection.TheVariants.{Forward as DeleteForward}
-use Rattle.textarea_ranges.specs.Held.{TakesWhole, hit, widened}
 use Rattle.textarea_ranges.proofs.HeldLemmas.{IsPlaceOf-moved_out, IsWidened-widened, outside-moved_out}
-use Rattle.textarea_document.specs.State.{DocumentState}
-use Rattle.textarea_document.specs.Sound.{IsSound}
-use Rattle.textarea_document.specs.Edits.{IsMade, Insert, Remove, RemoveBefore, RemoveBehind, RemoveBreak, Step, cursor_index, splice_of, symbol_removal}
-use Rattle.textarea_document.specs.Ranges.{CutsNone}
 use Rattle.textarea_document.proofs.Behinds.{break_removal_fits}
 use Rattle.textarea_document.proofs.Parts.{part_ends, removal_fits}
 use Rattle.textarea_document.proofs.Ranges.{before_by, up_to_from_index, whole_behind, whole_break, widened_ordered}

@@ -3,14 +3,12 @@ use Rattle.std.proofs.Common.{◌≡◌, ℕ, ◌+◌, ◌-◌, ◌≢◌, ◌<�
 use Rattle.std.proofs.lemmas.Bool.Decides.{nat_tests}
 use Rattle.std.proofs.lemmas.Grind.{common_steps}
 use Rattle.std.proofs.lemmas.List.{drop_more}
-use Rattle.textarea_text.specs.Text.{Symbol, Character, Break, joined}
-use Rattle.textarea_text.specs.Place.{Place, IsPlace, IsPlaceOf, StandsAt, end, index_of, line_end, place_of}
+use Rattle.textarea_document.specs.Prelude.{Symbol, Character, Break, joined, Place, IsPlace, IsPlaceOf, StandsAt, end, index_of, line_end, place_of, next_place, previous_place}
 use Rattle.textarea_text.proofs.Splices.{lines-joined}
 use Rattle.textarea_text.proofs.TextPlaces.{index_within, place_of-index}
 use Rattle.textarea_text.proofs.StringRows.{stands_until}
 use Rattle.textarea_text.proofs.Befores.{character_stands, break_stands}
 use Rattle.textarea_text.proofs.PlaceLemmas.{is_at_end}
-use Rattle.textarea_document.specs.Target.{next_place, previous_place}
 
 -- ---- neighbours
 

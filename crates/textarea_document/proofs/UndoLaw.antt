@@ -1,24 +1,14 @@
 -- The law of undo.
 use Rattle.std.proofs.Common.{◌≡◌, Bool, true, false, ◌==◌, ℕ, zero, suc, ◌-◌, ◌≤◌, ◌<◌, List, [], ◌∷◌, ◌++◌, length, take, drop, Option, Some, None, slice_get, sym, ap, refl, ◌∙◌, subst, arith}
-use Rattle.std.specs.Option.{IfSome}
 use Rattle.std.proofs.lemmas.Bool.{cond-false}
 use Rattle.std.proofs.lemmas.Bool.Decides.{nat_tests}
 use Rattle.std.proofs.lemmas.List.{length-append}
 use Rattle.std.proofs.lemmas.Option.{slice_get_within}
-use Rattle.textarea_text.specs.Text.{Symbol}
-use Rattle.textarea_text.specs.Splice.{Splice, Fits, place_after, place_before, StoodBefore}
-use Rattle.textarea_text.specs.Place.{Place, end}
+use Rattle.textarea_document.specs.Prelude.{IfSome, Symbol, Splice, Fits, place_after, place_before, StoodBefore, Place, end, merged, Log, Logged, done_after, grown, is_typed, joins, kept, newest, next, with_done, IsSame, times, DocumentState, logged, edited, redone, redone_by, undone, undone_by, GivesAllBack, GivesBack, IsSound}
 use Rattle.textarea_text.proofs.Splices.{end-append}
-use Rattle.textarea_history.specs.Run.{merged}
-use Rattle.textarea_history.specs.Log.{Log, Logged, done_after, grown, is_typed, joins, kept, newest, next, with_done}
 use Rattle.textarea_history.specs.Log.{redone as text_redone, redone_by as text_redone_by, undone as text_undone, undone_by as text_undone_by}
-use Rattle.textarea_history.specs.Law.{IsSame, times}
 use Rattle.textarea_history.proofs.Joins.{joins_newest}
 use Rattle.textarea_history.proofs.LogLaws.{next_again, gives_back as text_gives_back}
-use Rattle.textarea_document.specs.State.{DocumentState, logged}
-use Rattle.textarea_document.specs.Outcomes.{edited, redone, redone_by, undone, undone_by}
-use Rattle.textarea_document.specs.Law.{GivesAllBack, GivesBack}
-use Rattle.textarea_document.specs.Sound.{IsSound}
 use Rattle.textarea_document.proofs.Sounds.{logged_sound, sound_edited}
 
 -- an undo and a redo of a document do to its text and log what they do to a text with its log

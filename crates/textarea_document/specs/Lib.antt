@@ -10,3 +10,4 @@ pub mod Sound
 pub mod Goes
 pub mod Splices
 pub mod Target
+pub mod Prelude

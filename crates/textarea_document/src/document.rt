@@ -8,21 +8,7 @@ mod rows;
 mod selection;
 
 ghost use Rattle.std.specs.Prelude.{◌≡◌, ◌<◌, ◌≤◌, ◌+◌, ◌↔◌, length, OnOk, OnErr, IsOk, IfOk, IfSome, None, IsTrue, is_some, [], vec_len};
-ghost use Rattle.std.specs.Duration.{as_nanos};
-ghost use Rattle.textarea_util.specs.Limit.{size_limit};
-ghost use Rattle.textarea_text.specs.Text.{lines, lines_of, text_of};
-ghost use Rattle.textarea_text.specs.Place.{IsPlace, Place};
-ghost use Rattle.textarea_text.specs.Size.{size_of};
-ghost use Rattle.textarea_text.specs.Splice.{Fits, place_after};
-ghost use Rattle.textarea_history.specs.Edit.{IsWellFormed};
-ghost use Rattle.textarea_history.specs.Log.{empty_log, newest, next, recorded};
-ghost use Rattle.textarea_text.specs.Part.{clip};
-ghost use Rattle.textarea_document.specs.State.{new_document, fresh_document};
-ghost use Rattle.textarea_document.specs.Outcomes.{edited, moved, redone, run_ended, undone};
-ghost use Rattle.textarea_lines.specs.Layout.{applied_to};
-ghost use Rattle.textarea_ranges.specs.Moved.{moved_ranges};
-ghost use Rattle.textarea_ranges.specs.Valid.{AreValid};
-ghost use Rattle.textarea_document.specs.Ranges.{CutsNone};
+ghost use Rattle.textarea_document.specs.Prelude.{as_nanos, size_limit, lines, lines_of, text_of, IsPlace, Place, size_of, Fits, place_after, IsWellFormed, empty_log, newest, next, recorded, clip, new_document, fresh_document, edited, moved, redone, run_ended, undone, applied_to, moved_ranges, AreValid, CutsNone};
 
 use std::alloc::{AllocError, Global};
 use std::marker::Model;
@@ -69,7 +55,8 @@ impl Clone for Document {
     /// The same document, or an error where there is no memory for its lines and edits.
     fn clone(&self) -> Result<Document, AllocError> {
         let laid = self.laid.clone()?;
-        let (ranges, history) = self.clone_kept()?;
+        let ranges = self.ranges.clone()?;
+        let history = self.history.clone()?;
         Ok(Document {
             laid,
             cursor: self.cursor,
@@ -81,15 +68,6 @@ impl Clone for Document {
 }
 
 impl Document {
-    // Copies of what is kept beside the text: the ranges and the history.
-    fn clone_kept(&self) -> Result<(Vec<AtomicRange>, History), AllocError>
-        ensures ranges { IfOk result (λ copies. copies.0.items ≡ self.now.ranges) }
-        ensures log { IfOk result (λ copies. copies.1.log ≡ self.now.log) }
-    {
-        let ranges = self.ranges.clone()?;
-        Ok((ranges, self.history.clone()?))
-    }
-
     /// A document of these lines, the cursor at the start, which remembers so many edits and is seen under these settings; no
     /// line at all becomes one empty line. A line feed inside a line stays a character of that line.
     pub fn new(
@@ -196,14 +174,9 @@ impl Document {
         ensures ok { OnOk result (self.new ≡ edited self.old edit.splice typed (as_nanos now)) }
         ensures err { OnErr result (self.new ≡ self.old) }
     {
-        let ahead = make_edit(
-            &mut self.laid,
-            &mut self.ranges,
-            &mut self.history,
-            edit,
-            typed,
-            now,
-        )?;
+        self.history.reserve()?;
+        let ahead = make_change(&mut self.laid, &mut self.ranges, edit.change())?;
+        self.history.put(edit, typed, now);
         self.cursor = ahead;
         self.anchor = None;
         Ok(())
@@ -283,35 +256,6 @@ impl Document {
     }
 }
 
-// Makes an edit that fits the text of the lines, moves the ranges with it, and records it. Gives where the cursor stands then. All
-// memory is taken before the first change.
-fn make_edit(
-    laid: &mut LaidOutLines,
-    ranges: &mut Vec<AtomicRange>,
-    history: &mut History,
-    edit: Edit,
-    typed: bool,
-    now: Duration,
-) -> Result<(usize, usize), AllocError>
-    requires well_formed { IsWellFormed edit }
-    requires fits { Fits laid.old.text edit.splice }
-    requires valid { AreValid (lines laid.old.text) ranges.old.items }
-    ensures cursor { IfOk result (λ cursor. cursor ≡ place_after edit.splice) }
-    ensures laid { OnOk result (laid.new ≡ applied_to laid.old edit.splice) }
-    ensures ranges { OnOk result
-        (ranges.new.items ≡ moved_ranges ranges.old.items edit.splice) }
-    ensures log { OnOk result
-        (history.new.log ≡ recorded history.old.log edit.splice typed (as_nanos now)) }
-    ensures laid_stay { OnErr result (laid.new ≡ laid.old) }
-    ensures ranges_stay { OnErr result (ranges.new.items ≡ ranges.old.items) }
-    ensures log_stays { OnErr result (history.new.log ≡ history.old.log) }
-{
-    history.reserve()?;
-    let ahead = make_change(laid, ranges, edit.change())?;
-    history.put(edit, typed, now);
-    Ok(ahead)
-}
-
 // Makes a change that fits the text of the lines, and moves the ranges with it. Gives where the cursor stands then. All memory is
 // taken before the first change.
 fn make_change(
@@ -331,23 +275,9 @@ fn make_change(
     let start = change.start();
     let old = change.cursor_before();
     let new = change.cursor_after();
-    change_lines(laid, change)?;
-    move_ranges(ranges, start, old, new);
-    Ok(new)
-}
-
-// Makes a change that fits the text of the lines. Places of the text are small, and so is the one where the cursor stands then.
-fn change_lines(laid: &mut LaidOutLines, change: Change<'_>) -> Result<(), AllocError>
-    requires { Fits laid.old.text change }
-    ensures ok { OnOk result (laid.new ≡ applied_to laid.old change.entry) }
-    ensures err { OnErr result (laid.new ≡ laid.old) }
-    ensures places { (place : Place) → IsPlace laid.old.text place →
-        (place.0 < size_limit) × (place.1 ≤ size_limit) }
-    ensures cursor { OnOk result (((place_after change.entry).0 ≤ size_limit)
-        × ((place_after change.entry).1 ≤ size_limit)) }
-{
-    let _lines = laid.lines();
+    let _lines = laid.lines(); // whose places are small, before the change and after it
     laid.apply(change)?;
     let _changed = laid.lines();
-    Ok(())
+    move_ranges(ranges, start, old, new);
+    Ok(new)
 }

@@ -1,9 +1,6 @@
 //! The neighbours of a place, and how far the removal of a word reaches.
 ghost use Rattle.std.specs.Prelude.{◌≡◌, ◌+◌, ◌<◌, ◌≤◌, length, IfSome, MatchOption};
-ghost use Rattle.std.specs.Str.{chars};
-ghost use Rattle.textarea_text.specs.Text.{lines_of, text_of};
-ghost use Rattle.textarea_text.specs.Place.{IsPlaceOf, index_of};
-ghost use Rattle.textarea_document.specs.Target.{next_place, previous_place, word_end_after, word_start_before};
+ghost use Rattle.textarea_document.specs.Prelude.{chars, lines_of, text_of, IsPlaceOf, index_of, next_place, previous_place, word_end_after, word_start_before};
 
 use textarea_text::places::{line_end, line_length};
 use textarea_text::rows::column_count;

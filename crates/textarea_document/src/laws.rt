@@ -1,21 +1,6 @@
 //! Laws of documents and their visual rows, each the contract of a function that does nothing.
 ghost use Rattle.std.specs.Prelude.{◌≡◌, ℕ, Bool, false, List, [], ◌∷◌, Contains, None, Option, Some};
-ghost use Rattle.textarea_history.specs.Log.{newest, next};
-ghost use Rattle.textarea_lines.specs.declared.settings.LayoutSettings.{LayoutSettings};
-ghost use Rattle.textarea_data.specs.declared.range.AtomicRange.{AtomicRange};
-ghost use Rattle.textarea_ranges.specs.Held.{IsWithin};
-ghost use Rattle.textarea_ranges.specs.Moved.{moved_range};
-ghost use Rattle.textarea_text.specs.Place.{Place, end};
-ghost use Rattle.textarea_text.specs.Splice.{Fits, Splice, inverse};
-ghost use Rattle.textarea_text.specs.Text.{Symbol};
-ghost use Rattle.textarea_document.specs.Cuts.{CutsAll, CutsBySettings, CutsByWidth, SplicesBy};
-ghost use Rattle.textarea_document.specs.Edits.{IsMade, Step, splice_of, stepped};
-ghost use Rattle.textarea_document.specs.Goes.{AllStayOrAreDropped, AllStemFrom, GoesOver, GoesUncut};
-ghost use Rattle.textarea_document.specs.Outcomes.{edited, redone, undone};
-ghost use Rattle.textarea_document.specs.Ranges.{CutsNone};
-ghost use Rattle.textarea_document.specs.Rows.{HasRowsAt, IsAboveCursor, IsBelowCursor, with_inner_width, with_layout_settings};
-ghost use Rattle.textarea_document.specs.Sound.{IsSound};
-ghost use Rattle.textarea_document.specs.State.{DocumentState, fresh_document};
+ghost use Rattle.textarea_document.specs.Prelude.{newest, next, LayoutSettings, AtomicRange, IsWithin, moved_range, Place, end, Fits, Splice, inverse, Symbol, CutsAll, CutsBySettings, CutsByWidth, SplicesBy, IsMade, Step, splice_of, stepped, AllStayOrAreDropped, AllStemFrom, GoesOver, GoesUncut, edited, redone, undone, CutsNone, HasRowsAt, IsAboveCursor, IsBelowCursor, with_inner_width, with_layout_settings, IsSound, DocumentState, fresh_document};
 
 use textarea_lines::laws::{settings_cut, splices_cut};
 use textarea_ranges::laws::ranges_go_with_the_text;

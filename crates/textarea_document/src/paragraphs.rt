@@ -1,9 +1,6 @@
 //! The moves by paragraphs.
 ghost use Rattle.std.specs.Prelude.{◌≡◌, ◌<◌, length, IfSome};
-ghost use Rattle.textarea_text.specs.Text.{lines_of};
-ghost use Rattle.textarea_text.specs.Place.{IsPlaceOf, line_of};
-ghost use Rattle.textarea_text.specs.Paragraphs.{is_empty_line, is_paragraph_start, next_paragraph_start, previous_paragraph_start};
-ghost use Rattle.textarea_document.specs.Target.{paragraph_back, paragraph_forward};
+ghost use Rattle.textarea_document.specs.Prelude.{lines_of, IsPlaceOf, line_of, is_empty_line, is_paragraph_start, next_paragraph_start, previous_paragraph_start, paragraph_back, paragraph_forward};
 
 use textarea_text::places::{clip, last_row};
 

@@ -1,8 +1,6 @@
 //! Where the moves of a cursor lead.
 ghost use Rattle.std.specs.Prelude.{◌≡◌, false, true, IfSome, None};
-ghost use Rattle.textarea_text.specs.Text.{lines_of, text_of};
-ghost use Rattle.textarea_text.specs.Place.{IsPlaceOf};
-ghost use Rattle.textarea_document.specs.Target.{VisualTargets, is_visual, target};
+ghost use Rattle.textarea_document.specs.Prelude.{lines_of, text_of, IsPlaceOf, VisualTargets, is_visual, target};
 
 use crate::ends::{next_place, previous_place};
 use crate::paragraphs::{paragraph_back, paragraph_forward};

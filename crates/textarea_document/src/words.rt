@@ -1,8 +1,6 @@
 //! The moves by words.
 ghost use Rattle.std.specs.Prelude.{◌≡◌, ◌<◌, length};
-ghost use Rattle.textarea_text.specs.Text.{lines_of};
-ghost use Rattle.textarea_text.specs.Place.{IsPlaceOf};
-ghost use Rattle.textarea_document.specs.Target.{first_word_end, next_head, next_word_row, previous_end, word_back, word_end, word_forward};
+ghost use Rattle.textarea_document.specs.Prelude.{lines_of, IsPlaceOf, first_word_end, next_head, next_word_row, previous_end, word_back, word_end, word_forward};
 
 use textarea_text::places::{last_row, line_end, line_of};
 use textarea_text::word::{

@@ -1,39 +1,10 @@
 -- The cell of a caret that is shown leads back to the cursor.
 use Rattle.std.proofs.Common.{◌≡◌, ℕ, zero, suc, ◌-◌, ◌<◌, ◌≤◌, ◌⊎◌, inl, inr, ◌==◌, ◌||◌, ◌&&◌, min, Bool, true, false, not, List, [], ◌∷◌, Option, None, Some, if◌then◌else◌, ap, ap₂, arith, refl, subst, sym, ◌∙◌}
 use Rattle.std.proofs.lemmas.Bool.Decides.{nat_tests}
-use Rattle.textarea_document.specs.Edits.{is_filled}
-use Rattle.textarea_document.specs.Rows.{laid_out_of, with_inner_width}
+use Rattle.textarea_drawing.specs.Prelude.{is_filled, laid_out_of, with_inner_width, IsHitBack, Parts, frame_of, FrameState, has_lines, number_width, shows_placeholder, IsLastArea, IsHitBy, IsHitInRows, IsHitOf, IsHitWith, IsNear, greatest_at, IsPlaced, IsPlacedInRows, IsPlacedWith, LiesAs, Placing, corner_caret, row_view, IsRendered, at_inner_width, drawn_into, LaidOut, at_width, laid_out_with, LentRows, IsViewOf, LayoutSettings, AreRowsOf, row_total, greatest_column, row_at, HasNoZeroWidth, IsPlaceAt, IsVisualPosition, Wrapping, SceneState, contains, Alignment, Left, Center, Right, Rect, IsPlace, Place, Symbol, caret_at, hit_column, hit_row, left_view, at_start, ViewportState, RowView, RowsView}
 use Rattle.textarea_drawing.proofs.Lent.{IsViewedOnce, lent_right}
 use Rattle.textarea_drawing.proofs.OneHit.{BeginsOnce, lies_once, some_same, wanted_at}
 use Rattle.textarea_drawing.proofs.Rects.{last_area_once}
-use Rattle.textarea_drawing.specs.Back.{IsHitBack}
-use Rattle.textarea_drawing.specs.Frame.{Parts, frame_of}
-use Rattle.textarea_view.specs.Frame.{FrameState, has_lines, number_width, shows_placeholder}
-use Rattle.textarea_drawing.specs.Hit.{IsLastArea}
-use Rattle.textarea_view.specs.Hit.{IsHitBy, IsHitInRows, IsHitOf, IsHitWith, IsNear, greatest_at}
-use Rattle.textarea_view.specs.Placed.{IsPlaced, IsPlacedInRows, IsPlacedWith, LiesAs, Placing, corner_caret, row_view}
-use Rattle.textarea_drawing.specs.Rendered.{IsRendered, at_inner_width, drawn_into}
-use Rattle.textarea_lines.specs.Layout.{LaidOut, at_width, laid_out_with}
-use Rattle.textarea_screen_map.specs.Lent.{LentRows}
-use Rattle.textarea_lines.specs.View.{IsViewOf}
-use Rattle.textarea_lines.specs.declared.settings.LayoutSettings.{LayoutSettings}
-use Rattle.textarea_screen_map.specs.Layout.{AreRowsOf}
-use Rattle.textarea_blocks.specs.Sums.{row_total}
-use Rattle.textarea_screen_map.specs.Rows.{greatest_column, row_at}
-use Rattle.textarea_screen_map.specs.Seen.{HasNoZeroWidth, IsPlaceAt, IsVisualPosition}
-use Rattle.textarea_screen_map.specs.declared.layout.Wrapping.{Wrapping}
-use Rattle.textarea_view.specs.Scene.{SceneState}
-use Rattle.textarea_screen.specs.Rect.{contains}
-use Rattle.textarea_screen.specs.declared.screen.alignment.Alignment.{Alignment}
-use Rattle.textarea_screen.specs.declared.screen.alignment.Alignment.TheVariants.{Left, Center, Right}
-use Rattle.textarea_screen.specs.declared.screen.rect.Rect.{Rect}
-use Rattle.textarea_text.specs.Place.{IsPlace, Place}
-use Rattle.textarea_text.specs.Text.{Symbol}
-use Rattle.textarea_view.specs.Caret.{caret_at, hit_column, hit_row, left_view}
-use Rattle.textarea_view.specs.Shown.{at_start}
-use Rattle.textarea_view.specs.Viewport.{ViewportState}
-use Rattle.textarea_view.specs.declared.row_view.RowView.{RowView}
-use Rattle.textarea_wrap.specs.RowsView.{RowsView}
 
 -- ---- what the laws of the caret and of the map say
 

@@ -1,41 +1,11 @@
 -- The caret is shown where the inner area has room for it.
 use Rattle.std.proofs.Common.{◌≡◌, ◌≢◌, ℕ, ◌+◌, ◌-◌, ◌*◌, ◌^◌, ◌<◌, ◌≤◌, ◌==◌, ◌||◌, max, Bool, true, false, List, [], ◌∷◌, None, Some, IsSome, rules, if◌then◌else◌, length, refl, ap, ap₂, arith, subst, sym, ◌∙◌}
 use Rattle.std.proofs.lemmas.Bool.Decides.{nat_tests}
-use Rattle.textarea_util.specs.Limit.{size_limit}
-use Rattle.textarea_document.specs.Rows.{laid_out_of, with_inner_width}
-use Rattle.textarea_document.specs.State.{DocumentState}
+use Rattle.textarea_drawing.specs.Prelude.{size_limit, laid_out_of, with_inner_width, DocumentState, Parts, frame_of, scene_of, number_width, shows_placeholder, IsPlaced, IsPlacedInRows, IsPlacedWith, Placing, row_view, viewport_at, IsRendered, at_inner_width, HasRoomForCaret, HasWidthForCaret, HasWidthForRows, IsCaretShown, number_columns, at_width, wrapping_of, LentRows, IsViewOf, is_wrapped, wrapping_for, LayoutSettings, AreRowsOf, row_total, size_total, greatest_column, row_at, Wrapping, Alignment, Left, Rect, Place, weight, Symbol, Break, Character, following, joined, lines, on_first, caret_at, left_view, showing_row, showing_row_and_column, ViewportState, RowView, HaveFittingClusters, line_number_columns, RowsView, WrapMode}
 use Rattle.textarea_drawing.proofs.CaretBack.{IsSeenAtColumn, IsSeenInRow, PutsSettings, made, made_area}
 use Rattle.textarea_drawing.proofs.Lent.{lent_right}
 use Rattle.textarea_drawing.proofs.Rects.{last_area_once}
-use Rattle.textarea_drawing.specs.Frame.{Parts, frame_of, scene_of}
-use Rattle.textarea_view.specs.Frame.{number_width, shows_placeholder}
-use Rattle.textarea_view.specs.Placed.{IsPlaced, IsPlacedInRows, IsPlacedWith, Placing, row_view, viewport_at}
-use Rattle.textarea_drawing.specs.Rendered.{IsRendered, at_inner_width}
-use Rattle.textarea_drawing.specs.Shown.{HasRoomForCaret, HasWidthForCaret, HasWidthForRows, IsCaretShown, number_columns}
-use Rattle.textarea_lines.specs.Layout.{at_width, wrapping_of}
-use Rattle.textarea_screen_map.specs.Lent.{LentRows}
-use Rattle.textarea_lines.specs.View.{IsViewOf}
-use Rattle.textarea_lines.specs.Wrappings.{is_wrapped, wrapping_for}
-use Rattle.textarea_lines.specs.declared.settings.LayoutSettings.{LayoutSettings}
-use Rattle.textarea_screen_map.specs.Layout.{AreRowsOf}
-use Rattle.textarea_blocks.specs.Sums.{row_total, size_total}
-use Rattle.textarea_screen_map.specs.Rows.{greatest_column, row_at}
-use Rattle.textarea_screen_map.specs.declared.layout.Wrapping.{Wrapping}
-use Rattle.textarea_screen.specs.declared.screen.alignment.Alignment.{Alignment}
-use Rattle.textarea_screen.specs.declared.screen.alignment.Alignment.TheVariants.{Left}
-use Rattle.textarea_screen.specs.declared.screen.rect.Rect.{Rect}
 use Rattle.textarea_text.proofs.TextPlaces.{joined-lines}
-use Rattle.textarea_text.specs.Place.{Place}
-use Rattle.textarea_text.specs.Size.{weight}
-use Rattle.textarea_text.specs.Text.{Symbol, Break, Character, following, joined, lines, on_first}
-use Rattle.textarea_view.specs.Caret.{caret_at, left_view}
-use Rattle.textarea_view.specs.Shown.{showing_row, showing_row_and_column}
-use Rattle.textarea_view.specs.Viewport.{ViewportState}
-use Rattle.textarea_view.specs.declared.row_view.RowView.{RowView}
-use Rattle.textarea_wrap.specs.Fitting.{HaveFittingClusters}
-use Rattle.textarea_wrap.specs.Layout.{line_number_columns}
-use Rattle.textarea_wrap.specs.RowsView.{RowsView}
-use Rattle.textarea_wrap.specs.declared.wrap.WrapMode.{WrapMode}
 use Rattle.textarea_wrap.specs.declared.wrap.WrapMode.TheVariants as wrap
 
 -- ---- what the laws of the caret and of the map say

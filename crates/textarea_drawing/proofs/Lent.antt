@@ -1,14 +1,6 @@
 -- What rows that are lent settle.
 use Rattle.std.proofs.Common.{◌≡◌, ℕ, List, sym, subst}
-use Rattle.textarea_view.specs.Hit.{IsNear}
-use Rattle.textarea_lines.specs.Layout.{LaidOut, wrapping_of}
-use Rattle.textarea_screen_map.specs.Lent.{LentRows}
-use Rattle.textarea_lines.specs.View.{IsViewOf}
-use Rattle.textarea_screen_map.specs.Layout.{AreRowsOf}
-use Rattle.textarea_screen_map.specs.Seen.{IsPlaceAt, IsVisualPosition}
-use Rattle.textarea_screen_map.specs.declared.layout.Wrapping.{Wrapping}
-use Rattle.textarea_text.specs.Place.{Place}
-use Rattle.textarea_wrap.specs.RowsView.{RowsView}
+use Rattle.textarea_drawing.specs.Prelude.{IsNear, LaidOut, wrapping_of, LentRows, IsViewOf, AreRowsOf, IsPlaceAt, IsVisualPosition, Wrapping, Place, RowsView}
 
 -- a text as it is laid out is lent in one way
 abbrev pub IsViewedOnce : Type 0

@@ -1,21 +1,8 @@
 -- A drawing makes one cell of each.
 use Rattle.std.proofs.Common.{◌≡◌, ℕ, Bool, true, false, List, sym, subst, ap, ◌∙◌}
-use Rattle.std.specs.Option.{option_map}
-use Rattle.textarea_document.specs.Rows.{laid_out_of}
+use Rattle.textarea_drawing.specs.Prelude.{option_map, laid_out_of, AreLinesOf, AreLinesWith, frame_change, Parts, frame_of, FrameState, shows_placeholder, IsDrawn, LentRows, FillsArea, SceneState, Changes, area_of, cell_at, ShownLine, Buffer, Rect, ViewportState}
 use Rattle.textarea_drawing.proofs.Lent.{IsViewedOnce}
 use Rattle.textarea_drawing.proofs.Rects.{inner_once}
-use Rattle.textarea_view.specs.Cells.{AreLinesOf, AreLinesWith, frame_change}
-use Rattle.textarea_drawing.specs.Frame.{Parts, frame_of}
-use Rattle.textarea_view.specs.Frame.{FrameState, shows_placeholder}
-use Rattle.textarea_drawing.specs.Rendered.{IsDrawn}
-use Rattle.textarea_screen_map.specs.Lent.{LentRows}
-use Rattle.textarea_view.specs.SceneDrawn.{FillsArea}
-use Rattle.textarea_view.specs.Scene.{SceneState}
-use Rattle.textarea_screen.specs.Buffer.{Changes, area_of, cell_at}
-use Rattle.textarea_screen.specs.Text.{ShownLine}
-use Rattle.textarea_screen.specs.declared.screen.buffer.Buffer.{Buffer}
-use Rattle.textarea_screen.specs.declared.screen.rect.Rect.{Rect}
-use Rattle.textarea_view.specs.Viewport.{ViewportState}
 
 -- an area is filled by one list of lines
 abbrev pub FillsOnce : Type 0

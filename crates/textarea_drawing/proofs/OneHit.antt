@@ -1,26 +1,8 @@
 -- A cell shows one place, or none.
 use Rattle.std.proofs.Common.{◌≡◌, ℕ, Bool, true, false, Option, Some, sym, subst, ap, ap₂, ◌∙◌}
-use Rattle.std.specs.Option.{is_some}
-use Rattle.textarea_document.specs.Rows.{laid_out_of}
+use Rattle.textarea_drawing.specs.Prelude.{is_some, laid_out_of, Parts, frame_of, FrameState, number_width, shows_placeholder, IsHit, IsLastArea, IsHitBy, IsHitInRows, IsHitOf, IsHitWith, IsNear, greatest_at, IsStart, LiesAs, row_area, row_view, LentRows, RowArea, IsRowStart, SceneState, contains, Alignment, Left, Center, Right, Rect, Place, hit_column, ViewportState, RowView}
 use Rattle.textarea_drawing.proofs.Lent.{IsPlacedOnce, IsViewedOnce, near_once}
 use Rattle.textarea_drawing.proofs.Rects.{last_area_once}
-use Rattle.textarea_drawing.specs.Frame.{Parts, frame_of}
-use Rattle.textarea_view.specs.Frame.{FrameState, number_width, shows_placeholder}
-use Rattle.textarea_drawing.specs.Hit.{IsHit, IsLastArea}
-use Rattle.textarea_view.specs.Hit.{IsHitBy, IsHitInRows, IsHitOf, IsHitWith, IsNear, greatest_at}
-use Rattle.textarea_view.specs.Placed.{IsStart, LiesAs, row_area, row_view}
-use Rattle.textarea_screen_map.specs.Lent.{LentRows}
-use Rattle.textarea_paint.specs.declared.paint.row.RowArea.{RowArea}
-use Rattle.textarea_view.specs.SceneDrawn.{IsRowStart}
-use Rattle.textarea_view.specs.Scene.{SceneState}
-use Rattle.textarea_screen.specs.Rect.{contains}
-use Rattle.textarea_screen.specs.declared.screen.alignment.Alignment.{Alignment}
-use Rattle.textarea_screen.specs.declared.screen.alignment.Alignment.TheVariants.{Left, Center, Right}
-use Rattle.textarea_screen.specs.declared.screen.rect.Rect.{Rect}
-use Rattle.textarea_text.specs.Place.{Place}
-use Rattle.textarea_view.specs.Caret.{hit_column}
-use Rattle.textarea_view.specs.Viewport.{ViewportState}
-use Rattle.textarea_view.specs.declared.row_view.RowView.{RowView}
 
 -- a visual row begins at one column
 abbrev pub BeginsOnce : Type 0

@@ -1,17 +1,7 @@
 -- One place is the nearest that is shown.
 use Rattle.std.proofs.Common.{◌≡◌, ℕ, ◌-◌, Bool, true, false, sym, subst, ap, ap₂, ◌∙◌}
-use Rattle.textarea_document.specs.Rows.{laid_out_of}
-use Rattle.textarea_document.specs.State.{DocumentState}
+use Rattle.textarea_drawing.specs.Prelude.{laid_out_of, DocumentState, IsInside, IsReached, greatest_at, LaidOut, LentRows, IsViewOf, row_total, IsVisualPosition, Place, is_same_place, ViewportState, clamped}
 use Rattle.textarea_drawing.proofs.Lent.{IsPlacedOnce, IsSeenOnce, IsViewedOnce, near_once, seen_in}
-use Rattle.textarea_drawing.specs.Hit.{IsInside, IsReached}
-use Rattle.textarea_view.specs.Hit.{greatest_at}
-use Rattle.textarea_lines.specs.Layout.{LaidOut}
-use Rattle.textarea_screen_map.specs.Lent.{LentRows}
-use Rattle.textarea_lines.specs.View.{IsViewOf}
-use Rattle.textarea_blocks.specs.Sums.{row_total}
-use Rattle.textarea_screen_map.specs.Seen.{IsVisualPosition}
-use Rattle.textarea_text.specs.Place.{Place, is_same_place}
-use Rattle.textarea_view.specs.Viewport.{ViewportState, clamped}
 
 reached_once : (once : IsPlacedOnce) (b : Bool) (rows : LentRows) (wanted cursor place other : Place) → IsReached b rows wanted cursor place → IsReached b rows wanted cursor other → place ≡ other
 reached_once once true rows wanted cursor place other e f = e ∙ sym f

@@ -1,23 +1,9 @@
 -- A drawing leaves one state.
 use Rattle.std.proofs.Common.{◌≡◌, ℕ, Bool, true, false, Option, sym, subst, ap, ap₂, ◌∙◌}
-use Rattle.textarea_document.specs.Rows.{laid_out_of, with_inner_width}
+use Rattle.textarea_drawing.specs.Prelude.{laid_out_of, with_inner_width, Parts, frame_of, FrameState, number_width, shows_placeholder, IsPlaced, IsPlacedInRows, IsPlacedWith, LiesAs, Placing, viewport_at, IsRendered, at_inner_width, drawn_into, LentRows, IsViewOf, AreRowsOf, SceneState, Rect, Place, caret_at, ViewportState, RowView, WrapMode}
 use Rattle.textarea_drawing.proofs.Lent.{IsSeenOnce, IsViewedOnce, lent_right}
 use Rattle.textarea_drawing.proofs.OneHit.{BeginsOnce, lies_once}
 use Rattle.textarea_drawing.proofs.Rects.{inner_once}
-use Rattle.textarea_drawing.specs.Frame.{Parts, frame_of}
-use Rattle.textarea_view.specs.Frame.{FrameState, number_width, shows_placeholder}
-use Rattle.textarea_view.specs.Placed.{IsPlaced, IsPlacedInRows, IsPlacedWith, LiesAs, Placing, viewport_at}
-use Rattle.textarea_drawing.specs.Rendered.{IsRendered, at_inner_width, drawn_into}
-use Rattle.textarea_screen_map.specs.Lent.{LentRows}
-use Rattle.textarea_lines.specs.View.{IsViewOf}
-use Rattle.textarea_screen_map.specs.Layout.{AreRowsOf}
-use Rattle.textarea_view.specs.Scene.{SceneState}
-use Rattle.textarea_screen.specs.declared.screen.rect.Rect.{Rect}
-use Rattle.textarea_text.specs.Place.{Place}
-use Rattle.textarea_view.specs.Caret.{caret_at}
-use Rattle.textarea_view.specs.Viewport.{ViewportState}
-use Rattle.textarea_view.specs.declared.row_view.RowView.{RowView}
-use Rattle.textarea_wrap.specs.declared.wrap.WrapMode.{WrapMode}
 
 -- the rows of a scene are right rows of its lines
 abbrev HasRightRows : SceneState → Type 0

@@ -2,12 +2,7 @@
 use Rattle.std.proofs.Common.{◌≡◌, ℕ, ◌+◌, ◌-◌, ◌≤◌, min, ap, ap₂, sym, subst, ◌∙◌}
 use Rattle.std.proofs.Math.Bridge.{le_prop}
 use Rattle.std.specs.Prelude.{Option}
-use Rattle.textarea_document.specs.State.{DocumentState}
-use Rattle.textarea_drawing.specs.Hit.{IsLastArea}
-use Rattle.textarea_drawing.specs.State.{DrawingState}
-use Rattle.textarea_screen.specs.Block.{ShownBlock}
-use Rattle.textarea_screen.specs.declared.screen.rect.Rect.{Rect}
-use Rattle.textarea_view.specs.Inner.{IsInner}
+use Rattle.textarea_drawing.specs.Prelude.{DocumentState, IsLastArea, DrawingState, ShownBlock, Rect, IsInner}
 
 -- with these numbers it is that rectangle, whatever says that its edges are at most 65535
 abbrev IsThen : Rect → ℕ → ℕ → ℕ → ℕ → Type 0

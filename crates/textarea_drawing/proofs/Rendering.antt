@@ -1,23 +1,11 @@
 -- What a drawing leaves, put together from its steps.
 use Rattle.std.proofs.Common.{◌≡◌, ℕ, ap, sym, subst, ◌∙◌}
-use Rattle.textarea_document.specs.Rows.{laid_out_of, with_inner_width}
-use Rattle.textarea_document.specs.State.{DocumentState}
+use Rattle.textarea_drawing.specs.Prelude.{parts_of, laid_out_of, with_inner_width, DocumentState, Parts, frame_of, FrameState, Placing, IsDrawn, IsRendered, at_inner_width, drawn_into, DrawingState, IsDrawnAt, IsFrameDrawn, IsViewOf, Buffer, Rect, IsInner}
 use Rattle.textarea_drawing.proofs.Widths.{frame_at_width}
-use Rattle.textarea_drawing.specs.Frame.{Parts, frame_of}
-use Rattle.textarea_view.specs.Frame.{FrameState}
-use Rattle.textarea_view.specs.Placed.{Placing}
-use Rattle.textarea_drawing.specs.Rendered.{IsDrawn, IsRendered, at_inner_width, drawn_into}
-use Rattle.textarea_drawing.specs.State.{DrawingState}
-use Rattle.textarea_drawing.specs.Steps.{IsDrawnAt}
-use Rattle.textarea_view.specs.FrameDrawn.{IsFrameDrawn}
-use Rattle.textarea_lines.specs.View.{IsViewOf}
-use Rattle.textarea_screen.specs.declared.screen.buffer.Buffer.{Buffer}
-use Rattle.textarea_screen.specs.declared.screen.rect.Rect.{Rect}
-use Rattle.textarea_view.specs.Inner.{IsInner}
 
 -- the parts, with another document and another drawing
 abbrev pub with_both : Parts → DocumentState → DrawingState → Parts
-with_both parts document drawing = record { document = document; pattern = parts.pattern; surround = parts.surround; drawing = drawing }
+with_both parts document drawing = parts_of document parts.pattern parts.surround drawing
 
 -- the steps of a drawing: the inner area, what is drawn with the rows at its width, and what is kept
 pub record IsStepped (old : Parts) (area inner : Rect) (width : ℕ) (a b : Buffer) (placing : Placing) (document : DocumentState) (drawing : DrawingState) : Type 0 where

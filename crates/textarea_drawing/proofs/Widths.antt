@@ -1,16 +1,6 @@
 -- A frame at another inner width is told from the same settings.
 use Rattle.std.proofs.Common.{◌≡◌, ℕ, Bool, true, false, cond, not, Option, None, Some, ap, refl, ◌∙◌}
-use Rattle.textarea_document.specs.Edits.{is_filled}
-use Rattle.textarea_document.specs.Rows.{laid_out_of}
-use Rattle.textarea_document.specs.Selection.{selection, selection_by}
-use Rattle.textarea_document.specs.State.{DocumentState}
-use Rattle.textarea_drawing.specs.Frame.{Parts, frame_of, scene_of}
-use Rattle.textarea_view.specs.Frame.{FrameState}
-use Rattle.textarea_drawing.specs.Rendered.{at_inner_width}
-use Rattle.textarea_lines.specs.Layout.{LaidOut, Layout, at_width, laid_out_anew, stays_cut}
-use Rattle.textarea_screen_map.specs.Lent.{LentRows}
-use Rattle.textarea_lines.specs.declared.settings.LayoutSettings.{LayoutSettings}
-use Rattle.textarea_text.specs.Place.{Place}
+use Rattle.textarea_drawing.specs.Prelude.{is_filled, laid_out_of, selection, selection_by, DocumentState, Parts, frame_of, scene_of, FrameState, at_inner_width, LaidOut, Layout, at_width, laid_out_anew, stays_cut, LentRows, LayoutSettings, Place}
 
 abbrev put_if : Bool → LaidOut → LayoutSettings → LaidOut
 put_if b laid settings = cond b (record { text = laid.text; layout = record { settings = settings; count = laid.layout.count; ticks = laid.layout.ticks } }) (laid_out_anew settings laid.layout.count laid.text)

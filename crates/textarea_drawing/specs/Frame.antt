@@ -17,6 +17,9 @@ pub record Parts : Type 0 where
   pub surround : SurroundState
   pub drawing : DrawingState
 
+abbrev pub parts_of : DocumentState → Option (List ℕ) → SurroundState → DrawingState → Parts
+parts_of document pattern surround drawing = record { document = document; pattern = pattern; surround = surround; drawing = drawing }
+
 -- the scene of these parts, where the lines have these rows
 abbrev pub scene_of : Parts → LentRows → SceneState
 scene_of parts rows = record {

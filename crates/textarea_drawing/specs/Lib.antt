@@ -5,3 +5,4 @@ pub mod Rendered
 pub mod Steps
 pub mod Back
 pub mod Shown
+pub mod Prelude

@@ -5,10 +5,7 @@ mod hit;
 mod render;
 
 ghost use Rattle.std.specs.Prelude.{◌≡◌, [], ◌∷◌, ◌++◌, OnErr, OnOk};
-ghost use Rattle.std.specs.Option.{option_map};
-ghost use Rattle.textarea_drawing.specs.State.{for_other_lines, new_drawing, with_look, with_viewport};
-ghost use Rattle.textarea_view.specs.Placed.{cell_of_position};
-ghost use Rattle.textarea_view.specs.Scrolled.{scrolled_by};
+ghost use Rattle.textarea_drawing.specs.Prelude.{option_map, for_other_lines, new_drawing, with_look, with_viewport, cell_of_position, scrolled_by};
 
 use std::alloc::{AllocError, Global};
 use std::marker::Model;

@@ -1,19 +1,6 @@
 //! Laws of what is drawn, each the contract of a function that does nothing.
 ghost use Rattle.std.specs.Prelude.{◌≡◌, ◌<◌, ◌^◌, ℕ, Option, is_some};
-ghost use Rattle.textarea_util.specs.Limit.{size_limit};
-ghost use Rattle.textarea_document.specs.State.{DocumentState};
-ghost use Rattle.textarea_drawing.specs.Back.{IsHitBack};
-ghost use Rattle.textarea_drawing.specs.Frame.{Parts};
-ghost use Rattle.textarea_drawing.specs.Hit.{IsHit, IsInside, IsLastArea};
-ghost use Rattle.textarea_drawing.specs.Rendered.{IsDrawn, IsRendered};
-ghost use Rattle.textarea_drawing.specs.Shown.{IsCaretShown};
-ghost use Rattle.textarea_screen.specs.Buffer.{cell_at};
-ghost use Rattle.textarea_screen.specs.Rect.{contains};
-ghost use Rattle.textarea_screen.specs.declared.screen.buffer.Buffer.{Buffer};
-ghost use Rattle.textarea_screen.specs.declared.screen.rect.Rect.{Rect};
-ghost use Rattle.textarea_text.specs.Place.{IsPlace, Place};
-ghost use Rattle.textarea_text.specs.Size.{weight};
-ghost use Rattle.textarea_view.specs.Viewport.{ViewportState};
+ghost use Rattle.textarea_drawing.specs.Prelude.{size_limit, DocumentState, IsHitBack, Parts, IsHit, IsInside, IsLastArea, IsDrawn, IsRendered, IsCaretShown, cell_at, contains, Buffer, Rect, IsPlace, Place, weight, ViewportState};
 
 use textarea_lines::laws::{one_view, settings_stay};
 use textarea_screen_map::laws::{

@@ -1,4 +1,5 @@
 -- Places at which a row can be cut, and their order.
+use Rattle.std.proofs.lemmas.Grind.{common_steps}
 use Rattle.std.proofs.Common.{◌≡◌, ℕ, zero, suc, ◌≤◌, ◌<◌, min, true, false, List, [], ◌∷◌, ◌++◌, length, get_or, refl, sym, ap, subst, ◌∙◌, ⊎_elim, arith, is_lt, IsCharBoundary, cond}
 use Rattle.std.specs.Fmt.{is_char_start}
 use Rattle.std.specs.Fmt.Cut.{floor_char_boundary}
@@ -74,7 +75,4 @@ ascending borders h i k d e le lt =
 pub match_borders-push : (row : List ℕ) (pairs : List (ℕ × ℕ)) (found : ℕ × ℕ) (style : Style) →
     match_borders row (pairs ++ found ∷ []) style ≡ match_borders row pairs style ++ highlight_borders row found.0 found.1 style search_rank
 match_borders-push row [] found style = append-nil (highlight_borders row found.0 found.1 style search_rank)
-match_borders-push row (first ∷ pairs) found style =
-    let front = highlight_borders row first.0 first.1 style search_rank in
-    ap (λ bs. front ++ bs) (match_borders-push row pairs found style)
-    ∙ sym (append_assoc front (match_borders row pairs style) (highlight_borders row found.0 found.1 style search_rank))
+match_borders-push row (first ∷ pairs) found style = grind (arith, common_steps, match_borders-push row pairs found style, append_assoc)

@@ -1,4 +1,5 @@
 -- The list of open styles against the starts that stay open.
+use Rattle.std.proofs.lemmas.Grind.{common_steps}
 use Rattle.std.proofs.Common.{◌≡◌, ℕ, zero, suc, ◌+◌, ◌-◌, ◌<◌, ◌≤◌, Bool, true, false, ◌==◌, cond, List, [], ◌∷◌, ◌++◌, take, length, count_by, Option, None, Some, refl, sym, ap, ◌∙◌, subst, inl, inr, arith}
 use Rattle.std.specs.List.{slice_get}
 use Rattle.std.specs.Option.{option_or, MatchOption}
@@ -65,18 +66,8 @@ left_open (End ∷ marks) = left_open marks
 pushed : (styles : List Style) (style : Style) (n : ℕ) (rest : List Style) →
     take (length (styles ++ style ∷ []) - n) (styles ++ style ∷ []) ++ rest
     ≡ take (length styles - (n - 1)) styles ++ (cond (n == 0) (style ∷ []) [] ++ rest)
-pushed styles style zero rest =
-    let k : length (styles ++ style ∷ []) ≤ length (styles ++ style ∷ []) - 0 = omega arith in
-    let m : length styles ≤ length styles - (0 - 1) = omega arith in
-    ap (λ ys. ys ++ rest) (take_all (length (styles ++ style ∷ []) - 0) (styles ++ style ∷ []) k)
-    ∙ append_assoc styles (style ∷ []) rest
-    ∙ ap (λ ys. ys ++ (style ∷ [] ++ rest)) (sym (take_all (length styles - (0 - 1)) styles m))
-pushed styles style (suc n) rest =
-    let k : length (styles ++ style ∷ []) - suc n ≡ length styles - n = omega (arith, length-append styles (style ∷ [])) in
-    let m : length styles - (suc n - 1) ≡ length styles - n = omega arith in
-    let no : (suc n == 0) ≡ false = grind (arith, nat_tests) in
-    rw (no, m) (ap (λ j. take j (styles ++ style ∷ []) ++ rest) k
-    ∙ ap (λ ys. ys ++ rest) (take-append-le (length styles - n) styles (style ∷ []) (omega arith)))
+pushed styles style zero rest = grind (arith, common_steps, take_all, append_assoc styles (style ∷ []) rest)
+pushed styles style (suc n) rest = grind (arith, common_steps, length-append styles (style ∷ []), nat_tests, take-append-le)
 
 kept : {X : Type 0} (o : Option X) (x y : X) → option_or o (Some y) ≡ option_or (option_or o (Some y)) (Some x)
 kept None x y = refl
@@ -128,14 +119,9 @@ unfolding closed_by left_open
 passed_parts [] styles =
     sym (append-nil (take (length styles - 0) styles) ∙ take_all (length styles - 0) styles (omega arith))
 passed_parts (Start style ∷ marks) styles =
-    passed_parts marks (styles ++ style ∷ [])
-    ∙ pushed styles style (closed_by marks) (left_open marks)
+    grind (arith, common_steps, passed_parts marks (styles ++ style ∷ []), pushed styles style (closed_by marks) (left_open marks), closed_by marks, left_open marks)
 passed_parts (End ∷ marks) styles =
-    let n : length (take (length styles - 1) styles) - closed_by marks ≡ length styles - (closed_by marks + 1) =
-    omega (arith, length-take (length styles - 1) styles) in
-    passed_parts marks (take (length styles - 1) styles)
-    ∙ ap (λ k. take k (take (length styles - 1) styles) ++ left_open marks) n
-    ∙ ap (λ ys. ys ++ left_open marks) (take-take (length styles - (closed_by marks + 1)) (length styles - 1) styles (omega arith))
+    grind (arith, common_steps, closed_by marks, length-take (length styles - 1) styles, passed_parts marks (take (length styles - 1) styles), left_open marks, take-take)
 
 passed_all-append : (styles : List Style) (xs ys : List Mark) → passed_all styles (xs ++ ys) ≡ passed_all (passed_all styles xs) ys
 passed_all-append styles [] ys = refl
@@ -167,9 +153,7 @@ last_is : {X : Type 0} (xs : List X) → slice_get xs (length xs - 1) ≡ last x
 unfolding last
 last_is [] = refl
 last_is (x ∷ []) = refl
-last_is (x ∷ y ∷ xs) =
-    let n : length (x ∷ y ∷ xs) - 1 ≡ suc (length (y ∷ xs) - 1) = omega arith in
-    ap (slice_get (x ∷ y ∷ xs)) n ∙ last_is (y ∷ xs) ∙ kept (last xs) x y
+last_is (x ∷ y ∷ xs) = grind (arith, common_steps, last_is (y ∷ xs), kept (last xs) x y, last xs)
 
 step : (style : Style) (marks : List Mark) (o : Option Style) (stays : Bool) → ((stays ≡ true → StaysOpen marks) × (StaysOpen marks → stays ≡ true)) →
     MatchOption o (OpensNone marks) (OpensLast marks) →
@@ -184,8 +168,7 @@ last_open : (marks : List Mark) → MatchOption (last (left_open marks)) (OpensN
 unfolding last left_open
 last_open [] = λ k other opens. no_mark k other opens.0
 last_open (Start style ∷ marks) =
-    rw (last-append (cond (closed_by marks == 0) (style ∷ []) []) (left_open marks))
-    (step style marks (last (left_open marks)) (closed_by marks == 0) (stays_of_closed marks, closed_of_stays marks) (last_open marks))
+    grind (arith, common_steps, last-append (cond (closed_by marks == 0) (style ∷ []) []) (left_open marks), closed_by marks == 0, left_open marks, step style marks (last (left_open marks)) (closed_by marks == 0) (stays_of_closed marks, closed_of_stays marks) (last_open marks), last (left_open marks), stays_of_closed marks, closed_of_stays marks, last_open marks)
 last_open (End ∷ marks) = behind_end marks (last (left_open marks)) (last_open marks)
 
 take-nil : (n : ℕ) → take {A = Style} n [] ≡ []
@@ -195,6 +178,4 @@ take-nil (suc n) = refl
 pub style_behind : (marks : List Mark) (styles : List Style) (base style : Style) → styles ≡ passed_all [] marks →
     MatchOption (slice_get styles (length styles - 1)) (style ≡ base) (λ s. style ≡ s) → IsStyleBehind marks base style
 style_behind marks styles base style e h =
-    let all : styles ≡ left_open marks = e ∙ passed_parts marks [] ∙ ap (λ ys. ys ++ left_open marks) (take-nil (length {A = Style} [] - closed_by marks)) in
-    let at : slice_get styles (length styles - 1) ≡ last (left_open marks) = last_is styles ∙ ap last all in
-    by_last marks base style (last (left_open marks)) (last_open marks) (rw at at h)
+    grind (arith, common_steps, left_open marks, passed_parts marks [], take-nil (length {A = Style} [] - closed_by marks), closed_by marks, last (left_open marks), last_is styles, last, by_last, last_open marks)

@@ -95,16 +95,11 @@ pub edge_at : (row : List ℕ) (borders : List Border) (n : ℕ) (d : Border) �
 edge_at row borders n d within = grind (arith, common_steps)
 
 pub piece_empty : (row : List ℕ) (from to : ℕ) → to ≤ from → piece_of row from to ≡ []
-piece_empty row from to h =
-    let none : to - from ≡ 0 = omega arith in
-    ap (λ k. chars (take k (drop from row))) none ∙ chars-nil
+piece_empty row from to h = grind (arith, common_steps, chars-nil)
 
 take_parts : (row : List ℕ) (start to : ℕ) → start ≤ to → take to row ≡ take start row ++ slice_range row start to
 take_parts row start to h =
-    let whole : start + (to - start) ≡ to = omega arith in
-    sym (take-append-drop start (take to row))
-    ∙ ap (λ ys. ys ++ drop start (take to row)) (take-take start to row h)
-    ∙ ap (λ ys. take start row ++ ys) (ap (λ k. drop start (take k row)) (sym whole) ∙ drop-take start (to - start) row)
+    grind (arith, common_steps, take-append-drop start (take to row), take-take start to row h, drop-take start (to - start) row)
 
 pub column_to : (tab_len : ℕ) (row : List ℕ) (start to : ℕ) → IsUtf8 row → start ≤ to → IsCharBoundary row start → IsCharBoundary row to →
     end_column tab_len (end_column tab_len 0 (chars (take start row))) (piece_of row start to) ≡ end_column tab_len 0 (chars (take to row))

@@ -1,4 +1,5 @@
 -- What is shown for a text, character by character.
+use Rattle.std.proofs.lemmas.Grind.{common_steps}
 use Rattle.std.proofs.Common.{◌≡◌, ◌≢◌, None, ℕ, zero, suc, ◌+◌, ◌-◌, ◌<◌, ◌≤◌, Bool, true, false, not, ◌==◌, cond, List, [], ◌∷◌, ◌++◌, take, drop, length, replicate, get_or, refl, sym, ap, ◌∙◌, arith, IsUtf8, encode_utf8_all}
 use Rattle.std.specs.List.{list_any, filter}
 use Rattle.std.specs.Str.{chars}
@@ -44,20 +45,16 @@ char_none false spaces c e = rw e refl
 with_spaces-same : (tab_len column : ℕ) (cs : List ℕ) → list_any is_tab cs ≡ false → with_spaces tab_len column cs ≡ cs
 with_spaces-same tab_len column [] none = refl
 with_spaces-same tab_len column (c ∷ cs) none =
-    let here : is_tab c ≡ false = grind (arith, nat_tests) in
-    rw (with_spaces-same tab_len (column_after tab_len column c) cs (grind (arith, nat_tests)), here) refl
+    grind (arith, common_steps, nat_tests, with_spaces-same tab_len (column_after tab_len column c) cs (grind (arith, nat_tests)))
 
 no_tab_shown : (tab_len column : ℕ) (cs : List ℕ) → list_any is_tab (with_spaces tab_len column cs) ≡ false
 no_tab_shown tab_len column [] = refl
 no_tab_shown tab_len column (c ∷ cs) =
-    rw (list_any-append is_tab (shown_char tab_len column c) (with_spaces tab_len (column_after tab_len column c) cs), char_none (is_tab c) (next_stop tab_len column - column) c refl)
-    (no_tab_shown tab_len (column_after tab_len column c) cs)
+    grind (arith, common_steps, list_any-append is_tab (shown_char tab_len column c) (with_spaces tab_len (column_after tab_len column c) cs), char_none (is_tab c) (next_stop tab_len column - column) c, no_tab_shown tab_len (column_after tab_len column c) cs)
 
 filter-same : (cs : List ℕ) → list_any is_tab cs ≡ false → filter (λ c. not (is_tab c)) cs ≡ cs
 filter-same [] none = refl
-filter-same (c ∷ cs) none =
-    let here : is_tab c ≡ false = grind (arith, nat_tests) in
-    rw here (ap (λ ys. c ∷ ys) (filter-same cs (grind (arith, nat_tests))))
+filter-same (c ∷ cs) none = grind (arith, common_steps, nat_tests, filter-same cs (grind (arith, nat_tests)))
 
 no_tab_kept : (cs : List ℕ) → list_any is_tab (filter (λ c. not (is_tab c)) cs) ≡ false
 no_tab_kept [] = refl

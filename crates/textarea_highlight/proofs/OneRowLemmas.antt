@@ -35,9 +35,7 @@ module _ {X : Type 0} (lt : X → X → Bool) (order : IsStrictWeakOrder lt) whe
   none_below_first x xs h = λ k d below. h zero k d zero-le below
 
   ties-parts : (x y : X) → ties lt x y ≡ true → (lt x y ≡ false) × (lt y x ≡ false)
-  ties-parts x y h =
-      let parts = and_parts (not (lt x y)) (not (lt y x)) h in
-      (not-true (lt x y) parts.0, not-true (lt y x) parts.1)
+  ties-parts x y h = grind (arith, common_steps, and_parts (not (lt x y)) (not (lt y x)) h, not-true)
 
   ties-from_parts : (x y : X) → lt x y ≡ false → lt y x ≡ false → ties lt x y ≡ true
   ties-from_parts x y a b = rw (a, b) refl

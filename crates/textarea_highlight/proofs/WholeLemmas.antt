@@ -64,5 +64,4 @@ pub whole : (row : List ℕ) (borders : List Border) (base : Style) (tab_len : �
     IsCut row borders base tab_len mask 0 spans (length row) →
     text_of_spans spans ≡ encode_utf8_all (shown mask tab_len 0 (chars row))
 whole row borders base tab_len mask spans u placed h cut =
-    whole_from row borders base tab_len mask 0 spans u placed h (IsCharBoundary-start row u) cut
-    ∙ ap (λ cs. encode_utf8_all (shown mask tab_len (end_column tab_len 0 cs) (chars row))) chars-nil
+    grind (arith, common_steps, whole_from row borders base tab_len mask 0 spans u placed h (IsCharBoundary-start row u) cut, IsCharBoundary-start row u, chars-nil)

@@ -1,20 +1,11 @@
 -- What a change is, of what its edit keeps; and the replacements that make it.
 use Rattle.std.proofs.Common.{◌≡◌, ℕ, ◌+◌, ◌<◌, ◌≤◌, Bool, true, false, cond, List, [], ◌∷◌, length, sym, ap, ◌∙◌, arith, subst, inl, inr, ◌⊎◌, String, encode_utf8, Vec}
-use Rattle.std.specs.declared.alloc.Global.{Global}
-use Rattle.std.specs.Option.{IfSome}
-use Rattle.std.specs.Str.{chars, IsUtf8}
 use Rattle.std.proofs.lemmas.List.{append-nil, length-map}
-use Rattle.textarea_text.specs.Text.{Symbol, characters, characters_of, lines_of, text_of}
-use Rattle.textarea_text.specs.Place.{Place, IsPlace, IsPlaceOf, StandsAt, changed, end, inserted, removed}
-use Rattle.textarea_text.specs.Splice.{Splice, Allows, Fits, applied}
-use Rattle.textarea_text.specs.Touched.{IsReplacementFor, ReplacesPart, breaks_of, lines_coming, lines_going}
-use Rattle.textarea_text.specs.declared.rows.Replacement.{Replacement}
+use Rattle.textarea_history.specs.Prelude.{Global, IfSome, chars, IsUtf8, Symbol, characters, characters_of, lines_of, text_of, Place, IsPlace, IsPlaceOf, StandsAt, changed, end, inserted, removed, Splice, Allows, Fits, applied, IsReplacementFor, ReplacesPart, breaks_of, lines_coming, lines_going, Replacement, Stored, IsWellFormed, directed, stored_of, symbols_in, Content}
 use Rattle.textarea_text.proofs.Columns.{chars_from_bytes}
 use Rattle.textarea_text.proofs.StringRows.{changed_by_none, columns_ordered, rows_ordered, rows_place, stands_until}
 use Rattle.textarea_text.proofs.Touching.{breaks_of-joined, end_row}
-use Rattle.textarea_history.specs.Edit.{Stored, IsWellFormed, directed, stored_of, symbols_in}
 use Rattle.textarea_history.proofs.Runs.{pieces_as}
-use Rattle.textarea_history.specs.declared.edit.Content.{Content}
 use Rattle.textarea_history.specs.declared.edit.Content.TheVariants as content
 
 -- ---- symbols

@@ -1,13 +1,7 @@
 -- Copies of edits, and of a history's list of them.
 use Rattle.std.proofs.Common.{◌≡◌, ◌≤◌, ◌-◌, ℕ, zero, suc, List, [], ◌∷◌, length, map, Option, Some, None, sym, ap, refl, ◌∙◌, arith, subst, slice_get}
-use Rattle.std.specs.List.{AllZip}
-use Rattle.std.specs.Option.{IfSome}
 use Rattle.std.proofs.lemmas.List.Elements.{AllZip-get_or, length_all_zip}
-use Rattle.textarea_text.specs.Place.{end}
-use Rattle.textarea_text.specs.Splice.{Splice}
-use Rattle.textarea_history.specs.Edit.{Stored, IsCopyOfEdit, IsWellFormed}
-use Rattle.textarea_history.specs.Log.{edge_of}
-use Rattle.textarea_history.specs.Store.{splice_in, IsRun, RunIs, IsStore}
+use Rattle.textarea_history.specs.Prelude.{AllZip, IfSome, end, Splice, Stored, IsCopyOfEdit, IsWellFormed, edge_of, splice_in, IsRun, RunIs, IsStore}
 
 pub splices_copied : (items copies : List Stored) → AllZip IsCopyOfEdit items copies → map splice_in copies ≡ map splice_in items
 splices_copied [] [] h = refl

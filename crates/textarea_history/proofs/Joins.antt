@@ -1,8 +1,6 @@
 -- What is known of an edit that joins the newest one.
 use Rattle.std.proofs.Common.{◌≡◌, ℕ, ◌-◌, Bool, true, false, ◌&&◌, nat_lt, List, [], ◌∷◌, Option, Some, None, ap, refl, ◌∙◌, eqb, eqb-true}
-use Rattle.textarea_text.specs.Place.{Place}
-use Rattle.textarea_text.specs.Splice.{Splice, place_before, place_after}
-use Rattle.textarea_history.specs.Log.{Log, continues_newest, is_empty, is_same_direction, is_same_place, is_typed, joins, newest, pause}
+use Rattle.textarea_history.specs.Prelude.{Place, Splice, place_before, place_after, Log, continues_newest, is_empty, is_same_direction, is_same_place, is_typed, joins, newest, pause}
 
 pub left_of : (a b : Bool) → (a && b) ≡ true → a ≡ true
 left_of true b e = refl

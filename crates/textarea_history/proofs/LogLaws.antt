@@ -3,13 +3,8 @@ use Rattle.std.proofs.Common.{◌≡◌, ◌≢◌, ℕ, zero, suc, ◌+◌, ◌
 use Rattle.std.proofs.lemmas.Bool.{eqb-true}
 use Rattle.std.proofs.lemmas.List.{reverse-append, length-append, length-drop, length-reverse, length-take-le, take-append-drop, nil_from_length, drop_more, drop_all, drop-append-le}
 use Rattle.std.proofs.lemmas.Option.{get_or_from_slice_get, slice_get_within, slice_get-get_or}
-use Rattle.textarea_text.specs.Text.{Symbol}
-use Rattle.textarea_text.specs.Place.{Place}
-use Rattle.textarea_text.specs.Splice.{Splice, Fits, applied, inverse, place_after, CanApply, CanTakeBack, StoodBefore}
+use Rattle.textarea_history.specs.Prelude.{Symbol, Place, Splice, Fits, applied, inverse, place_after, CanApply, CanTakeBack, StoodBefore, merged, Log, Logged, Redoes, Undoes, done_after, grown, is_typed, joins, kept, newest, next, redone, redone_by, undone, undone_by, with_done, EachFits, GivesBack, IsRedone, IsSame, IsSound, edited, times}
 use Rattle.textarea_text.proofs.TextPlaces.{takes_back}
-use Rattle.textarea_history.specs.Run.{merged}
-use Rattle.textarea_history.specs.Log.{Log, Logged, Redoes, Undoes, done_after, grown, is_typed, joins, kept, newest, next, redone, redone_by, undone, undone_by, with_done}
-use Rattle.textarea_history.specs.Law.{EachFits, GivesBack, IsRedone, IsSame, IsSound, edited, times}
 use Rattle.textarea_history.proofs.Joins.{joins_newest}
 use Rattle.textarea_history.proofs.UndoLaws.{CanApply-last, CanTakeBack-merged, applied_all-last, inverse-inverse}
 

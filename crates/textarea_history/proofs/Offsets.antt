@@ -3,10 +3,7 @@ use Rattle.std.proofs.Common.{◌≡◌, ℕ, zero, suc, ◌+◌, ◌<◌, ◌^�
 use Rattle.std.proofs.Math.Seq.{take-add}
 use Rattle.std.proofs.lemmas.List.{length-append, take_at}
 use Rattle.std.proofs.lemmas.Str.{encodes-chars, IsUtf8-string_bytes}
-use Rattle.textarea_text.specs.Offset.{offset_at}
-use Rattle.textarea_text.specs.Place.{Place, IsPlaceOf, StandsAt, index_of}
-use Rattle.textarea_text.specs.Size.{weight}
-use Rattle.textarea_text.specs.Text.{Symbol, characters, joined, leading, lines_of}
+use Rattle.textarea_history.specs.Prelude.{offset_at, Place, IsPlaceOf, StandsAt, index_of, weight, Symbol, characters, joined, leading, lines_of}
 use Rattle.textarea_text.proofs.Columns.{encodes_cut}
 use Rattle.textarea_text.proofs.TextPlaces.{index_parted, part_rows}
 use Rattle.textarea_text.proofs.Sizes.{weight-append, weight-characters}

@@ -1,18 +1,8 @@
 -- The characters of a run as it grows, and of an edit that has just one.
 use Rattle.std.proofs.Common.{◌≡◌, ℕ, ◌+◌, ◌-◌, ◌≤◌, Bool, true, false, cond, List, [], ◌∷◌, ◌++◌, length, reverse, sym, ap, refl, ◌∙◌, arith, subst, encode_utf8, encode_utf8_all, String, string_bytes, Result, is_ok, Some, None}
-use Rattle.std.specs.Option.{IfSome}
-use Rattle.std.specs.declared.alloc.Global.{Global}
-use Rattle.std.specs.Str.{chars, IsUtf8}
-use Rattle.std.specs.String.{string_len, string_capacity}
 use Rattle.std.proofs.lemmas.List.{append-nil, append_assoc, reverse-append, reverse-reverse, length-append, length-reverse, nil_from_length}
 use Rattle.std.proofs.lemmas.Str.{encodes-append, encodes-chars, IsUtf8-string_bytes, IsUtf8-past_char, chars_past_char, chars-nil}
-use Rattle.textarea_text.specs.Text.{Symbol, Character, characters, characters_of, following, joined}
-use Rattle.textarea_text.specs.Place.{Place, end}
-use Rattle.textarea_text.specs.Splice.{Splice, place_before, place_after}
-use Rattle.textarea_history.specs.Edit.{Stored, IsWellFormed, pieces_in, stored_of, symbols_in}
-use Rattle.textarea_history.specs.Run.{character_of, merged}
-use Rattle.textarea_history.specs.declared.edit.Content.{Content}
-use Rattle.textarea_history.specs.declared.edit.Content.TheVariants.{Typed}
+use Rattle.textarea_history.specs.Prelude.{IfSome, Global, chars, IsUtf8, string_len, string_capacity, Symbol, Character, characters, characters_of, following, joined, Place, end, Splice, place_before, place_after, Stored, IsWellFormed, pieces_in, stored_of, symbols_in, character_of, merged, Content, Typed}
 use Rattle.textarea_history.specs.declared.edit.Content.TheVariants as content
 use Rattle.textarea_text.proofs.Columns.{chars_from_bytes}
 use Rattle.textarea_text.proofs.Splices.{characters-append, end-append}

@@ -1,20 +1,12 @@
 -- A log kept as one list of edits and an index.
 use Rattle.std.proofs.Common.{◌≡◌, ℕ, zero, suc, ◌+◌, ◌-◌, ◌≤◌, ◌<◌, Bool, true, false, cond, ◌&&◌, ◌==◌, nat_lt, List, [], ◌∷◌, ◌++◌, length, take, drop, map, Option, Some, None, is_some, sym, ap, refl, ◌∙◌, arith, get_or, set, subst, slice_get, eqb-true, eq-eqb}
-use Rattle.std.specs.Option.{IfSome, IsSome}
 use Rattle.std.proofs.lemmas.List.{length-take-le, length-map, length-set, length-append, get_or-take, get_or-map, get_or-set_same, get_or_at, map-set, set-get_or, take-take, drop_more, take_all, drop_all, take_more, take-append-drop, take-map, drop-map, drop-take, length-take, length-drop}
-use Rattle.std.specs.List.{All}
 use Rattle.std.proofs.lemmas.List.Elements.{All-set, All-push, All-same}
 use Rattle.std.proofs.lemmas.Grind.{take-set_at}
 use Rattle.std.proofs.lemmas.Option.{slice_get_read, get_or_from_slice_get}
 use Rattle.std.proofs.lemmas.Bool.Decides.{nat_tests}
-use Rattle.textarea_text.specs.Text.{Symbol, Character, Break}
-use Rattle.textarea_text.specs.Place.{Place}
-use Rattle.textarea_text.specs.Splice.{Splice, place_before, place_after}
-use Rattle.textarea_history.specs.Edit.{Stored, IsWellFormed}
-use Rattle.textarea_history.specs.Log.{Log, with_done, kept, typed_character, newest, next, taken_back, made_again, joins, continues, continues_newest, is_same_direction, is_empty, is_typed, done_joined, grown, edge_of, pause}
-use Rattle.textarea_history.specs.Run.{character_of, merged}
+use Rattle.textarea_history.specs.Prelude.{IfSome, IsSome, All, Symbol, Character, Break, Place, Splice, place_before, place_after, Stored, IsWellFormed, Log, with_done, kept, typed_character, newest, next, taken_back, made_again, joins, continues, continues_newest, is_same_direction, is_empty, is_typed, done_joined, grown, edge_of, pause, character_of, merged, log_at, splice_in, spare_in, room_at, IsRun, RunIs, IsStore}
 use Rattle.textarea_history.proofs.Joins.{left_of, right_of, same_direction, same_place}
-use Rattle.textarea_history.specs.Store.{log_at, splice_in, spare_in, room_at, IsRun, RunIs, IsStore}
 
 -- ---- the newest edit
 

@@ -1,10 +1,7 @@
 -- Changes one after another, and what takes back a run and the edit that joins it.
 use Rattle.std.proofs.Common.{◌≡◌, ◌<◌, arith, Bool, true, false, not, List, [], ◌∷◌, ◌++◌, length, drop, sym, ap, refl, ◌∙◌, subst}
 use Rattle.std.proofs.lemmas.List.{append_assoc, length-append, take-append-drop}
-use Rattle.textarea_text.specs.Text.{Symbol}
-use Rattle.textarea_text.specs.Place.{Place, IsPlace, StandsAt, end, inserted, removed}
-use Rattle.textarea_text.specs.Splice.{Splice, Fits, applied, inverse, place_before, place_after, CanApply, CanTakeBack, applied_all}
-use Rattle.textarea_history.specs.Run.{merged}
+use Rattle.textarea_history.specs.Prelude.{Symbol, Place, IsPlace, StandsAt, end, inserted, removed, Splice, Fits, applied, inverse, place_before, place_after, CanApply, CanTakeBack, applied_all, merged}
 use Rattle.textarea_text.proofs.Splices.{end-append, inserted_at, removed_at, stands_at}
 use Rattle.textarea_text.proofs.TextPlaces.{parted, standing, place_parted, index_parted}
 

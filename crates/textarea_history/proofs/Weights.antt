@@ -1,8 +1,7 @@
 -- The bytes that the symbols of an edit take.
 use Rattle.std.proofs.Common.{◌≡◌, ◌<◌, ◌+◌, ◌-◌, List, [], ◌∷◌, length, take, drop, Bool, true, false, cond, sym, ap, ◌∙◌, arith, get_or, reverse, String, string_len}
 use Rattle.std.proofs.lemmas.List.{take_all}
-use Rattle.textarea_text.specs.Text.{characters, characters_of, text_of}
-use Rattle.textarea_text.specs.Size.{size_of, weight}
+use Rattle.textarea_history.specs.Prelude.{characters, characters_of, text_of, size_of, weight}
 use Rattle.textarea_text.proofs.Sizes.{weight_of_line, weight_of_text, weight-reverse}
 
 -- pieces, of which the first was taken off

@@ -5,3 +5,4 @@ pub mod EditLaw
 pub mod Law
 pub mod Log
 pub mod Store
+pub mod Prelude

@@ -3,8 +3,7 @@ mod change;
 mod run;
 
 ghost use Rattle.std.specs.Prelude.{◌≡◌, ◌<◌, IsOk, OnOk, OnErr, vec_len, true, false};
-ghost use Rattle.textarea_text.specs.Splice.{inverse, place_after, place_before};
-ghost use Rattle.textarea_history.specs.Change.{FitsLines, IsRemovalInLine, Makes};
+ghost use Rattle.textarea_history.specs.Prelude.{inverse, place_after, place_before, FitsLines, IsRemovalInLine, Makes};
 
 pub use change::Change;
 use std::alloc::AllocError;

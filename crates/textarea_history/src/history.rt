@@ -1,14 +1,8 @@
 //! The edits that were made and taken back, with a greatest number, and runs of typing that grow in place.
 pub mod laws;
 
-ghost use Rattle.std.specs.VecDeque.{deque_capacity};
 ghost use Rattle.std.specs.Prelude.{drop, ◌≡◌, ◌<◌, ◌≤◌, ◌+◌, length, OnOk, OnErr, IfOk, IfSome, IsSome, IsOk, MatchOption, Some, ◌∷◌, [], vec_len, true, false};
-ghost use Rattle.std.specs.Duration.{as_nanos};
-ghost use Rattle.textarea_text.specs.Text.{Character};
-ghost use Rattle.textarea_text.specs.Splice.{Splice, inverse};
-ghost use Rattle.textarea_history.specs.Change.{FitsLines};
-ghost use Rattle.textarea_history.specs.Edit.{IsWellFormed};
-ghost use Rattle.textarea_history.specs.Log.{continues, edge_of, empty_log, recorded, joins, typed_character, with_done, done_joined, done_appended, is_typed, kept, logged_of, Undoes, Redoes, newest, next, taken_back, made_again};
+ghost use Rattle.textarea_history.specs.Prelude.{deque_capacity, as_nanos, Character, Splice, inverse, FitsLines, IsWellFormed, continues, edge_of, empty_log, recorded, joins, typed_character, with_done, done_joined, done_appended, is_typed, kept, logged_of, Undoes, Redoes, newest, next, taken_back, made_again};
 
 pub use crate::edit::{Edit, EditKind};
 use std::alloc::{AllocError, Global};

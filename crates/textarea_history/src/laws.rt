@@ -1,8 +1,6 @@
 //! Laws of edits, each the contract of a function without a body.
 ghost use Rattle.std.specs.Prelude.{◌≡◌, ◌<◌, ℕ, List, length};
-ghost use Rattle.textarea_text.specs.Text.{Symbol, joined, lines};
-ghost use Rattle.textarea_text.specs.Splice.{Splice, Fits};
-ghost use Rattle.textarea_history.specs.EditLaw.{IsTakenBack};
+ghost use Rattle.textarea_history.specs.Prelude.{Symbol, joined, lines, Splice, Fits, IsTakenBack};
 
 /// `Edit::undo` after `Edit::redo` gives the same text: wherever an edit fits, its inverse fits the text after it, and
 /// brings the text back.

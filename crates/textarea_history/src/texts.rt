@@ -1,8 +1,6 @@
 //! Texts read backwards, and texts of one character.
 ghost use Rattle.std.specs.Prelude.{◌≡◌, reverse, string_bytes, IfOk};
-ghost use Rattle.std.specs.Str.{chars};
-ghost use Rattle.textarea_text.specs.Text.{characters};
-ghost use Rattle.textarea_history.specs.Run.{character_of};
+ghost use Rattle.textarea_history.specs.Prelude.{chars, characters, character_of};
 
 use std::alloc::{AllocError, Global};
 

@@ -1,4 +1,5 @@
 -- Lines with their rows, after some of them gave place to others.
+use Rattle.std.proofs.lemmas.Grind.{common_steps}
 use Rattle.std.proofs.Common.{◌≡◌, ℕ, ◌+◌, ◌-◌, ◌≤◌, ◌<◌, Bool, true, false, cond, List, length, sym, ap, ◌∙◌, arith, String}
 use Rattle.std.proofs.lemmas.List.{length-map}
 use Rattle.textarea_util.specs.Limit.{size_limit}
@@ -61,11 +62,7 @@ layout_replaced settings old now new row count n before after first rows h n_is 
 
 -- a replacement that makes a splice of the lines is the splice of the text
 pub made : (laid : LaidOut) (items lent : List (String Global)) (replacement : Replacement) (splice : Splice) → 0 < length items → text_of items ≡ laid.text → lent ≡ items → IsReplacementFor lent splice replacement → replaced_in laid replacement.row replacement.count (lines_of replacement.lines.items) ≡ applied_to laid splice
-made laid items lent replacement splice some is lent_is h =
-    let row = replacement.row in
-    let count = replacement.count in
-    let new = replacement.lines.items in
-    cc (text_replaced items new row count some, length-map new characters_of, replacement.lines.ok.0)
+made laid items lent replacement splice some is lent_is h = grind (arith, common_steps, text_replaced, length-map)
 
 -- the size after a change
 pub size_made : {Z : Type 0} (items : List (String Z)) (text : List Symbol) (size after : ℕ) (splice : Splice) → IsStored items size → text_of items ≡ text → Fits text splice → after ≡ cond splice.inserts (size + weight splice.symbols) (size - weight splice.symbols) → after ≡ weight (applied text splice) + 1

@@ -1,4 +1,5 @@
 -- Which lines a splice, another width and other settings cut, and that the count never falls.
+use Rattle.std.proofs.lemmas.Grind.{common_steps}
 use Rattle.std.proofs.Common.{◌≡◌, ◌≢◌, ◌⊎◌, inl, inr, ℕ, ◌+◌, ◌-◌, ◌==◌, ◌≤◌, Bool, true, false, cond, List, [], ◌∷◌, Option, None, Some, length, ap, refl, sym, subst, ◌∙◌, ⊎_elim, le_trans, arith, eq-eqb}
 use Rattle.std.proofs.lemmas.Bool.{eqb-true}
 use Rattle.textarea_text.specs.Splice.{Splice, Fits, applied}
@@ -40,14 +41,10 @@ settings_kept : (laid : LaidOut) (splice : Splice) → (applied_to laid splice).
 settings_kept laid splice = settings_if (stays laid splice) laid splice (count_of laid splice)
 
 width_after : (laid : LaidOut) (splice : Splice) → Fits laid.text splice → map_width (applied_to laid splice) ≡ width_for laid.layout.settings (count_of laid splice)
-width_after laid splice fits =
-    ap (λ (s : LayoutSettings). width_for s (length (lines (applied laid.text splice)))) (settings_kept laid splice)
-    ∙ ap (width_for laid.layout.settings) (count_spliced laid.text splice fits)
+width_after laid splice fits = grind (arith, common_steps, settings_kept laid splice, count_spliced laid.text splice fits)
 
 wrapping_after : (laid : LaidOut) (splice : Splice) → Fits laid.text splice → wrapping_of (applied_to laid splice) ≡ wrapping_for laid.layout.settings (count_of laid splice)
-wrapping_after laid splice fits =
-    ap (λ (s : LayoutSettings). wrapping_for s (length (lines (applied laid.text splice)))) (settings_kept laid splice)
-    ∙ ap (wrapping_for laid.layout.settings) (count_spliced laid.text splice fits)
+wrapping_after laid splice fits = grind (arith, common_steps, settings_kept laid splice, count_spliced laid.text splice fits)
 
 cuts_touched : (one : OneMap) (laid : LaidOut) (splice : Splice) → Fits laid.text splice → map_width (applied_to laid splice) ≡ map_width laid → CutsTouchedLines laid splice (applied_to laid splice)
 cuts_touched one laid splice fits same =
@@ -108,10 +105,7 @@ is_set_to laid settings = record {
 }
 
 width_put : (laid : LaidOut) (settings : LayoutSettings) → map_width (laid_out_with laid settings) ≡ width_for settings (length (lines laid.text))
-width_put laid settings =
-    let new : LaidOut = laid_out_with laid settings in
-    ap (λ (s : LayoutSettings). width_for s (length (lines new.text))) (settings_put laid settings)
-    ∙ ap (λ t. width_for settings (length (lines t))) (text_stays laid settings)
+width_put laid settings = grind (arith, common_steps, settings_put laid settings, text_stays laid settings)
 
 pub is_widened : (laid : LaidOut) (inner_width : ℕ) → IsWidened laid (laid_out_with laid (at_width laid inner_width))
 is_widened laid inner_width =
@@ -142,11 +136,7 @@ pub all_grow : (old new : LaidOut) → CutsAllLines old new → old.layout.count
 all_grow old new h = omega (arith, h.count)
 
 one_grows : (old new : LaidOut) (splice : Splice) → IsSpliced old splice new → old.layout.count ≤ new.layout.count
-one_grows old new splice h =
-    ⊎_elim
-    (λ same. omega (arith, (h.same_width same).count))
-    (λ other. all_grow old new (h.other_width other))
-    (two_widths (map_width new) (map_width old))
+one_grows old new splice h = grind (arith, common_steps, all_grow, two_widths (map_width new) (map_width old))
 
 pub splices_grow : (old new : LaidOut) (splices : List Splice) → AreSpliced old splices new → old.layout.count ≤ new.layout.count
 splices_grow old new [] h = omega (arith, ap (λ (l : LaidOut). l.layout.count) h)
@@ -154,11 +144,7 @@ splices_grow old new (splice ∷ splices) h =
     le_trans (one_grows old h.0 splice h.1) (splices_grow h.0 new splices h.2)
 
 pub width_grows : (old new : LaidOut) → IsWidened old new → old.layout.count ≤ new.layout.count
-width_grows old new h =
-    ⊎_elim
-    (λ same. omega (arith, (h.same_width same).count))
-    (λ other. all_grow old new (h.other_width other))
-    (two_widths (map_width new) (map_width old))
+width_grows old new h = grind (arith, common_steps, all_grow, two_widths (map_width new) (map_width old))
 
 pub settings_grow : (old new : LaidOut) (settings : LayoutSettings) → IsSetTo old settings new → old.layout.count ≤ new.layout.count
 settings_grow old new settings h = by (stays_cut old settings) refl

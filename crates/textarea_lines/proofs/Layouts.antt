@@ -1,4 +1,5 @@
 -- Rows of lines and their ticks, as lines give place to others.
+use Rattle.std.proofs.lemmas.Grind.{common_steps}
 use Rattle.std.proofs.Common.{◌≡◌, ℕ, ◌+◌, List, [], ◌++◌, length, take, drop, map, ap, ◌∙◌, arith, String}
 use Rattle.std.proofs.lemmas.List.{append_assoc, append-nil, drop_all, map-append, take-map, drop-map}
 use Rattle.textarea_util.specs.Replaced.{replaced}
@@ -24,5 +25,4 @@ rows_together w items new above lent below row count rows a l b k =
 
 pub ticks_together : (t t' t'' t''' : List ℕ) (count first second a b d size : ℕ) → t ≡ [] → t' ≡ t ++ ticks_behind count a → first ≡ count + a → t'' ≡ t' ++ ticks_behind first b → second ≡ first + b → t''' ≡ t'' ++ ticks_behind second d → a + b + d ≡ size → t''' ≡ ticks_behind count size
 ticks_together t t' t'' t''' count first second a b d size none e1 c1 e2 c2 e3 sum =
-    let behind : second ≡ count + (a + b) = omega arith in
-    cc (ticks_append count a b, ticks_append count (a + b) d)
+    grind (arith, common_steps, ticks_append count a b, ticks_append count (a + b) d)

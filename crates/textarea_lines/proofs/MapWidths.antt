@@ -1,5 +1,6 @@
 -- The width of the map settles how lines are cut, in one mode and with the same tab stops.
-use Rattle.std.proofs.Common.{◌≡◌, ◌≢◌, ℕ, ◌==◌, ◌&&◌, ◌||◌, Bool, true, false, cond, not, Option, None, Some, ap, ap₂, refl, sym, ◌∙◌}
+use Rattle.std.proofs.lemmas.Grind.{common_steps}
+use Rattle.std.proofs.Common.{arith, ◌≡◌, ◌≢◌, ℕ, ◌==◌, ◌&&◌, ◌||◌, Bool, true, false, cond, not, Option, None, Some, ap, ap₂, refl, sym, ◌∙◌}
 use Rattle.std.proofs.lemmas.Bool.{and_parts, eqb-true}
 use Rattle.textarea_wrap.specs.Layout.{columns_for_rows, line_number_columns}
 use Rattle.textarea_wrap.specs.declared.wrap.WrapMode.{WrapMode}
@@ -38,12 +39,7 @@ wrapping_by_width settings n = cut_so (settings.inner_width == 0) settings.mode 
 
 -- of two settings with one mode and the same tab stops, at the same width of the map, the wrapping is one
 pub same_wrapping : (one other : LayoutSettings) (n k : ℕ) → one.mode ≡ other.mode → one.tab_len ≡ other.tab_len → width_for one n ≡ width_for other k → wrapping_for one n ≡ wrapping_for other k
-same_wrapping one other n k m t w =
-    wrapping_by_width one n
-    ∙ ap (λ (x : WrapMode). cut_by x one.tab_len (width_for one n)) m
-    ∙ ap (λ (x : ℕ). cut_by other.mode x (width_for one n)) t
-    ∙ ap (cut_by other.mode other.tab_len) w
-    ∙ sym (wrapping_by_width other k)
+same_wrapping one other n k m t w = grind (arith, common_steps, wrapping_by_width one n, wrapping_by_width other k)
 
 pub same_test : (one other : LayoutSettings) (n k : ℕ) → one.mode ≡ other.mode → one.tab_len ≡ other.tab_len → width_for one n ≡ width_for other k → is_same (wrapping_for one n) (wrapping_for other k) ≡ true
 same_test one other n k m t w =
@@ -51,11 +47,7 @@ same_test one other n k m t w =
 
 -- and lines that are cut in the same way are cut at the same width
 same_some : (m : WrapMode) (tab_len width other : ℕ) → (is_same_mode m m && (not (wraps m) || ((width == other) && (tab_len == tab_len)))) ≡ true → wraps m ≡ true → width ≡ other
-same_some m tab_len width other e wrapped =
-    let parts = and_parts (is_same_mode m m) (not (wraps m) || ((width == other) && (tab_len == tab_len))) e in
-    let numbers : ((width == other) && (tab_len == tab_len)) ≡ true =
-    ap (λ (b : Bool). not b || ((width == other) && (tab_len == tab_len))) (sym wrapped) ∙ parts.1 in
-    eqb-true width other (and_parts (width == other) (tab_len == tab_len) numbers).0
+same_some m tab_len width other e wrapped = grind (arith, common_steps, and_parts, eqb-true)
 
 -- the width is none exactly where the wrapping is that of whole lines
 abbrev Agree : WrapMode → ℕ → Option ℕ → Option ℕ → Type 0
@@ -85,13 +77,7 @@ widths_by mode.Glyph tab_len one other whole e = agree mode.Glyph tab_len one ot
 widths_by mode.WordOrGlyph tab_len one other whole e = agree mode.WordOrGlyph tab_len one other refl e
 
 pub same_width : (one other : LayoutSettings) (n k : ℕ) → one.mode ≡ other.mode → one.tab_len ≡ other.tab_len → is_same (wrapping_for one n) (wrapping_for other k) ≡ true → width_for one n ≡ width_for other k
-same_width one other n k m t e =
-    widths_by other.mode other.tab_len (width_for one n) (width_for other k)
-    (λ none. none_whole (one.inner_width == 0) one n (m ∙ none) ∙ sym (none_whole (other.inner_width == 0) other k none))
-    (ap₂ is_same
-    (ap (λ (x : WrapMode). cut_by x other.tab_len (width_for one n)) (sym m) ∙ ap (λ (x : ℕ). cut_by one.mode x (width_for one n)) (sym t) ∙ sym (wrapping_by_width one n))
-    (sym (wrapping_by_width other k))
-    ∙ e)
+same_width one other n k m t e = grind (arith, common_steps, widths_by, none_whole, wrapping_by_width one n, wrapping_by_width other k)
 
 pub other_test : (one other : LayoutSettings) (n k : ℕ) → one.mode ≡ other.mode → one.tab_len ≡ other.tab_len → width_for one n ≢ width_for other k → is_same (wrapping_for one n) (wrapping_for other k) ≡ false
 other_test one other n k m t differs = by (is_same (wrapping_for one n) (wrapping_for other k)) refl

@@ -1,11 +1,12 @@
 -- How many visual rows lines have in all at a width: as they are cut, as they were measured last, and anew.
-use Rattle.std.proofs.Common.{◌≡◌, ◌∙◌, ℕ, true, List, length, String, Option, Some, ap, subst, sym}
+use Rattle.std.proofs.lemmas.Grind.{common_steps}
+use Rattle.std.proofs.Common.{arith, ◌≡◌, ◌∙◌, ℕ, true, List, length, String, Option, Some, ap, subst, sym}
 use Rattle.std.specs.Option.{IfSome}
 use Rattle.textarea_text.specs.Text.{lines, lines_of}
 use Rattle.textarea_screen_map.specs.declared.layout.Wrapping.{Wrapping}
 use Rattle.textarea_blocks.specs.Sums.{row_total}
 use Rattle.textarea_screen_map.specs.Map.{IsRowCount, MapView}
-use Rattle.textarea_lines.specs.declared.measured.Measured.{Measured}
+use Rattle.textarea_lines.specs.declared.cut.Measured.{Measured}
 use Rattle.textarea_lines.specs.declared.settings.LayoutSettings.{LayoutSettings}
 use Rattle.textarea_lines.specs.Layout.{LaidOut, wrapping_of}
 use Rattle.textarea_lines.specs.Stored.{HoldsRows}
@@ -38,12 +39,9 @@ same_as_kept settings items lent size count inner_width map laid wrapping now m 
 
 -- where they were cut so when they were measured, the count is the one of that time
 pub counted_as_measured : {Z : Type 0} (items lent : List (String Z)) (wrapping : Wrapping) (kept : Option Measured) (last : Measured) → lent ≡ items → is_same wrapping last.wrapping ≡ true → kept ≡ Some last → IfSome kept (λ was. IsRowCount was.wrapping (lines_of items) was.rows) → IsRowCount wrapping (lines_of lent) last.rows
-counted_as_measured items lent wrapping kept last lent_is same is h =
-    let there : IsRowCount last.wrapping (lines_of items) last.rows = rw is at h in
-    rw lent_is (there.0, AreRowsOf-same wrapping last.wrapping (lines_of items) there.0 same there.1, there.2)
+counted_as_measured items lent wrapping kept last lent_is same is h = grind (arith, common_steps, AreRowsOf-same)
 
 -- what was counted of the text's lines, cut so
 pub counted_anew : {Z : Type 0} (settings : LayoutSettings) (items lent : List (String Z)) (size count inner_width : ℕ) (map : MapView) (laid : LaidOut) (wrapping now : Wrapping) (n : ℕ) → Measuring settings items lent size count inner_width map laid wrapping now → IsRowCount wrapping (lines laid.text) n → IsRowCount (cut_at_width laid.layout.settings inner_width (length (lines laid.text))) (lines laid.text) n
 counted_anew settings items lent size count inner_width map laid wrapping now n m h =
-    let same : lines laid.text ≡ lines_of lent = ap (λ (l : LaidOut). lines l.text) (sym m.is) ∙ lines_held items m.held.stored.some ∙ ap lines_of (sym m.lent_is) in
-    counted_in_text settings items lent size count inner_width map laid wrapping now n m (subst (λ (t : List (List ℕ)). IsRowCount wrapping t n) same h)
+    grind (arith, common_steps, lines_held items m.held.stored.some, counted_in_text)

@@ -1,4 +1,5 @@
 -- A text that is laid out with other settings, or with its own.
+use Rattle.std.proofs.lemmas.Grind.{common_steps}
 use Rattle.std.proofs.Common.{◌≡◌, ℕ, zero, suc, ◌<◌, ◌==◌, ◌&&◌, ◌||◌, Bool, true, false, cond, not, length, ap, refl, ◌∙◌, arith, eq-eqb}
 use Rattle.std.proofs.Math.Dec.{eqb-suc-zero}
 use Rattle.textarea_text.specs.Text.{lines}
@@ -52,13 +53,7 @@ cut_by_mode mode.WordOrGlyph width tab_len numbers line_count some =
     ap (λ (z : Bool). cut_if (not z && true) (settings_of mode.WordOrGlyph tab_len numbers width) line_count) some
 
 pub measured_cut : (laid : LaidOut) (inner_width : ℕ) → 0 < inner_width → wrapping_of (laid_out_with laid (at_width laid inner_width)) ≡ wrapping_at laid inner_width
-measured_cut laid inner_width some =
-    let settings = at_width laid inner_width in
-    let new : LaidOut = laid_out_with laid settings in
-    let text : new.text ≡ laid.text = text_stays laid settings in
-    ap (λ (s : LayoutSettings). wrapping_for s (length (lines new.text))) (settings_put laid settings)
-    ∙ ap (λ t. wrapping_for settings (length (lines t))) text
-    ∙ cut_by_mode settings.mode inner_width settings.tab_len settings.line_numbers (length (lines laid.text)) (some_width inner_width some)
+measured_cut laid inner_width some = grind (arith, common_steps, text_stays, settings_put, cut_by_mode, some_width inner_width some)
 
 -- ---- its own
 

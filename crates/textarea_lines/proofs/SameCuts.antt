@@ -1,5 +1,6 @@
 -- Lines that are cut in one way are cut in the other, where both ways are the same.
-use Rattle.std.proofs.Common.{◌≡◌, ℕ, Bool, true, false, ◌==◌, not, cond, List, ap, sym, ◌∙◌, refl}
+use Rattle.std.proofs.lemmas.Grind.{common_steps}
+use Rattle.std.proofs.Common.{arith, ◌≡◌, ℕ, Bool, true, false, ◌==◌, not, cond, List, ap, sym, ◌∙◌, refl}
 use Rattle.std.proofs.lemmas.Bool.{and_parts, eqb-true}
 use Rattle.textarea_wrap.specs.RowsView.{RowsView}
 use Rattle.textarea_wrap.specs.declared.wrap.WrapMode.{WrapMode}
@@ -51,19 +52,14 @@ AreRowsOf-same one other lines rows e h = by (wraps one.mode) refl
 
 -- settings under which lines are wrapped, and are cut in the same way
 pub kept_wrapped : (settings : LayoutSettings) (n : ℕ) (before : Wrapping) → is_wrapped settings ≡ true → is_same (wrapping_for settings n) before ≡ true → before ≡ wrapping_for settings n
-kept_wrapped settings n before wrapped same =
-    same_wrapping (wrapping_for settings n) before
-    (ap (λ (b : Bool). wraps (cond b (cut_at_width settings settings.inner_width n) (whole_lines settings)).mode) wrapped ∙ (and_parts (not (settings.inner_width == 0)) (wraps settings.mode) wrapped).1)
-    same
+kept_wrapped settings n before wrapped same = grind (arith, common_steps, same_wrapping, and_parts)
 
 -- settings under which they aren't
 pub whole_is : (settings : LayoutSettings) (n : ℕ) → is_wrapped settings ≡ false → wrapping_for settings n ≡ whole_lines settings
 whole_is settings n e = ap (λ (b : Bool). cond b (cut_at_width settings settings.inner_width n) (whole_lines settings)) e
 
 pub whole_before : (settings : LayoutSettings) (n : ℕ) (before : Wrapping) → is_wrapped settings ≡ false → is_same (wrapping_for settings n) before ≡ true → before.mode ≡ mode.None
-whole_before settings n before whole same =
-    let e : is_same (whole_lines settings) before ≡ true = ap (λ w. is_same w before) (sym (whole_is settings n whole)) ∙ same in
-    sym (same_mode mode.None before.mode (and_parts (is_same_mode mode.None before.mode) true e).0)
+whole_before settings n before whole same = grind (arith, common_steps, whole_is settings n whole, same_mode, and_parts)
 
 whole_width : (settings : LayoutSettings) (n : ℕ) → (wrapping_for settings n).mode ≡ mode.None → (wrapping_for settings n).width ≡ 1
 whole_width settings n e = by (is_wrapped settings) refl e
@@ -74,6 +70,4 @@ whole_width settings n e = by (is_wrapped settings) refl e
 
 pub kept_whole : (old settings : LayoutSettings) (n : ℕ) (before : Wrapping) → before ≡ wrapping_for old n → is_wrapped settings ≡ false → is_same (wrapping_for settings n) before ≡ true → with_tab_len before settings.tab_len ≡ wrapping_for settings n
 kept_whole old settings n before is whole same =
-    let none = whole_before settings n before whole same in
-    let width : before.width ≡ 1 = ap (λ (w : Wrapping). w.width) is ∙ whole_width old n (ap (λ (w : Wrapping). w.mode) (sym is) ∙ none) in
-    wrapping_is before.mode mode.None before.width 1 settings.tab_len settings.tab_len none width refl ∙ sym (whole_is settings n whole)
+    grind (arith, common_steps, whole_before settings n before whole same, whole_width, wrapping_is, whole_is settings n whole)

@@ -1,4 +1,5 @@
 -- The lines of a text after a splice: those that it touches give place to others, and all above and below them stay.
+use Rattle.std.proofs.lemmas.Grind.{common_steps}
 use Rattle.std.proofs.Common.{◌≡◌, ℕ, ◌+◌, ◌-◌, ◌<◌, ◌≤◌, Bool, true, false, List, [], ◌∷◌, ◌++◌, length, take, drop, get_or, ap, refl, sym, ◌∙◌, arith}
 use Rattle.std.proofs.Math.Seq.{drop-append-add, drop-append_seam, take-append_seam}
 use Rattle.std.proofs.lemmas.List.{length-append, length-take-le}
@@ -17,27 +18,19 @@ use Rattle.textarea_text.proofs.Touching.{breaks_of-append, breaks_of-characters
 
 pub take-replaced : {X : Type 0} (items new : List X) (start count : ℕ) → start ≤ length items → take start (replaced items start count new) ≡ take start items
 take-replaced items new start count within =
-    let long : length (take start items) ≡ start = length-take-le start items within in
-    ap (λ n. take n (replaced items start count new)) (sym long) ∙ take-append_seam (take start items) (new ++ drop (start + count) items)
+    grind (arith, common_steps, length-take-le start items within, take-append_seam (take start items) (new ++ drop (start + count) items))
 
 behind-replaced : {X : Type 0} (items new : List X) (start count : ℕ) → start ≤ length items → drop start (replaced items start count new) ≡ new ++ drop (start + count) items
 behind-replaced items new start count within =
-    let long : length (take start items) ≡ start = length-take-le start items within in
-    ap (λ n. drop n (replaced items start count new)) (sym long) ∙ drop-append_seam (take start items) (new ++ drop (start + count) items)
+    grind (arith, common_steps, length-take-le start items within, drop-append_seam (take start items) (new ++ drop (start + count) items))
 
 pub drop-replaced : {X : Type 0} (items new : List X) (start count coming : ℕ) → start ≤ length items → length new ≡ coming → drop (start + coming) (replaced items start count new) ≡ drop (start + count) items
 drop-replaced items new start count coming within long =
-    let first : length (take start items) ≡ start = length-take-le start items within in
-    ap (λ n. drop (n + coming) (replaced items start count new)) (sym first)
-    ∙ drop-append-add (take start items) (new ++ drop (start + count) items) coming
-    ∙ ap (λ n. drop n (new ++ drop (start + count) items)) (sym long)
-    ∙ drop-append_seam new (drop (start + count) items)
+    grind (arith, common_steps, length-take-le start items within, drop-append-add (take start items) (new ++ drop (start + count) items) coming, drop-append_seam new (drop (start + count) items))
 
 pub middle-replaced : {X : Type 0} (items new : List X) (start count coming : ℕ) → start ≤ length items → length new ≡ coming → take coming (drop start (replaced items start count new)) ≡ new
 middle-replaced items new start count coming within long =
-    ap (take coming) (behind-replaced items new start count within)
-    ∙ ap (λ n. take n (new ++ drop (start + count) items)) (sym long)
-    ∙ take-append_seam new (drop (start + count) items)
+    grind (arith, common_steps, behind-replaced items new start count within, take-append_seam new (drop (start + count) items))
 
 -- ---- lines that a splice touches
 
@@ -96,6 +89,4 @@ splices_lines text splice fits = spliced splice.inserts text splice.place splice
 
 -- how many lines there are then
 pub count_spliced : (text : List Symbol) (splice : Splice) → Fits text splice → length (lines (applied text splice)) ≡ length (lines text) - lines_going splice + lines_coming splice
-count_spliced text splice fits =
-    let s = splices_lines text splice fits in
-    omega (arith, ap length s.lines_are, length-replaced (lines text) splice.place.0 (lines_going splice) s.new s.within, s.within, s.coming)
+count_spliced text splice fits = grind (arith, common_steps, splices_lines text splice fits, length-replaced)

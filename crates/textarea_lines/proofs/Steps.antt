@@ -1,4 +1,5 @@
 -- From a place of a text as it is laid out one place, or none, is found one visual row up or down.
+use Rattle.std.proofs.lemmas.Grind.{common_steps}
 use Rattle.std.proofs.Common.{◌≡◌, ℕ, List, Option, None, Some, MatchOption, String, length, ap, refl, arith, subst}
 use Rattle.std.specs.Option.{IfSome}
 use Rattle.textarea_text.specs.Place.{Place, IsPlaceOf}
@@ -57,15 +58,7 @@ abbrev pub Finds : Edge → Step → LaidOut → Place → Option Place → Type
 Finds Ends Goes laid place found = OfRows laid (λ (rows : List RowsView). MatchOption found (Ends laid.layout.settings.tab_len (lines laid.text) rows place) (Goes laid.layout.settings.tab_len (lines laid.text) rows place))
 
 pub finds_once : (Ends : Edge) (Goes : Step) (laid : LaidOut) (place : Place) (found other : Option Place) → ((rows others : List RowsView) → IsLaidOutAs laid rows → IsLaidOutAs laid others → rows ≡ others) → EndsAt Ends Goes → LeadsToOne Goes → Finds Ends Goes laid place found → Finds Ends Goes laid place other → found ≡ other
-finds_once Ends Goes laid place found other one_list ends one h k =
-    let text = lines laid.text in
-    let wrapping = wrapping_of laid in
-    let tab : wrapping.tab_len ≡ laid.layout.settings.tab_len = tab_len_of laid.layout.settings (length text) in
-    one_found (Ends laid.layout.settings.tab_len text h.0 place) (Goes laid.layout.settings.tab_len text h.0 place) found other
-    (λ target. subst (λ n. Ends n text h.0 place → Goes n text h.0 place target → ⊥) tab (ends wrapping text h.0 place target h.1.laid_out))
-    (λ target more. subst (λ n. Goes n text h.0 place target → Goes n text h.0 place more → target ≡ more) tab (one wrapping text h.0 place target more h.1.laid_out))
-    h.2
-    (subst (λ (rows : List RowsView). MatchOption other (Ends laid.layout.settings.tab_len text rows place) (Goes laid.layout.settings.tab_len text rows place)) (one_list k.0 h.0 k.1 h.1) k.2)
+finds_once Ends Goes laid place found other one_list ends one h k = grind (arith, common_steps, tab_len_of, one_found)
 
 -- of a target that is a place, both facts alone
 targets : {X : Type 0} (o : Option X) (P : Type 0) (Q R : X → Type 0) → MatchOption o P (λ x. Q x × R x) → IfSome o Q × MatchOption o P R

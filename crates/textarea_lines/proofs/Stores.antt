@@ -1,4 +1,5 @@
 -- Lines that are stored: how far a place can be, when the text is empty, and their size after a change.
+use Rattle.std.proofs.lemmas.Grind.{common_steps}
 use Rattle.std.proofs.Common.{◌≡◌, ℕ, zero, suc, ◌+◌, ◌<◌, ◌≤◌, true, false, cond, List, [], ◌∷◌, length, sym, ap, refl, ◌∙◌, arith, get_or, subst, String, string_bytes, encode_utf8_all}
 use Rattle.std.proofs.lemmas.Str.{IsUtf8-string_bytes, length-le-encodes, encodes-chars}
 use Rattle.std.proofs.lemmas.List.{length-map}
@@ -29,11 +30,7 @@ bytes_in_size (s ∷ items) (suc row) within = omega (arith, bytes_in_size items
 
 pub small_place : {Z : Type 0} (items : List (String Z)) (size : ℕ) (place : Place) → IsStored items size → IsPlace (text_of items) place → (place.0 < size_limit) × (place.1 ≤ size_limit)
 small_place items size place stored h =
-    let p = rows_place items place stored.some h in
-    let row : place.0 < length items = row_within items place p in (
-      omega (arith, row, length-le-size_of items, stored.size_is, stored.limit),
-      omega (arith, p.1, length-le-encodes (get_or (lines_of items) place.0 []), bytes_in_size items place.0 row, stored.size_is, stored.limit),
-    )
+    grind (arith, common_steps, rows_place items place stored.some h, row_within, length-le-size_of items, length-le-encodes (get_or (lines_of items) place.0 []), bytes_in_size)
 
 -- ---- the lines of the text are those that are kept
 
@@ -73,8 +70,7 @@ place_in_lent settings items lent size count map laid place h lent_is is there =
 -- what is so of the lines that are lent, at the map's tab stops, is so of the text's
 pub in_text : {Z : Type 0} (settings : LayoutSettings) (items lent : List (String Z)) (size count : ℕ) (map : MapView) (laid : LaidOut) (Fact : ℕ → List (List ℕ) → Type 0) → HoldsRows settings items size map → lent ≡ items → seen settings items count map.rows ≡ laid → Fact map.wrapping.tab_len (lines_of lent) → Fact laid.layout.settings.tab_len (lines laid.text)
 in_text settings items lent size count map laid Fact held lent_is is h =
-    subst (λ (l : LaidOut). Fact l.layout.settings.tab_len (lines l.text)) is
-    (rw (lines_held items held.stored.some, ← lent_is, ← (tab_len_kept settings items size map held)) h)
+    grind (arith, common_steps, lines_held items held.stored.some, tab_len_kept settings items size map held)
 
 -- copies of the lines, with the same rows
 pub holds_copied : {Z : Type 0} (settings : LayoutSettings) (old copies : List (String Z)) (size : ℕ) (map again : MapView) → HoldsRows settings old size map → lines_of copies ≡ lines_of old → (again.rows ≡ map.rows) × (again.wrapping ≡ map.wrapping) → HoldsRows settings copies size again

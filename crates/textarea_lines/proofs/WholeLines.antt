@@ -1,18 +1,18 @@
 -- Lines that aren't wrapped, and an edit inside one of them.
-use Rattle.std.proofs.Common.{◌≡◌, ℕ, zero, suc, ◌+◌, ◌-◌, ◌<◌, ◌≤◌, Bool, true, false, not, cond, List, [], ◌∷◌, ◌++◌, length, take, drop, get_or, encode_utf8_all, sym, ap, refl, ◌∙◌, arith, subst, String, Result, Ok, Err, is_ok}
+use Rattle.std.proofs.lemmas.Grind.{common_steps}
+use Rattle.std.proofs.Common.{◌≡◌, ℕ, zero, suc, ◌+◌, ◌-◌, ◌<◌, ◌≤◌, Bool, true, false, cond, List, [], ◌∷◌, ◌++◌, length, take, drop, get_or, encode_utf8_all, sym, ap, refl, ◌∙◌, arith, subst, String, Result, Ok, Err, is_ok}
 use Rattle.std.specs.Result.{IsOk}
 use Rattle.std.proofs.lemmas.List.{get_or-append_right, length-map, length-take-le}
 use Rattle.textarea_util.specs.Limit.{size_limit}
-use Rattle.textarea_text.specs.Place.{end}
 use Rattle.textarea_util.specs.Replaced.{replaced}
 use Rattle.textarea_text.specs.Size.{weight}
-use Rattle.textarea_text.specs.Splice.{Splice, Fits, applied, place_before}
+use Rattle.textarea_text.specs.Splice.{Splice, Fits, applied}
 use Rattle.textarea_text.specs.Text.{characters, characters_of, following, lines, lines_of, text_of}
 use Rattle.textarea_text.specs.Touched.{breaks_of, lines_coming, lines_going}
 use Rattle.textarea_util.proofs.Replacing.{length-replaced}
 use Rattle.textarea_text.proofs.Sizes.{length-le-size_of, size_of_text, weight-append, weight-characters, weight_of_following}
 use Rattle.textarea_text.proofs.Splices.{following-append}
-use Rattle.textarea_text.proofs.Touching.{ChangesLine, changes_line, end_row}
+use Rattle.textarea_text.proofs.Touching.{ChangesLine, changes_line}
 use Rattle.textarea_wrap.specs.Cutting.{ranges_from}
 use Rattle.textarea_wrap.specs.RowsView.{RowsView}
 use Rattle.textarea_wrap.specs.Wrapped.{IsWrapped}
@@ -63,13 +63,10 @@ total_next (r ∷ rows) (suc i) within =
 -- a row that takes the place of one row
 pub size_of_one : (rows new : List RowsView) (cut : RowsView) (row bytes : ℕ) → new ≡ cut ∷ [] → line_bytes cut.ranges ≡ bytes → (bytes + 1 ≡ size_total new) × (size_total (replaced rows row 1 new) ≡ size_total (take row rows) + (bytes + 1) + size_total (drop (row + 1) rows))
 size_of_one rows new cut row bytes is e =
-    let size : size_total new ≡ bytes + 1 = ap size_total is ∙ omega (arith, e) in
-    (sym size, omega (arith, size, size_total-append (take row rows) (new ++ drop (row + 1) rows), size_total-append new (drop (row + 1) rows)))
+    grind (arith, common_steps, size_total-append (take row rows) (new ++ drop (row + 1) rows), size_total-append new (drop (row + 1) rows))
 
 pub total_of_one : (rows new : List RowsView) (cut : RowsView) (row : ℕ) → row < length rows → length (ranges_at rows row) ≡ 1 → new ≡ cut ∷ [] → length cut.ranges ≡ 1 → row_total rows ≤ size_limit → (1 ≡ row_total new) × (row_total (replaced rows row 1 new) ≤ size_limit)
-total_of_one rows new cut row within one is has few =
-    let total : row_total new ≡ 1 = ap row_total is ∙ omega arith in
-    (sym total, omega (arith, row_total-replaced rows new row 1, total_next rows row within))
+total_of_one rows new cut row within one is has few = grind (arith, common_steps, row_total-replaced rows new row 1, total_next rows row within)
 
 -- a push for which there is room
 pub pushed : {T E X : Type 0} (r : Result T E) (old new : List X) (x : X) → new ≡ cond (is_ok r) (old ++ x ∷ []) old → IsOk r → old ≡ [] → new ≡ x ∷ []
@@ -77,11 +74,6 @@ pushed (Ok v) old new x e h none = e ∙ ap (λ t. t ++ x ∷ []) none
 pushed (Err v) old new x e h none = absurd cc
 
 -- ---- an edit inside one line
-
--- the cursor stays in its row where there is no break
-pub row_before : (splice : Splice) → breaks_of splice.symbols ≡ 0 → (place_before splice).0 ≡ splice.place.0
-row_before splice none =
-    elim splice.inserts as (λ b. (cond (not b) (end splice.place splice.symbols) splice.place).0 ≡ splice.place.0) [ true ↦ refl | false ↦ omega (arith, end_row splice.place splice.symbols, none) ]
 
 -- settings under which lines aren't wrapped, with these tab stops
 abbrev pub plain : ℕ → LayoutSettings
@@ -110,8 +102,7 @@ pub record Inside {Z : Type 0} (settings : LayoutSettings) (old now lent : List 
 
 inside_line : {Z : Type 0} (settings : LayoutSettings) (old now lent : List (String Z)) (size after : ℕ) (map : MapView) (splice : Splice) (row : ℕ) → Inside settings old now lent size after map splice row → ChangesLine (lines_of old) (lines_of now) row
 inside_line settings old now lent size after map splice row h =
-    subst (ChangesLine (lines_of old) (lines_of now)) (sym h.row_is)
-    (changes_line (lines_of old) (lines_of now) splice (omega (arith, h.holds.stored.some, length-map old characters_of)) (omega (arith, h.now_some, length-map now characters_of)) h.fits h.none h.now_is)
+    grind (arith, common_steps, changes_line, length-map old characters_of, length-map now characters_of)
 
 inside_rows : {Z : Type 0} (settings : LayoutSettings) (old now lent : List (String Z)) (size after : ℕ) (map : MapView) (splice : Splice) (row : ℕ) → Inside settings old now lent size after map splice row → AreRowsOf (whole_lines settings) (lines_of old) map.rows
 inside_rows settings old now lent size after map splice row h =
@@ -120,8 +111,7 @@ inside_rows settings old now lent size after map splice row h =
 -- there are as many lines
 as_many : {Z : Type 0} (settings : LayoutSettings) (old now lent : List (String Z)) (size after : ℕ) (map : MapView) (splice : Splice) (row : ℕ) → Inside settings old now lent size after map splice row → length now ≡ length old
 as_many settings old now lent size after map splice row h =
-    let line = inside_line settings old now lent size after map splice row h in
-    omega (arith, length-map old characters_of, length-map now characters_of, ap length line.new_is, length-replaced (lines_of old) row 1 (line.line ∷ []) (omega (arith, line.within)))
+    grind (arith, common_steps, inside_line settings old now lent size after map splice row h, length-map old characters_of, length-map now characters_of, length-replaced)
 
 inside_stored : {Z : Type 0} (settings : LayoutSettings) (old now lent : List (String Z)) (size after : ℕ) (map : MapView) (splice : Splice) (row : ℕ) → Inside settings old now lent size after map splice row → IsStored now after
 inside_stored settings old now lent size after map splice row h = record {
@@ -133,17 +123,12 @@ inside_stored settings old now lent size after map splice row h = record {
 -- the bytes and the lines, where one line takes the place of another
 weight_replaced : (lines : List (List ℕ)) (row : ℕ) (line : List ℕ) → weight (following (replaced lines row 1 (line ∷ []))) ≡ weight (following (take row lines)) + line_size line + weight (following (drop (row + 1) lines))
 weight_replaced lines row line =
-    ap weight (following-append (take row lines) (line ∷ drop (row + 1) lines))
-    ∙ omega (arith, weight-append (following (take row lines)) (following (line ∷ drop (row + 1) lines)), weight-append (characters line) (following (drop (row + 1) lines)), weight-characters line)
+    grind (arith, common_steps, following-append (take row lines) (line ∷ drop (row + 1) lines), weight-append (following (take row lines)) (following (line ∷ drop (row + 1) lines)), weight-append (characters line) (following (drop (row + 1) lines)), weight-characters line)
 
 -- the line that is lent is the one that came
 line_lent : {Z : Type 0} (settings : LayoutSettings) (old now lent : List (String Z)) (size after : ℕ) (map : MapView) (splice : Splice) (row : ℕ) (h : Inside settings old now lent size after map splice row) → get_or (lines_of lent) row [] ≡ (inside_line settings old now lent size after map splice row h).line
 line_lent settings old now lent size after map splice row h =
-    let line = inside_line settings old now lent size after map splice row h in
-    let above : length (take row (lines_of old)) ≡ row = length-take-le row (lines_of old) (omega (arith, line.within)) in
-    let first : row - row ≡ 0 = omega arith in
-    ap (λ t. get_or (lines_of t) row []) h.lent_is
-    ∙ rw (line.new_is, get_or-append_right (take row (lines_of old)) (line.line ∷ drop (row + 1) (lines_of old)) row row [] above (omega arith), first)
+    grind (arith, common_steps, inside_line settings old now lent size after map splice row h, length-take-le, get_or-append_right)
 
 -- the line can be cut
 pub can_cut : {Z : Type 0} (settings : LayoutSettings) (old now lent : List (String Z)) (size after : ℕ) (map : MapView) (splice : Splice) (row : ℕ) → Inside settings old now lent size after map splice row → CanStayWhole lent map.rows row

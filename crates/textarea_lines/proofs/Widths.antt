@@ -1,5 +1,6 @@
 -- Lines that are lent with their rows, and lines at an inner width that is prepared.
-use Rattle.std.proofs.Common.{◌≡◌, ℕ, ◌+◌, ◌<◌, ◌≤◌, Bool, true, false, cond, List, Option, Some, None, length, sym, ap, ◌∙◌, refl, subst, String}
+use Rattle.std.proofs.lemmas.Grind.{common_steps}
+use Rattle.std.proofs.Common.{arith, ◌≡◌, ℕ, ◌+◌, ◌<◌, ◌≤◌, Bool, true, false, cond, List, Option, Some, None, length, sym, ap, ◌∙◌, refl, subst, String}
 use Rattle.std.specs.Option.{IfSome}
 use Rattle.std.proofs.lemmas.List.{length-map}
 use Rattle.textarea_util.specs.Limit.{size_limit}
@@ -68,8 +69,7 @@ cut_for old settings items count rows laid before after cut h differs whole =
 -- rows that are kept beside those that stand are all lines of the text, cut
 whole_kept : {Z : Type 0} (settings : LayoutSettings) (items : List (String Z)) (count : ℕ) (rows : List RowsView) (laid : LaidOut) (wrapping : Wrapping) (next : Option CutAnew) (cut : CutAnew) → 0 < length items → seen settings items count rows ≡ laid → next ≡ Some cut → IfSome next (IsNextCut count items) → cut.map.wrapping ≡ wrapping → IsWholeCut laid wrapping cut
 whole_kept settings items count rows laid wrapping next cut some is there kept wrapping_is =
-    let known : IsNextCut count items cut = rw there at kept in
-    whole_cut settings items items count cut.count rows cut.map laid wrapping some is refl wrapping_is known.rows known.ticks known.count_is
+    grind (arith, common_steps, whole_cut settings items items count cut.count rows cut.map laid wrapping some is)
 
 -- and so are those that are taken of them
 pub whole_taken : {Z : Type 0} (settings : LayoutSettings) (items : List (String Z)) (count : ℕ) (rows : List RowsView) (laid : LaidOut) (wrapping : Wrapping) (next taken : Option CutAnew) → 0 < length items → seen settings items count rows ≡ laid → IfSome next (IsNextCut count items) → IfSome taken (λ cut. next ≡ Some cut) → IfSome taken (λ cut. cut.map.wrapping ≡ wrapping) → IfSome taken (IsWholeCut laid wrapping)
@@ -120,11 +120,7 @@ kept_at old settings n before tab is same = by (is_wrapped settings) refl
 
 -- as they stand, and as they are kept
 stays_same : {Z : Type 0} (old settings : LayoutSettings) (items : List (String Z)) (size count : ℕ) (map : MapView) (laid : LaidOut) → Holds old items size count map laid → stays_cut laid settings ≡ true → is_same (wrapping_for settings (length items)) map.wrapping ≡ true
-stays_same old settings items size count map laid h stays =
-    ap (is_same (wrapping_for settings (length items))) h.rows.wrapping_is
-    ∙ sym (ap (λ n. is_same (wrapping_for settings n) (wrapping_for old n)) (count_held items h.rows.stored.some))
-    ∙ ap (λ (l : LaidOut). is_same (wrapping_for settings (length (lines l.text))) (wrapping_of l)) h.is
-    ∙ stays
+stays_same old settings items size count map laid h stays = grind (arith, common_steps, count_held items h.rows.stored.some)
 
 -- the same rows under the settings
 seen_kept : {Z : Type 0} (old settings : LayoutSettings) (items : List (String Z)) (size count : ℕ) (map : MapView) (rows : List RowsView) (laid : LaidOut) → Holds old items size count map laid → stays_cut laid settings ≡ true → rows ≡ map.rows → seen settings items count rows ≡ laid_out_with laid settings

@@ -10,7 +10,7 @@ use Rattle.textarea_text.specs.Splice.{Splice}
 use Rattle.textarea_screen_map.specs.Layout.{AreRowsOf, ticks_behind, ticks_of}
 use Rattle.textarea_lines.specs.declared.cut.CutAnew.{CutAnew}
 use Rattle.textarea_lines.specs.declared.settings.LayoutSettings.{LayoutSettings}
-use Rattle.textarea_lines.specs.declared.measured.Measured.{Measured}
+use Rattle.textarea_lines.specs.declared.cut.Measured.{Measured}
 use Rattle.textarea_lines.specs.Wrappings.{wrapping_for}
 use Rattle.textarea_screen_map.specs.Map.{IsRowCount, MapView}
 

@@ -17,9 +17,7 @@ ghost use Rattle.textarea_lines.specs.Layout.{applied_to, is_cut_at, laid_out_an
 ghost use Rattle.textarea_lines.specs.Stored.{size_after};
 ghost use Rattle.textarea_lines.specs.Wrappings.{is_wrapped};
 
-use crate::cut::{CutAnew, copy_of, keep, let_go};
-use crate::exchange::{change_line, exchange_lines};
-use crate::measured::Measured;
+use crate::cut::{CutAnew, Measured, let_go, make_ready, put_whole_line};
 use crate::settings::{LayoutSettings, is_same, is_wrapped, wrapping_at, wrapping_for};
 use std::alloc::{AllocError, Global};
 use std::marker::Model;
@@ -71,13 +69,11 @@ impl Clone for LaidOutLines {
 
     /// The same lines with the same rows, or an error where there is no memory for them. No line is cut.
     fn clone(&self) -> Result<LaidOutLines, AllocError> {
-        let lines = self.lines.clone()?;
-        let cut = copy_of(&self.map, &self.count)?;
         Ok(LaidOutLines {
-            lines,
+            lines: self.lines.clone()?,
             size: self.size,
-            map: cut.map,
-            count: cut.count,
+            map: self.map.clone()?,
+            count: self.count.clone()?,
             settings: self.settings,
             measured: self.measured,
             kept: None,
@@ -175,18 +171,9 @@ impl LaidOutLines {
             ≡ laid_out_anew self.old.layout.settings self.old.layout.count (text_of lines.items)) }
         ensures err { OnErr result (self.new ≡ self.old) }
     {
-        *self = self.laid_anew(lines)?;
-        Ok(())
-    }
-
-    // These lines under the same settings, each of them cut once where the count stands.
-    fn laid_anew(&self, lines: Vec<String>) -> Result<LaidOutLines, AllocError>
-        requires { 0 < vec_len lines }
-        ensures { IfOk result (λ laid. laid
-            ≡ laid_out_anew self.now.layout.settings self.now.layout.count (text_of lines.items)) }
-    {
         let count = self.count.clone()?;
-        LaidOutLines::lay_out(lines, self.settings, count)
+        *self = LaidOutLines::lay_out(lines, self.settings, count)?;
+        Ok(())
     }
 
     /// Sets what decides how the lines are cut and seen. They are cut anew, each once, only where they are cut in another
@@ -267,7 +254,11 @@ impl LaidOutLines {
     {
         let_go(&mut self.kept);
         match self.cut_anew(wrapping) {
-            Ok(cut) => Ok(keep(&mut self.kept, cut)),
+            Ok(cut) => {
+                let rows = cut.map.row_count();
+                self.kept = Some(cut);
+                Ok(rows)
+            }
             Err(_) => rows_in(*self.lines.allocator(), self.lines.as_slice(), wrapping),
         }
     }
@@ -324,13 +315,11 @@ impl LaidOutLines {
     {
         let (row, column) = change.start();
         let offset = self.offset_of((row, column));
-        change_line(
-            &mut self.lines,
-            &mut self.map,
-            change,
-            offset,
-            &mut self.count,
-        )?;
+        let alloc = self.allocator();
+        let rows = Vec::with_capacity(alloc, 1)?;
+        change.apply_inside(&mut self.lines, offset)?;
+        let lines = self.lines.as_slice();
+        put_whole_line(alloc, &mut self.map, rows, lines, row, &mut self.count);
         self.size = size;
         self.measured = None;
         let_go(&mut self.kept);
@@ -348,13 +337,15 @@ impl LaidOutLines {
         ensures ok { OnOk result (self.new ≡ with_replacement self.old replacement) }
         ensures err { OnErr result (self.new ≡ self.old) }
     {
-        let count = exchange_lines(
+        let (prepared, count) = make_ready(
             &mut self.lines,
             &mut self.map,
-            replacement,
+            &replacement,
             self.settings,
             &self.count,
         )?;
+        replacement.replace_in(&mut self.lines);
+        self.map.replace(prepared);
         self.size = size;
         self.measured = None;
         let_go(&mut self.kept);

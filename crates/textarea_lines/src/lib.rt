@@ -2,8 +2,6 @@
 #![tactic(auto)]
 
 mod cut;
-mod exchange;
 pub mod laid_out;
 pub mod laws;
-mod measured;
 pub mod settings;

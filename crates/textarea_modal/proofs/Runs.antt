@@ -1,21 +1,30 @@
 -- Runs of calls that draw nothing, one behind another.
-use Rattle.std.proofs.Common.{◌≡◌, ℕ, ◌+◌, ◌<◌, List, [], ◌∷◌, ◌++◌, map, take, length, get_or, slice_get, Some, OnErr, Result, Ok, Err, ap, refl, sym, subst, ◌∙◌, arith, length-append}
+use Rattle.std.proofs.Common.{◌≡◌, lit<, ℕ, ◌+◌, ◌<◌, true, false, List, [], ◌∷◌, ◌++◌, map, take, length, get_or, slice_get, Some, OnErr, Result, Ok, Err, ap, refl, sym, subst, ◌∙◌, arith, length-append}
 use Rattle.std.proofs.Math.Seq.{take-append-add}
-use Rattle.std.proofs.lemmas.List.{map-append, take-append-le, get_or-append-add, get_or_append_left}
+use Rattle.std.proofs.lemmas.List.{append-nil, map-append, take-append-le, get_or-append-add, get_or_append_left}
 use Rattle.std.proofs.lemmas.Option.{slice_get_read, get_or_from_slice_get}
 use Rattle.textarea_screen.specs.declared.screen.buffer.Buffer.{Buffer}
 use Rattle.tui_textarea.proofs.Runs.{leads_more}
-use Rattle.tui_textarea.specs.Calls.{Refused}
-use Rattle.tui_textarea.specs.Outcomes.{IsAnswer, IsBehind, IsShown, IsSpared}
+use Rattle.tui_textarea.specs.Outcomes.{IsAnswer, IsBehind, IsShown, IsSpared, Refused}
 use Rattle.tui_textarea.specs.Run.{Leads, StopsAt}
-use Rattle.tui_textarea.specs.Said.{Said, said}
+use Rattle.tui_textarea.specs.Said.{Said, Done, said}
 use Rattle.textarea_calls.specs.declared.answer.Answer.{Answer}
+use Rattle.textarea_calls.specs.declared.answer.Answer.TheVariants as answer
+use Rattle.textarea_data.specs.declared.cursor.CursorMove.{CursorMove}
 use Rattle.textarea_calls.specs.declared.call.Call.{Call}
 use Rattle.tui_textarea.specs.State.{State}
+use Rattle.textarea_calls.specs.Kinds.{call_of_edit, call_of_setting, call_of_write, draws}
+use Rattle.textarea_calls.specs.declared.call.Call.TheVariants as call
+use Rattle.textarea_calls.specs.declared.kind.Edit.{Edit}
+use Rattle.textarea_calls.specs.declared.kind.Edit.TheVariants as edit
+use Rattle.textarea_calls.specs.declared.kind.Setting.{Setting}
+use Rattle.textarea_calls.specs.declared.kind.Setting.TheVariants as setting
+use Rattle.textarea_calls.specs.declared.kind.Write.{Write}
+use Rattle.textarea_calls.specs.declared.kind.Write.TheVariants as write
 use Rattle.textarea_modal.specs.Calls.{call_of}
+use Rattle.textarea_modal.specs.declared.step.KeyCall.{KeyCall}
+use Rattle.textarea_modal.specs.declared.step.KeyCall.TheVariants as key
 use Rattle.textarea_modal.specs.Runs.{AllMade, OneRefused, RefusedAt}
-use Rattle.textarea_modal.specs.declared.calls.KeyCall.{KeyCall}
-use Rattle.textarea_modal.specs.declared.calls.KeyCall.TheVariants as key
 
 -- ---- calls that draw nothing
 
@@ -24,27 +33,38 @@ pub record DrawsNothing (call : Call) : Type 0 where
   pub made : (state : State) (buffer : Buffer) → IsShown call state buffer buffer
   pub refused : (buffer : Buffer) → IsSpared call buffer buffer
 
-pub draws_nothing : (call : KeyCall) → DrawsNothing (call_of call)
-draws_nothing (key.Move cursor_move) = record { made = λ state buffer. refl; refused = λ buffer. refl }
-draws_nothing (key.Scroll scrolling) = record { made = λ state buffer. refl; refused = λ buffer. refl }
-draws_nothing key.StartSelection = record { made = λ state buffer. refl; refused = λ buffer. refl }
-draws_nothing key.CancelSelection = record { made = λ state buffer. refl; refused = λ buffer. refl }
-draws_nothing key.InsertNewline = record { made = λ state buffer. refl; refused = λ buffer. refl }
-draws_nothing key.DeleteNextChar = record { made = λ state buffer. refl; refused = λ buffer. refl }
-draws_nothing key.DeleteLineByEnd = record { made = λ state buffer. refl; refused = λ buffer. refl }
-draws_nothing key.Cut = record { made = λ state buffer. refl; refused = λ buffer. refl }
-draws_nothing key.Copy = record { made = λ state buffer. refl; refused = λ buffer. refl }
-draws_nothing key.Paste = record { made = λ state buffer. refl; refused = λ buffer. refl }
-draws_nothing key.Undo = record { made = λ state buffer. refl; refused = λ buffer. refl }
-draws_nothing key.Redo = record { made = λ state buffer. refl; refused = λ buffer. refl }
-draws_nothing key.SearchForward = record { made = λ state buffer. refl; refused = λ buffer. refl }
-draws_nothing key.SearchBack = record { made = λ state buffer. refl; refused = λ buffer. refl }
+pub draws_nothing_of : (made : Call) → draws made ≡ false → DrawsNothing made
+draws_nothing_of (call.Render area) none = let no : true ≡ false = none in cc
+draws_nothing_of other none = record { made = λ state buffer. refl; refused = λ buffer. refl }
+
+edit_undrawn : (asked : Edit) → draws (call_of_edit asked) ≡ false
+edit_undrawn edit.Clear = refl
+edit_undrawn other = refl
+
+write_undrawn : (asked : Write) → draws (call_of_write asked) ≡ false
+write_undrawn write.Copy = refl
+write_undrawn other = refl
+
+setting_undrawn : (asked : Setting) → draws (call_of_setting asked) ≡ false
+setting_undrawn setting.SelectAll = refl
+setting_undrawn other = refl
+
+pub draws_nothing : (made : KeyCall) → DrawsNothing (call_of made)
+draws_nothing (key.Edit asked) = draws_nothing_of (call_of_edit asked) (edit_undrawn asked)
+draws_nothing (key.Write asked) = draws_nothing_of (call_of_write asked) (write_undrawn asked)
+draws_nothing (key.Set asked) = draws_nothing_of (call_of_setting asked) (setting_undrawn asked)
+draws_nothing (key.SearchForward at_cursor) = draws_nothing_of (call.SearchForward at_cursor) refl
+draws_nothing (key.SearchBack at_cursor) = draws_nothing_of (call.SearchBack at_cursor) refl
 
 -- ---- one call more
 
 pub on_err : {T E P : Type 0} (result : Result T E) → P → OnErr result P
 on_err (Ok value) holds = tt
 on_err (Err error) holds = holds
+
+pub on_err_weaker : {T E P Q : Type 0} (result : Result T E) → (P → Q) → OnErr result P → OnErr result Q
+on_err_weaker (Ok value) weaker holds = tt
+on_err_weaker (Err error) weaker holds = weaker holds
 
 -- no call was made
 pub none_made : (state : State) → AllMade state [] state
@@ -131,3 +151,17 @@ refused_behind old mid new calls later rest index earlier refused = record {
   answers = earlier.answers ++ refused.answers;
   run = λ buffer. stops_behind old mid new buffer calls later rest earlier.answers refused.answers index refused.within (earlier.run buffer) (refused.run buffer);
 }
+
+-- a call was made, and then one of others was refused
+pub one_refused_behind : (old mid new : State) (first : Call) (later : List Call) → AllMade old (first ∷ []) mid → OneRefused mid later new → OneRefused old (first ∷ later) new
+one_refused_behind old mid new first later earlier one = record {
+  index = length (first ∷ []) + one.index;
+  refused = subst (λ (l : List Call). RefusedAt old (first ∷ l) (length (first ∷ []) + one.index) new) (append-nil later)
+      (refused_behind old mid new (first ∷ []) later [] one.index earlier one.refused);
+}
+
+-- a move alone
+pub moved : (old new : State) (cursor_move : CursorMove) → IsBehind old (call.Move cursor_move) Done new → AllMade old (call.Move cursor_move ∷ []) new
+moved old new cursor_move behind =
+    let made = call.Move cursor_move in
+    made_more old old new (made ∷ []) 0 made answer.Done (lit< tt) refl (none_made old) refl behind (draws_nothing_of made refl)

@@ -1,5 +1,4 @@
 pub mod Calls
 pub mod Table
 pub mod Course
-pub mod Kinds
 pub mod Runs

@@ -3,10 +3,9 @@ ghost use Rattle.std.specs.Prelude.{◌≡◌, IfOk, OnErr, OnOk};
 ghost use Rattle.textarea_modal.specs.Runs.{AllMade, EndsAs, OneRefused};
 ghost use Rattle.textarea_modal.specs.Table.{step};
 
-mod kind;
 mod making;
 
-use crate::modal::making::{hand_on, make_all};
+use crate::modal::making::{hand_on, make_step};
 use crate::mode::Mode;
 use crate::steps::step;
 use std::alloc::AllocError;
@@ -108,7 +107,7 @@ impl Modal {
     {
         match step(self.mode, input) {
             Some(step) => {
-                make_all(area, step.calls.as_slice())?;
+                make_step(area, &step)?;
                 self.mode = step.mode;
                 Ok(step.quits)
             }

@@ -1,15 +1,54 @@
 //! What each key comes to in each mode.
-ghost use Rattle.std.specs.Prelude.{◌≡◌, [], true, false, MatchOption};
+ghost use Rattle.std.specs.Prelude.{◌≡◌, ◌∷◌, [], true, false, map, MatchOption};
+ghost use Rattle.textarea_calls.specs.declared.call.Call.TheVariants as call;
+ghost use Rattle.textarea_data.specs.declared.cursor.CursorMove.TheVariants.{End, Forward, Head};
 ghost use Rattle.textarea_data.specs.declared.input.Key.TheVariants.{Char};
 ghost use Rattle.textarea_modal.specs.Calls.{call_of, shown};
 ghost use Rattle.textarea_modal.specs.Table.{IsHandedOn, goes, handing_on, mode_behind, motion_of, moves_over, normal, operates, step, step_behind, step_by, step_in_insert, step_in_normal, step_in_visual, takes};
 ghost use Rattle.textarea_modal.specs.declared.mode.Mode.TheVariants as mode;
 
-use crate::calls::{Calls, KeyCall, Step};
 use crate::mode::{Mode, Op};
+use crate::step::{KeyCall, Step};
+use textarea_calls::kind::{Edit, Setting, Write};
 use textarea_data::cursor::CursorMove;
 use textarea_data::input::{Input, Key};
 use textarea_data::scroll::Scrolling;
+
+const HEAD: KeyCall = KeyCall::Set(Setting::Move(CursorMove::Head));
+
+const END: KeyCall = KeyCall::Set(Setting::Move(CursorMove::End));
+
+const FORWARD: KeyCall = KeyCall::Set(Setting::Move(CursorMove::Forward));
+
+const BACK: KeyCall = KeyCall::Set(Setting::Move(CursorMove::Back));
+
+const HALF_PAGE_DOWN: KeyCall = KeyCall::Set(Setting::Scroll(Scrolling::HalfPageDown));
+
+const HALF_PAGE_UP: KeyCall = KeyCall::Set(Setting::Scroll(Scrolling::HalfPageUp));
+
+const START_SELECTION: KeyCall = KeyCall::Set(Setting::StartSelection);
+
+const CANCEL_SELECTION: KeyCall = KeyCall::Set(Setting::CancelSelection);
+
+const NEWLINE: KeyCall = KeyCall::Write(Write::InsertNewline);
+
+const COPY: KeyCall = KeyCall::Write(Write::Copy);
+
+const CUT: KeyCall = KeyCall::Edit(Edit::Cut);
+
+const PASTE: KeyCall = KeyCall::Edit(Edit::Paste);
+
+const UNDO: KeyCall = KeyCall::Edit(Edit::Undo);
+
+const REDO: KeyCall = KeyCall::Edit(Edit::Redo);
+
+const DELETE_NEXT_CHAR: KeyCall = KeyCall::Edit(Edit::DeleteNextChar);
+
+const DELETE_TO_LINE_END: KeyCall = KeyCall::Edit(Edit::DeleteLineByEnd);
+// For a match other than at the cursor.
+const NEXT_MATCH: KeyCall = KeyCall::SearchForward(false);
+
+const PREVIOUS_MATCH: KeyCall = KeyCall::SearchBack(false);
 
 /// What an input comes to in a mode, or none where it is handed on to the text area, in Insert.
 pub fn step(mode: Mode, input: &Input) -> Option<Step>
@@ -65,12 +104,12 @@ fn in_normal(key: Key, ctrl: bool, alt: bool) -> Step
     ensures { shown result ≡ step_in_normal key ctrl alt }
 {
     if let Some(cursor_move) = motion(key, ctrl, alt) {
-        return Step::makes(KeyCall::Move(cursor_move), Mode::Normal);
+        return moves(cursor_move, &[], Mode::Normal);
     }
     match (key, ctrl, alt) {
         (Key::Char(character), false, false) => by_character(character),
         (Key::Char(character), true, false) => by_character_with_ctrl(character),
-        _ => Step::goes(Calls::None, Mode::Normal),
+        _ => Step::goes(&[], Mode::Normal),
     }
 }
 
@@ -80,47 +119,31 @@ fn by_character(character: char) -> Step
     ensures { shown result ≡ step_by normal (goes [] mode.Normal) (Char character) false false }
 {
     match character {
-        'i' => Step::goes(Calls::None, Mode::Insert),
-        'I' => Step::makes(KeyCall::Move(CursorMove::Head), Mode::Insert),
-        'a' => Step::makes(KeyCall::Move(CursorMove::Forward), Mode::Insert),
-        'A' => Step::makes(KeyCall::Move(CursorMove::End), Mode::Insert),
-        'o' => Step::goes(
-            Calls::Two([KeyCall::Move(CursorMove::End), KeyCall::InsertNewline]),
-            Mode::Insert,
-        ),
-        'O' => Step::goes(
-            Calls::Three([
-                KeyCall::Move(CursorMove::Head),
-                KeyCall::InsertNewline,
-                KeyCall::Move(CursorMove::Back),
-            ]),
-            Mode::Insert,
-        ),
-        'x' => Step::makes(KeyCall::DeleteNextChar, Mode::Normal),
-        'D' => Step::makes(KeyCall::DeleteLineByEnd, Mode::Normal),
-        'C' => Step::makes(KeyCall::DeleteLineByEnd, Mode::Insert),
-        'p' => Step::makes(KeyCall::Paste, Mode::Normal),
-        'u' => Step::makes(KeyCall::Undo, Mode::Normal),
-        'n' => Step::makes(KeyCall::SearchForward, Mode::Normal),
-        'N' => Step::makes(KeyCall::SearchBack, Mode::Normal),
-        'v' => Step::makes(KeyCall::StartSelection, Mode::Visual),
-        'V' => Step::goes(
-            Calls::Three([
-                KeyCall::Move(CursorMove::Head),
-                KeyCall::StartSelection,
-                KeyCall::Move(CursorMove::End),
-            ]),
-            Mode::Visual,
-        ),
-        'd' => Step::makes(KeyCall::StartSelection, Mode::Operator(Op::Delete)),
-        'y' => Step::makes(KeyCall::StartSelection, Mode::Operator(Op::Yank)),
-        'c' => Step::makes(KeyCall::StartSelection, Mode::Operator(Op::Change)),
+        'i' => Step::goes(&[], Mode::Insert),
+        'I' => Step::goes(&[HEAD], Mode::Insert),
+        'a' => Step::goes(&[FORWARD], Mode::Insert),
+        'A' => Step::goes(&[END], Mode::Insert),
+        'o' => Step::goes(&[END, NEWLINE], Mode::Insert),
+        'O' => Step::goes(&[HEAD, NEWLINE, BACK], Mode::Insert),
+        'x' => Step::goes(&[DELETE_NEXT_CHAR], Mode::Normal),
+        'D' => Step::goes(&[DELETE_TO_LINE_END], Mode::Normal),
+        'C' => Step::goes(&[DELETE_TO_LINE_END], Mode::Insert),
+        'p' => Step::goes(&[PASTE], Mode::Normal),
+        'u' => Step::goes(&[UNDO], Mode::Normal),
+        'n' => Step::goes(&[NEXT_MATCH], Mode::Normal),
+        'N' => Step::goes(&[PREVIOUS_MATCH], Mode::Normal),
+        'v' => Step::goes(&[START_SELECTION], Mode::Visual),
+        'V' => Step::goes(&[HEAD, START_SELECTION, END], Mode::Visual),
+        'd' => Step::goes(&[START_SELECTION], Mode::Operator(Op::Delete)),
+        'y' => Step::goes(&[START_SELECTION], Mode::Operator(Op::Yank)),
+        'c' => Step::goes(&[START_SELECTION], Mode::Operator(Op::Change)),
         'q' => Step {
-            calls: Calls::None,
+            motion: None,
+            calls: &[],
             mode: Mode::Normal,
             quits: true,
         },
-        _ => Step::goes(Calls::None, Mode::Normal),
+        _ => Step::goes(&[], Mode::Normal),
     }
 }
 
@@ -130,10 +153,10 @@ fn by_character_with_ctrl(character: char) -> Step
     ensures { shown result ≡ step_by normal (goes [] mode.Normal) (Char character) true false }
 {
     match character {
-        'r' => Step::makes(KeyCall::Redo, Mode::Normal),
-        'd' => Step::makes(KeyCall::Scroll(Scrolling::HalfPageDown), Mode::Normal),
-        'u' => Step::makes(KeyCall::Scroll(Scrolling::HalfPageUp), Mode::Normal),
-        _ => Step::goes(Calls::None, Mode::Normal),
+        'r' => Step::goes(&[REDO], Mode::Normal),
+        'd' => Step::goes(&[HALF_PAGE_DOWN], Mode::Normal),
+        'u' => Step::goes(&[HALF_PAGE_UP], Mode::Normal),
+        _ => Step::goes(&[], Mode::Normal),
     }
 }
 
@@ -143,16 +166,16 @@ fn in_visual(key: Key, ctrl: bool, alt: bool) -> Step
     ensures { shown result ≡ step_in_visual key ctrl alt }
 {
     if let Some(cursor_move) = motion(key, ctrl, alt) {
-        return Step::makes(KeyCall::Move(cursor_move), Mode::Visual);
+        return moves(cursor_move, &[], Mode::Visual);
     }
     match (key, ctrl, alt) {
-        (Key::Char('d' | 'x'), false, false) => Step::makes(KeyCall::Cut, Mode::Normal),
-        (Key::Char('y'), false, false) => Step::makes(KeyCall::Copy, Mode::Normal),
-        (Key::Char('c'), false, false) => Step::makes(KeyCall::Cut, Mode::Insert),
+        (Key::Char('d' | 'x'), false, false) => Step::goes(&[CUT], Mode::Normal),
+        (Key::Char('y'), false, false) => Step::goes(&[COPY], Mode::Normal),
+        (Key::Char('c'), false, false) => Step::goes(&[CUT], Mode::Insert),
         (Key::Char('v'), false, false) | (Key::Esc, ..) => {
-            Step::makes(KeyCall::CancelSelection, Mode::Normal)
+            Step::goes(&[CANCEL_SELECTION], Mode::Normal)
         }
-        _ => Step::goes(Calls::None, Mode::Visual),
+        _ => Step::goes(&[], Mode::Visual),
     }
 }
 
@@ -167,46 +190,63 @@ fn behind_operator(op: Op, key: Key, ctrl: bool, alt: bool) -> Step
     match (op, key, ctrl, alt) {
         (Op::Delete, Key::Char('d'), false, false)
         | (Op::Yank, Key::Char('y'), false, false)
-        | (Op::Change, Key::Char('c'), false, false) => Step::goes(
-            Calls::Four([
-                KeyCall::Move(CursorMove::Head),
-                KeyCall::StartSelection,
-                KeyCall::Move(CursorMove::End),
-                taking(op),
-            ]),
-            mode_behind(op),
-        ),
-        _ => Step::makes(KeyCall::CancelSelection, Mode::Normal),
+        | (Op::Change, Key::Char('c'), false, false) => {
+            Step::goes(over_line(op), mode_behind(op))
+        }
+        _ => Step::goes(&[CANCEL_SELECTION], Mode::Normal),
     }
 }
 
-// What a motion comes to behind an operator.
+// What a motion comes to behind an operator: `WordEnd` stops before a word's last character, so one more goes behind it.
 fn over_motion(op: Op, cursor_move: CursorMove) -> Step
     ensures { shown result ≡ operates op (moves_over cursor_move) }
 {
     match cursor_move {
-        CursorMove::WordEnd => Step::goes(
-            Calls::Three([
-                KeyCall::Move(CursorMove::WordEnd),
-                KeyCall::Move(CursorMove::Forward),
-                taking(op),
-            ]),
-            mode_behind(op),
-        ),
-        _ => Step::goes(
-            Calls::Two([KeyCall::Move(cursor_move), taking(op)]),
-            mode_behind(op),
-        ),
+        CursorMove::WordEnd => moves(cursor_move, one_more(op), mode_behind(op)),
+        _ => moves(cursor_move, taking(op), mode_behind(op)),
+    }
+}
+
+// A motion, these calls, and then that mode.
+fn moves(cursor_move: CursorMove, calls: &'static [KeyCall], mode: Mode) -> Step
+    ensures { shown result ≡ goes (call.Move cursor_move ∷ map call_of calls.now) mode }
+{
+    Step {
+        motion: Some(cursor_move),
+        calls,
+        mode,
+        quits: false,
     }
 }
 
 // What an operator makes of what is selected.
-fn taking(op: Op) -> KeyCall
-    ensures { call_of result ≡ takes op }
+fn taking(op: Op) -> &'static [KeyCall]
+    ensures { map call_of result.now ≡ takes op ∷ [] }
 {
     match op {
-        Op::Delete | Op::Change => KeyCall::Cut,
-        Op::Yank => KeyCall::Copy,
+        Op::Delete | Op::Change => &[CUT],
+        Op::Yank => &[COPY],
+    }
+}
+
+// One character more, and then what an operator makes of what is selected.
+fn one_more(op: Op) -> &'static [KeyCall]
+    ensures { map call_of result.now ≡ call.Move Forward ∷ takes op ∷ [] }
+{
+    match op {
+        Op::Delete | Op::Change => &[FORWARD, CUT],
+        Op::Yank => &[FORWARD, COPY],
+    }
+}
+
+// The whole line, and then what an operator makes of it.
+fn over_line(op: Op) -> &'static [KeyCall]
+    ensures { map call_of result.now
+        ≡ call.Move Head ∷ call.StartSelection ∷ call.Move End ∷ takes op ∷ [] }
+{
+    match op {
+        Op::Delete | Op::Change => &[HEAD, START_SELECTION, END, CUT],
+        Op::Yank => &[HEAD, START_SELECTION, END, COPY],
     }
 }
 
@@ -227,9 +267,7 @@ fn in_insert(input: &Input) -> Option<Step>
         (λ made. shown made ≡ step_in_insert input.now) }
 {
     match (input.key, input.ctrl, input.alt) {
-        (Key::Esc, ..) | (Key::Char('c'), true, false) => {
-            Some(Step::goes(Calls::None, Mode::Normal))
-        }
+        (Key::Esc, ..) | (Key::Char('c'), true, false) => { Some(Step::goes(&[], Mode::Normal)) }
         _ => None,
     }
 }

@@ -1,4 +1,5 @@
 -- The cells of a block's sides, corners and title.
+use Rattle.std.proofs.lemmas.Grind.{common_steps}
 use Rattle.std.proofs.Common.{◌≡◌, ℕ, ◌+◌, ◌-◌, ◌<◌, ◌≤◌, min, Bool, true, false, cond, eqb, ◌&&◌, List, refl, ap, ap₂, ◌∙◌, arith}
 use Rattle.std.proofs.lemmas.Bool.Decides.{nat_tests}
 use Rattle.textarea_screen.specs.Block.{has_border, left_side, right_side}
@@ -21,9 +22,7 @@ use Rattle.textarea_paint.proofs.CellLemmas.{cond-then, row_change-outside}
 
 pub Changes-in_area : {a b c : Buffer} (area : Rect) (f g h : Change) → Changes a b (in_area area f) → Changes b c (in_area area g) →
     ((x y : ℕ) (cell : ShownCell) → g x y (f x y cell) ≡ h x y cell) → Changes a c (in_area area h)
-Changes-in_area area f g h first second same =
-    Changes-then (in_area area h) first second
-    (λ x y cell. cond-then (contains area x y) (f x y) (g x y) (h x y) cell (same x y cell))
+Changes-in_area area f g h first second same = grind (arith, common_steps, Changes-then, cond-then)
 
 -- ---- the cells of a rectangle inside of the area
 
@@ -121,7 +120,4 @@ in_area-same false f cell out = out refl
 
 pub title_in_area : (borders : Borders) (area : Rect) (cells : RowCells) (row : List Placed) → cells ≡ title_cells borders area → 0 < area.height → (x y : ℕ) (cell : ShownCell) →
     row_change cells 0 row x y cell ≡ in_area area (row_change (title_cells borders area) 0 row) x y cell
-title_in_area borders area cells row are rows x y cell =
-    ap (λ cs. row_change cs 0 row x y cell) are
-    ∙ in_area-same (contains area x y) (row_change (title_cells borders area) 0 row x y) cell
-    (λ outside. row_change-outside (title_cells borders area) 0 row x y cell (title_cells-within borders area x y rows outside))
+title_in_area borders area cells row are rows x y cell = grind (arith, common_steps, in_area-same, row_change-outside, title_cells-within)

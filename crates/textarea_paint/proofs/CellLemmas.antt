@@ -20,9 +20,6 @@ pub record IsBetween (row from to x y : ℕ) : Type 0 where
   pub behind : from ≤ x
   pub before : x < to
 
-pub between : (row from to x y : ℕ) → is_between row from to x y ≡ true → IsBetween row from to x y
-between row from to x y h = record { at = grind (arith, nat_tests); behind = grind (arith, nat_tests); before = grind (arith, nat_tests) }
-
 -- a cell of an area stands left of its right edge
 pub contains_right : (area : Rect) (x y : ℕ) → contains area x y ≡ true → x < area.x + area.width
 contains_right area x y inside = grind (arith, nat_tests)

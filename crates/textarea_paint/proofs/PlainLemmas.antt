@@ -1,5 +1,6 @@
 -- Printable ASCII: before another such character, and at a text's end, each one is a cluster by itself, and what stands behind it is
 -- cut as if it began the text.
+use Rattle.std.proofs.lemmas.Grind.{common_steps}
 use Rattle.std.proofs.Common.{◌≡◌, ℕ, ◌<◌, Bool, true, false, cond, not, ◌&&◌, ◌||◌, ◌==◌, leb, ltb, unwrap_or, List, [], ◌∷◌, ◌++◌, map, take, drop, Option, None, Some, IsSome, IfSome, IsCharBoundary, refl, sym, ap, ap₂, ◌∙◌, arith}
 use Rattle.std.proofs.lemmas.Bool.{cond-true}
 use Rattle.std.proofs.lemmas.Bool.Decides.{nat_tests}
@@ -54,13 +55,7 @@ module _ (c : ℕ) (is_plain : IsPlain c) where
   linker-first : (xs : List ℕ) → ends_in_linker (map indic_conjunct_break (xs ++ c ∷ [])) ≡ ends_in_linker (map indic_conjunct_break xs)
   unfolding ends_in_linker
   linker-first [] = rw is_plain.no_conjunct refl
-  linker-first (x ∷ xs) =
-      elim (indic_conjunct_break x) as (λ v. ends_in_linker (v ∷ map indic_conjunct_break (xs ++ c ∷ [])) ≡ ends_in_linker (v ∷ map indic_conjunct_break xs)) [
-        | conjunct.Consonant ↦ refl
-        | conjunct.Extend ↦ linker-first xs
-        | conjunct.Linker ↦ refl
-        | conjunct.None ↦ refl
-      ]
+  linker-first (x ∷ xs) = grind (arith, common_steps, linker-first xs)
 
   pictograph-first : (xs : List ℕ) → ends_in_pictograph (xs ++ c ∷ []) ≡ ends_in_pictograph xs
   unfolding ends_in_pictograph
@@ -72,20 +67,10 @@ module _ (c : ℕ) (is_plain : IsPlain c) where
   flag-first [] = rw is_plain.other refl
   flag-first (x ∷ xs) = ap (λ e. is_regional (grapheme_cluster_break x) && not e) (flag-first xs)
 
-  abbrev rule_of : ℕ → ℕ → Bool → Bool → Bool → Bool
-  rule_of x next linker pictograph flag =
-      unwrap_or (break_by_pair true (grapheme_cluster_break x) (grapheme_cluster_break next))
-      (not ((true && (linker && is_consonant (indic_conjunct_break next)))
-      || (is_zwj (grapheme_cluster_break x) && pictograph && is_extended_pictographic next)
-      || (flag && is_regional (grapheme_cluster_break next))))
-
   break-first : (x : ℕ) (xs after : List ℕ) → is_grapheme_break true (x ∷ (xs ++ c ∷ [])) after ≡ is_grapheme_break true (x ∷ xs) after
   unfolding is_grapheme_break
   break-first x xs [] = refl
-  break-first x xs (next ∷ after) =
-      ap (λ e. rule_of x next e (ends_in_pictograph (xs ++ c ∷ [])) (ends_in_half_flag (x ∷ (xs ++ c ∷ [])))) (linker-first (x ∷ xs))
-      ∙ ap (λ e. rule_of x next (ends_in_linker (map indic_conjunct_break (x ∷ xs))) e (ends_in_half_flag (x ∷ (xs ++ c ∷ [])))) (pictograph-first xs)
-      ∙ ap (λ e. rule_of x next (ends_in_linker (map indic_conjunct_break (x ∷ xs))) (ends_in_pictograph xs) e) (flag-first (x ∷ xs))
+  break-first x xs (next ∷ after) = grind (arith, common_steps, linker-first (x ∷ xs), pictograph-first xs, flag-first (x ∷ xs))
 
   cut-first : (xs cs : List ℕ) → cut (is_grapheme_break true) (xs ++ c ∷ []) cs [] ≡ cut (is_grapheme_break true) xs cs []
   unfolding cut
@@ -102,10 +87,7 @@ graphemes-nil = refl
 cut-two : (c d : ℕ) (cs : List ℕ) → IsPlain c → IsPlain d → d < 0x900 →
     cut (is_grapheme_break true) [] (c ∷ d ∷ cs) [] ≡ (c ∷ []) ∷ cut (is_grapheme_break true) [] (d ∷ cs) []
 unfolding cut
-cut-two c d cs first second early =
-    let breaks = is_grapheme_break-others true (c ∷ []) d (cs ++ []) (omega arith) early (sym first.other) (sym second.other) in
-    cond-true (is_grapheme_break true (c ∷ []) (d ∷ (cs ++ []))) _ _ (sym breaks)
-    ∙ ap (λ rest. (c ∷ []) ∷ rest) (cut-first c first [] (d ∷ cs))
+cut-two c d cs first second early = grind (arith, common_steps, is_grapheme_break-others, cond-true, cut-first c first [] (d ∷ cs))
 
 cut-only : (c : ℕ) → encode_utf8_all (c ∷ []) ≡ c ∷ [] → map encode_utf8_all (cut (is_grapheme_break true) [] (c ∷ []) []) ≡ (c ∷ []) ∷ []
 unfolding cut is_grapheme_break

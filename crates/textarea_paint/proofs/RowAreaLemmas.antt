@@ -1,4 +1,5 @@
 -- What a row of cells makes of the cells of an area.
+use Rattle.std.proofs.lemmas.Grind.{common_steps}
 use Rattle.std.proofs.Common.{◌≡◌, ◌≢◌, ◌≤◌, ℕ, Bool, true, false, cond, ◌&&◌, List, refl, sym, ap, ap₂, ◌∙◌, arith}
 use Rattle.std.proofs.lemmas.Bool.{cond-false}
 use Rattle.std.proofs.lemmas.Bool.Decides.{nat_tests}
@@ -75,7 +76,4 @@ module _ (rows : RowArea) (other seen : Rect) (row : ℕ) (meets : Meets rows.ar
 
   -- a buffer of the other area has a cell of the row
   pub not_none : (buffer : Buffer) → other ≡ area_of buffer → HasNone (is_in_row rows.area row) buffer → ⊥
-  not_none buffer is none =
-      let both = meets seen.x row in
-      let without : is_in_row rows.area row seen.x row ≡ true → contains other seen.x row ≡ false = λ inside. rw is (none seen.x row inside) in
-      grind (arith, nat_tests, without)
+  not_none buffer is none = grind (arith, common_steps, nat_tests)

@@ -1,4 +1,5 @@
 -- A row that is drawn cluster by cluster, and the clusters that fit it.
+use Rattle.std.proofs.lemmas.Grind.{common_steps}
 use Rattle.std.proofs.Common.{◌≡◌, ℕ, suc, ◌+◌, ◌-◌, ◌<◌, ◌≤◌, min, List, [], ◌∷◌, length, filter, refl, sym, ap, ◌∙◌, arith}
 use Rattle.std.proofs.lemmas.Bool.Decides.{nat_tests}
 use Rattle.std.proofs.lemmas.List.Sums.{sum_by-cons}
@@ -82,15 +83,11 @@ narrow_stays width cluster clusters narrow = grind (arith, nat_tests)
 
 pub fitting_ahead-full : (width room : ℕ) (cluster : Cluster) (clusters : List Cluster) → columns_of cluster.text ≤ width → room < columns_of cluster.text →
     fitting_ahead width room (cluster ∷ clusters) ≡ []
-fitting_ahead-full width room cluster clusters narrow full =
-    let others = filter (is_narrow width) clusters in
-    ap (front_within room) (narrow_stays width cluster clusters narrow) ∙ front-full room (suc (length others)) cluster others full
+fitting_ahead-full width room cluster clusters narrow full = grind (arith, common_steps, narrow_stays width cluster clusters narrow, front-full)
 
 pub fitting_ahead-fits : (width room : ℕ) (cluster : Cluster) (clusters : List Cluster) → columns_of cluster.text ≤ width → columns_of cluster.text ≤ room →
     fitting_ahead width room (cluster ∷ clusters) ≡ cluster ∷ fitting_ahead width (room - columns_of cluster.text) clusters
-fitting_ahead-fits width room cluster clusters narrow fits =
-    let others = filter (is_narrow width) clusters in
-    ap (front_within room) (narrow_stays width cluster clusters narrow) ∙ front-fits room (length others) cluster others fits
+fitting_ahead-fits width room cluster clusters narrow fits = grind (arith, common_steps, narrow_stays width cluster clusters narrow, front-fits)
 
 -- ---- their columns
 

@@ -3,7 +3,7 @@
 pub mod block;
 mod cells;
 mod clusters;
-mod columns;
+pub mod columns;
 pub mod row;
 
 pub use block::draw_block;

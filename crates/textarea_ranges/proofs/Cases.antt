@@ -1,17 +1,7 @@
 -- Worked cases of the definitions, each by computing.
 use Rattle.std.proofs.Common.{◌≡◌, ℕ, true, false, List, [], ◌∷◌, refl, Some, None}
-use Rattle.textarea_text.specs.Text.{Symbol, Break, Character}
-use Rattle.textarea_text.specs.Splice.{Splice}
-use Rattle.textarea_data.specs.declared.range.AtomicRange.{AtomicRange}
-use Rattle.textarea_data.specs.declared.range.RejectedAtomicRange.{RejectedAtomicRange}
-use Rattle.textarea_data.specs.declared.range.AtomicCursorBias.TheVariants.{Backward, Forward}
+use Rattle.textarea_ranges.specs.Prelude.{Symbol, Break, Character, Splice, AtomicRange, RejectedAtomicRange, Backward, Forward, AtomicRangeRejectReason, Empty, RowOutOfBounds, ColumnOutOfBounds, OverlapsPrevious, hit, moved_out, widened, moved_ranges, in_order, rejected_of}
 use Rattle.textarea_data.specs.declared.range.AtomicDeleteDirection.TheVariants.{Backward as DeleteBackward, Forward as DeleteForward}
-use Rattle.textarea_data.specs.declared.range.AtomicRangeRejectReason.{AtomicRangeRejectReason}
-use Rattle.textarea_data.specs.declared.range.AtomicRangeRejectReason.TheVariants.{Empty, RowOutOfBounds, ColumnOutOfBounds, OverlapsPrevious}
-use Rattle.textarea_ranges.specs.Held.{hit, moved_out, widened}
-use Rattle.textarea_ranges.specs.Moved.{moved_ranges}
-use Rattle.textarea_ranges.specs.Order.{in_order}
-use Rattle.textarea_ranges.specs.Rejected.{rejected_of}
 
 abbrev pub part : ℕ → ℕ → ℕ → AtomicRange
 part row start end = record { row = row; start_col = start; end_col = end }
@@ -59,35 +49,14 @@ tie_case = refl
 abbrev pub bracket : List AtomicRange
 bracket = part 0 5 10 ∷ []
 
-pub moved_back_case : moved_out bracket (0, 7) Backward ≡ (0, 5)
-moved_back_case = refl
+pub moved_cases : (moved_out bracket (0, 7) Backward ∷ moved_out bracket (0, 7) Forward ∷ moved_out bracket (0, 5) Forward ∷ moved_out bracket (1, 7) Forward ∷ []) ≡ (0, 5) ∷ (0, 10) ∷ (0, 5) ∷ (1, 7) ∷ []
+moved_cases = refl
 
-pub moved_on_case : moved_out bracket (0, 7) Forward ≡ (0, 10)
-moved_on_case = refl
+pub hit_cases : (hit bracket (0, 10) DeleteBackward ∷ hit bracket (0, 5) DeleteBackward ∷ hit bracket (0, 5) DeleteForward ∷ hit bracket (0, 10) DeleteForward ∷ []) ≡ Some (part 0 5 10) ∷ None ∷ Some (part 0 5 10) ∷ None ∷ []
+hit_cases = refl
 
-pub moved_start_case : moved_out bracket (0, 5) Forward ≡ (0, 5)
-moved_start_case = refl
-
-pub moved_row_case : moved_out bracket (1, 7) Forward ≡ (1, 7)
-moved_row_case = refl
-
-pub hit_back_case : hit bracket (0, 10) DeleteBackward ≡ Some (part 0 5 10)
-hit_back_case = refl
-
-pub hit_back_start_case : hit bracket (0, 5) DeleteBackward ≡ None
-hit_back_start_case = refl
-
-pub hit_on_case : hit bracket (0, 5) DeleteForward ≡ Some (part 0 5 10)
-hit_on_case = refl
-
-pub hit_on_end_case : hit bracket (0, 10) DeleteForward ≡ None
-hit_on_end_case = refl
-
-pub widened_case : widened (part 0 5 10 ∷ part 1 0 4 ∷ []) (0, 7) (1, 2) ≡ ((0, 5), (1, 4))
-widened_case = refl
-
-pub widened_inside_case : widened bracket (0, 6) (0, 7) ≡ ((0, 5), (0, 10))
-widened_inside_case = refl
+pub widened_cases : (widened (part 0 5 10 ∷ part 1 0 4 ∷ []) (0, 7) (1, 2) ∷ widened bracket (0, 6) (0, 7) ∷ []) ≡ ((0, 5), (1, 4)) ∷ ((0, 5), (0, 10)) ∷ []
+widened_cases = refl
 
 -- ---- ranges that go with the text
 

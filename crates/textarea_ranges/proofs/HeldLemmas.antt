@@ -4,14 +4,8 @@ use Rattle.std.proofs.lemmas.Bool.{cases_lt}
 use Rattle.std.proofs.lemmas.List.{get_or_default}
 use Rattle.std.proofs.lemmas.Bool.Decides.{nat_tests}
 use Rattle.std.proofs.lemmas.List.Elements.{All-contains}
-use Rattle.textarea_text.specs.Place.{Place, IsBefore, IsPlaceOf, IsUpTo}
-use Rattle.textarea_data.specs.declared.range.AtomicRange.{AtomicRange}
-use Rattle.textarea_data.specs.declared.range.AtomicCursorBias.{AtomicCursorBias}
-use Rattle.textarea_data.specs.declared.range.AtomicCursorBias.TheVariants.{Backward, Forward}
-use Rattle.textarea_data.specs.declared.range.AtomicDeleteDirection.{AtomicDeleteDirection}
+use Rattle.textarea_ranges.specs.Prelude.{Place, IsBefore, IsPlaceOf, IsUpTo, AtomicRange, AtomicCursorBias, Backward, Forward, AtomicDeleteDirection, IsHit, hit, is_hit, IsInside, is_inside, range_start, range_end, inside, border, border_or, moved_out, IsWithin, IsBeside, Overlaps, TakesWhole, widened, IsWidened, IsPart, AreDisjoint, AreValid}
 use Rattle.textarea_data.specs.declared.range.AtomicDeleteDirection.TheVariants.{Backward as DeleteBackward, Forward as DeleteForward}
-use Rattle.textarea_ranges.specs.Held.{IsHit, hit, is_hit, IsInside, is_inside, range_start, range_end, inside, border, border_or, moved_out, IsWithin, IsBeside, Overlaps, TakesWhole, widened, IsWidened}
-use Rattle.textarea_ranges.specs.Valid.{IsPart, AreDisjoint, AreValid}
 use Rattle.textarea_ranges.proofs.Finds.{Found, Found-find, fails-find}
 
 -- ---- the test of a range that strictly holds a place
@@ -80,12 +74,6 @@ pub IsPlaceOf-moved_out : (rows : List (List ℕ)) (ranges : List AtomicRange) (
 IsPlaceOf-moved_out rows ranges place bias valid h = place_of_found rows ranges place bias valid h (inside ranges place) refl
 
 -- ---- a removal that is widened
-
-order : (one other : Place) → IsUpTo one other ⊎ IsBefore other one
-order one other = grind (arith, nat_tests)
-
-between : (place : Place) (range : AtomicRange) → IsBefore (range_start range) place → IsBefore place (range_end range) → IsInside place range
-between place range behind before = grind (arith, nat_tests)
 
 -- ends that are strictly inside no range leave none in half
 pub taken : (from to : Place) (range : AtomicRange) → ¬ IsInside from range → ¬ IsInside to range → IsWithin from to range ⊎ IsBeside from to range

@@ -4,19 +4,10 @@ use Rattle.std.proofs.lemmas.Bool.{cases_Bool}
 use Rattle.std.proofs.lemmas.Bool.Decides.{nat_tests}
 use Rattle.std.proofs.lemmas.List.{append_assoc, length-append, length-drop, length-take-le, take-append-drop, take_at, drop_at, get_or_at}
 use Rattle.std.proofs.lemmas.List.Elements.{All-from_recursion, recursion_from_All}
-use Rattle.std.specs.List.{AllByRecursion, cons_option}
-use Rattle.textarea_text.specs.Text.{Symbol, Character, Break, characters, following, joined, leading, lines, on_first}
-use Rattle.textarea_text.specs.Place.{Place, IsUpTo, end, line_of}
-use Rattle.textarea_text.specs.Splice.{Splice, Fits, applied, place_after, place_before}
-use Rattle.textarea_text.specs.Carried.{is_up_to, shifted}
+use Rattle.textarea_ranges.specs.Prelude.{AllByRecursion, cons_option, Symbol, Character, Break, characters, following, joined, leading, lines, on_first, Place, IsUpTo, end, line_of, Splice, Fits, applied, place_after, place_before, is_up_to, shifted, AtomicRange, range_end, range_start, CoversTheSame, Disturbs, DisturbsBy, covered, moved_range, moved_ranges, shifted_range, AreInOrder, is_before, AreDisjoint, AreValid, IsPart}
 use Rattle.textarea_text.proofs.Splices.{characters-append, end-append, end_of_front, end-characters, joined-append, lines-joined}
 use Rattle.textarea_text.proofs.TextPlaces.{Parted, cut, joined-lines, part_rows}
 use Rattle.textarea_text.proofs.Carrying.{back_stays, end_from, front_stays}
-use Rattle.textarea_data.specs.declared.range.AtomicRange.{AtomicRange}
-use Rattle.textarea_ranges.specs.Held.{range_end, range_start}
-use Rattle.textarea_ranges.specs.Moved.{CoversTheSame, Disturbs, DisturbsBy, covered, moved_range, moved_ranges, shifted_range}
-use Rattle.textarea_ranges.specs.Order.{AreInOrder, is_before}
-use Rattle.textarea_ranges.specs.Valid.{AreDisjoint, AreValid, IsPart}
 use Rattle.textarea_ranges.proofs.Lists.{AllPairs-later, EachLater, each_both, later-AllPairs}
 use Rattle.textarea_ranges.proofs.OrderLemmas.{in_order-sorted, sorted-in_order}
 use Rattle.textarea_ranges.proofs.Sorts.{NotBefore}

@@ -3,16 +3,7 @@ use Rattle.std.proofs.Common.{◌≡◌, ◌≢◌, ◌↔◌, ℕ, ◌+◌, ◌
 use Rattle.std.proofs.lemmas.Bool.Decides.{nat_tests}
 use Rattle.std.proofs.lemmas.List.{append_assoc, drop_more, get_or_past, length-map}
 use Rattle.std.proofs.lemmas.List.Elements.{All-from_recursion, recursion_from_All}
-use Rattle.std.specs.declared.alloc.Global.{Global}
-use Rattle.std.specs.List.{AllByRecursion}
-use Rattle.textarea_data.specs.declared.range.AtomicRange.{AtomicRange}
-use Rattle.textarea_data.specs.declared.range.RejectedAtomicRange.{RejectedAtomicRange}
-use Rattle.textarea_data.specs.declared.range.AtomicRangeRejectReason.{AtomicRangeRejectReason}
-use Rattle.textarea_text.specs.Place.{line_of}
-use Rattle.textarea_text.specs.Text.{characters_of, lines_of}
-use Rattle.textarea_ranges.specs.Order.{AreInOrder, in_order, is_before}
-use Rattle.textarea_ranges.specs.Rejected.{free_from, last_valid, reason, rejected_behind, rejected_of, with_reason, AreAccepted, AreRefused}
-use Rattle.textarea_ranges.specs.Valid.{AreDisjoint, AreValid, IsPart}
+use Rattle.textarea_ranges.specs.Prelude.{Global, AllByRecursion, AtomicRange, RejectedAtomicRange, AtomicRangeRejectReason, line_of, characters_of, lines_of, AreInOrder, in_order, is_before, free_from, last_valid, reason, rejected_behind, rejected_of, with_reason, AreAccepted, AreRefused, AreDisjoint, AreValid, IsPart}
 use Rattle.textarea_ranges.proofs.Lists.{AllPairs-later, EachLater, each_both, each_weaker, later-AllPairs}
 use Rattle.textarea_ranges.proofs.Sorts.{NotBefore}
 use Rattle.textarea_ranges.proofs.OrderLemmas.{AreInOrder-in_order, each-in_order, each_from_in_order, later-in_order, later_from_in_order, sorted-in_order}

@@ -3,3 +3,4 @@ pub mod Moved
 pub mod Order
 pub mod Rejected
 pub mod Valid
+pub mod Prelude

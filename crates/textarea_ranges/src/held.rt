@@ -1,9 +1,7 @@
 //! Look-ups in a list of ranges: which of them holds a place, which is hit, and what a removal takes. A place is a row and
 //! a column, from 0, the column in characters.
 ghost use Rattle.std.specs.Prelude.{◌≡◌, ℕ, List, All};
-ghost use Rattle.textarea_text.specs.Place.{IsPlaceOf, IsUpTo};
-ghost use Rattle.textarea_ranges.specs.Held.{IsInside, IsWidened, border, hit, inside, is_hit, is_inside, moved_out, widened};
-ghost use Rattle.textarea_ranges.specs.Valid.{AreValid};
+ghost use Rattle.textarea_ranges.specs.Prelude.{IsPlaceOf, IsUpTo, IsInside, IsWidened, border, hit, inside, is_hit, is_inside, moved_out, widened, AreValid};
 
 use textarea_data::range::{AtomicCursorBias, AtomicDeleteDirection, AtomicRange};
 

@@ -1,15 +1,6 @@
 //! Laws of ranges, each the contract of a function without a body.
 ghost use Rattle.std.specs.Prelude.{◌≡◌, ◌↔◌, ℕ, List, [], All, Contains, MatchOption, None, Some};
-ghost use Rattle.textarea_text.specs.Text.{Symbol, lines};
-ghost use Rattle.textarea_text.specs.Place.{Place};
-ghost use Rattle.textarea_text.specs.Splice.{Fits, Splice, applied};
-ghost use Rattle.textarea_data.specs.declared.range.AtomicDeleteDirection.{AtomicDeleteDirection};
-ghost use Rattle.textarea_data.specs.declared.range.AtomicRange.{AtomicRange};
-ghost use Rattle.textarea_ranges.specs.Held.{IsHit, IsInside, hit, inside};
-ghost use Rattle.textarea_ranges.specs.Moved.{CoversTheSame, Disturbs, moved_range, moved_ranges};
-ghost use Rattle.textarea_ranges.specs.Order.{AreInOrder, IsInOrder, in_order};
-ghost use Rattle.textarea_ranges.specs.Rejected.{rejected_of};
-ghost use Rattle.textarea_ranges.specs.Valid.{AreValid, IsPart};
+ghost use Rattle.textarea_ranges.specs.Prelude.{Symbol, lines, Place, Fits, Splice, applied, AtomicDeleteDirection, AtomicRange, IsHit, IsInside, hit, inside, CoversTheSame, Disturbs, moved_range, moved_ranges, AreInOrder, IsInOrder, in_order, rejected_of, AreValid, IsPart};
 
 /// Ranges in order are the same ranges by row and start, those that start at one place as they stood; no other list is
 /// that; and ranges that were put in order stay as they are when they are put in order again.

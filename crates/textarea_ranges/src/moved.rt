@@ -1,7 +1,6 @@
 //! Ranges that go with the text that they stand in.
 ghost use Rattle.std.specs.Prelude.{◌≡◌, ◌≤◌, All, filter_map, length, take};
-ghost use Rattle.textarea_util.specs.Limit.{size_limit};
-ghost use Rattle.textarea_ranges.specs.Moved.{IsMovable, moved_by};
+ghost use Rattle.textarea_ranges.specs.Prelude.{size_limit, IsMovable, moved_by};
 
 use textarea_data::range::AtomicRange;
 use textarea_text::carried::{is_up_to, shift};

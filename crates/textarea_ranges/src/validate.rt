@@ -1,8 +1,6 @@
 //! The test of a list of ranges against some lines.
 ghost use Rattle.std.specs.Prelude.{◌≡◌, ◌++◌, length, None, IfOk, MatchResult, OnOk};
-ghost use Rattle.textarea_text.specs.Place.{line_of};
-ghost use Rattle.textarea_text.specs.Text.{lines_of};
-ghost use Rattle.textarea_ranges.specs.Rejected.{AreAccepted, AreRefused, free_from, last_valid, reason, rejected_of, with_reason};
+ghost use Rattle.textarea_ranges.specs.Prelude.{line_of, lines_of, AreAccepted, AreRefused, free_from, last_valid, reason, rejected_of, with_reason};
 
 use crate::order::in_order;
 use std::alloc::{AllocError, Global};

@@ -3,9 +3,8 @@ ghost use Rattle.std.specs.Prelude.{◌≡◌, ◌≤◌, [], length, vec_capaci
 ghost use Rattle.textarea_document.specs.Goes.{GoesUncut};
 ghost use Rattle.textarea_document.specs.Sound.{IsSound};
 ghost use Rattle.textarea_calls.specs.Made.{CanBeMade};
-ghost use Rattle.tui_textarea.specs.Calls.{Refused};
 ghost use Rattle.tui_textarea.specs.CallGoes.{GoesByCall, RangesOfRun};
-ghost use Rattle.tui_textarea.specs.Outcomes.{IsSpared};
+ghost use Rattle.tui_textarea.specs.Outcomes.{IsSpared, Refused};
 ghost use Rattle.tui_textarea.specs.Run.{Makes, Run};
 ghost use Rattle.tui_textarea.specs.Said.{said};
 ghost use Rattle.tui_textarea.specs.CallSplices.{OfLeft};
@@ -16,6 +15,7 @@ use std::alloc::AllocError;
 use textarea_calls::{Answer, Call};
 use textarea_screen::screen::Buffer;
 use tui_textarea::TextArea;
+use tui_textarea::laws::is_sound;
 use tui_textarea::outcomes::laws::ranges_go_with_each_call;
 
 /// How a run of calls ended.
@@ -48,7 +48,7 @@ pub fn run(area: &mut TextArea<'_>, calls: &[Call<'_>], buffer: &mut Buffer) -> 
         buffer.new }
     ensures ranges { RangesOfRun area.old buffer.old calls.now result.answers.items area.new }
 {
-    area.is_sound();
+    is_sound(area);
     let mut answers = Vec::new(allocator(area));
     if answers.try_reserve(calls.len()).is_err() {
         return RunEnd {
@@ -107,9 +107,9 @@ fn make(area: &mut TextArea<'_>, call: Call<'_>, buffer: &mut Buffer) -> Result<
     ensures before { IsSound area.old.document }
     ensures behind { IsSound area.new.document }
 {
-    area.is_sound();
+    is_sound(area);
     let outcome = perform(area, call, buffer);
-    area.is_sound();
+    is_sound(area);
     ranges_go_with_each_call();
     outcome
 }

@@ -1,4 +1,5 @@
 -- Where the cells of a rectangle stand in the list of all of them, and what a write of one of them changes.
+use Rattle.std.proofs.lemmas.Grind.{common_steps}
 use Rattle.std.proofs.Common.{◌≡◌, ◌≢◌, ℕ, zero, suc, ◌+◌, ◌-◌, ◌*◌, ◌/◌, ◌%◌, ◌<◌, ◌≤◌, Bool, true, false, cond, eqb, leb, ltb, ◌&&◌, ◌||◌, List, [], ◌∷◌, length, get_or, set, Option, None, Some, refl, sym, ap, ap₂, ◌∙◌, ⊎_elim, arith}
 use Rattle.std.specs.List.{slice_get, All}
 use Rattle.std.specs.Option.{option_map}
@@ -59,17 +60,7 @@ cell_in-set : (area : Rect) (cells : List Cell) (x y u v : ℕ) (f : ShownCell �
     shown_cell cell ≡ f (shown_cell (get_or cells (place_in area x y) d)) →
     cell_in area (set cells (place_in area x y) cell) u v ≡ option_map (λ c. cond (eqb u x && eqb v y) (f c) c) (cell_in area cells u v)
 cell_in-set area cells x y u v f d cell h room is =
-    changed_where (contains area u v) (eqb u x && eqb v y) _ _ f
-    (λ in_area here.
-    let at_x : u ≡ x = grind (arith, nat_tests) in
-    let at_y : v ≡ y = grind (arith, nat_tests) in
-    let within : place_in area x y < length cells = omega (arith, place_in-below area x y h, room) in
-    rw (at_x, at_y)
-    (ap (option_map shown_cell) (slice_get-set_same cells (place_in area x y) cell within) ∙ ap Some is
-    ∙ sym (ap (λ o. option_map f (option_map shown_cell o)) (slice_get-get_or cells (place_in area x y) d within))))
-    (λ in_area there.
-    ap (option_map shown_cell) (slice_get-set_other cells (place_in area x y) (place_in area u v) cell
-    (λ e. let both = place_in-same area x y u v h in_area e in absurd (grind (arith, nat_tests)))))
+    grind (arith, common_steps, changed_where, nat_tests, place_in-below area x y h, slice_get-set_same, slice_get-get_or, slice_get-set_other, place_in-same)
 
 pub Changes-set : (old new : Buffer) (x y place : ℕ) (f : ShownCell → ShownCell) (d cell : Cell) → contains old.area x y ≡ true → place ≡ place_in old.area x y →
     length old.cells.items ≡ old.area.height * old.area.width → new.area ≡ old.area → new.cells.items ≡ set old.cells.items place cell →
@@ -113,11 +104,7 @@ slice_get-fresh (cell ∷ cells) (suc n) below fresh =
 pub cell_at-fresh : (buffer : Buffer) (x y : ℕ) → buffer.area.height * buffer.area.width ≤ length buffer.cells.items → All (λ cell. shown_cell cell ≡ fresh_cell) buffer.cells.items →
     cell_at buffer x y ≡ cond (contains buffer.area x y) (Some fresh_cell) None
 unfolding cell_at
-cell_at-fresh buffer x y room fresh =
-    ⊎_elim
-    (λ in_area. rw in_area (slice_get-fresh buffer.cells.items (place_in buffer.area x y) (omega (arith, place_in-below buffer.area x y in_area, room)) fresh))
-    (λ outside. rw outside refl)
-    (cases_Bool (contains buffer.area x y))
+cell_at-fresh buffer x y room fresh = grind (arith, common_steps, slice_get-fresh, place_in-below, cases_Bool (contains buffer.area x y))
 
 -- ---- the cells of a rectangle, one after another
 

@@ -1,5 +1,6 @@
 -- How changes of a buffer compose. Each lemma is over the words of specs/Buffer.antt alone, so crates above may cite it.
-use Rattle.std.proofs.Common.{◌≡◌, ℕ, Bool, true, false, cond, ◌||◌, Option, None, Some, refl, sym, ap, ◌∙◌, ⊎_elim}
+use Rattle.std.proofs.lemmas.Grind.{common_steps}
+use Rattle.std.proofs.Common.{arith, ◌≡◌, ℕ, Bool, true, false, cond, ◌||◌, Option, None, Some, refl, sym, ap, ◌∙◌, ⊎_elim}
 use Rattle.std.specs.Option.{option_map}
 use Rattle.std.proofs.lemmas.Bool.{cases_Bool, cond-false}
 use Rattle.textarea_screen.specs.Buffer.{area_of, cell_at, Change, Changes, KeepsOutside}
@@ -78,9 +79,7 @@ pub Changes-more : {a b c : Buffer} (f : ShownCell → ShownCell) (before here a
     Changes a b (λ x y cell. cond (before x y) (f cell) cell) → Changes b c (λ x y cell. cond (here x y) (f cell) cell) →
     ((x y : ℕ) → here x y ≡ true → before x y ≡ false) → ((x y : ℕ) → (before x y || here x y) ≡ after x y) →
     Changes a c (λ x y cell. cond (after x y) (f cell) cell)
-Changes-more f before here after first second apart both =
-    Changes-then (λ x y cell. cond (after x y) (f cell) cell) first second
-    (λ x y cell. cond-or (before x y) (here x y) f cell (apart x y) ∙ ap (λ test. cond test (f cell) cell) (both x y))
+Changes-more f before here after first second apart both = grind (arith, common_steps, Changes-then, cond-or)
 
 -- ---- cells that stay
 

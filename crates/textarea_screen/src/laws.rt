@@ -35,44 +35,22 @@ pub fn other_constants()
     ensures inline_bytes { INLINE_BYTES ≡ 24 }
 {}
 
-/// The default alignment is the left one.
-pub fn default_alignment() -> Alignment
-    ensures { result ≡ Alignment.Left }
+/// The defaults that are derived: the left alignment, the terminal's own colour, the empty sets of sides and of modifiers, no free
+/// column or row, and the first column and the first row.
+pub fn defaults() -> (Alignment, Color, Borders, Modifier, Padding, Position)
+    ensures alignment { result.0 ≡ Alignment.Left }
+    ensures color { result.1 ≡ Color.Reset }
+    ensures borders { result.2 ≡ record { 0 = 0 } }
+    ensures modifier { result.3 ≡ record { 0 = 0 } }
+    ensures padding { result.4 ≡ record { left = 0; right = 0; top = 0; bottom = 0 } }
+    ensures position { result.5 ≡ record { x = 0; y = 0 } }
 {
-    Alignment::default()
-}
-
-/// The default colour is the terminal's own.
-pub fn default_color() -> Color
-    ensures { result ≡ Color.Reset }
-{
-    Color::default()
-}
-
-/// The default set of sides is the empty one.
-pub fn default_borders() -> Borders
-    ensures { result ≡ record { 0 = 0 } }
-{
-    Borders::default()
-}
-
-/// The default set of modifiers is the empty one.
-pub fn default_modifier() -> Modifier
-    ensures { result ≡ record { 0 = 0 } }
-{
-    Modifier::default()
-}
-
-/// The default padding leaves nothing free.
-pub fn default_padding() -> Padding
-    ensures { result ≡ record { left = 0; right = 0; top = 0; bottom = 0 } }
-{
-    Padding::default()
-}
-
-/// The default position is that of the first column and the first row.
-pub fn default_position() -> Position
-    ensures { result ≡ record { x = 0; y = 0 } }
-{
-    Position::default()
+    (
+        Alignment::default(),
+        Color::default(),
+        Borders::default(),
+        Modifier::default(),
+        Padding::default(),
+        Position::default(),
+    )
 }

@@ -1,4 +1,5 @@
 -- The columns of a visual row at which a cursor can stand, where the clusters of the lines fit the width and anyhow.
+use Rattle.std.proofs.lemmas.Grind.{common_steps}
 use Rattle.std.proofs.Common.{◌≡◌, ◌≢◌, ℕ, zero, suc, ◌+◌, ◌-◌, ◌^◌, ◌<◌, ◌≤◌, inl, inr, max, Bool, true, false, List, [], ◌∷◌, ◌++◌, length, take, drop, get_or, sym, ap, refl, ◌∙◌, arith, subst, encode_utf8_all, if◌then◌else◌}
 use Rattle.std.proofs.lemmas.Bool.{cases_lt}
 use Rattle.std.proofs.lemmas.List.{append_assoc, drop_at, length-append, length-take, take_at}
@@ -25,10 +26,7 @@ bytes_between line range = take (range.1 - range.0) (drop range.0 line)
 -- the bytes of a row are those of its text
 row_bytes : (front : List ℕ) (texts : List (List ℕ)) (line : List ℕ) (k : ℕ) → line ≡ front ++ concat texts → k < length texts → bytes_between line (range_at (ranges_from (length front) texts) k) ≡ get_or texts k []
 row_bytes front [] line k e h = absurd (omega arith)
-row_bytes front (text ∷ texts) line zero e h =
-    let size : length text ≡ length front + length text - length front = omega arith in
-    ap (λ bytes. take (length front + length text - length front) bytes) (ap (drop (length front)) e ∙ drop_at front (text ++ concat texts) (length front) refl)
-    ∙ take_at text (concat texts) (length front + length text - length front) size
+row_bytes front (text ∷ texts) line zero e h = grind (arith, common_steps, drop_at front (text ++ concat texts) (length front), take_at)
 row_bytes front (text ∷ texts) line (suc k) e h =
     subst (λ n. bytes_between line (range_at (ranges_from n texts) k) ≡ get_or texts k []) (length-append front text)
     (row_bytes (front ++ text) texts line k (e ∙ sym (append_assoc front text (concat texts))) (omega arith))

@@ -1,4 +1,5 @@
 -- Rows of lines, taken apart and put together.
+use Rattle.std.proofs.lemmas.Grind.{common_steps}
 use Rattle.std.proofs.Common.{map, ap₂, ◌≡◌, ℕ, zero, suc, ◌+◌, ◌<◌, max, List, [], ◌∷◌, ◌++◌, length, take, drop, get_or, ap, refl, ◌∙◌, arith, encode_utf8_all, String, string_bytes}
 use Rattle.std.proofs.lemmas.List.{append_assoc, length-map, map-append, take_more}
 use Rattle.std.proofs.lemmas.Str.{scalars-chars, IsUtf8-string_bytes}
@@ -61,10 +62,7 @@ AreRowsOf-more w before items i line text rows cut within read same h k short =
     (AreRowsOf-append w (before ++ take i (lines_of items)) (get_or (lines_of items) i [] ∷ []) rows (cut ∷ []) h (here, tt))
 
 range_append : (first size more : ℕ) → range_with_len first size ++ range_with_len (first + size) more ≡ range_with_len first (size + more)
-range_append first zero more =
-    let start : first + 0 ≡ first = omega arith in
-    let sum : 0 + more ≡ more = omega arith in
-    rw (start, sum)
+range_append first zero more = grind (arith, common_steps)
 range_append first (suc size) more =
     let start : first + suc size ≡ first + 1 + size = omega arith in
     let sum : suc size + more ≡ suc (size + more) = omega arith in

@@ -1,4 +1,5 @@
 -- The display columns of the places of a row.
+use Rattle.std.proofs.lemmas.Grind.{common_steps}
 use Rattle.std.proofs.Common.{◌≡◌, ℕ, ◌+◌, ◌-◌, ◌<◌, ◌≤◌, ◌⊎◌, inl, inr, max, cond, nat_eq, true, false, List, [], ◌∷◌, length, take, drop, get_or, sym, ap, subst, ◌∙◌, arith}
 use Rattle.std.proofs.Math.Seq.{take-add}
 use Rattle.std.proofs.lemmas.Bool.Decides.{nat_tests}
@@ -13,10 +14,7 @@ use Rattle.textarea_screen_map.proofs.Holding.{all_at}
 
 -- columns never fall along a row
 pub column_at-le : (tab_len : ℕ) (text : List ℕ) (i j : ℕ) → i ≤ j → column_at tab_len text i ≤ column_at tab_len text j
-column_at-le tab_len text i j h =
-    let more = take (j - i) (drop i text) in
-    let size : i + (j - i) ≡ j = omega arith in
-    omega (arith, end_column-after (max tab_len 1) (column_at tab_len text i) more, end_column-append (max tab_len 1) 0 (take i text) more, ap (end_column (max tab_len 1) 0) (ap (λ n. take n text) (sym size) ∙ take-add i (j - i) text))
+column_at-le tab_len text i j h = grind (arith, common_steps, end_column-after, end_column-append, take-add i (j - i) text)
 
 -- the column behind a character
 pub column_at-more : (tab_len : ℕ) (text : List ℕ) (i d : ℕ) → i < length text → column_at tab_len text (i + 1) ≡ column_after (max tab_len 1) (column_at tab_len text i) (get_or text i d)

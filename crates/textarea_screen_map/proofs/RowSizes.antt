@@ -1,4 +1,5 @@
 -- How large lines are by their rows, and that they have no more rows than that.
+use Rattle.std.proofs.lemmas.Grind.{common_steps}
 use Rattle.std.proofs.Common.{◌≡◌, ℕ, ◌+◌, ◌-◌, ◌<◌, ◌≤◌, inl, inr, max, List, [], ◌∷◌, ◌++◌, length, take, drop, ap, refl, ◌∙◌, arith, subst, encode_utf8_all, String}
 use Rattle.std.proofs.lemmas.Bool.{cases_lt}
 use Rattle.std.proofs.lemmas.List.{take-append-drop, length-append}
@@ -45,18 +46,11 @@ size_of_lines w [] [] h = (refl, omega arith)
 size_of_lines w [] (r ∷ rows) h = absurd h
 size_of_lines w (line ∷ lines) [] h = absurd h
 size_of_lines w (line ∷ lines) (r ∷ rows) h =
-    let first = size_of_line w.mode w.tab_len (max w.width 1) (encode_utf8_all line) r.ranges h.0.cut in
-    let rest = size_of_lines w lines rows h.1 in (
-      omega (arith, first.0, rest.0, weight-append (characters line) (following lines), weight-characters line),
-      omega (arith, first.0, first.1, rest.1),
-    )
+    grind (arith, common_steps, size_of_line w.mode w.tab_len (max w.width 1) (encode_utf8_all line) r.ranges h.0.cut, size_of_lines w lines rows h.1, weight-append (characters line) (following lines), weight-characters line)
 
 -- the same of lines as they are kept
 pub size_of_items : {Z : Type 0} (w : Wrapping) (items : List (String Z)) (rows : List RowsView) → AreRowsOf w (lines_of items) rows → (size_total rows ≡ size_of items) × (row_total rows ≤ size_of items)
-size_of_items w items rows h =
-    let known = size_of_lines w (lines_of items) rows h in
-    let size : size_total rows ≡ size_of items = known.0 ∙ weight_of_following items in
-    (size, omega (arith, size, known.1))
+size_of_items w items rows h = grind (arith, common_steps, size_of_lines w (lines_of items) rows h, weight_of_following items)
 
 -- the first lines are no larger than all
 pub size_of_take : {Z : Type 0} (items : List (String Z)) (n : ℕ) → size_of (take n items) ≤ size_of items

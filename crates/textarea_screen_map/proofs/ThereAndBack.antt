@@ -1,4 +1,5 @@
 -- From a place to its visual row and column, and back.
+use Rattle.std.proofs.lemmas.Grind.{common_steps}
 use Rattle.std.proofs.Common.{ap₂, ◌≡◌, ℕ, ◌+◌, ◌-◌, ◌<◌, ◌≤◌, inl, inr, min, false, true, Bool, cond, List, [], length, get_or, sym, ap, refl, subst, ◌∙◌, arith}
 use Rattle.std.proofs.lemmas.Bool.{cases_lt}
 use Rattle.std.proofs.Math.Seq.{take-length}
@@ -65,11 +66,7 @@ one_place t lines rows seen place other p o =
     same_place place other row.first (p.line ∙ sym o.line) p.from o.from (leads_to_one t row.text seen.1 (place.1 - row.first) (other.1 - row.first) p.leads o.leads)
 
 pub is_place : (w : Wrapping) (lines : List (List ℕ)) (rows : List RowsView) (seen place : Place) → AreRowsOf w lines rows → IsPlaceAt w.tab_len lines rows seen place → IsPlaceOf lines place
-is_place w lines rows seen place h p =
-    let known = row_of w lines rows seen.0 h p.row in
-    let row = row_at lines rows seen.0 in
-    let size : length (get_or lines place.0 []) ≡ length (get_or lines row.line []) = ap (λ (n : ℕ). length (get_or lines n [])) p.line in
-    (omega (arith, p.line, known.within), omega (arith, size, known.inside, p.from, (leads_within w.tab_len row.text seen.1 (place.1 - row.first) p.leads).0))
+is_place w lines rows seen place h p = grind (arith, common_steps, row_of w lines rows seen.0 h p.row, leads_within)
 
 -- a column up to the greatest one doesn't lead to the end of a row that isn't its line's last
 inside_row : (t : ℕ) (row : VisualRow) (column index : ℕ) → LeadsTo t row.text column index → column ≤ greatest_column t row → (row.is_last ≡ false → 0 < length row.text) → row.is_last ≡ false → index < length row.text
@@ -136,7 +133,4 @@ column_within t row index true e within before =
 column_within t row index false e within before = column_at-le t row.text index (length row.text - 1) (omega (arith, before e))
 
 pub seen_column : (t : ℕ) (lines : List (List ℕ)) (rows : List RowsView) (place seen : Place) → IsVisualPosition t lines rows place seen → seen.1 ≤ greatest_column t (row_at lines rows seen.0)
-seen_column t lines rows place seen s =
-    let row = row_at lines rows seen.0 in
-    let index = place.1 - row.first in
-    rw s.column (column_within t row index row.is_last refl (omega (arith, s.holds.to)) (λ e. omega (arith, s.holds.from, s.holds.before_next e)))
+seen_column t lines rows place seen s = grind (arith, common_steps, column_within)

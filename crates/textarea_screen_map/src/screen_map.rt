@@ -173,15 +173,6 @@ impl ScreenMap {
     {
         let mut blocks = RowBlocks::new(alloc);
         push_lines(alloc, &mut blocks, lines, wrapping, counter)?;
-        ScreenMap::of_blocks(blocks, wrapping)
-    }
-
-    // The map that holds these rows, which are cut so. More than 2^48 bytes and lines together are out of memory.
-    fn of_blocks(blocks: RowBlocks, wrapping: Wrapping) -> Result<ScreenMap, AllocError>
-        ensures rows { IfOk result (λ map. map.rows ≡ all_rows blocks.blocks) }
-        ensures wrapping { IfOk result (λ map. map.wrapping ≡ wrapping) }
-        ensures limit { OnOk result (IsWithinLimit (all_rows blocks.blocks)) }
-    {
         let (total, size) = sums_within_limit(&blocks)?;
         Ok(ScreenMap {
             blocks,

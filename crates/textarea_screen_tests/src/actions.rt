@@ -1,10 +1,14 @@
 // What the keys ask for, with shortcuts and without, and what is answered.
-use std::alloc::{AllocError, Global};
+use crate::cases::check_each;
+use crate::keys::pressed;
 use std::collections::HashMap;
+use std::process::Abort;
 use std::test::Fail;
 use textarea_calls::action::Action;
 use textarea_calls::action::Action::*;
 use textarea_calls::keys::{action_of, action_without_shortcuts};
+use textarea_calls::kind::Edit::*;
+use textarea_calls::kind::Write::*;
 use textarea_data::cursor::CursorMove::*;
 use textarea_data::input::{Input, Key};
 use textarea_data::scroll::Scrolling;
@@ -28,16 +32,16 @@ const ROW_UP: Scrolling = Scrolling::Delta { rows: -1, cols: 0 };
 type Asked = (Key, Action);
 
 const ALONE: [Asked; 14] = [
-    (Key::Char('a'), InsertChar('a')),
-    (Key::Char('m'), InsertChar('m')),
-    (Key::Char(' '), InsertChar(' ')),
-    (Key::Char('\t'), InsertChar('\t')),
-    (Key::Char('あ'), InsertChar('あ')),
-    (Key::Char('\n'), InsertNewline),
-    (Key::Char('\r'), InsertNewline),
-    (Key::Tab, InsertTab),
-    (Key::Backspace, DeleteChar),
-    (Key::Delete, DeleteNextChar),
+    (Key::Char('a'), Write(InsertChar('a'))),
+    (Key::Char('m'), Write(InsertChar('m'))),
+    (Key::Char(' '), Write(InsertChar(' '))),
+    (Key::Char('\t'), Write(InsertChar('\t'))),
+    (Key::Char('あ'), Write(InsertChar('あ'))),
+    (Key::Char('\n'), Write(InsertNewline)),
+    (Key::Char('\r'), Write(InsertNewline)),
+    (Key::Tab, Edit(InsertTab)),
+    (Key::Backspace, Edit(DeleteChar)),
+    (Key::Delete, Edit(DeleteNextChar)),
     (Key::Down, MoveWithShift(Down, false)),
     (Key::Up, MoveWithShift(Up, false)),
     (Key::Right, MoveWithShift(Forward, false)),
@@ -45,23 +49,23 @@ const ALONE: [Asked; 14] = [
 ];
 
 const WITH_CTRL: [Asked; 33] = [
-    (Key::Char('m'), InsertNewline),
-    (Key::Char('h'), DeleteChar),
-    (Key::Char('d'), DeleteNextChar),
-    (Key::Char('k'), DeleteLineByEnd),
-    (Key::Char('j'), DeleteLineByHead),
-    (Key::Char('w'), DeleteWord),
+    (Key::Char('m'), Write(InsertNewline)),
+    (Key::Char('h'), Edit(DeleteChar)),
+    (Key::Char('d'), Edit(DeleteNextChar)),
+    (Key::Char('k'), Edit(DeleteLineByEnd)),
+    (Key::Char('j'), Edit(DeleteLineByHead)),
+    (Key::Char('w'), Edit(DeleteWord)),
     (Key::Char('n'), MoveWithShift(Down, false)),
     (Key::Char('p'), MoveWithShift(Up, false)),
     (Key::Char('f'), MoveWithShift(Forward, false)),
     (Key::Char('b'), MoveWithShift(Back, false)),
     (Key::Char('a'), MoveWithShift(Head, false)),
     (Key::Char('e'), MoveWithShift(End, false)),
-    (Key::Char('u'), Undo),
-    (Key::Char('r'), Redo),
-    (Key::Char('y'), Paste),
-    (Key::Char('x'), Cut),
-    (Key::Char('c'), Copy),
+    (Key::Char('u'), Edit(Undo)),
+    (Key::Char('r'), Edit(Redo)),
+    (Key::Char('y'), Edit(Paste)),
+    (Key::Char('x'), Edit(Cut)),
+    (Key::Char('c'), Write(Copy)),
     (Key::Char('v'), ScrollWithShift(Scrolling::PageDown, false)),
     (Key::Right, MoveWithShift(WordForward, false)),
     (Key::Left, MoveWithShift(WordBack, false)),
@@ -81,10 +85,10 @@ const WITH_CTRL: [Asked; 33] = [
 ];
 
 const WITH_ALT: [Asked; 23] = [
-    (Key::Char('h'), DeleteWord),
-    (Key::Backspace, DeleteWord),
-    (Key::Char('d'), DeleteNextWord),
-    (Key::Delete, DeleteNextWord),
+    (Key::Char('h'), Edit(DeleteWord)),
+    (Key::Backspace, Edit(DeleteWord)),
+    (Key::Char('d'), Edit(DeleteNextWord)),
+    (Key::Delete, Edit(DeleteNextWord)),
     (Key::Char('<'), MoveWithShift(Top, false)),
     (Key::Char('>'), MoveWithShift(Bottom, false)),
     (Key::Char('f'), MoveWithShift(WordForward, false)),
@@ -126,12 +130,12 @@ const WITH_CTRL_AND_ALT: [Asked; 16] = [
 ];
 
 const WHATEVER_IS_HELD: [Asked; 13] = [
-    (Key::Enter, InsertNewline),
+    (Key::Enter, Write(InsertNewline)),
     (Key::Home, MoveWithShift(Head, false)),
     (Key::End, MoveWithShift(End, false)),
-    (Key::Paste, Paste),
-    (Key::Cut, Cut),
-    (Key::Copy, Copy),
+    (Key::Paste, Edit(Paste)),
+    (Key::Cut, Edit(Cut)),
+    (Key::Copy, Write(Copy)),
     (Key::PageDown, ScrollWithShift(Scrolling::PageDown, false)),
     (Key::PageUp, ScrollWithShift(Scrolling::PageUp, false)),
     (Key::MouseScrollDown, ScrollWithShift(ROW_DOWN, false)),
@@ -142,10 +146,10 @@ const WHATEVER_IS_HELD: [Asked; 13] = [
 ];
 
 const ALONE_WITHOUT_SHORTCUTS: [Asked; 4] = [
-    (Key::Char('a'), InsertChar('a')),
-    (Key::Char('\n'), InsertChar('\n')),
-    (Key::Char('\r'), InsertChar('\r')),
-    (Key::Tab, InsertTab),
+    (Key::Char('a'), Write(InsertChar('a'))),
+    (Key::Char('\n'), Write(InsertChar('\n'))),
+    (Key::Char('\r'), Write(InsertChar('\r'))),
+    (Key::Tab, Edit(InsertTab)),
 ];
 
 const HELD_WITHOUT_SHORTCUTS: [Asked; 4] = [
@@ -156,9 +160,9 @@ const HELD_WITHOUT_SHORTCUTS: [Asked; 4] = [
 ];
 
 const WHATEVER_IS_HELD_WITHOUT_SHORTCUTS: [Asked; 11] = [
-    (Key::Backspace, DeleteChar),
-    (Key::Delete, DeleteNextChar),
-    (Key::Enter, InsertNewline),
+    (Key::Backspace, Edit(DeleteChar)),
+    (Key::Delete, Edit(DeleteNextChar)),
+    (Key::Enter, Write(InsertNewline)),
     (Key::MouseScrollDown, Scroll(ROW_DOWN)),
     (Key::MouseScrollUp, Scroll(ROW_UP)),
     (Key::Left, Nothing),
@@ -187,16 +191,6 @@ static KEYS: [Keys; 8] = [
     ),
 ];
 
-fn pressed(key: Key, held: Held, shift: bool) -> Input {
-    let (ctrl, alt) = held;
-    Input {
-        key,
-        ctrl,
-        alt,
-        shift,
-    }
-}
-
 fn with_shift(action: Action) -> Action {
     match action {
         MoveWithShift(cursor_move, _) => MoveWithShift(cursor_move, true),
@@ -205,86 +199,61 @@ fn with_shift(action: Action) -> Action {
     }
 }
 
-fn asks_for(has_shortcuts: bool, input: &Input, wanted: Action) -> bool {
-    let action = if has_shortcuts {
+fn action(has_shortcuts: bool, input: &Input) -> Action {
+    if has_shortcuts {
         action_of(input)
     } else {
         action_without_shortcuts(input)
-    };
-    action == wanted
+    }
 }
 
-fn is_asked(has_shortcuts: bool, held: Held, key: Key, wanted: Action) -> bool {
-    asks_for(has_shortcuts, &pressed(key, held, false), wanted)
-        && asks_for(has_shortcuts, &pressed(key, held, true), with_shift(wanted))
-}
-
-// The first of the keys that asks for something else.
-fn first_other_key(has_shortcuts: bool, held: Held, asked: &[Asked]) -> Option<Key> {
-    for (key, wanted) in asked {
-        if !is_asked(has_shortcuts, held, *key, *wanted) {
-            return Some(*key);
+// The keys, with each of the ways to hold Ctrl and Alt, and with and without Shift.
+fn check_keys(rt: &impl Abort, (has_shortcuts, all_held, asked): &Keys) {
+    for held in *all_held {
+        for (key, wanted) in *asked {
+            let alone = action(*has_shortcuts, &pressed(*key, (held.0, held.1, false)));
+            let shifted = action(*has_shortcuts, &pressed(*key, (held.0, held.1, true)));
+            let wanted = (*wanted, with_shift(*wanted));
+            assert_eq!(rt;
+                (alone, shifted),
+                wanted,
+                "{has_shortcuts}, {held:?}, {key:?}"
+            );
         }
     }
-    None
-}
-
-// The same, with each of the ways to hold Ctrl and Alt.
-fn first_other_held((has_shortcuts, all_held, asked): Keys) -> Option<(bool, Held, Key)> {
-    for held in all_held {
-        if let Some(key) = first_other_key(has_shortcuts, *held, asked) {
-            return Some((has_shortcuts, *held, key));
-        }
-    }
-    None
-}
-
-fn first_other() -> Option<(bool, Held, Key)> {
-    for keys in &KEYS {
-        if let Some(other) = first_other_held(*keys) {
-            return Some(other);
-        }
-    }
-    None
 }
 
 /// An action, and what is answered where the call answered false and where it answered true.
 static ANSWERS: [(Action, [bool; 2]); 18] = [
-    (InsertChar('a'), [true, true]),
-    (InsertNewline, [true, true]),
-    (InsertTab, [false, true]),
-    (DeleteChar, [false, true]),
-    (DeleteNextChar, [false, true]),
-    (DeleteLineByEnd, [false, true]),
-    (DeleteLineByHead, [false, true]),
-    (DeleteWord, [false, true]),
-    (DeleteNextWord, [false, true]),
-    (Undo, [false, true]),
-    (Redo, [false, true]),
-    (Paste, [false, true]),
-    (Cut, [false, true]),
-    (Copy, [false, false]),
+    (Write(InsertChar('a')), [true, true]),
+    (Write(InsertNewline), [true, true]),
+    (Edit(InsertTab), [false, true]),
+    (Edit(DeleteChar), [false, true]),
+    (Edit(DeleteNextChar), [false, true]),
+    (Edit(DeleteLineByEnd), [false, true]),
+    (Edit(DeleteLineByHead), [false, true]),
+    (Edit(DeleteWord), [false, true]),
+    (Edit(DeleteNextWord), [false, true]),
+    (Edit(Undo), [false, true]),
+    (Edit(Redo), [false, true]),
+    (Edit(Paste), [false, true]),
+    (Edit(Cut), [false, true]),
+    (Write(Copy), [false, false]),
     (MoveWithShift(Jump(1, 2), true), [false, false]),
     (ScrollWithShift(Scrolling::PageDown, false), [false, false]),
     (Scroll(Scrolling::HalfPageUp), [false, false]),
     (Nothing, [false, false]),
 ];
 
-// The first of the actions that answers something else.
-fn first_other_answer() -> Option<Action> {
-    for (action, wanted) in &ANSWERS {
-        if [action.answer(false), action.answer(true)] != *wanted {
-            return Some(*action);
-        }
-    }
-    None
-}
-
 #[test]
-fn keys_and_answers(rt: HostRuntime) {
-    let others = (first_other(), first_other_answer());
-    assert_eq!(rt; others, (None, None));
+fn keys_and_answers(rt: HostRuntime) -> Result<(), Fail> {
+    for keys in &KEYS {
+        check_keys(&rt, keys);
+    }
     assert!(rt; action_of(&Input::default()) == Nothing);
+    check_each(&rt, &ANSWERS, |_, (action, wanted)| {
+        Ok([action.answer(false), action.answer(true)] == *wanted)
+    })
 }
 
 /// A character with what is held, Shift last, and what it asks for.
@@ -292,24 +261,17 @@ type Shortcut = (char, Held, bool, Action);
 
 /// Two shortcuts of a program's own, the second set again.
 static SET: [Shortcut; 3] = [
-    ('z', CTRL, false, Undo),
-    ('z', CTRL, true, Redo),
-    ('z', CTRL, true, Paste),
+    ('z', CTRL, false, Edit(Undo)),
+    ('z', CTRL, true, Edit(Redo)),
+    ('z', CTRL, true, Edit(Paste)),
 ];
 
 static OWN: [Shortcut; 4] = [
-    ('z', CTRL, false, Undo),
-    ('z', CTRL, true, Paste),
+    ('z', CTRL, false, Edit(Undo)),
+    ('z', CTRL, true, Edit(Paste)),
     ('z', ALT, true, Nothing),
-    ('z', PLAIN, false, InsertChar('z')),
+    ('z', PLAIN, false, Write(InsertChar('z'))),
 ];
-
-fn set(own: &mut HashMap<Input, Action>, shortcuts: &[Shortcut]) -> Result<(), AllocError> {
-    for (c, held, shift, action) in shortcuts {
-        own.insert(pressed(Key::Char(*c), *held, *shift), *action)?;
-    }
-    Ok(())
-}
 
 /// What an input asks for in a program with shortcuts of its own.
 fn own_action(own: &HashMap<Input, Action>, input: Input) -> Action {
@@ -318,35 +280,16 @@ fn own_action(own: &HashMap<Input, Action>, input: Input) -> Action {
         .unwrap_or(action_without_shortcuts(&input))
 }
 
-// The first of the shortcuts that asks for something else.
-fn first_other_own(
-    own: &HashMap<Input, Action>,
-    shortcuts: &[Shortcut],
-) -> Option<(char, Held, bool)> {
-    for (c, held, shift, wanted) in shortcuts {
-        if own_action(own, pressed(Key::Char(*c), *held, *shift)) != *wanted {
-            return Some((*c, *held, *shift));
-        }
-    }
-    None
-}
-
-// How many shortcuts there are, and the first that asks for something else.
-fn own_of(
-    own: &mut HashMap<Input, Action>,
-) -> Result<(usize, Option<(char, Held, bool)>), AllocError> {
-    set(own, &SET)?;
-    Ok((own.len(), first_other_own(own, &OWN)))
-}
-
-fn own_shortcuts(alloc: Global) -> Result<(usize, Option<(char, Held, bool)>), AllocError> {
-    own_of(&mut HashMap::new(alloc))
-}
-
 #[test]
 fn shortcuts_of_ones_own(rt: HostRuntime) -> Result<(), Fail> {
-    assert_eq!(rt; own_shortcuts(rt.alloc())?, (2, None));
-    Ok(())
+    let mut own = HashMap::new(rt.alloc());
+    for (c, held, shift, action) in &SET {
+        own.insert(pressed(Key::Char(*c), (held.0, held.1, *shift)), *action)?;
+    }
+    assert_eq!(rt; own.len(), 2);
+    check_each(&rt, &OWN, |_, (c, held, shift, wanted)| {
+        Ok(own_action(&own, pressed(Key::Char(*c), (held.0, held.1, *shift))) == *wanted)
+    })
 }
 
 #[test]

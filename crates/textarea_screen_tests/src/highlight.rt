@@ -1,5 +1,7 @@
 //! Rows with their spans, as tables.
 
+use crate::cases::check_each;
+use crate::highlight::Call::*;
 use std::alloc::{AllocError, Global};
 use std::test::Fail;
 use textarea_highlight::highlight::{CursorCellRender, LineHighlighter};
@@ -18,7 +20,7 @@ const SELECTION: u8 = 4;
 const CUSTOM: u8 = 5;
 
 /// What is asked of a row. Each has the style of its kind.
-#[derive(Clone, Copy)]
+#[derive(Clone, Copy, Debug)]
 enum Call {
     /// The number of row 123, in five digits.
     Number,
@@ -41,34 +43,32 @@ const DRAWN: Look = (true, 4, None);
 
 const HIDDEN: Look = (false, 4, None);
 
-/// A row and its look, what is asked of it, the spans that it shows, and whether it lends all of them.
-struct Case {
-    row: &'static str,
-    look: Look,
-    calls: &'static [Call],
-    spans: &'static [(&'static str, u8)],
-    is_lent: bool,
-}
+/// A row and its look, what is asked of it, and the spans that it shows.
+type Case = (
+    &'static str,
+    Look,
+    &'static [Call],
+    &'static [(&'static str, u8)],
+);
 
-static CASES: [Case; 17] = [
-    // Rows that are asked for highlights. An end closes the newest start, the highlights have ranks, and their offsets may be
-    // inside a character.
-    Case {
-        row: "abcdef",
-        look: DRAWN,
-        calls: &[Call::Search(&[(0, 3)]), Call::Custom(1, 5)],
-        spans: &[("a", SEARCH), ("bc", CUSTOM), ("de", SEARCH), ("f", PLAIN)],
-        is_lent: true,
-    },
-    Case {
-        row: "abcdefg",
-        look: DRAWN,
-        calls: &[
-            Call::CursorLine(3),
-            Call::Search(&[(1, 2), (4, 4), (5, 6)]),
-            Call::Segment(2, 5, false),
+/// Rows that lend all of their spans. An end closes the newest start, the highlights have ranks, and their offsets may be inside a
+/// character.
+static LENT: [Case; 10] = [
+    (
+        "abcdef",
+        DRAWN,
+        &[Search(&[(0, 3)]), Custom(1, 5)],
+        &[("a", SEARCH), ("bc", CUSTOM), ("de", SEARCH), ("f", PLAIN)],
+    ),
+    (
+        "abcdefg",
+        DRAWN,
+        &[
+            CursorLine(3),
+            Search(&[(1, 2), (4, 4), (5, 6)]),
+            Segment(2, 5, false),
         ],
-        spans: &[
+        &[
             ("a", LINE),
             ("b", SEARCH),
             ("c", SELECTION),
@@ -77,120 +77,62 @@ static CASES: [Case; 17] = [
             ("f", SEARCH),
             ("g", LINE),
         ],
-        is_lent: true,
-    },
-    Case {
-        row: "abc",
-        look: DRAWN,
-        calls: &[Call::CursorLine(1), Call::Selection(0, (0, 1), (0, 2))],
-        spans: &[("a", LINE), ("b", CURSOR), ("c", LINE)],
-        is_lent: true,
-    },
-    Case {
-        row: "ab",
-        look: DRAWN,
-        calls: &[Call::CursorLine(2), Call::Selection(0, (0, 1), (2, 0))],
-        spans: &[("a", LINE), ("b", SELECTION), (" ", CURSOR)],
-        is_lent: true,
-    },
-    Case {
-        row: "abc",
-        look: DRAWN,
-        calls: &[Call::Selection(1, (1, 3), (2, 0))],
-        spans: &[("abc", PLAIN), (" ", SELECTION)],
-        is_lent: true,
-    },
-    Case {
-        row: "あb",
-        look: DRAWN,
-        calls: &[Call::Custom(1, 3)],
-        spans: &[("あ", CUSTOM), ("b", PLAIN)],
-        is_lent: true,
-    },
-    Case {
-        row: "あb",
-        look: DRAWN,
-        calls: &[Call::Custom(0, 2)],
-        spans: &[("あb", PLAIN)],
-        is_lent: true,
-    },
-    Case {
-        row: "\ta\tb\t",
-        look: DRAWN,
-        calls: &[Call::Search(&[(0, 1), (2, 3), (3, 4)])],
-        spans: &[
+    ),
+    (
+        "abc",
+        DRAWN,
+        &[CursorLine(1), Selection(0, (0, 1), (0, 2))],
+        &[("a", LINE), ("b", CURSOR), ("c", LINE)],
+    ),
+    (
+        "ab",
+        DRAWN,
+        &[CursorLine(2), Selection(0, (0, 1), (2, 0))],
+        &[("a", LINE), ("b", SELECTION), (" ", CURSOR)],
+    ),
+    (
+        "abc",
+        DRAWN,
+        &[Selection(1, (1, 3), (2, 0))],
+        &[("abc", PLAIN), (" ", SELECTION)],
+    ),
+    ("あb", DRAWN, &[Custom(1, 3)], &[("あ", CUSTOM), ("b", PLAIN)]),
+    ("あb", DRAWN, &[Custom(0, 2)], &[("あb", PLAIN)]),
+    ("ab", HIDDEN, &[], &[("ab", PLAIN)]),
+    ("\tab", (false, 0, None), &[], &[("\tab", PLAIN)]),
+    (
+        "a",
+        HIDDEN,
+        &[NumberPlaceholder],
+        &[("       ", CUSTOM), ("a", PLAIN)],
+    ),
+];
+
+/// Rows that don't: their texts as they are displayed, with tabs and masks, and numbers in front of them.
+static OWNED: [Case; 7] = [
+    (
+        "\ta\tb\t",
+        DRAWN,
+        &[Search(&[(0, 1), (2, 3), (3, 4)])],
+        &[
             ("    ", SEARCH),
             ("a", PLAIN),
             ("   ", SEARCH),
             ("b", SEARCH),
             ("   ", PLAIN),
         ],
-        is_lent: false,
-    },
-    Case {
-        row: "a\tb",
-        look: DRAWN,
-        calls: &[Call::CursorLine(1)],
-        spans: &[("a", LINE), ("   ", CURSOR), ("b", LINE)],
-        is_lent: false,
-    },
-    // Rows without highlights: their texts as they are displayed, and a number or spaces in front of them.
-    Case {
-        row: "ab",
-        look: HIDDEN,
-        calls: &[],
-        spans: &[("ab", PLAIN)],
-        is_lent: true,
-    },
-    Case {
-        row: "ab",
-        look: (false, 4, Some('x')),
-        calls: &[],
-        spans: &[("xx", PLAIN)],
-        is_lent: false,
-    },
-    Case {
-        row: "a\t\tb",
-        look: HIDDEN,
-        calls: &[],
-        spans: &[("a       b", PLAIN)],
-        is_lent: false,
-    },
-    Case {
-        row: "a\tb",
-        look: (false, 0, None),
-        calls: &[],
-        spans: &[("ab", PLAIN)],
-        is_lent: false,
-    },
-    Case {
-        row: "\tab",
-        look: (false, 0, None),
-        calls: &[],
-        spans: &[("\tab", PLAIN)],
-        is_lent: true,
-    },
-    Case {
-        row: "a\tb",
-        look: (false, 4, Some('*')),
-        calls: &[],
-        spans: &[("***", PLAIN)],
-        is_lent: false,
-    },
-    Case {
-        row: "",
-        look: HIDDEN,
-        calls: &[Call::Number, Call::LineStyle],
-        spans: &[("   124 ", CUSTOM)],
-        is_lent: false,
-    },
-    Case {
-        row: "a",
-        look: HIDDEN,
-        calls: &[Call::NumberPlaceholder],
-        spans: &[("       ", CUSTOM), ("a", PLAIN)],
-        is_lent: true,
-    },
+    ),
+    (
+        "a\tb",
+        DRAWN,
+        &[CursorLine(1)],
+        &[("a", LINE), ("   ", CURSOR), ("b", LINE)],
+    ),
+    ("ab", (false, 4, Some('x')), &[], &[("xx", PLAIN)]),
+    ("a\t\tb", HIDDEN, &[], &[("a       b", PLAIN)]),
+    ("a\tb", (false, 0, None), &[], &[("ab", PLAIN)]),
+    ("a\tb", (false, 4, Some('*')), &[], &[("***", PLAIN)]),
+    ("", HIDDEN, &[Number, LineStyle], &[("   124 ", CUSTOM)]),
 ];
 
 /// The style with this number; the empty one for 0.
@@ -217,34 +159,24 @@ fn highlighter(
 
 fn ask(row: &mut LineHighlighter<'_>, call: Call) -> Result<(), AllocError> {
     match call {
-        Call::Number => row.line_number(123, 5, shade(CUSTOM)),
-        Call::NumberPlaceholder => row.line_number_placeholder(5, shade(CUSTOM)),
-        Call::LineStyle => {
+        Number => row.line_number(123, 5, shade(CUSTOM)),
+        NumberPlaceholder => row.line_number_placeholder(5, shade(CUSTOM)),
+        LineStyle => {
             row.set_line_style(shade(LINE));
             Ok(())
         }
-        Call::CursorLine(column) => row.cursor_line(column, shade(LINE)),
-        Call::Search(matches) => row.search(matches.iter().copied(), shade(SEARCH)),
-        Call::Selection(current, start, end) => {
-            row.selection(current, start.0, start.1, end.0, end.1)
-        }
-        Call::Segment(start, end, at_end) => row.selection_segment(start, end, at_end),
-        Call::Custom(start, end) => row.custom(0, ((0, start), (0, end)), shade(CUSTOM), 5),
+        CursorLine(column) => row.cursor_line(column, shade(LINE)),
+        Search(matches) => row.search(matches.iter().copied(), shade(SEARCH)),
+        Selection(current, start, end) => { row.selection(current, start.0, start.1, end.0, end.1) }
+        Segment(start, end, at_end) => row.selection_segment(start, end, at_end),
+        Custom(start, end) => row.custom(0, ((0, start), (0, end)), shade(CUSTOM), 5),
     }
 }
 
-fn ask_all(row: &mut LineHighlighter<'_>, calls: &[Call]) -> Result<(), AllocError> {
-    for call in calls {
-        ask(row, *call)?;
-    }
-    Ok(())
-}
-
-fn shown(alloc: Global, case: &Case) -> Result<Line<'static>, AllocError> {
-    let mut row = highlighter(alloc, case.row, case.look);
-    if let Err(error) = ask_all(&mut row, case.calls) {
-        drop(row);
-        return Err(error);
+fn shown(alloc: Global, (text, look, calls, _): &Case) -> Result<Line<'static>, AllocError> {
+    let mut row = highlighter(alloc, text, *look);
+    for call in *calls {
+        ask(&mut row, *call)?;
     }
     row.into_spans()
 }
@@ -270,28 +202,26 @@ fn is_lent(line: &Line<'_>) -> bool {
     true
 }
 
-fn is_met(alloc: Global, case: &Case) -> Result<bool, AllocError> {
+/// Whether the row shows its spans, and lends all of them or doesn't.
+fn is_met(alloc: Global, case: &Case, lends_all: bool) -> Result<bool, AllocError> {
     let line = shown(alloc, case)?;
-    let is_met = shows(&line, case.spans) && is_lent(&line) == case.is_lent;
+    let is_met = shows(&line, case.3) && is_lent(&line) == lends_all;
     drop(line);
     Ok(is_met)
 }
 
-/// The first of the cases that is not met.
-fn first_unmet(alloc: Global) -> Result<Option<usize>, AllocError> {
-    for (n, case) in CASES.iter().enumerate() {
-        if !is_met(alloc, case)? {
-            return Ok(Some(n));
-        }
-    }
-    Ok(None)
+fn is_lent_so(alloc: Global, case: &Case) -> Result<bool, AllocError> {
+    is_met(alloc, case, true)
+}
+
+fn is_owned_so(alloc: Global, case: &Case) -> Result<bool, AllocError> {
+    is_met(alloc, case, false)
 }
 
 #[test]
 fn rows_with_their_spans(rt: HostRuntime) -> Result<(), Fail> {
-    let unmet = first_unmet(rt.alloc())?;
-    assert_eq!(rt; unmet, None);
-    Ok(())
+    check_each(&rt, &LENT, is_lent_so)?;
+    check_each(&rt, &OWNED, is_owned_so)
 }
 
 /// Whether a line in another style shows this row once it is asked, and is in no style then.
@@ -307,29 +237,15 @@ fn shows_in(
     Ok(shows(line, spans) && line.style == Style::new())
 }
 
-/// The spans that are shown of the first row.
-static FIRST: [(&str, u8); 3] = [("a", PLAIN), ("bc", CUSTOM), ("def", PLAIN)];
-
-/// The spans that are shown of the row behind it.
-static SECOND: [(&str, u8); 3] = [("xy", PLAIN), ("z", SELECTION), (" ", SELECTION)];
-
-fn shows_one_behind_another(
-    row: &mut LineHighlighter<'static>,
-    line: &mut Line<'static>,
-) -> Result<bool, AllocError> {
-    let shows_first = shows_in(row, line, Call::Custom(1, 3), &FIRST)?;
-    row.restart("xyz", CursorCellRender::Hidden, 4, None, shade(SELECTION));
-    let shows_second = shows_in(row, line, Call::Segment(2, 3, true), &SECOND)?;
-    Ok(shows_first && shows_second)
-}
-
 fn shows_rows(alloc: Global) -> Result<bool, AllocError> {
     let mut row = highlighter(alloc, "abcdef", DRAWN);
     let mut line = Line::new(alloc);
-    let shows = shows_one_behind_another(&mut row, &mut line);
-    drop(line);
-    drop(row);
-    shows
+    let first = [("a", PLAIN), ("bc", CUSTOM), ("def", PLAIN)];
+    let shows_first = shows_in(&mut row, &mut line, Custom(1, 3), &first)?;
+    row.restart("xyz", CursorCellRender::Hidden, 4, None, shade(SELECTION));
+    let second = [("xy", PLAIN), ("z", SELECTION), (" ", SELECTION)];
+    let shows_second = shows_in(&mut row, &mut line, Segment(2, 3, true), &second)?;
+    Ok(shows_first && shows_second)
 }
 
 #[test]

@@ -1,13 +1,19 @@
 // The forms of keys and inputs.
-use crate::written::first_wrong;
-use std::alloc::Global;
+use crate::cases::check_each;
+use crate::written::{check_forms, check_refused, is_form};
+use std::process::Abort;
+use std::test::Fail;
 use textarea_data::input::{Input, Key};
 
-static KEYS: [(Key, &str); 24] = [
+/// Keys, each told from all others, and their forms.
+pub static KEYS: [(Key, &str); 27] = [
     (Key::Char('a'), r#"{"Char":"a"}"#),
+    (Key::Char('b'), r#"{"Char":"b"}"#),
     (Key::Char('"'), r#"{"Char":"\""}"#),
     (Key::Char('犬'), r#"{"Char":"犬"}"#),
     (Key::F(0), r#"{"F":0}"#),
+    (Key::F(97), r#"{"F":97}"#),
+    (Key::F(98), r#"{"F":98}"#),
     (Key::F(255), r#"{"F":255}"#),
     (Key::Backspace, r#""Backspace""#),
     (Key::Enter, r#""Enter""#),
@@ -44,41 +50,38 @@ static NO_KEYS: [&str; 11] = [
     r#"{"F":1,"Char":"a"}"#,
 ];
 
-static INPUTS: [(Input, &str); 4] = [
+/// Whether Ctrl, Alt and Shift are held.
+pub type Held = (bool, bool, bool);
+
+pub fn pressed(key: Key, (ctrl, alt, shift): Held) -> Input {
+    Input {
+        key,
+        ctrl,
+        alt,
+        shift,
+    }
+}
+
+/// A key, what is held, and the form of that input.
+static INPUTS: [(Key, Held, &str); 4] = [
     (
-        Input {
-            key: Key::Esc,
-            ctrl: true,
-            alt: false,
-            shift: false,
-        },
+        Key::Esc,
+        (true, false, false),
         r#"{"key":"Esc","ctrl":true,"alt":false,"shift":false}"#,
     ),
     (
-        Input {
-            key: Key::Char('x'),
-            ctrl: false,
-            alt: true,
-            shift: false,
-        },
+        Key::Char('x'),
+        (false, true, false),
         r#"{"key":{"Char":"x"},"ctrl":false,"alt":true,"shift":false}"#,
     ),
     (
-        Input {
-            key: Key::F(12),
-            ctrl: false,
-            alt: false,
-            shift: true,
-        },
+        Key::F(12),
+        (false, false, true),
         r#"{"key":{"F":12},"ctrl":false,"alt":false,"shift":true}"#,
     ),
     (
-        Input {
-            key: Key::Null,
-            ctrl: false,
-            alt: false,
-            shift: false,
-        },
+        Key::Null,
+        (false, false, false),
         r#"{"key":"Null","ctrl":false,"alt":false,"shift":false}"#,
     ),
 ];
@@ -91,7 +94,11 @@ static NO_INPUTS: [&str; 5] = [
     r#"{"key":"Esc","ctrl":1,"alt":false,"shift":true}"#,
 ];
 
-/// The first form of these tables that is wrong.
-pub fn first_wrong_form(alloc: Global) -> Option<&'static str> {
-    first_wrong(alloc, &KEYS, &NO_KEYS).or(first_wrong(alloc, &INPUTS, &NO_INPUTS))
+/// The forms of these tables.
+pub fn check(rt: &(impl Abort + AllocGlobal)) -> Result<(), Fail> {
+    check_forms(rt, &KEYS, &NO_KEYS);
+    check_refused::<Input>(rt, &NO_INPUTS);
+    check_each(rt, &INPUTS, |alloc, (key, held, form)| {
+        Ok(is_form(alloc, &pressed(*key, *held), form))
+    })
 }

@@ -10,6 +10,8 @@ mod blocks;
 #[cfg(test)]
 mod calls;
 #[cfg(test)]
+mod cases;
+#[cfg(test)]
 mod hashed;
 #[cfg(test)]
 mod highlight;

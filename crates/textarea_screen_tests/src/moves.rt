@@ -1,6 +1,6 @@
 // The forms of moves, scrolls and modes.
-use crate::written::first_wrong;
-use std::alloc::Global;
+use crate::written::check_forms;
+use std::process::Abort;
 use textarea_data::cursor::CursorMove;
 use textarea_data::scroll::Scrolling;
 use textarea_wrap::wrap::WrapMode;
@@ -69,9 +69,9 @@ static MODES: [(WrapMode, &str); 4] = [
 
 static NO_MODES: [&str; 4] = ["null", "1", r#""Words""#, r#""none""#];
 
-/// The first form of these tables that is wrong.
-pub fn first_wrong_form(alloc: Global) -> Option<&'static str> {
-    first_wrong(alloc, &MOVES, &NO_MOVES)
-        .or(first_wrong(alloc, &SCROLLS, &NO_SCROLLS))
-        .or(first_wrong(alloc, &MODES, &NO_MODES))
+/// The forms of these tables.
+pub fn check(rt: &(impl Abort + AllocGlobal)) {
+    check_forms(rt, &MOVES, &NO_MOVES);
+    check_forms(rt, &SCROLLS, &NO_SCROLLS);
+    check_forms(rt, &MODES, &NO_MODES);
 }

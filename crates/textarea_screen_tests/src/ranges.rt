@@ -1,6 +1,8 @@
 // The forms of atomic ranges, and of what is said of them.
-use crate::written::{first_read, first_wrong, wrong_form};
-use std::alloc::{AllocError, Global};
+use crate::written::{check_forms, check_refused, is_form};
+use std::process::Abort;
+use std::test::Fail;
+use textarea_data::range::AtomicRangeRejectReason::*;
 use textarea_data::range::{
     AtomicCursorBias, AtomicDeleteDirection, AtomicRange, AtomicRangeError,
     AtomicRangeRejectReason, RejectedAtomicRange,
@@ -12,14 +14,16 @@ const RANGE: AtomicRange = AtomicRange {
     end_col: 5,
 };
 
+const FAR_RANGE: AtomicRange = AtomicRange {
+    row: 0,
+    start_col: usize::MAX,
+    end_col: 0,
+};
+
 static RANGES: [(AtomicRange, &str); 2] = [
     (RANGE, r#"{"row":1,"start_col":2,"end_col":5}"#),
     (
-        AtomicRange {
-            row: 0,
-            start_col: usize::MAX,
-            end_col: 0,
-        },
+        FAR_RANGE,
         r#"{"row":0,"start_col":18446744073709551615,"end_col":0}"#,
     ),
 ];
@@ -44,26 +48,17 @@ static DIRECTIONS: [(AtomicDeleteDirection, &str); 2] = [
 static NO_SIDES: [&str; 3] = [r#""Back""#, r#""forward""#, "0"];
 
 static REASONS: [(AtomicRangeRejectReason, &str); 4] = [
-    (AtomicRangeRejectReason::Empty, r#""Empty""#),
-    (
-        AtomicRangeRejectReason::RowOutOfBounds,
-        r#""RowOutOfBounds""#,
-    ),
-    (
-        AtomicRangeRejectReason::ColumnOutOfBounds,
-        r#""ColumnOutOfBounds""#,
-    ),
-    (
-        AtomicRangeRejectReason::OverlapsPrevious,
-        r#""OverlapsPrevious""#,
-    ),
+    (Empty, r#""Empty""#),
+    (RowOutOfBounds, r#""RowOutOfBounds""#),
+    (ColumnOutOfBounds, r#""ColumnOutOfBounds""#),
+    (OverlapsPrevious, r#""OverlapsPrevious""#),
 ];
 
 static NO_REASONS: [&str; 3] = [r#""Overlaps""#, r#""empty""#, "null"];
 
 const REFUSED: RejectedAtomicRange = RejectedAtomicRange {
     range: RANGE,
-    reason: AtomicRangeRejectReason::RowOutOfBounds,
+    reason: RowOutOfBounds,
 };
 
 const REFUSED_FORM: &str =
@@ -78,44 +73,31 @@ static NO_REFUSED: [&str; 2] = [
 
 static NO_ERRORS: [&str; 3] = ["{}", r#"{"rejected":{}}"#, r#"{"rejected":[1]}"#];
 
-/// The first form of these tables that is wrong.
-pub fn first_wrong_form(alloc: Global) -> Option<&'static str> {
-    first_wrong(alloc, &RANGES, &NO_RANGES)
-        .or(first_wrong(alloc, &BIASES, &NO_SIDES))
-        .or(first_wrong(alloc, &DIRECTIONS, &NO_SIDES))
-        .or(first_wrong(alloc, &REASONS, &NO_REASONS))
-        .or(first_wrong(alloc, &REFUSED_RANGES, &NO_REFUSED))
-        .or(first_read::<AtomicRangeError>(alloc, &NO_ERRORS))
-}
-
 const REFUSED_TWICE_FORM: &str = "{\"rejected\":[\
     {\"range\":{\"row\":1,\"start_col\":2,\"end_col\":5},\"reason\":\"RowOutOfBounds\"},\
     {\"range\":{\"row\":1,\"start_col\":2,\"end_col\":5},\"reason\":\"RowOutOfBounds\"}]}";
 
-fn wrong_form_of_none(alloc: Global) -> Option<&'static str> {
-    let none = AtomicRangeError {
-        rejected: Vec::new(alloc),
-    };
-    wrong_form(alloc, &none, r#"{"rejected":[]}"#)
+/// The forms of these tables, and of an error of no ranges and of one of two.
+pub fn check(rt: &(impl Abort + AllocGlobal)) -> Result<(), Fail> {
+    check_forms(rt, &RANGES, &NO_RANGES);
+    check_forms(rt, &BIASES, &NO_SIDES);
+    check_forms(rt, &DIRECTIONS, &NO_SIDES);
+    check_forms(rt, &REASONS, &NO_REASONS);
+    check_forms(rt, &REFUSED_RANGES, &NO_REFUSED);
+    check_refused::<AtomicRangeError>(rt, &NO_ERRORS);
+    check_error(rt, &[], r#"{"rejected":[]}"#)?;
+    check_error(rt, &[REFUSED, REFUSED], REFUSED_TWICE_FORM)
 }
 
-fn refused_twice(alloc: Global) -> Result<AtomicRangeError, AllocError> {
-    Ok(AtomicRangeError {
-        rejected: vec![in alloc; REFUSED, REFUSED]?,
-    })
-}
-
-/// The first form that is wrong of an error of no ranges and of one of two.
-pub fn first_wrong_error(alloc: Global) -> Result<Option<&'static str>, AllocError> {
-    let error = refused_twice(alloc)?;
-    Ok(wrong_form_of_none(alloc).or(wrong_form(alloc, &error, REFUSED_TWICE_FORM)))
-}
-
-fn is_copied(error: &AtomicRangeError) -> Result<bool, AllocError> {
-    Ok(error.clone()? == *error)
-}
-
-pub fn is_error_copied(alloc: Global) -> Result<bool, AllocError> {
-    let error = refused_twice(alloc)?;
-    is_copied(&error)
+// The error has this form, and a copy is like it.
+fn check_error(
+    rt: &(impl Abort + AllocGlobal),
+    rejected: &[RejectedAtomicRange],
+    form: &'static str,
+) -> Result<(), Fail> {
+    let rejected = rejected.to_vec(rt.alloc())?;
+    let error = AtomicRangeError { rejected };
+    assert!(rt; is_form(rt.alloc(), &error, form));
+    assert!(rt; error.clone()? == error);
+    Ok(())
 }

@@ -1,6 +1,7 @@
 //! Rectangles, blocks, styles, sets of bits, texts and cells, as tables.
 
-use crate::blocks::{ALL, Sides, TITLED, block, push_line};
+use crate::blocks::{ALL, Sides, TITLED, block, line};
+use crate::cases::check_each;
 use bitflags::Flags;
 use std::alloc::{AllocError, Global};
 use std::test::Fail;
@@ -30,23 +31,13 @@ static CELLS: [(u16, u16, bool); 6] = [
     (2, 5, false),
 ];
 
-const PLAIN: Sides = Sides {
-    borders: Borders::NONE,
-    has_title: false,
-    padding: (0, 0, 0, 0),
-};
+const PLAIN: Sides = (Borders::NONE, false, (0, 0, 0, 0));
 
-const CORNERED: Sides = Sides {
-    borders: Borders(9),
-    has_title: true,
-    padding: (1, 2, 3, 4),
-};
+const TOP_AND_LEFT: Borders = Borders(9);
 
-const WIDE: Sides = Sides {
-    borders: Borders::ALL,
-    has_title: false,
-    padding: (65535, 65535, 65535, 65535),
-};
+const CORNERED: Sides = (TOP_AND_LEFT, true, (1, 2, 3, 4));
+
+const WIDE: Sides = (Borders::ALL, false, (65535, 65535, 65535, 65535));
 
 /// Blocks, areas, and what the block leaves of the area.
 static INNER: [(Sides, Numbers, Numbers); 7] = [
@@ -90,37 +81,18 @@ fn is_area(area: Rect, (x, y, width, height): Numbers) -> bool {
         && area.is_empty() == (width == 0 || height == 0)
 }
 
-/// Whether the areas have these widths and heights.
-fn have_sizes(areas: &[(Numbers, (u16, u16))]) -> bool {
-    for ((x, y, width, height), kept) in areas {
-        let area = Rect::new(*x, *y, *width, *height);
-        if !is_area(area, (*x, *y, kept.0, kept.1)) {
-            return false;
-        }
-    }
-    true
-}
-
-/// Whether a rectangle has cells just where it is to have some.
-fn has_cells(area: Rect, cells: &[(u16, u16, bool)]) -> bool {
-    for (x, y, inside) in cells {
-        if area.contains(Position { x: *x, y: *y }) != *inside {
-            return false;
-        }
-    }
-    true
-}
-
 #[test]
-fn rectangles(rt: HostRuntime) {
-    assert!(rt;
-        have_sizes(&AREAS),
-        "they end at the greatest column and row"
-    );
-    assert!(rt;
-        has_cells(Rect::new(2, 3, 4, 2), &CELLS),
-        "they contain their cells"
-    );
+fn rectangles(rt: HostRuntime) -> Result<(), Fail> {
+    // They end at the greatest column and row.
+    check_each(&rt, &AREAS, |_, ((x, y, width, height), kept)| {
+        let area = Rect::new(*x, *y, *width, *height);
+        Ok(is_area(area, (*x, *y, kept.0, kept.1)))
+    })?;
+    // They contain their cells.
+    let area = Rect::new(2, 3, 4, 2);
+    check_each(&rt, &CELLS, |_, (x, y, inside)| {
+        Ok(area.contains(Position { x: *x, y: *y }) == *inside)
+    })
 }
 
 fn inner(
@@ -128,41 +100,19 @@ fn inner(
     sides: Sides,
     (x, y, width, height): Numbers,
 ) -> Result<Numbers, AllocError> {
-    let block = block(alloc, sides)?;
-    let inner = block.inner(Rect::new(x, y, width, height));
-    drop(block);
+    let inner = block(alloc, sides)?.inner(Rect::new(x, y, width, height));
     Ok((inner.x, inner.y, inner.width, inner.height))
-}
-
-/// The first of the blocks that leaves something else of its area.
-fn first_other_inner(alloc: Global) -> Result<Option<usize>, AllocError> {
-    for (n, (sides, area, wanted)) in INNER.iter().enumerate() {
-        if inner(alloc, *sides, *area)? != *wanted {
-            return Ok(Some(n));
-        }
-    }
-    Ok(None)
 }
 
 #[test]
 fn inside_of_a_block(rt: HostRuntime) -> Result<(), Fail> {
-    let other = first_other_inner(rt.alloc())?;
-    assert_eq!(rt; other, None);
-    Ok(())
-}
-
-/// Whether styles over others are these.
-fn are_patched(styles: &[(Style, Style, Style)]) -> bool {
-    for (under, over, wanted) in styles {
-        if under.patch(*over) != *wanted {
-            return false;
-        }
-    }
-    true
+    check_each(&rt, &INNER, |alloc, (sides, area, wanted)| {
+        Ok(inner(alloc, *sides, *area)? == *wanted)
+    })
 }
 
 #[test]
-fn styles_over_one_another(rt: HostRuntime) {
+fn styles_over_one_another(rt: HostRuntime) -> Result<(), Fail> {
     let red = Style::new().fg(Color::Red);
     let blue = Style::default().fg(Color::Blue).bg(Color::Rgb(1, 2, 3));
     let bold = Style::new().add_modifier(Modifier::BOLD);
@@ -180,88 +130,37 @@ fn styles_over_one_another(rt: HostRuntime) {
             bold.add_modifier(Modifier::DIM),
         ),
     ];
-    assert!(rt; are_patched(&styles));
     let both = bold.remove_modifier(Modifier::BOLD);
     assert!(rt; (both.add_modifier.0, both.sub_modifier.0) == (0, 1));
-}
-
-fn modifier_bits(name: &str) -> Option<u16> {
-    match Modifier::from_name(name) {
-        Some(set) => Some(set.bits()),
-        None => None,
-    }
-}
-
-fn borders_bits(name: &str) -> Option<u8> {
-    match Borders::from_name(name) {
-        Some(set) => Some(set.bits()),
-        None => None,
-    }
-}
-
-/// The first of the names that has other bits.
-fn first_other_modifier(names: &[(&str, u16)]) -> Option<usize> {
-    for (n, (name, bits)) in names.iter().enumerate() {
-        if modifier_bits(name) != Some(*bits) {
-            return Some(n);
-        }
-    }
-    None
-}
-
-/// The first of the names that has other bits.
-fn first_other_border(names: &[(&str, u8)]) -> Option<usize> {
-    for (n, (name, bits)) in names.iter().enumerate() {
-        if borders_bits(name) != Some(*bits) {
-            return Some(n);
-        }
-    }
-    None
-}
-
-fn are_whole_sets_right() -> bool {
-    (Borders::NONE.bits(), Borders::ALL.bits()) == (0, 15)
-        && Borders::all() == Borders::ALL
-        && Borders::TOP.union(Borders::LEFT) == CORNERED.borders
+    check_each(&rt, &styles, |_, (under, over, wanted)| {
+        Ok(under.patch(*over) == *wanted)
+    })
 }
 
 #[test]
-fn bits_of_the_sets(rt: HostRuntime) {
-    let others = (
-        first_other_modifier(&MODIFIERS),
-        first_other_border(&BORDERS),
-    );
-    assert!(rt; others == (None, None) && are_whole_sets_right());
+fn bits_of_the_sets(rt: HostRuntime) -> Result<(), Fail> {
+    assert!(rt; (Borders::NONE.bits(), Borders::ALL.bits()) == (0, 15));
+    assert!(rt; Borders::all() == Borders::ALL);
+    assert!(rt; Borders::TOP.union(Borders::LEFT) == TOP_AND_LEFT);
+    check_each(&rt, &MODIFIERS, |_, (name, bits)| {
+        Ok(Modifier::from_name(name).is_some_and(|set| set.bits() == *bits))
+    })?;
+    check_each(&rt, &BORDERS, |_, (name, bits)| {
+        Ok(Borders::from_name(name).is_some_and(|set| set.bits() == *bits))
+    })
 }
 
-fn push_lent(line: &mut Line<'_>) -> Result<(), AllocError> {
+/// A copy of a text of one line, of an own and a lent span.
+fn copy_of_one_line(alloc: Global) -> Result<Text<'static>, AllocError> {
+    let mut line = line(alloc, "title")?;
     line.spans.push(Span {
         content: SpanText::Borrowed("lent"),
         style: Style::new().fg(Color::Green),
     })?;
-    Ok(())
-}
-
-/// Puts a line of two spans behind the lines of a text.
-fn push_two_spans(alloc: Global, text: &mut Text<'_>) -> Result<(), AllocError> {
-    push_line(alloc, text, "title")?;
-    match text.lines.last_mut() {
-        Some(line) => push_lent(line),
-        None => Ok(()),
-    }
-}
-
-fn copy_with_line<'a>(alloc: Global, text: &mut Text<'a>) -> Result<Text<'a>, AllocError> {
-    push_two_spans(alloc, text)?;
-    text.clone()
-}
-
-fn copy_of_one_line(alloc: Global) -> Result<Text<'static>, AllocError> {
     let mut text = Text::new(alloc);
     text.style = Style::new().bg(Color::Indexed(7));
-    let copy = copy_with_line(alloc, &mut text);
-    drop(text);
-    copy
+    text.lines.push(line)?;
+    text.clone()
 }
 
 fn is_span(span: &Span<'_>) -> bool {
@@ -292,29 +191,8 @@ fn is_one_line(text: &Text<'_>) -> bool {
 
 #[test]
 fn copies_of_texts(rt: HostRuntime) -> Result<(), Fail> {
-    let copy = copy_of_one_line(rt.alloc())?;
-    let is_one_line = is_one_line(&copy);
-    drop(copy);
-    assert!(rt; is_one_line);
+    assert!(rt; is_one_line(&copy_of_one_line(rt.alloc())?));
     Ok(())
-}
-
-fn symbol(buffer: &Buffer, x: u16, y: u16) -> Option<&str> {
-    match buffer.cell(x, y) {
-        Some(cell) => Some(cell.symbol()),
-        None => None,
-    }
-}
-
-/// The first of the places where the buffer has a cell that it is not to have, or none that it is to have.
-fn first_other_place(buffer: &Buffer, places: &[(u16, u16, bool)]) -> Option<usize> {
-    for (n, (x, y, inside)) in places.iter().enumerate() {
-        let wanted = if *inside { Some(" ") } else { None };
-        if symbol(buffer, *x, *y) != wanted {
-            return Some(n);
-        }
-    }
-    None
 }
 
 fn styled_cell() -> Cell {
@@ -338,18 +216,15 @@ fn is_styled(cell: &Cell) -> bool {
 fn cells_of_a_buffer(rt: HostRuntime) -> Result<(), Fail> {
     let area = Rect::new(65533, 7, 4, 3);
     let buffer = Buffer::empty(rt.alloc(), area)?;
-    let has_area = buffer.area() == area;
-    let other = first_other_place(&buffer, &BUFFERED);
-    drop(buffer);
-    assert!(rt; has_area && other == None);
-    Ok(())
+    assert!(rt; buffer.area() == area);
+    check_each(&rt, &BUFFERED, |_, (x, y, inside)| {
+        let symbol = buffer.cell(*x, *y).map(|cell| cell.symbol());
+        Ok(symbol == if *inside { Some(" ") } else { None })
+    })
 }
 
 #[test]
 fn cells(rt: HostRuntime) {
-    let cell = styled_cell();
-    let is_styled = is_styled(&cell);
-    drop(cell);
-    assert!(rt; is_styled);
+    assert!(rt; is_styled(&styled_cell()));
     assert!(rt; Alignment::Left != Alignment::Right);
 }

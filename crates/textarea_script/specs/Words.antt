@@ -1,7 +1,7 @@
--- The words behind the program's name, by their bytes.
+-- The words after the program's name, by their bytes.
 use Rattle.std.specs.Prelude.{◌≡◌, ℕ, List, [], ◌∷◌, codes}
-use Rattle.textarea_script.specs.declared.session.asking.Asked.{Asked}
-use Rattle.textarea_script.specs.declared.session.asking.Asked.TheVariants.{Script, Session, Nothing}
+use Rattle.textarea_script.specs.declared.words.Asked.{Asked}
+use Rattle.textarea_script.specs.declared.words.Asked.TheVariants.{Script, Session, Nothing}
 
 -- they ask for a script: there are none
 abbrev pub AskForScript : List (List ℕ) → Type 0

@@ -11,47 +11,15 @@ use Rattle.std.proofs.lemmas.List.Elements.{All-weaker}
 use Rattle.std.proofs.lemmas.Option.{slice_get-map}
 use Rattle.std.proofs.lemmas.Str.{chars-append, encodes-append, encodes-chars, IsUtf8-take, length-encode, len_utf8_bounds, cons_from_encodes, length-le-encodes}
 use Rattle.textarea_search.specs.Columns.{column_at}
-use Rattle.textarea_search.specs.Starts.{is_ahead_in_line}
-use Rattle.textarea_search.proofs.ListedLemmas.{LiesFrom, starts_before}
+use Rattle.textarea_search.specs.Starts.{along, is_ahead_in_line}
+use Rattle.textarea_search.specs.declared.search.direction.Direction.{Direction}
+use Rattle.textarea_search.specs.declared.search.direction.Direction.TheVariants.{Forward, Back}
+use Rattle.textarea_search.proofs.ListedLemmas.{LiesFrom}
 use Rattle.textarea_search.proofs.StartLemmas.{find-map, find-same, find-first, map_reverse, All-reverse}
 
 -- the byte at which a column of these characters begins
 abbrev pub byte_at : List ℕ → ℕ → ℕ
 byte_at cs column = length (encode_utf8_all (take column cs))
-
--- ---- going over a line's characters
-
-encodes_cut : (cs : List ℕ) (column : ℕ) → encode_utf8_all cs ≡ encode_utf8_all (take column cs) ++ encode_utf8_all (drop column cs)
-encodes_cut cs column = ap encode_utf8_all (sym (take-append-drop column cs)) ∙ encodes-append (take column cs) (drop column cs)
-
-pub length_cut : (line : List ℕ) (column : ℕ) → IsUtf8 line → byte_at (chars line) column + length (encode_utf8_all (drop column (chars line))) ≡ length line
-length_cut line column text =
-    sym (length-append (encode_utf8_all (take column (chars line))) (encode_utf8_all (drop column (chars line))))
-    ∙ ap length (sym (encodes_cut (chars line) column) ∙ encodes-chars line text)
-
--- one character on, where `next` finds one
-next_more : (cs was rest : List ℕ) (column c : ℕ) → was ≡ encode_utf8_all (drop column cs) → was ≡ encode_utf8 c ++ rest →
-    (column < length cs) × (rest ≡ encode_utf8_all (drop (column + 1) cs))
-next_more cs was rest column c e h =
-    let found = cons_from_encodes (drop column cs) rest c (sym e ∙ h) in
-    let left = ap length found.1 in
-    (omega (arith, left, length-drop column cs), sym found.2 ∙ ap encode_utf8_all (ap (drop 1) (sym found.1) ∙ drop-drop 1 column cs))
-
--- and where it finds none
-next_none : (cs was : List ℕ) (column : ℕ) → was ≡ encode_utf8_all (drop column cs) → length was ≡ 0 → length cs ≤ column
-next_none cs was column e h = omega (arith, ap length e, length-le-encodes (drop column cs), length-drop column cs)
-
--- the same of what a call of `next` answers
-pub went_on : (Same : Type 0) (cs was rest : List ℕ) (column : ℕ) (found : Option ℕ) → was ≡ encode_utf8_all (drop column cs) →
-    MatchOption found ((length was ≡ 0) × Same) (λ c. was ≡ encode_utf8 c ++ rest) → is_some found ≡ true →
-    (column < length cs) × (rest ≡ encode_utf8_all (drop (column + 1) cs))
-went_on Same cs was rest column None e h some = absurd (true≢false (sym some))
-went_on Same cs was rest column (Some c) e h some = next_more cs was rest column c e h
-
-pub went_out : (Same : Type 0) (cs was rest : List ℕ) (column : ℕ) (found : Option ℕ) → was ≡ encode_utf8_all (drop column cs) →
-    MatchOption found ((length was ≡ 0) × Same) (λ c. was ≡ encode_utf8 c ++ rest) → is_some found ≡ false → length cs ≤ column
-went_out Same cs was rest column None e h none = next_none cs was column e h.0
-went_out Same cs was rest column (Some c) e h none = absurd (true≢false none)
 
 -- ---- a byte between characters as a column
 
@@ -102,56 +70,43 @@ module _ (line : List ℕ) (column byte : ℕ) (text : IsUtf8 line) (stands : St
       })
       (cases_lt (length cs) column)
 
-same_ahead : (x y m n : ℕ) (at : Bool) → SameOrder x y m n → is_ahead_in_line y at x ≡ is_ahead_in_line n at m
-same_ahead x y m n at o = grind (arith, common_steps, nat_tests)
+same_ahead : (direction : Direction) (x y m n : ℕ) (at : Bool) → SameOrder x y m n →
+    is_ahead_in_line direction y at x ≡ is_ahead_in_line direction n at m
+same_ahead Forward x y m n at o = grind (arith, common_steps, nat_tests)
+same_ahead Back x y m n at o = grind (arith, common_steps, nat_tests)
 
-same_behind : (x y m n : ℕ) (at : Bool) → SameOrder x y m n → is_ahead_in_line x at y ≡ is_ahead_in_line m at n
-same_behind x y m n at o = grind (arith, common_steps, nat_tests)
+All-along : {X : Type 0} (P : X → Type 0) (direction : Direction) (xs : List X) → All P xs → All P (along direction xs)
+All-along P Forward xs h = h
+All-along P Back xs h = All-reverse P xs h
+
+map_along : {X Y : Type 0} (f : X → Y) (direction : Direction) (xs : List X) → map f (along direction xs) ≡ along direction (map f xs)
+map_along f Forward xs = refl
+map_along f Back xs = map_reverse f xs
 
 -- ---- from a search by bytes to one by columns
 
 abbrev pub column_of_span : List ℕ → ℕ × ℕ → ℕ
 column_of_span line s = column_at line s.0
 
-module _ (line : List ℕ) (text : IsUtf8 line) (spans : List (ℕ × ℕ)) (lie : All (LiesFrom line 0) spans) where
-  pub find_ahead : (column byte : ℕ) (at : Bool) → StandsFor line column byte →
-      option_map (column_of_span line) (find (λ s. is_ahead_in_line byte at s.0) spans) ≡ find (is_ahead_in_line column at) (map (column_of_span line) spans)
-  find_ahead column byte at stands =
-      let p : ℕ × ℕ → Bool = λ s. is_ahead_in_line byte at s.0 in
-      let q : ℕ × ℕ → Bool = λ s. is_ahead_in_line column at (column_of_span line s) in
-      ap (option_map (column_of_span line)) (find-same p q spans
-      (All-weaker (LiesFrom line 0) (λ s. p s ≡ q s) (λ s lies. same_ahead s.0 byte (column_of_span line s) column at (in_order line column byte text stands s.0 lies.1)) spans lie))
-      ∙ sym (find-map (is_ahead_in_line column at) (column_of_span line) spans)
+module _ (line : List ℕ) (spans : List (ℕ × ℕ)) (lie : All (LiesFrom line 0) spans) (direction : Direction) where
+  pub find_ahead : (column byte : ℕ) (at : Bool) → IsUtf8 line → StandsFor line column byte →
+      option_map (column_of_span line) (find (λ s. is_ahead_in_line direction byte at s.0) (along direction spans))
+      ≡ find (is_ahead_in_line direction column at) (along direction (map (column_of_span line) spans))
+  find_ahead column byte at text stands =
+      let p : ℕ × ℕ → Bool = λ s. is_ahead_in_line direction byte at s.0 in
+      let q : ℕ × ℕ → Bool = λ s. is_ahead_in_line direction column at (column_of_span line s) in
+      ap (option_map (column_of_span line)) (find-same p q (along direction spans) (All-along (λ s. p s ≡ q s) direction spans
+      (All-weaker (LiesFrom line 0) (λ s. p s ≡ q s) (λ s lies. same_ahead direction s.0 byte (column_of_span line s) column at (in_order line column byte text stands s.0 lies.1)) spans lie)))
+      ∙ sym (find-map (is_ahead_in_line direction column at) (column_of_span line) (along direction spans))
+      ∙ ap (find (is_ahead_in_line direction column at)) (map_along (column_of_span line) direction spans)
 
-  pub find_behind : (column byte : ℕ) (at : Bool) → StandsFor line column byte →
-      option_map (column_of_span line) (find (starts_before byte at) (reverse spans))
-      ≡ find (λ start. is_ahead_in_line start at column) (reverse (map (column_of_span line) spans))
-  find_behind column byte at stands =
-      let p : ℕ × ℕ → Bool = starts_before byte at in
-      let q : ℕ × ℕ → Bool = λ s. is_ahead_in_line (column_of_span line s) at column in
-      ap (option_map (column_of_span line)) (find-same p q (reverse spans)
-      (All-reverse (λ s. p s ≡ q s) spans
-      (All-weaker (LiesFrom line 0) (λ s. p s ≡ q s) (λ s lies. same_behind s.0 byte (column_of_span line s) column at (in_order line column byte text stands s.0 lies.1)) spans lie)))
-      ∙ sym (find-map (λ start. is_ahead_in_line start at column) (column_of_span line) (reverse spans))
-      ∙ ap (find (λ start. is_ahead_in_line start at column)) (map_reverse (column_of_span line) spans)
-
-  pub find_front : option_map (column_of_span line) (find (λ s. is_ahead_in_line 0 true s.0) spans) ≡ slice_get (map (column_of_span line) spans) 0
-  find_front =
-      ap (option_map (column_of_span line)) (find-first (λ s. is_ahead_in_line 0 true s.0) spans
-      (All-weaker (LiesFrom line 0) (λ s. is_ahead_in_line 0 true s.0 ≡ true) (λ s lies. from_start s.0) spans lie))
-      ∙ sym (slice_get-map (column_of_span line) spans 0)
-    where
-      from_start : (n : ℕ) → is_ahead_in_line 0 true n ≡ true
-      from_start n = grind (arith, nat_tests)
-
-  pub find_back : (end : ℕ) → length line ≤ end →
-      option_map (column_of_span line) (find (starts_before end true) (reverse spans)) ≡ slice_get (reverse (map (column_of_span line) spans)) 0
-  find_back end far =
-      ap (option_map (column_of_span line)) (find-first (starts_before end true) (reverse spans)
-      (All-reverse (λ s. starts_before end true s ≡ true) spans
-      (All-weaker (LiesFrom line 0) (λ s. starts_before end true s ≡ true) (λ s lies. upto_end s.0 (omega (arith, lies.1.0))) spans lie)))
-      ∙ sym (slice_get-map (column_of_span line) (reverse spans) 0)
-      ∙ ap (λ cs. slice_get cs 0) (map_reverse (column_of_span line) spans)
-    where
-      upto_end : (m : ℕ) → m ≤ end → is_ahead_in_line m true end ≡ true
-      upto_end m h = grind (arith, nat_tests)
+  -- a mark that all are ahead of
+  pub find_end : (mark : ℕ) → ((s : ℕ × ℕ) → LiesFrom line 0 s → is_ahead_in_line direction mark true s.0 ≡ true) →
+      option_map (column_of_span line) (find (λ s. is_ahead_in_line direction mark true s.0) (along direction spans))
+      ≡ slice_get (along direction (map (column_of_span line) spans)) 0
+  find_end mark all =
+      let test : ℕ × ℕ → Bool = λ s. is_ahead_in_line direction mark true s.0 in
+      ap (option_map (column_of_span line)) (find-first test (along direction spans) (All-along (λ s. test s ≡ true) direction spans
+      (All-weaker (LiesFrom line 0) (λ s. test s ≡ true) all spans lie)))
+      ∙ sym (slice_get-map (column_of_span line) (along direction spans) 0)
+      ∙ ap (λ cs. slice_get cs 0) (map_along (column_of_span line) direction spans)

@@ -1,4 +1,5 @@
 -- The list of a line's matches, as a search goes over it.
+use Rattle.std.proofs.lemmas.Grind.{common_steps}
 use Rattle.std.proofs.Common.{◌≡◌, ℕ, zero, suc, ◌+◌, ◌-◌, ◌<◌, ◌≤◌, Bool, true, false, cond, List, [], ◌∷◌, map, length, reverse, Option, None, Some, option_map, MatchOption, IfSome, refl, sym, ap, ◌∙◌, subst, inl, inr, ⊎_elim, arith, IsCharBoundary}
 use Rattle.std.specs.Prelude.{All}
 use Rattle.std.specs.List.{find}
@@ -22,7 +23,7 @@ use Rattle.regex.specs.declared.string.matcher.Match as found_match
 use Rattle.regex.proofs.SearchLemmas.{next_same, next_later, next_within, leftmost_within, matches_after_none, matches_after_some}
 use Rattle.regex.proofs.Utf8Lemmas.{IsCharBoundary-of_test}
 use Rattle.textarea_search.specs.Spans.{spans_after}
-use Rattle.textarea_search.specs.Starts.{is_ahead_in_line}
+use Rattle.textarea_search.specs.Starts.{is_past}
 use Rattle.textarea_search.proofs.StartLemmas.{find-none, All-reverse}
 
 none_of_map : {A B : Type 0} (f : A → B) (o : Option A) → option_map f o ≡ None → o ≡ None
@@ -37,9 +38,7 @@ module _ (tree : Re) (line : List ℕ) (after : ℕ) where
   -- the next match is found from where the last one ended, unless that is it once more
   pub next_same_span : (o : Option (ℕ × ℕ)) → o ≡ option_map span (find_str tree line (after - 1)) → IfSome o (λ s. after ≤ s.1) →
       o ≡ option_map span (next_match true tree line after)
-  next_same_span o e forth =
-      e ∙ ap (option_map span) (sym (next_same tree line true after (λ m is.
-      subst (λ (p : Option (ℕ × ℕ)). IfSome p (λ s. after ≤ s.1)) (e ∙ ap (option_map span) is) forth)))
+  next_same_span o e forth = grind (arith, common_steps, next_same)
 
   -- and else from one byte on
   pub next_later_span : (o : Option (ℕ × ℕ)) (was : ℕ × ℕ) → option_map span (find_str tree line (after - 1)) ≡ Some was → was.1 < after →
@@ -53,9 +52,7 @@ module _ (tree : Re) (line : List ℕ) (after : ℕ) where
   pub first_of_rest : (r : Option found_match.Match) → option_map match_span r ≡ option_map span (next_match true tree line after) →
       MatchOption r (spans_after tree line after ≡ []) (λ m. spans_after tree line after ≡ match_span m ∷ spans_after tree line ((match_span m).1 + 1))
   first_of_rest None e = ap (map span) (matches_after_none tree line true after (none_of_map span _ (sym e)))
-  first_of_rest (Some x) e =
-      let v = some_of_map span (next_match true tree line after) (match_span x) (sym e) in
-      ap (map span) (matches_after_some tree line true after v.0 v.1) ∙ ap (λ (s : ℕ × ℕ). s ∷ spans_after tree line (s.1 + 1)) v.2
+  first_of_rest (Some x) e = grind (arith, common_steps, some_of_map, matches_after_some)
 
 -- a match starts where the search for it does, or behind
 pub starts_behind : (tree : Re) (line : List ℕ) (from : ℕ) (r : Option found_match.Match) → option_map match_span r ≡ option_map span (find_str tree line from) →
@@ -80,9 +77,7 @@ LiesFrom line after s = (after ≤ s.0 + 1) × IsCharBoundary line s.0
 module _ (tree : Re) (line : List ℕ) where
   leftmost_cut : (from : ℕ) (m : Match) → find_str tree line from ≡ Some m → (from ≤ m.start) × IsCharBoundary line m.start
   unfolding find_str
-  leftmost_cut from m e =
-      let first = IsFirst-of_first_between _ from (length line) m e in
-      (first.from, IsCharBoundary-of_test line m.start first.to (cond_some (is_boundary line m.start) _ m.trace first.here).0)
+  leftmost_cut from m e = grind (arith, common_steps, IsFirst-of_first_between _ from (length line) m e, IsCharBoundary-of_test, cond_some)
 
   next_lies : (after : ℕ) (m : Match) → next_match true tree line after ≡ Some m → LiesFrom line after (span m)
   next_lies after m e =
@@ -97,11 +92,7 @@ module _ (tree : Re) (line : List ℕ) where
       (option_cases (find_str tree line (after - 1)))
 
   all_lie : (n after : ℕ) → length line + 1 ≤ after + n → All (LiesFrom line after) (spans_after tree line after)
-  all_lie zero after h =
-      ⊎_elim
-      (λ none. subst (All (LiesFrom line after)) (sym (ap (map span) (matches_after_none tree line true after none))) (All-nil (LiesFrom line after)))
-      (λ (some : (x : Match) × (_ ≡ Some x)). absurd (omega (arith, next_within tree line true after some.0 some.1)))
-      (option_cases (next_match true tree line after))
+  all_lie zero after h = grind (arith, common_steps, matches_after_none, All-nil, next_within, option_cases)
   all_lie (suc n) after h =
       ⊎_elim
       (λ none. subst (All (LiesFrom line after)) (sym (ap (map span) (matches_after_none tree line true after none))) (All-nil (LiesFrom line after)))
@@ -120,7 +111,7 @@ module _ (tree : Re) (line : List ℕ) where
 -- ---- the last that passes
 
 abbrev pub starts_before : ℕ → Bool → ℕ × ℕ → Bool
-starts_before byte at s = is_ahead_in_line s.0 at byte
+starts_before byte at s = is_past s.0 at byte
 
 -- one more that passes
 pub last_more : (byte : ℕ) (at : Bool) (s : ℕ × ℕ) (rest : List (ℕ × ℕ)) (last : Option (ℕ × ℕ)) → starts_before byte at s ≡ true →
@@ -144,5 +135,5 @@ last_found byte at line s rest fails ordered lie =
     (All-cons (λ p. test p ≡ false) s rest fails
     (All-weaker (LiesFrom line (s.1 + 1)) (λ p. test p ≡ false) (λ p lies. later byte at s.0 p.0 fails (omega (arith, lies.0))) rest lie)))
   where
-    later : (byte : ℕ) (at : Bool) (x y : ℕ) → is_ahead_in_line x at byte ≡ false → x ≤ y → is_ahead_in_line y at byte ≡ false
+    later : (byte : ℕ) (at : Bool) (x y : ℕ) → is_past x at byte ≡ false → x ≤ y → is_past y at byte ≡ false
     later byte at x y e h = grind (arith, nat_tests)

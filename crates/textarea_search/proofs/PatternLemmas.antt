@@ -73,9 +73,7 @@ module _ (r : Regex) (by_default : regex_config r ≡ default_config) (is_read :
   starts_same : (f g : List ℕ → List ℕ) (row : ℕ) (lines : List (String Global)) → ((line : String Global) → f (string_bytes line) ≡ g (string_bytes line)) →
       starts_from f row (map string_bytes lines) ≡ starts_from g row (map string_bytes lines)
   starts_same f g row [] same = refl
-  starts_same f g row (line ∷ lines) same =
-      ap (λ cs. map (λ column. (row, column)) cs ++ starts_from f (row + 1) (map string_bytes lines)) (same line)
-      ∙ ap (λ ss. map (λ column. (row, column)) (g (string_bytes line)) ++ ss) (starts_same f g (row + 1) lines same)
+  starts_same f g row (line ∷ lines) same = grind (arith, common_steps, starts_same f g (row + 1) lines same)
 
   pub starts_as_written : (lines : List (String Global)) →
       starts_from (columns_in (regex_pattern r)) 0 (map string_bytes lines) ≡ starts_from (match_columns (regex_source r)) 0 (map string_bytes lines)

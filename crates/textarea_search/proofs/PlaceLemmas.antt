@@ -1,4 +1,5 @@
 -- Places of a text, and of a part of its lines.
+use Rattle.std.proofs.lemmas.Grind.{common_steps}
 use Rattle.std.proofs.Common.{◌≡◌, ℕ, ◌+◌, ◌-◌, ◌<◌, ◌≤◌, List, [], map, length, get_or, take, drop, sym, ap, ◌∙◌, subst, arith, string_bytes, Global, Option, None, Some, IfSome}
 use Rattle.std.specs.Prelude.{String}
 use Rattle.std.specs.Str.{chars}
@@ -15,10 +16,7 @@ text_of_line lines i line within is = get_or-map (λ (s : String Global). chars 
 -- a column of one of the lines
 pub place_here : (lines : List (String Global)) (row i column : ℕ) (line : String Global) → i < length lines → line ≡ get_or lines i line →
     column ≤ length (chars (string_bytes line)) → IsPlaceFrom row lines (row + i, column)
-place_here lines row i column line within is fits =
-    let same : row + i - row ≡ i = omega arith in
-    let text = ap (λ n. get_or (texts_of lines) n []) same ∙ text_of_line lines i line within is in
-    (omega arith, omega arith, subst (λ cs. column ≤ length cs) (sym text) fits)
+place_here lines row i column line within is fits = grind (arith, common_steps, text_of_line lines i line within is)
 
 pub place_at : (lines : List (String Global)) (row column : ℕ) (line : String Global) → row < length lines → line ≡ get_or lines row line →
     column ≤ length (chars (string_bytes line)) → IsPlaceIn lines (row, column)
@@ -26,27 +24,11 @@ place_at lines row column line within is fits = (within, subst (λ cs. column �
 
 -- a place of the lines in front of a row
 pub place_in_front : (lines : List (String Global)) (n : ℕ) (p : ℕ × ℕ) → n ≤ length lines → IsPlaceFrom 0 (take n lines) p → IsPlaceIn lines p
-place_in_front lines n p le h =
-    let room = length-take-le n lines le in
-    let below : p.0 < n = omega (arith, h.1) in
-    let same : p.0 - 0 ≡ p.0 = omega arith in
-    let text : get_or (texts_of (take n lines)) (p.0 - 0) [] ≡ get_or (texts_of lines) p.0 [] =
-    ap (λ i. get_or (texts_of (take n lines)) i []) same
-    ∙ ap (λ ts. get_or ts p.0 []) (sym (take-map (λ (s : String Global). chars (string_bytes s)) n lines))
-    ∙ get_or-take n (texts_of lines) p.0 [] below in
-    (omega arith, subst (λ cs. p.1 ≤ length cs) text h.2)
+place_in_front lines n p le h = grind (arith, common_steps, length-take-le n lines le, take-map, get_or-take)
 
 -- and of those from a row on
 pub place_in_rest : (lines : List (String Global)) (n : ℕ) (p : ℕ × ℕ) → n ≤ length lines → IsPlaceFrom n (take (length lines - n) (drop n lines)) p → IsPlaceIn lines p
-place_in_rest lines n p le given =
-    let h : IsPlaceFrom n (drop n lines) p = subst (λ ls. IsPlaceFrom n ls p) (take_rest lines n) given in
-    let room = length-drop n lines in
-    let same : n + (p.0 - n) ≡ p.0 = omega (arith, h.0) in
-    let text : get_or (texts_of (drop n lines)) (p.0 - n) [] ≡ get_or (texts_of lines) p.0 [] =
-    ap (λ ts. get_or ts (p.0 - n) []) (sym (drop-map (λ (s : String Global). chars (string_bytes s)) n lines))
-    ∙ get_or-drop n (texts_of lines) (p.0 - n) []
-    ∙ ap (λ i. get_or (texts_of lines) i []) same in
-    (omega (arith, h.1), subst (λ cs. p.1 ≤ length cs) text h.2)
+place_in_rest lines n p le given = grind (arith, common_steps, take_rest lines n, length-drop n lines, drop-map, get_or-drop)
 
 pub place_of_some : {P Q : ℕ × ℕ → Type 0} (o : Option (ℕ × ℕ)) → IfSome o P → ((p : ℕ × ℕ) → P p → Q p) → IfSome o Q
 place_of_some None h f = tt

@@ -1,4 +1,5 @@
 -- The starts of the matches of several lines, and where a search that wraps around stops among them.
+use Rattle.std.proofs.lemmas.Grind.{common_steps}
 use Rattle.std.proofs.Common.{reverse, ◌≡◌, ℕ, ◌+◌, ◌-◌, ◌<◌, ◌≤◌, Bool, true, false, ◌==◌, ◌&&◌, ◌||◌, nat_lt, List, [], ◌∷◌, ◌++◌, map, length, get_or, take, drop, Option, None, Some, option_map, refl, sym, ap, ◌∙◌, arith, zero-add, cond}
 use Rattle.std.specs.Prelude.{String, string_bytes}
 use Rattle.std.proofs.Common.{Global}
@@ -9,7 +10,9 @@ use Rattle.std.proofs.lemmas.List.{drop_more, take_more, append-nil, append_asso
 use Rattle.std.proofs.lemmas.List.Elements.{All-nil, All-head, All-tail, All-append, All-map, All-weaker}
 use Rattle.std.proofs.lemmas.List.Folds.{find-append}
 use Rattle.std.proofs.lemmas.Option.{slice_get-map}
-use Rattle.textarea_search.specs.Starts.{starts_from, is_ahead_in_line, is_ahead, is_behind, find_or_first, next_start, previous_start}
+use Rattle.textarea_search.specs.Starts.{along, found_start, starts_from, is_ahead_in_line, is_past, is_later, find_or_first}
+use Rattle.textarea_search.specs.declared.search.direction.Direction.{Direction}
+use Rattle.textarea_search.specs.declared.search.direction.Direction.TheVariants.{Forward, Back}
 
 -- ---- a search in a list of three parts
 
@@ -29,9 +32,7 @@ All-reverse P xs h k d lt =
 
 pub find-map : {X Y : Type 0} (test : Y → Bool) (f : X → Y) (xs : List X) → find test (map f xs) ≡ option_map f (find (λ x. test (f x)) xs)
 find-map test f [] = refl
-find-map test f (x ∷ xs) =
-    elim (test (f x)) as (λ b. cond b (Some (f x)) (find test (map f xs)) ≡ option_map f (cond b (Some x) (find (λ y. test (f y)) xs)))
-    [ true ↦ refl | false ↦ find-map test f xs ]
+find-map test f (x ∷ xs) = grind (arith, common_steps, find-map test f xs)
 
 nil_of_first : {X : Type 0} (xs : List X) → slice_get xs 0 ≡ None → xs ≡ []
 nil_of_first [] e = refl
@@ -49,19 +50,14 @@ pub find_in_parts : {X : Type 0} (test : X → Bool) (front here beyond : List X
     find_or_first test (front ++ (here ++ beyond))
     ≡ option_or (find test here) (option_or (slice_get beyond 0) (slice_get (front ++ here) 0))
 find_in_parts test front here beyond none each =
-    rw (find-append test front (here ++ beyond), find-none test front none, find-append test here beyond, find-first test beyond each)
-    (joined (find test here) (slice_get beyond 0) (slice_get (front ++ here) 0) (slice_get (front ++ (here ++ beyond)) 0)
-    (λ _ empty. rw (nil_of_first beyond empty, append-nil) refl))
+    grind (arith, common_steps, find-append test front (here ++ beyond), find-none test front none, find-append test here beyond, find-first test beyond each, joined, nil_of_first, append-nil)
 
 -- ---- the starts of lines
 
 pub starts-append : (columns : List ℕ → List ℕ) (row : ℕ) (xs ys : List (List ℕ)) →
     starts_from columns row (xs ++ ys) ≡ starts_from columns row xs ++ starts_from columns (row + length xs) ys
 starts-append columns row [] ys = ap (λ n. starts_from columns n ys) (omega arith)
-starts-append columns row (x ∷ xs) ys =
-    let same : row + 1 + length xs ≡ row + length (x ∷ xs) = omega arith in
-    ap (λ zs. map (λ column. (row, column)) (columns x) ++ zs) (starts-append columns (row + 1) xs ys ∙ ap (λ n. starts_from columns (row + 1) xs ++ starts_from columns n ys) same)
-    ∙ sym (append_assoc (map (λ column. (row, column)) (columns x)) (starts_from columns (row + 1) xs) (starts_from columns (row + length (x ∷ xs)) ys))
+starts-append columns row (x ∷ xs) ys = grind (arith, common_steps, starts-append columns (row + 1) xs ys, append_assoc)
 
 pub starts_from-above : (columns : List ℕ → List ℕ) (low row : ℕ) (xs : List (List ℕ)) → low ≤ row → All (λ p. low ≤ p.0) (starts_from columns row xs)
 starts_from-above columns low row [] h = All-nil (λ (p : ℕ × ℕ). low ≤ p.0)
@@ -85,10 +81,10 @@ starts_in_parts columns lines row d within =
 
 -- ---- which places lie ahead of a cursor, and behind it
 
-pub not_ahead : (cursor : ℕ × ℕ) (at : Bool) (p : ℕ × ℕ) → p.0 < cursor.0 → is_ahead cursor at p ≡ false
+pub not_ahead : (cursor : ℕ × ℕ) (at : Bool) (p : ℕ × ℕ) → p.0 < cursor.0 → is_later cursor at p ≡ false
 not_ahead cursor at p h = grind (arith, nat_tests)
 
-pub ahead : (cursor : ℕ × ℕ) (at : Bool) (p : ℕ × ℕ) → cursor.0 < p.0 → is_ahead cursor at p ≡ true
+pub ahead : (cursor : ℕ × ℕ) (at : Bool) (p : ℕ × ℕ) → cursor.0 < p.0 → is_later cursor at p ≡ true
 ahead cursor at p h = grind (arith, nat_tests)
 
 -- ---- the text of a line
@@ -124,8 +120,7 @@ nil_of_reverse (x ∷ xs) e = absurd (omega (arith, ap length (nil_of_first (rev
 pub map_reverse : {X Y : Type 0} (f : X → Y) (xs : List X) → map f (reverse xs) ≡ reverse (map f xs)
 map_reverse f [] = refl
 map_reverse f (x ∷ xs) =
-    ap (map f) (reverse-append (x ∷ []) xs) ∙ map-append f (reverse xs) (x ∷ [])
-    ∙ ap (λ ys. ys ++ f x ∷ []) (map_reverse f xs) ∙ sym (reverse-append (f x ∷ []) (map f xs))
+    grind (arith, common_steps, reverse-append (x ∷ []) xs, map-append f (reverse xs) (x ∷ []), map_reverse f xs, reverse-append (f x ∷ []) (map f xs))
 
 -- the starts of the lines up to the one at i
 starts_more : (columns : List ℕ → List ℕ) (row : ℕ) (lines : List (List ℕ)) (i : ℕ) (d : List ℕ) → i < length lines →
@@ -165,11 +160,11 @@ same_row : (row : ℕ) (b : Bool) → (nat_lt row row || ((row == row) && b)) �
 same_row row b = grind (arith, nat_tests)
 
 module _ (columns : List ℕ → List ℕ) (lines : List (List ℕ)) (row column : ℕ) (at : Bool) (d : List ℕ) (within : row < length lines) where
-  pub next_start_in_parts : next_start (starts_from columns 0 lines) (row, column) at
-      ≡ option_or (option_map (λ c. (row, c)) (find (is_ahead_in_line column at) (columns (get_or lines row d))))
+  pub next_start_in_parts : found_start Forward (starts_from columns 0 lines) (row, column) at
+      ≡ option_or (option_map (λ c. (row, c)) (find (is_past column at) (columns (get_or lines row d))))
       (option_or (slice_get (starts_from columns (row + 1) (drop (row + 1) lines)) 0) (slice_get (starts_from columns 0 (take (row + 1) lines)) 0))
   next_start_in_parts =
-      let test : ℕ × ℕ → Bool = is_ahead (row, column) at in
+      let test : ℕ × ℕ → Bool = is_later (row, column) at in
       let front = starts_from columns 0 (take row lines) in
       let here : List (ℕ × ℕ) = map (λ c. (row, c)) (columns (get_or lines row d)) in
       let beyond = starts_from columns (row + 1) (drop (row + 1) lines) in
@@ -179,19 +174,19 @@ module _ (columns : List ℕ → List ℕ) (lines : List (List ℕ)) (row column
       let each : All (λ p. test p ≡ true) beyond =
       All-weaker (λ (p : ℕ × ℕ). row + 1 ≤ p.0) (λ p. test p ≡ true) (λ p h. ahead (row, column) at p (omega arith)) beyond
       (starts_from-above columns (row + 1) (row + 1) (drop (row + 1) lines) (omega arith)) in
-      let found : find test here ≡ option_map (λ c. (row, c)) (find (is_ahead_in_line column at) (columns (get_or lines row d))) =
+      let found : find test here ≡ option_map (λ c. (row, c)) (find (is_past column at) (columns (get_or lines row d))) =
       find-map test (λ c. (row, c)) (columns (get_or lines row d))
-      ∙ ap (option_map (λ c. (row, c))) (find-same (λ c. test (row, c)) (is_ahead_in_line column at) (columns (get_or lines row d)) (λ k e lt. same_row row _)) in
+      ∙ ap (option_map (λ c. (row, c))) (find-same (λ c. test (row, c)) (is_past column at) (columns (get_or lines row d)) (λ k e lt. same_row row _)) in
       ap (find_or_first test) (starts_in_parts columns lines row d within)
       ∙ find_in_parts test front here beyond none each
       ∙ ap (λ o. option_or o (option_or (slice_get beyond 0) (slice_get (front ++ here) 0))) found
       ∙ rw (starts_more columns 0 lines row d within, zero-add) refl
 
-  pub previous_start_in_parts : previous_start (starts_from columns 0 lines) (row, column) at
-      ≡ option_or (option_map (λ c. (row, c)) (find (λ c. is_ahead_in_line c at column) (reverse (columns (get_or lines row d)))))
+  pub previous_start_in_parts : found_start Back (starts_from columns 0 lines) (row, column) at
+      ≡ option_or (option_map (λ c. (row, c)) (find (λ c. is_past c at column) (reverse (columns (get_or lines row d)))))
       (option_or (slice_get (reverse (starts_from columns 0 (take row lines))) 0) (slice_get (reverse (starts_from columns row (drop row lines))) 0))
   previous_start_in_parts =
-      let test : ℕ × ℕ → Bool = is_behind (row, column) at in
+      let test : ℕ × ℕ → Bool = λ place. is_later place at (row, column) in
       let front = starts_from columns 0 (take row lines) in
       let here : List (ℕ × ℕ) = map (λ c. (row, c)) (columns (get_or lines row d)) in
       let beyond = starts_from columns (row + 1) (drop (row + 1) lines) in
@@ -203,10 +198,10 @@ module _ (columns : List ℕ → List ℕ) (lines : List (List ℕ)) (row column
       All-reverse (λ p. test p ≡ true) front
       (All-weaker (λ (p : ℕ × ℕ). p.0 < row) (λ p. test p ≡ true) (λ p h. ahead p at (row, column) h) front
       (starts_from-below columns 0 row (take row lines) (omega (arith, length-take-le row lines (omega arith))))) in
-      let found : find test (reverse here) ≡ option_map (λ c. (row, c)) (find (λ c. is_ahead_in_line c at column) (reverse (columns (get_or lines row d)))) =
+      let found : find test (reverse here) ≡ option_map (λ c. (row, c)) (find (λ c. is_past c at column) (reverse (columns (get_or lines row d)))) =
       ap (find test) (sym (map_reverse (λ c. (row, c)) (columns (get_or lines row d))))
       ∙ find-map test (λ c. (row, c)) (reverse (columns (get_or lines row d)))
-      ∙ ap (option_map (λ c. (row, c))) (find-same (λ c. test (row, c)) (λ c. is_ahead_in_line c at column) (reverse (columns (get_or lines row d))) (λ k e lt. same_row row _)) in
+      ∙ ap (option_map (λ c. (row, c))) (find-same (λ c. test (row, c)) (λ c. is_past c at column) (reverse (columns (get_or lines row d))) (λ k e lt. same_row row _)) in
       let turned : reverse (front ++ (here ++ beyond)) ≡ reverse beyond ++ (reverse here ++ reverse front) =
       reverse-append front (here ++ beyond) ∙ ap (λ ys. ys ++ reverse front) (reverse-append here beyond)
       ∙ append_assoc (reverse beyond) (reverse here) (reverse front) in
@@ -216,14 +211,14 @@ module _ (columns : List ℕ → List ℕ) (lines : List (List ℕ)) (row column
       ∙ ap (find_or_first test) turned
       ∙ find_in_parts test (reverse beyond) (reverse here) (reverse front) none each
       ∙ ap (λ o. option_or o (option_or (slice_get (reverse front) 0) (slice_get (reverse beyond ++ reverse here) 0))) found
-      ∙ ap (λ ys. option_or (option_map (λ c. (row, c)) (find (λ c. is_ahead_in_line c at column) (reverse (columns (get_or lines row d))))) (option_or (slice_get (reverse front) 0) (slice_get ys 0))) rest
+      ∙ ap (λ ys. option_or (option_map (λ c. (row, c)) (find (λ c. is_past c at column) (reverse (columns (get_or lines row d))))) (option_or (slice_get (reverse front) 0) (slice_get ys 0))) rest
 
 -- ---- the same as the code reads it: a row of strings, those behind it, and those up to it
 
 module _ (columns : List ℕ → List ℕ) (lines : List (String Global)) (row column : ℕ) (at : Bool) (line : String Global)
     (within : row < length lines) (is_line : line ≡ get_or lines row line) where
-  forward_parts : next_start (starts_from columns 0 (map string_bytes lines)) (row, column) at
-      ≡ option_or (option_map (λ c. (row, c)) (find (is_ahead_in_line column at) (columns (string_bytes line))))
+  forward_parts : found_start Forward (starts_from columns 0 (map string_bytes lines)) (row, column) at
+      ≡ option_or (option_map (λ c. (row, c)) (find (is_past column at) (columns (string_bytes line))))
       (option_or (slice_get (starts_from columns (row + 1) (map string_bytes (take (length lines - (row + 1)) (drop (row + 1) lines)))) 0)
       (slice_get (starts_from columns 0 (map string_bytes (take (row + 1) lines))) 0))
   forward_parts =
@@ -231,18 +226,14 @@ module _ (columns : List ℕ → List ℕ) (lines : List (String Global)) (row c
       rw (take_rest lines (row + 1), ← drop-map string_bytes (row + 1) lines, ← take-map string_bytes (row + 1) lines, ← text_at lines row line within is_line)
       (next_start_in_parts columns (map string_bytes lines) row column at (string_bytes line) within')
 
-  pub forward_here : (start : ℕ) → find (is_ahead_in_line column at) (columns (string_bytes line)) ≡ Some start →
-      next_start (starts_from columns 0 (map string_bytes lines)) (row, column) at ≡ Some (row, start)
-  forward_here start found = forward_parts ∙ rw found refl
-
-  pub forward_from : (beyond : Option (ℕ × ℕ)) → find (is_ahead_in_line column at) (columns (string_bytes line)) ≡ None →
+  pub forward_from : (beyond : Option (ℕ × ℕ)) → find (is_past column at) (columns (string_bytes line)) ≡ None →
       slice_get (starts_from columns (row + 1) (map string_bytes (take (length lines - (row + 1)) (drop (row + 1) lines)))) 0 ≡ beyond →
-      next_start (starts_from columns 0 (map string_bytes lines)) (row, column) at
+      found_start Forward (starts_from columns 0 (map string_bytes lines)) (row, column) at
       ≡ option_or beyond (slice_get (starts_from columns 0 (map string_bytes (take (row + 1) lines))) 0)
   forward_from beyond none e = forward_parts ∙ rw (none, e) refl
 
-  back_parts : previous_start (starts_from columns 0 (map string_bytes lines)) (row, column) at
-      ≡ option_or (option_map (λ c. (row, c)) (find (λ c. is_ahead_in_line c at column) (reverse (columns (string_bytes line)))))
+  back_parts : found_start Back (starts_from columns 0 (map string_bytes lines)) (row, column) at
+      ≡ option_or (option_map (λ c. (row, c)) (find (λ c. is_past c at column) (reverse (columns (string_bytes line)))))
       (option_or (slice_get (reverse (starts_from columns 0 (map string_bytes (take row lines)))) 0)
       (slice_get (reverse (starts_from columns row (map string_bytes (take (length lines - row) (drop row lines))))) 0))
   back_parts =
@@ -250,12 +241,19 @@ module _ (columns : List ℕ → List ℕ) (lines : List (String Global)) (row c
       rw (take_rest lines row, ← drop-map string_bytes row lines, ← take-map string_bytes row lines, ← text_at lines row line within is_line)
       (previous_start_in_parts columns (map string_bytes lines) row column at (string_bytes line) within')
 
-  pub back_here : (start : ℕ) → find (λ c. is_ahead_in_line c at column) (reverse (columns (string_bytes line))) ≡ Some start →
-      previous_start (starts_from columns 0 (map string_bytes lines)) (row, column) at ≡ Some (row, start)
-  back_here start found = back_parts ∙ rw found refl
+  pub found_here : (direction : Direction) (start : ℕ) →
+      find (is_ahead_in_line direction column at) (along direction (columns (string_bytes line))) ≡ Some start →
+      found_start direction (starts_from columns 0 (map string_bytes lines)) (row, column) at ≡ Some (row, start)
+  found_here Forward start found = forward_parts ∙ rw found refl
+  found_here Back start found = back_parts ∙ rw found refl
 
-  pub back_from : (before : Option (ℕ × ℕ)) → find (λ c. is_ahead_in_line c at column) (reverse (columns (string_bytes line))) ≡ None →
+  pub back_from : (before : Option (ℕ × ℕ)) → find (λ c. is_past c at column) (reverse (columns (string_bytes line))) ≡ None →
       slice_get (reverse (starts_from columns 0 (map string_bytes (take row lines)))) 0 ≡ before →
-      previous_start (starts_from columns 0 (map string_bytes lines)) (row, column) at
+      found_start Back (starts_from columns 0 (map string_bytes lines)) (row, column) at
       ≡ option_or before (slice_get (reverse (starts_from columns row (map string_bytes (take (length lines - row) (drop row lines))))) 0)
   back_from before none e = back_parts ∙ rw (none, e) refl
+
+-- none is ahead, on the way that is known
+pub none_ahead : (direction known : Direction) (columns : List ℕ → List ℕ) (text line : List ℕ) (column : ℕ) (at : Bool) → direction ≡ known → text ≡ line →
+    None ≡ find (is_ahead_in_line direction column at) (along direction (columns text)) → find (is_ahead_in_line known column at) (along known (columns line)) ≡ None
+none_ahead direction known columns text line column at e same none = rw (← e, ← same) (sym none)

@@ -1,11 +1,14 @@
 -- Where the matches of a text start, and which of them a search finds.
-use Rattle.std.specs.Prelude.{◌≡◌, ℕ, ◌+◌, ◌-◌, ◌<◌, ◌≤◌, Bool, ◌==◌, ◌&&◌, ◌||◌, nat_lt, List, [], ◌∷◌, ◌++◌, map, length, find, reverse, slice_get, slice_index_or, Option, None, Some, String, string_bytes}
+use Rattle.std.specs.Prelude.{◌≡◌, ℕ, ◌+◌, ◌-◌, ◌<◌, ◌≤◌, Bool, ◌==◌, ◌&&◌, ◌||◌, nat_lt, List, [], ◌∷◌, ◌++◌, map, length, find, reverse, slice_get, slice_index_or, Option, None, Some, String, string_bytes, IfOk, IfSome, IsNone, IsOk, Result}
+use Rattle.std.specs.declared.alloc.AllocError.{AllocError}
 use Rattle.std.specs.Option.{option_or}
 use Rattle.std.specs.Str.{chars}
 use Rattle.std.proofs.Common.{Global}
 use Rattle.regex.specs.Patterns.{Re}
 use Rattle.textarea_search.specs.Matches.{match_columns}
 use Rattle.textarea_search.specs.Spans.{columns_in}
+use Rattle.textarea_search.specs.declared.search.direction.Direction.{Direction}
+use Rattle.textarea_search.specs.declared.search.direction.Direction.TheVariants.{Forward, Back}
 
 -- the places, as row and column, at which the matches of these lines start, in the order of the text
 abbrev pub starts_from : (List ℕ → List ℕ) → ℕ → List (List ℕ) → List (ℕ × ℕ)
@@ -26,30 +29,38 @@ starts_of (Some pattern) lines = starts_from (match_columns pattern) 0 (map stri
 abbrev pub IsTreeOf : List ℕ → Re → Type 0
 IsTreeOf pattern tree = (lines : List (String Global)) → starts_by tree 0 lines ≡ starts_of (Some pattern) lines
 
--- the column stands behind the cursor's or, where that counts, at it
-abbrev pub is_ahead_in_line : ℕ → Bool → ℕ → Bool
-is_ahead_in_line cursor at_cursor column = nat_lt cursor column || (at_cursor && (column == cursor))
+-- the number is past the mark or, where that counts, at it
+abbrev pub is_past : ℕ → Bool → ℕ → Bool
+is_past mark at_mark number = nat_lt mark number || (at_mark && (number == mark))
 
--- the place stands behind the cursor in the text or, where that counts, at it
-abbrev pub is_ahead : ℕ × ℕ → Bool → ℕ × ℕ → Bool
-is_ahead cursor at_cursor place =
-    nat_lt cursor.0 place.0 || ((place.0 == cursor.0) && is_ahead_in_line cursor.1 at_cursor place.1)
+-- the same on the way that a search goes
+abbrev pub is_ahead_in_line : Direction → ℕ → Bool → ℕ → Bool
+is_ahead_in_line Forward cursor at_cursor column = is_past cursor at_cursor column
+is_ahead_in_line Back cursor at_cursor column = is_past column at_cursor cursor
 
--- the place stands before the cursor in the text or, where that counts, at it
-abbrev pub is_behind : ℕ × ℕ → Bool → ℕ × ℕ → Bool
-is_behind cursor at_cursor place = is_ahead place at_cursor cursor
+-- the place is past the mark in the text or, where that counts, at it
+abbrev pub is_later : ℕ × ℕ → Bool → ℕ × ℕ → Bool
+is_later mark at_mark place =
+    nat_lt mark.0 place.0 || ((place.0 == mark.0) && is_past mark.1 at_mark place.1)
+
+-- the same on the way that a search goes
+abbrev pub is_ahead : Direction → ℕ × ℕ → Bool → ℕ × ℕ → Bool
+is_ahead Forward cursor at_cursor place = is_later cursor at_cursor place
+is_ahead Back cursor at_cursor place = is_later place at_cursor cursor
+
+-- the order in which a search meets these
+abbrev pub along : {A : Type 0} → Direction → List A → List A
+along Forward xs = xs
+along Back xs = reverse xs
 
 -- the first that passes, and where none does the first of all
 abbrev pub find_or_first : {A : Type 0} → (A → Bool) → List A → Option A
 find_or_first test xs = option_or (find test xs) (slice_get xs 0)
 
--- where a search goes to: the next start, and past the end of the text on from its beginning
-abbrev pub next_start : List (ℕ × ℕ) → ℕ × ℕ → Bool → Option (ℕ × ℕ)
-next_start starts cursor at_cursor = find_or_first (is_ahead cursor at_cursor) starts
-
--- where a search back goes to: the start before, and past the beginning of the text back from its end
-abbrev pub previous_start : List (ℕ × ℕ) → ℕ × ℕ → Bool → Option (ℕ × ℕ)
-previous_start starts cursor at_cursor = find_or_first (is_behind cursor at_cursor) (reverse starts)
+-- where a search goes to: the first start ahead, and past the last one on from the text's other end
+abbrev pub found_start : Direction → List (ℕ × ℕ) → ℕ × ℕ → Bool → Option (ℕ × ℕ)
+found_start direction starts cursor at_cursor =
+    find_or_first (is_ahead direction cursor at_cursor) (along direction starts)
 
 -- the place lies in these lines, the first of which is the given row: its column is no greater than its line is long
 abbrev pub IsPlaceFrom : ℕ → List (String Global) → ℕ × ℕ → Type 0
@@ -62,3 +73,10 @@ abbrev pub IsPlaceIn : List (String Global) → ℕ × ℕ → Type 0
 IsPlaceIn lines place =
     (place.0 < length lines)
     × (place.1 ≤ length (slice_index_or (map (λ line. chars (string_bytes line)) lines) place.0 []))
+
+-- what a search from a cursor answers: where it leads, which is a place of the text; and without a pattern it takes no memory
+pub record IsFound (direction : Direction) (pattern : Option (List ℕ)) (lines : List (String Global)) (cursor : ℕ × ℕ) (at_cursor : Bool)
+    (result : Result (Option (ℕ × ℕ)) AllocError) : Type 0 where
+  pub found : IfOk result (λ place. place ≡ found_start direction (starts_of pattern lines) cursor at_cursor)
+  pub within : IfOk result (λ place. IfSome place (IsPlaceIn lines))
+  pub no_pattern : IsNone pattern → IsOk result

@@ -1,5 +1,5 @@
 -- Each row is read back.
-use Rattle.std.proofs.Common.{◌≡◌, ◌≢◌, ℕ, zero, suc, ◌+◌, ◌-◌, ◌/◌, ◌%◌, ◌<◌, ◌≤◌, true, false, List, [], ◌∷◌, ◌++◌, length, get_or, drop, map, Some, None, refl, sym, ap, ◌∙◌, arith, inl, inr, ⊎_elim}
+use Rattle.std.proofs.Common.{◌==◌, ◌≡◌, ◌≢◌, ℕ, zero, suc, ◌+◌, ◌-◌, ◌/◌, ◌%◌, ◌<◌, ◌≤◌, true, false, List, [], ◌∷◌, ◌++◌, length, get_or, drop, map, Some, None, refl, sym, ap, ◌∙◌, arith, inl, inr, ⊎_elim, subst}
 use Rattle.std.specs.Prelude.{Contains}
 use Rattle.std.proofs.lemmas.List.{get_or-map, map-append, length-append, append_assoc, get_or-append-add, get_or_append_left}
 use Rattle.std.proofs.Math.Seq.{take-append_seam, drop-append-add}
@@ -17,10 +17,11 @@ use Rattle.std.specs.Prelude.{option_map}
 use Rattle.std.specs.Char.{IsScalar, encode_utf8}
 use Rattle.std.proofs.Math.Dec.{eqb, ltb}
 use Rattle.std.proofs.lemmas.Bool.Decides.{nat_tests}
-use Rattle.std.proofs.lemmas.Bool.{lt-ltb, le-ltb, ne_eqb, cases_lt}
+use Rattle.std.proofs.lemmas.Bool.{lt-ltb, le-ltb, ne_eqb, cases_lt, cases_Bool, cond-true, cond-false, eqb-true}
 use Rattle.textarea_terminal.specs.InputCharacter.{character, is_second, code_of_two, code_of_three, code_of_four}
 use Rattle.std.specs.Prelude.{◌⊎◌}
-use Rattle.textarea_terminal.specs.InputKey.{with_alt, input_of_key, byte_input}
+use Rattle.textarea_terminal.specs.InputKey.{with_alt, input_of_key, byte_input, entry, letter_keys}
+use Rattle.textarea_data.specs.declared.input.Key.{Key}
 use Rattle.textarea_terminal.specs.InputUnit.{unit_at, paste_start, paste_end, index_of, paste_at, paste_before, after_mark, key_or_sequence, escape_at, second_escape_at, single_at, key_at}
 use Rattle.textarea_terminal.specs.InputSequence.{bracket_at, shift_key_at, shift_key_after_one, shift_key_after_two, control_at, count_front, after_inner, final_at, console_at, sequence_event, event_of_one, event_of_two}
 use Rattle.textarea_terminal.specs.InputParameter.{parameters_of, number_from}
@@ -110,6 +111,27 @@ key_at-byte c bytes h k l =
 pub unit_at-letter : (bytes rest : List ℕ) (c : ℕ) → bytes ≡ c ∷ rest → 32 ≤ c → c ≤ 126 → unit_at bytes ≡ Some (input (input_of_key (key.Char c)), rest)
 unit_at-letter bytes rest c e h k =
     ap unit_at e ∙ unit_at-key c rest (λ e. omega arith) ∙ ap (option_map (λ x. (input x.0, x.1))) (key_at-byte c rest h (omega arith) (λ e. omega arith))
+
+-- what holds of each row of a table holds of what the table has for a number
+entry-each : {A : Type 0} (P : ℕ → A → Type 0) (rows : List (ℕ × A)) → AllByRecursion (λ r. P r.0 r.1) rows → (n : ℕ) (x : A) → entry rows n ≡ Some x → P n x
+entry-each P [] all n x e = cc e
+entry-each P (row ∷ rows) all n x e =
+    ⊎_elim
+    (λ is.
+    let found : Some row.1 ≡ Some x = sym (cond-true (n == row.0) (Some row.1) (entry rows n) is) ∙ e in
+    let same : row.1 ≡ x = cc found in
+    let at : row.0 ≡ n = sym (eqb-true n row.0 is) in
+    subst (λ m. P m x) at (subst (λ y. P row.0 y) same all.0))
+    (λ other. entry-each P rows all.1 n x (sym (cond-false (n == row.0) (Some row.1) (entry rows n) other) ∙ e))
+    (cases_Bool (n == row.0))
+
+-- a key whose sequence is a letter after ESC [
+pub unit_at-letter_key : (bytes rest : List ℕ) (letter : ℕ) (k : Key) → bytes ≡ 27 ∷ 91 ∷ letter ∷ rest → entry letter_keys letter ≡ Some k → unit_at bytes ≡ Some (input (input_of_key k), rest)
+unfolding unit_at after_mark key_or_sequence escape_at single_at bracket_at shift_key_at shift_key_after_one shift_key_after_two control_at count_front after_inner final_at sequence_event event_of_one event_of_two parameters_of number_from
+unit_at-letter_key bytes rest letter k e found =
+    ap unit_at e
+    ∙ entry-each (λ n x. unit_at (27 ∷ 91 ∷ n ∷ rest) ≡ Some (input (input_of_key x), rest)) letter_keys
+    (refl, (refl, (refl, (refl, (refl, (refl, (refl, (refl, (refl, (refl, tt)))))))))) letter k found
 
 key_at-character : (a c : ℕ) (bytes rest : List ℕ) → 128 ≤ a → character a bytes ≡ Some (c, rest) → key_at a bytes ≡ Some (input_of_key (key.Char c), rest)
 unfolding key_at

@@ -16,4 +16,3 @@ mod PenColors
 mod PenLemmas
 mod ScreenMoves
 mod ScreenPlain
-mod ScreenWidths

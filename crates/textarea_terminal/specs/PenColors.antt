@@ -1,5 +1,5 @@
 -- Colours as numbers, by which the program compares them.
-use Rattle.std.specs.Prelude.{ℕ}
+use Rattle.std.specs.Prelude.{ℕ, ◌+◌, ◌*◌}
 use Rattle.textarea_screen.specs.declared.screen.color.Color.{Color}
 use Rattle.textarea_screen.specs.declared.screen.color.Color.TheVariants.{Reset, Black, Red, Green, Yellow, Blue, Magenta, Cyan, Gray, DarkGray, LightRed, LightGreen, LightYellow, LightBlue, LightMagenta, LightCyan, White, Rgb, Indexed}
 use Rattle.textarea_terminal.specs.declared.output.look.ColorParts.{ColorParts}
@@ -27,3 +27,7 @@ parts_of LightCyan = named 15
 parts_of White = named 16
 parts_of (Rgb red green blue) = record { kind = 17; first = red; second = green; third = blue }
 parts_of (Indexed number) = record { kind = 18; first = number; second = 0; third = 0 }
+
+-- all of them as one number, since each is a byte
+abbrev pub number_of : ColorParts → ℕ
+number_of parts = parts.kind + 256 * parts.first + 65536 * parts.second + 16777216 * parts.third

@@ -7,6 +7,7 @@ mod frame;
 pub mod look;
 mod painter;
 mod spot;
+mod symbol;
 mod whole;
 mod width;
 

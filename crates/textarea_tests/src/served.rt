@@ -4,8 +4,8 @@ use std::io;
 use std::io::ErrorKind;
 use std::process::Abort;
 use std::test::Fail;
-use textarea_script::serve::{DONE, LINE_NOT_READ, OUT_OF_MEMORY};
-use textarea_script::session::{NOT_READ, serve_no_words, serve_words};
+use textarea_script::streams::{DONE, NOT_READ, OUT_OF_MEMORY};
+use textarea_script::words::{serve_no_words, serve_words};
 
 /// How the program ends, what it prints and what it tells of errors, and what it leaves unread.
 #[derive(Clone, Copy, Debug, PartialEq, Eq)]
@@ -24,7 +24,7 @@ const EMPTY_TEXT: End<'static> = End {
 };
 
 const LINE_1: End<'static> = End {
-    status: LINE_NOT_READ,
+    status: NOT_READ,
     output: "",
     errors: "line 1: not read\n",
     left: "",

@@ -3,8 +3,8 @@ use crate::broken::{BrokenReader, BrokenWriter};
 use crate::texts::{strings, text_of};
 use std::process::Abort;
 use std::test::Fail;
-use textarea_script::serve::{DONE, LINE_NOT_READ, STREAM_FAILED};
-use textarea_script::session::{NOT_READ, serve_words};
+use textarea_script::streams::{DONE, NOT_READ, STREAM_FAILED};
+use textarea_script::words::serve_words;
 
 const SCRIPT: &[u8] = b"insert_char a
 insert_newline
@@ -79,7 +79,7 @@ static ROWS: [Row; 4] = [
     Row {
         words: &[],
         given: b"nothing",
-        status: LINE_NOT_READ,
+        status: NOT_READ,
         printed: "",
         told: "line 1: not read\n",
     },

@@ -1,5 +1,6 @@
 -- The symbol before a place of some lines.
 use Rattle.std.proofs.Common.{◌≡◌, ℕ, ◌+◌, ◌-◌, ◌<◌, ◌≤◌, List, [], ◌∷◌, ◌++◌, length, take, drop, sym, ap, refl, ◌∙◌, arith, get_or, subst, String, encode_utf8_all, encode_utf8, Option, Some, None, MatchOption}
+use Rattle.std.proofs.lemmas.Grind.{common_steps}
 use Rattle.std.specs.Option.{IsSome}
 use Rattle.std.proofs.lemmas.List.{append-nil, length-append, length-take-le, length-map, drop_more, take_at, get_or-take, get_or_at, take-append-drop, drop-drop}
 use Rattle.std.proofs.lemmas.Str.{cons_from_encodes, chars-append, IsUtf8-encode, IsUtf8-take, IsCharBoundary-at_seam}
@@ -27,11 +28,7 @@ character_stands rows row column c within inside found =
 
 rows_around_two : (rows : List (List ℕ)) (row : ℕ) → row + 1 < length rows → rows ≡ take row rows ++ ((get_or rows row [] ∷ get_or rows (row + 1) [] ∷ []) ++ drop (row + 2) rows)
 rows_around_two rows row within =
-    let two : row + 1 + 1 ≡ row + 2 = omega arith in
-    sym (take-append-drop row rows)
-    ∙ ap (λ t. take row rows ++ t)
-    (drop_more rows row [] (omega arith)
-    ∙ ap (λ (t : List (List ℕ)). get_or rows row [] ∷ t) (drop_more rows (row + 1) [] within ∙ ap (λ n. get_or rows (row + 1) [] ∷ drop n rows) two))
+    grind (arith, common_steps, take-append-drop row rows, drop_more)
 
 pub break_stands : (rows : List (List ℕ)) (row : ℕ) → row + 1 < length rows → StandsAt (joined rows) (row, length (get_or rows row [])) (Break ∷ [])
 break_stands rows row within =
@@ -67,9 +64,7 @@ break_before items place line column h none some read e =
 -- a call of `next`
 pub next_is : (Same : Type 0) (cs was rest : List ℕ) (column c : ℕ) (found : Option ℕ) → was ≡ encode_utf8_all (drop column cs) → MatchOption found ((length was ≡ 0) × Same) (λ d. was ≡ encode_utf8 d ++ rest) → found ≡ Some c → drop column cs ≡ c ∷ drop (column + 1) cs
 next_is Same cs was rest column c found e h is =
-    let read : was ≡ encode_utf8 c ++ rest = subst (λ (o : Option ℕ). MatchOption o ((length was ≡ 0) × Same) (λ d. was ≡ encode_utf8 d ++ rest)) is h in
-    let first = cons_from_encodes (drop column cs) rest c (sym e ∙ read) in
-    first.1 ∙ ap (λ (t : List ℕ). c ∷ t) (ap (drop 1) (sym first.1) ∙ drop-drop 1 column cs)
+    grind (arith, common_steps, cons_from_encodes, drop-drop 1 column cs)
 
 -- ---- the character that ends at a column
 

@@ -1,5 +1,6 @@
 -- Where a splice carries the places of a text.
 use Rattle.std.proofs.Common.{◌≡◌, ℕ, ◌+◌, ◌⊎◌, inl, inr, Bool, true, false, List, [], ◌∷◌, ◌++◌, length, take, drop, sym, ap, refl, ◌∙◌, arith, subst}
+use Rattle.std.proofs.lemmas.Grind.{common_steps}
 use Rattle.std.proofs.lemmas.Bool.Decides.{nat_tests}
 use Rattle.std.proofs.lemmas.List.{append_assoc, length-append, take-append-drop, take_at, drop_at}
 use Rattle.textarea_text.specs.Text.{Symbol, Character, Break}
@@ -71,19 +72,15 @@ spliced text splice h = spliced_by splice.inserts text splice.place splice.symbo
 pub end_from : (place : Place) (symbols : List Symbol) → IsUpTo place (end place symbols)
 end_from place [] = (omega arith, λ same. omega arith)
 end_from place (Character c ∷ symbols) =
-    let rest = end_from (place.0, place.1 + 1) symbols in
-    (rest.0, λ same. omega (arith, rest.1 same))
+    grind (arith, common_steps, end_from (place.0, place.1 + 1) symbols)
 end_from place (Break ∷ symbols) =
-    let rest = end_from (place.0 + 1, 0) symbols in
-    (omega (arith, rest.0), λ same. absurd (omega (arith, rest.0)))
+    grind (arith, common_steps, end_from (place.0 + 1, 0) symbols)
 
 pub end_behind : (place : Place) (symbol : Symbol) (symbols : List Symbol) → IsBefore place (end place (symbol ∷ symbols))
 end_behind place (Character c) symbols =
-    let rest = end_from (place.0, place.1 + 1) symbols in
-    (rest.0, λ same. omega (arith, rest.1 same))
+    grind (arith, common_steps, end_from (place.0, place.1 + 1) symbols)
 end_behind place Break symbols =
-    let rest = end_from (place.0 + 1, 0) symbols in
-    (omega (arith, rest.0), λ same. absurd (omega (arith, rest.0)))
+    grind (arith, common_steps, end_from (place.0 + 1, 0) symbols)
 
 never : (one other : Place) → IsBefore one other → IsUpTo other one → ⊥
 never one other h k = grind (arith, nat_tests)
@@ -102,11 +99,9 @@ shifted_row old new place h = grind (arith, nat_tests)
 pub shifted_end : (old new : Place) (symbols : List Symbol) → shifted old new (end old symbols) ≡ end new symbols
 shifted_end old new [] = shifted_none old new
 shifted_end old new (Character c ∷ symbols) =
-    shifted_column old new (end (old.0, old.1 + 1) symbols) (end_from (old.0, old.1 + 1) symbols)
-    ∙ shifted_end (old.0, old.1 + 1) (new.0, new.1 + 1) symbols
+    grind (arith, common_steps, shifted_column old new (end (old.0, old.1 + 1) symbols) (end_from (old.0, old.1 + 1) symbols), end_from (old.0, old.1 + 1) symbols, shifted_end (old.0, old.1 + 1) (new.0, new.1 + 1) symbols)
 shifted_end old new (Break ∷ symbols) =
-    shifted_row old new (end (old.0 + 1, 0) symbols) (end_from (old.0 + 1, 0) symbols)
-    ∙ shifted_end (old.0 + 1, 0) (new.0 + 1, 0) symbols
+    grind (arith, common_steps, shifted_row old new (end (old.0 + 1, 0) symbols) (end_from (old.0 + 1, 0) symbols), end_from (old.0 + 1, 0) symbols, shifted_end (old.0 + 1, 0) (new.0 + 1, 0) symbols)
 
 -- ---- two fronts of one text: the one is a part of the other
 

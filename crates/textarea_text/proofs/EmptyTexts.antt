@@ -1,5 +1,6 @@
 -- When the text of some lines is empty.
 use Rattle.std.proofs.Common.{◌≡◌, ◌≢◌, ◌<◌, List, [], ◌∷◌, ◌++◌, length, sym, ap, refl, ◌∙◌, arith, get_or, String, string_bytes, encode_utf8_all}
+use Rattle.std.proofs.lemmas.Grind.{common_steps}
 use Rattle.std.specs.String.{string_len}
 use Rattle.std.specs.Str.{chars}
 use Rattle.std.proofs.lemmas.Str.{IsUtf8-string_bytes, encodes-chars, chars-nil}
@@ -37,5 +38,4 @@ text_of-many (a ∷ b ∷ rest) apart some = λ e. omega (arith, ap length e, le
 -- one empty line holds what no line holds
 pub text_of_empty : {Z : Type 0} (lines old : List (String Z)) (line : String Z) → lines ≡ old ++ line ∷ [] → length old ≡ 0 → string_bytes line ≡ [] → text_of lines ≡ text_of old
 text_of_empty lines old line is none e =
-    let nil : old ≡ [] = nil_from_length old none in
-    ap text_of (is ∙ ap (λ t. t ++ line ∷ []) nil) ∙ ap (λ t. characters t ++ []) (ap chars e ∙ chars-nil) ∙ ap text_of (sym nil)
+    grind (arith, common_steps, nil_from_length old none, chars-nil)

@@ -1,5 +1,5 @@
 -- Given texts, cut at their first line feed, and pieces that are put together to one text.
-use Rattle.std.proofs.Common.{◌≡◌, ◌≢◌, ℕ, ◌+◌, ◌<◌, false, nat_eq, List, [], ◌∷◌, ◌++◌, length, take, drop, get_or, refl, sym, ap, subst, ◌∙◌, arith, encode_utf8_all, Option, Some, None, MatchOption, String}
+use Rattle.std.proofs.Common.{◌≡◌, ◌≢◌, ℕ, ◌+◌, ◌<◌, false, nat_eq, List, [], ◌∷◌, ◌++◌, length, take, drop, get_or, refl, sym, ap, subst, ◌∙◌, arith, Option, Some, None, MatchOption, String}
 use denote.Ref.{Bor}
 use Rattle.std.specs.Option.{unwrap_or}
 use Rattle.std.specs.Prelude.{encode_utf8}
@@ -66,14 +66,9 @@ chars_return bs text = chars-append bs (13 ∷ []) text
 -- what is left of a line without the carriage return at its end, if it has one
 given-stripped : (behind : List ℕ) (whole : Bor (List ℕ)) (stripped : Option (Bor (List ℕ))) → IsUtf8 whole.now → IsUtf8 (unwrap_or stripped whole).now → HasNoLineFeed (chars whole.now) → MatchOption stripped ((front : List ℕ) → whole.now ≢ front ++ 13 ∷ []) (λ x. whole.now ≡ x.now ++ 13 ∷ []) → given (chars whole.now ++ 10 ∷ behind) ≡ characters (chars (unwrap_or stripped whole).now) ++ (Break ∷ given behind)
 given-stripped behind whole None text text' none h =
-    given-line (chars whole.now) behind none
-    (λ front e. h (encode_utf8_all front)
-    (sym (encodes-chars whole.now text) ∙ ap encode_utf8_all e ∙ encodes-append front (13 ∷ [])
-    ∙ ap (λ t. encode_utf8_all front ++ (t ++ [])) (encode_ascii 13 (omega arith))))
+    grind (arith, common_steps, given-line, encodes-chars whole.now text, encodes-append, encode_ascii)
 given-stripped behind whole (Some line) text text' none h =
-    let e : chars whole.now ≡ chars line.now ++ 13 ∷ [] = ap chars h ∙ chars_return line.now text' in
-    ap (λ t. given (t ++ 10 ∷ behind)) e ∙ ap given (append_assoc (chars line.now) (13 ∷ []) (10 ∷ behind))
-    ∙ given-line_with_return (chars line.now) behind (front-none (chars line.now) (13 ∷ []) (subst HasNoLineFeed e none))
+    grind (arith, common_steps, chars_return line.now text', append_assoc (chars line.now) (13 ∷ []) (10 ∷ behind), given-line_with_return, front-none)
 
 -- a text, cut at a line feed before which there is none
 pub given-cut : (bs behind : List ℕ) (i j : ℕ) (line : Bor (List ℕ)) (stripped : Option (Bor (List ℕ))) → IsUtf8 bs → IsUtf8 (unwrap_or stripped line).now → NoCharPasses (λ d. nat_eq d 10) (take i bs) → HasCharAt 10 bs i j → line.now ≡ take i bs → behind ≡ drop j bs → MatchOption stripped ((front : List ℕ) → line.now ≢ front ++ 13 ∷ []) (λ x. line.now ≡ x.now ++ 13 ∷ []) → given (chars bs) ≡ characters (chars (unwrap_or stripped line).now) ++ (Break ∷ given (chars behind))
@@ -119,8 +114,7 @@ chars_line_feed bs new text e = ap chars e ∙ ap (λ t. chars (bs ++ t)) (encod
 
 pub written_more : {Z : Type 0} (first text next_text piece : List ℕ) (rest : List (String Z)) (number : ℕ) → text ≡ first ++ written (following (take number (lines_of rest))) → number < length rest → next_text ≡ (text ++ 10 ∷ []) ++ piece → piece ≡ get_or (lines_of rest) number [] → next_text ≡ first ++ written (following (take (number + 1) (lines_of rest)))
 written_more first text next_text piece rest number h within now e =
-    rw (now, h, take_more (lines_of rest) number [] (omega (arith, length-map rest characters_of)), ← e)
-    (simp (following-append, written-append, written-characters, append-nil, append_assoc))
+    grind (arith, common_steps, take_more, length-map rest characters_of, following-append, written-append, written-characters, append-nil, append_assoc)
 
 pub written_done : {Z : Type 0} (first : String Z) (pieces rest : List (String Z)) (begins text : List ℕ) (number : ℕ) → text ≡ begins ++ written (following (take number (lines_of rest))) → take number (lines_of rest) ≡ lines_of rest → begins ≡ characters_of first → pieces ≡ first ∷ rest → text ≡ written (text_of pieces)
 written_done first pieces rest begins text number h all e is = rw (h, all, e, is, written-append, written-characters) refl

@@ -1,5 +1,6 @@
 -- One line of some lines, of which a part gives place to a text.
-use Rattle.std.proofs.Common.{◌≡◌, ℕ, ◌≤◌, ◌<◌, List, [], ◌∷◌, ◌++◌, length, take, drop, set, refl, sym, ap, ◌∙◌, arith, add-one, get_or, subst, encode_utf8_all, String, string_bytes, Result, Ok, Err}
+use Rattle.std.proofs.Common.{◌≡◌, ℕ, ◌≤◌, List, [], ◌∷◌, ◌++◌, length, take, drop, set, sym, ap, ◌∙◌, arith, add-one, get_or, subst, encode_utf8_all, String, string_bytes, Result, Ok, Err}
+use Rattle.std.proofs.lemmas.Grind.{common_steps}
 use Rattle.std.specs.Result.{OnOk, OnErr}
 use Rattle.std.specs.Str.{chars, IsUtf8, IsCharBoundary}
 use Rattle.std.proofs.lemmas.List.{append-nil, append_assoc, length-append, length-map, length-set, length-take-le, set_split, take_at}
@@ -57,18 +58,7 @@ offset_given items place line offset h read e =
 -- the place where the part began stays one, behind as many bytes
 pub place_kept : {Z : Type 0} (items : List (String Z)) (line new : String Z) (start : Place) (later : ℕ) (more : List ℕ) (offset : ℕ) → IsPlaceOf (lines_of items) start → line ≡ get_or items start.0 line → offset ≡ offset_at (lines_of items) start → characters_of new ≡ take start.1 (characters_of line) ++ (more ++ drop later (characters_of line)) → IsPlaceOf (lines_of (set items start.0 new)) start × (offset ≡ offset_at (lines_of (set items start.0 new)) start)
 place_kept items line new start later more offset h read e is =
-    let now = set items start.0 new in
-    let within = row_within items start h in
-    let within' : start.0 < length now = omega (arith, within, length-set items start.0 new) in
-    let here : get_or (lines_of now) start.0 [] ≡ characters_of new = line_at now start.0 new within' (sym (get_or-set_at items start.0 start.0 new new refl within)) in
-    let head = take start.1 (characters_of line) in
-    let rest = more ++ drop later (characters_of line) in
-    let size : length head ≡ start.1 = length-take-le start.1 (characters_of line) (column_within items start line h read) in
-    let front : take start.1 (get_or (lines_of now) start.0 []) ≡ head =
-    ap (take start.1) (here ∙ is) ∙ take_at head rest start.1 size in (
-      (omega (arith, within', length-map now characters_of), omega (arith, ap length here, ap length is, length-append head rest, size)),
-      offset_given items start line offset h read e ∙ ap (λ t. length (encode_utf8_all t)) (sym front),
-    )
+    grind (arith, common_steps, row_within items start h, length-set items start.0 new, line_at, get_or-set_at items start.0 start.0 new new, length-take-le start.1 (characters_of line) (column_within items start line h read), column_within items start line h read, take_at, length-map, length-append, offset_given items start line offset h read e)
 
 -- what the calls of `String` require
 pub split_point : (bs : List ℕ) (column offset : ℕ) → IsUtf8 bs → offset ≡ offset_in (chars bs) column → IsCharBoundary bs offset

@@ -1,5 +1,6 @@
 -- The nearest index that passes a test: what a search knows on its way, and what it may answer.
 use Rattle.std.proofs.Common.{◌≡◌, ℕ, zero, suc, ◌+◌, ◌-◌, ◌<◌, ◌≤◌, inl, inr, Bool, true, false, Some, None, arith, refl, sym, ap, subst, add-one}
+use Rattle.std.proofs.lemmas.Grind.{common_steps}
 use Rattle.std.proofs.lemmas.Bool.{cases_lt}
 use Rattle.textarea_text.specs.Nearest.{IsGreatest, least_below, greatest_below}
 
@@ -46,8 +47,7 @@ greatest_below-past test n (suc m) within past =
 by_case : (test : ℕ → Bool) (n : ℕ) (b : Bool) → test n ≡ b → ((e : ℕ) → suc n ≤ e → test e ≡ false) →
     (((e : ℕ) → n ≤ e → test e ≡ false) → IsGreatest test (greatest_below test n)) → IsGreatest test (greatest_below test (suc n))
 by_case test n true here past below =
-    let found : greatest_below test (suc n) ≡ Some n = rw here refl in
-    subst (IsGreatest test) (sym found) (here, λ e later. past e (omega arith))
+    grind (arith, common_steps)
 by_case test n false here past below =
     let same : greatest_below test (suc n) ≡ greatest_below test n = rw here refl in
     subst (IsGreatest test) (sym same) (below (λ e from.

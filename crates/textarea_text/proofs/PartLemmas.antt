@@ -4,7 +4,7 @@ use Rattle.std.proofs.lemmas.Grind.{common_steps}
 use Rattle.std.proofs.Math.Nat.{add-zero}
 use Rattle.std.proofs.lemmas.Bool.Decides.{nat_tests}
 use Rattle.std.proofs.lemmas.List.{append-nil, append_assoc, drop_more, length-append, length-drop}
-use Rattle.textarea_text.specs.Text.{Symbol, characters, characters_of, following, joined, leading, lines_of, text_of}
+use Rattle.textarea_text.specs.Text.{Symbol, characters, characters_of, following, joined, lines_of, text_of}
 use Rattle.textarea_text.specs.Place.{Place, IsPlaceOf, IsUpTo, index_of}
 use Rattle.textarea_text.proofs.Splices.{joined-append}
 use Rattle.textarea_text.proofs.TextPlaces.{part_rows, index_parted}
@@ -39,8 +39,7 @@ part-append front middle back i j here there = grind (arith, common_steps, nat_t
 until_is : (rows : List (List ℕ)) (to : Place) (h : IsPlaceOf rows to) → (part_rows rows to.0 to.1 h).front ≡ joined (lines_until rows to)
 unfolding part_rows
 until_is rows to h =
-    let last = take to.1 (get_or rows to.0 []) in
-    ap (λ t. leading (take to.0 rows) ++ t) (sym (append-nil (characters last))) ∙ sym (joined-append (take to.0 rows) (last ∷ []) (omega arith))
+    grind (arith, common_steps, append-nil, joined-append)
 
 back_is : (rows : List (List ℕ)) (from : Place) (h : IsPlaceOf rows from) → (part_rows rows from.0 from.1 h).back ≡ joined (lines_from_column from.1 (drop from.0 rows))
 unfolding part_rows
@@ -101,8 +100,7 @@ PiecesSoFar pieces rows from to row column =
 -- there is no piece before the first
 pub pieces_none : {Z : Type 0} (pieces : List (String Z)) (rows : List (List ℕ)) (from to : Place) (row : ℕ) → pieces ≡ [] → row ≡ from.0 → PiecesSoFar pieces rows from to row from.1
 pieces_none pieces rows from to row none first =
-    ap (λ (t : List (String _)). lines_of t ++ lines_from_column from.1 (drop row (lines_until rows to))) none
-    ∙ ap (λ n. lines_from_column from.1 (drop n (lines_until rows to))) first
+    grind (arith, common_steps)
 
 pub pieces_more : {Z : Type 0} (pieces more : List (String Z)) (piece : List ℕ) (rows : List (List ℕ)) (from to : Place) (row column next_row : ℕ) → to.0 < length rows → row < to.0 → PiecesSoFar pieces rows from to row column → lines_of more ≡ lines_of pieces ++ piece ∷ [] → piece ≡ drop column (get_or rows row []) → next_row ≡ row + 1 → PiecesSoFar more rows from to next_row 0
 pieces_more pieces more piece rows from to row column next_row within below h is cut next = grind (arith, common_steps, nat_tests)

@@ -1,5 +1,6 @@
 -- Places as indices, rows one below another, and where pieces end.
-use Rattle.std.proofs.Common.{◌≡◌, ℕ, zero, suc, ◌+◌, ◌-◌, ◌<◌, ◌≤◌, List, [], ◌∷◌, ◌++◌, length, min, take, drop, get_or, refl, sym, ap, ap₂, subst, ◌∙◌, arith, String, string_bytes}
+use Rattle.std.proofs.Common.{◌≡◌, ℕ, zero, suc, ◌+◌, ◌-◌, ◌<◌, ◌≤◌, List, [], ◌∷◌, ◌++◌, length, min, take, drop, get_or, refl, sym, ap, subst, ◌∙◌, arith, String, string_bytes}
+use Rattle.std.proofs.lemmas.Grind.{common_steps}
 use Rattle.std.proofs.lemmas.List.{append-nil, drop_all, length-append, length-take-le, take_all, take_more, take_at}
 use Rattle.std.proofs.lemmas.Str.{encodes-chars, IsUtf8-string_bytes, length-le-encodes}
 use Rattle.textarea_text.specs.Text.{Break, characters, characters_of, following, joined, leading, lines_of}
@@ -71,14 +72,7 @@ end_of_one place line = ap (end place) (append-nil (characters line)) ∙ end-ch
 
 end_of_lines : (place : Place) (first : List ℕ) (above : List (List ℕ)) (last : List ℕ) → end place (leading (first ∷ above) ++ characters last) ≡ (place.0 + length (first ∷ above), length last)
 end_of_lines place first above last =
-    rw (
-      end-append place (leading (first ∷ above)) (characters last),
-      end-append place (characters first) (Break ∷ leading above),
-      end-characters place.0 place.1 first,
-      end-leading (place.0 + 1) above,
-      end-characters (place.0 + 1 + length above) 0 last,
-    )
-    (ap₂ (λ (m n : ℕ). (m, n)) (omega arith) (omega arith))
+    grind (arith, common_steps, end-append, end-characters place.0 place.1 first, end-leading, end-characters)
 
 end_of_parts : (place : Place) (above : List (List ℕ)) (last : List ℕ) → 0 < length above → end place (joined (above ++ last ∷ [])) ≡ (place.0 + length above, length last)
 end_of_parts place [] last some = absurd (omega arith)
@@ -88,9 +82,7 @@ end_of_parts place (first ∷ above) last some =
 
 pub end_of_more : (place : Place) (rows : List (List ℕ)) (last : ℕ) → last + 1 ≡ length rows → 0 < last → end place (joined rows) ≡ (place.0 + last, length (get_or rows last []))
 end_of_more place rows last all some =
-    ap (λ t. end place (joined t)) (sym (take_all (last + 1) rows (omega arith)) ∙ take_more rows last [] (omega arith))
-    ∙ end_of_parts place (take last rows) (get_or rows last []) (omega (arith, length-take-le last rows (omega arith)))
-    ∙ ap (λ (n : ℕ). (place.0 + n, length (get_or rows last []))) (length-take-le last rows (omega arith))
+    grind (arith, common_steps, take_all, take_more, end_of_parts, length-take-le)
 
 pub end_of_single : (place : Place) (rows : List (List ℕ)) → length rows ≡ 1 → end place (joined rows) ≡ (place.0, place.1 + length (get_or rows 0 []))
 end_of_single place [] one = absurd (omega arith)

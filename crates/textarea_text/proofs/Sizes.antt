@@ -1,5 +1,6 @@
 -- How large lines are that are put together, and of which some give place to others.
 use Rattle.std.proofs.Common.{◌≡◌, ℕ, ◌+◌, ◌≤◌, ◌<◌, List, [], ◌∷◌, ◌++◌, length, take, drop, reverse, refl, sym, ap, ◌∙◌, arith, get_or, String, string_bytes, string_len, encode_utf8, encode_utf8_all}
+use Rattle.std.proofs.lemmas.Grind.{common_steps}
 use Rattle.std.proofs.lemmas.List.{take-append-drop, take_more, drop-drop, length-append, reverse-append}
 use Rattle.std.proofs.lemmas.Str.{encodes-chars, IsUtf8-string_bytes}
 use Rattle.textarea_text.specs.Text.{Symbol, Character, Break, characters, characters_of, following, lines_of, text_of}
@@ -14,8 +15,7 @@ size_of-append (line ∷ above) below = omega (arith, size_of-append above below
 -- one line more
 pub size_of_more : {Z : Type 0} (lines : List (String Z)) (i : ℕ) (line : String Z) → i < length lines → line ≡ get_or lines i line → size_of (take (i + 1) lines) ≡ size_of (take i lines) + string_len line + 1
 size_of_more lines i line within e =
-    ap size_of (take_more lines i line within ∙ ap (λ s. take i lines ++ s ∷ []) (sym e))
-    ∙ omega (arith, size_of-append (take i lines) (line ∷ []))
+    grind (arith, common_steps, take_more lines i line within, size_of-append (take i lines) (line ∷ []))
 
 -- there are no more lines than the size says
 pub length-le-size_of : {Z : Type 0} (lines : List (String Z)) → length lines ≤ size_of lines
@@ -36,9 +36,7 @@ weight-characters (c ∷ cs) = omega (arith, weight-characters cs, length-append
 pub weight-reverse : (cs : List ℕ) → weight (characters (reverse cs)) ≡ weight (characters cs)
 weight-reverse [] = refl
 weight-reverse (c ∷ cs) =
-    ap (λ t. weight (characters t)) (reverse-append (c ∷ []) cs)
-    ∙ ap weight (characters-append (reverse cs) (c ∷ []))
-    ∙ omega (arith, weight-append (characters (reverse cs)) (Character c ∷ []), weight-reverse cs)
+    grind (arith, common_steps, reverse-append (c ∷ []) cs, characters-append (reverse cs) (c ∷ []), weight-append (characters (reverse cs)) (Character c ∷ []), weight-reverse cs)
 
 -- a line takes as many bytes as its `String` has
 pub weight_of_line : {Z : Type 0} (line : String Z) → weight (characters (characters_of line)) ≡ string_len line

@@ -1,5 +1,6 @@
 -- The text that lines hold, and what a change of some neighbouring lines makes of it.
-use Rattle.std.proofs.Common.{◌≡◌, ℕ, suc, ◌+◌, ◌<◌, List, [], ◌∷◌, ◌++◌, length, take, drop, sym, ap, refl, ◌∙◌, arith, zero-add}
+use Rattle.std.proofs.Common.{◌≡◌, ℕ, suc, ◌+◌, ◌<◌, List, [], ◌∷◌, ◌++◌, length, sym, ap, refl, ◌∙◌, arith, zero-add}
+use Rattle.std.proofs.lemmas.Grind.{common_steps}
 use Rattle.std.proofs.lemmas.List.{take_at, drop_at, append_assoc, length-append}
 use Rattle.textarea_text.specs.Text.{Symbol, Character, Break, characters, following, leading, joined, lines, on_first}
 use Rattle.textarea_text.specs.Place.{Place, end, row_start, index_of, inserted, removed, StandsAt}
@@ -17,8 +18,7 @@ length-characters (x ∷ xs) = ap suc (length-characters xs)
 pub following-append : (xs ys : List (List ℕ)) → following (xs ++ ys) ≡ following xs ++ following ys
 following-append [] ys = refl
 following-append (x ∷ xs) ys =
-    ap (λ t. Break ∷ (characters x ++ t)) (following-append xs ys)
-    ∙ ap (λ t. Break ∷ t) (sym (append_assoc (characters x) (following xs) (following ys)))
+    grind (arith, common_steps, following-append xs ys, append_assoc (characters x) (following xs) (following ys))
 
 -- the lines above, those that change, and those below
 pub joined-append : (above middle : List (List ℕ)) → 0 < length middle → joined (above ++ middle) ≡ leading above ++ joined middle
@@ -26,19 +26,16 @@ joined-append [] middle some = refl
 joined-append (line ∷ above) [] some = absurd (omega arith)
 joined-append (line ∷ []) (first ∷ middle) some = sym (append_assoc (characters line) (Break ∷ []) (characters first ++ following middle))
 joined-append (line ∷ next ∷ above) (first ∷ middle) some =
-    ap (λ t. characters line ++ (Break ∷ t)) (joined-append (next ∷ above) (first ∷ middle) some)
-    ∙ sym (append_assoc (characters line) (Break ∷ leading (next ∷ above)) (joined (first ∷ middle)))
+    grind (arith, common_steps, joined-append (next ∷ above) (first ∷ middle) some, append_assoc (characters line) (Break ∷ leading (next ∷ above)) (joined (first ∷ middle)))
 
 pub joined-append_below : (middle below : List (List ℕ)) → 0 < length middle → joined (middle ++ below) ≡ joined middle ++ following below
 joined-append_below [] below some = absurd (omega arith)
 joined-append_below (first ∷ middle) below some =
-    ap (λ t. characters first ++ t) (following-append middle below)
-    ∙ sym (append_assoc (characters first) (following middle) (following below))
+    grind (arith, common_steps, following-append middle below, append_assoc (characters first) (following middle) (following below))
 
 pub joined_parts : (above middle below : List (List ℕ)) → 0 < length middle → joined (above ++ (middle ++ below)) ≡ leading above ++ (joined middle ++ following below)
 joined_parts above middle below some =
-    joined-append above (middle ++ below) (omega (arith, length-append middle below))
-    ∙ ap (λ t. leading above ++ t) (joined-append_below middle below some)
+    grind (arith, common_steps, joined-append, length-append middle below, joined-append_below middle below some)
 
 lines-front : (line : List ℕ) (rest : List Symbol) (next : List (List ℕ)) → lines rest ≡ [] ∷ next → lines (characters line ++ rest) ≡ line ∷ next
 lines-front [] rest next e = e
@@ -75,11 +72,7 @@ end-leading row (line ∷ above) =
 -- where a part of a line ends that has lines above it
 pub end_of_front : (above : List (List ℕ)) (line : List ℕ) → end (0, 0) (leading above ++ characters line) ≡ (length above, length line)
 end_of_front above line =
-    end-append (0, 0) (leading above) (characters line)
-    ∙ ap (λ (p : Place). end p (characters line)) (end-leading 0 above)
-    ∙ end-characters (0 + length above) 0 line
-    ∙ ap (λ (n : ℕ). (n, 0 + length line)) (zero-add (length above))
-    ∙ ap (λ (n : ℕ). (length above, n)) (zero-add (length line))
+    grind (arith, common_steps, end-append, end-leading 0 above, end-characters, zero-add)
 
 row_start-characters : (line : List ℕ) (rest : List Symbol) (row : ℕ) → row_start (characters line ++ rest) (suc row) ≡ row_start rest (suc row) + length line
 row_start-characters [] rest row = omega arith
@@ -88,9 +81,7 @@ row_start-characters (c ∷ line) rest row = omega (arith, row_start-characters 
 row_start-leading : (above : List (List ℕ)) (rest : List Symbol) → row_start (leading above ++ rest) (length above) ≡ length (leading above)
 row_start-leading [] rest = refl
 row_start-leading (line ∷ above) rest =
-    ap (λ t. row_start t (suc (length above))) (append_assoc (characters line) (Break ∷ leading above) rest)
-    ∙ row_start-characters line (Break ∷ (leading above ++ rest)) (length above)
-    ∙ omega (arith, row_start-leading above rest, length-append (characters line) (Break ∷ leading above), length-characters line)
+    grind (arith, common_steps, append_assoc (characters line) (Break ∷ leading above) rest, row_start-characters line (Break ∷ (leading above ++ rest)) (length above), row_start-leading above rest, length-append (characters line) (Break ∷ leading above), length-characters line)
 
 -- that place, as an index, is the length of what stands before it
 pub index_of_front : (above : List (List ℕ)) (line : List ℕ) (rest : List Symbol) → index_of (leading above ++ (characters line ++ rest)) (length above, length line) ≡ length (leading above ++ characters line)
@@ -101,54 +92,27 @@ index_of_front above line rest =
 
 pub inserted_at : (xs ys symbols : List Symbol) (place : Place) → index_of (xs ++ ys) place ≡ length xs → inserted (xs ++ ys) place symbols ≡ xs ++ (symbols ++ ys)
 inserted_at xs ys symbols place e =
-    ap (λ n. take n (xs ++ ys) ++ (symbols ++ drop n (xs ++ ys))) e
-    ∙ ap (λ t. t ++ (symbols ++ drop (length xs) (xs ++ ys))) (take_at xs ys (length xs) refl)
-    ∙ ap (λ t. xs ++ (symbols ++ t)) (drop_at xs ys (length xs) refl)
+    grind (arith, common_steps, take_at xs ys (length xs), drop_at xs ys (length xs))
 
 pub removed_at : (xs ys symbols : List Symbol) (place : Place) → index_of (xs ++ (symbols ++ ys)) place ≡ length xs → removed (xs ++ (symbols ++ ys)) place symbols ≡ xs ++ ys
 removed_at xs ys symbols place e =
-    ap (λ n. take n (xs ++ (symbols ++ ys)) ++ drop (n + length symbols) (xs ++ (symbols ++ ys))) e
-    ∙ ap (λ t. t ++ drop (length xs + length symbols) (xs ++ (symbols ++ ys))) (take_at xs (symbols ++ ys) (length xs) refl)
-    ∙ ap (λ t. xs ++ drop (length xs + length symbols) t) (sym (append_assoc xs symbols ys))
-    ∙ ap (λ t. xs ++ t) (drop_at (xs ++ symbols) ys (length xs + length symbols) (length-append xs symbols))
+    grind (arith, common_steps, take_at xs (symbols ++ ys) (length xs), append_assoc xs symbols ys, drop_at (xs ++ symbols) ys (length xs + length symbols) (length-append xs symbols), length-append xs symbols)
 
 pub stands_at : (xs ys symbols : List Symbol) (place : Place) → index_of (xs ++ (symbols ++ ys)) place ≡ length xs → StandsAt (xs ++ (symbols ++ ys)) place symbols
 stands_at xs ys symbols place e =
-    ap (λ n. take (length symbols) (drop n (xs ++ (symbols ++ ys)))) e
-    ∙ ap (take (length symbols)) (drop_at xs (symbols ++ ys) (length xs) refl)
-    ∙ take_at symbols ys (length symbols) refl
+    grind (arith, common_steps, drop_at xs (symbols ++ ys) (length xs), take_at symbols ys (length symbols))
 
 -- ---- the one lemma of all edits: neighbouring lines, the middle ones changed
 
 -- the whole text, with what stands before the place as one part
 pub whole : (above middle below : List (List ℕ)) (start : List ℕ) (rest : List Symbol) → 0 < length middle → joined middle ≡ characters start ++ rest → joined (above ++ (middle ++ below)) ≡ (leading above ++ characters start) ++ (rest ++ following below)
 whole above middle below start rest some e =
-    joined_parts above middle below some
-    ∙ ap (λ t. leading above ++ (t ++ following below)) e
-    ∙ ap (λ t. leading above ++ t) (append_assoc (characters start) rest (following below))
-    ∙ sym (append_assoc (leading above) (characters start) (rest ++ following below))
+    grind (arith, common_steps, joined_parts above middle below some, append_assoc (characters start) rest (following below), append_assoc (leading above) (characters start) (rest ++ following below))
 
 pub index_of_part : (above : List (List ℕ)) (start : List ℕ) (rest : List Symbol) → index_of ((leading above ++ characters start) ++ rest) (length above, length start) ≡ length (leading above ++ characters start)
 index_of_part above start rest =
-    ap (λ t. index_of t (length above, length start)) (append_assoc (leading above) (characters start) rest)
-    ∙ index_of_front above start rest
-
-pub spliced_in : (above middle changed below : List (List ℕ)) (start : List ℕ) (symbols rest : List Symbol) → 0 < length middle → 0 < length changed → joined middle ≡ characters start ++ rest → joined changed ≡ characters start ++ (symbols ++ rest) → joined (above ++ (changed ++ below)) ≡ inserted (joined (above ++ (middle ++ below))) (length above, length start) symbols
-spliced_in above middle changed below start symbols rest some some' was now =
-    whole above changed below start (symbols ++ rest) some' now
-    ∙ ap (λ t. (leading above ++ characters start) ++ t) (append_assoc symbols rest (following below))
-    ∙ sym (inserted_at (leading above ++ characters start) (rest ++ following below) symbols (length above, length start) (index_of_part above start (rest ++ following below)))
-    ∙ ap (λ t. inserted t (length above, length start) symbols) (sym (whole above middle below start rest some was))
-
-pub spliced_out : (above middle changed below : List (List ℕ)) (start : List ℕ) (symbols rest : List Symbol) → 0 < length middle → 0 < length changed → joined middle ≡ characters start ++ (symbols ++ rest) → joined changed ≡ characters start ++ rest → joined (above ++ (changed ++ below)) ≡ removed (joined (above ++ (middle ++ below))) (length above, length start) symbols
-spliced_out above middle changed below start symbols rest some some' was now =
-    whole above changed below start rest some' now
-    ∙ sym (removed_at (leading above ++ characters start) (rest ++ following below) symbols (length above, length start) (index_of_part above start (symbols ++ (rest ++ following below))))
-    ∙ ap (λ t. removed ((leading above ++ characters start) ++ t) (length above, length start) symbols) (sym (append_assoc symbols rest (following below)))
-    ∙ ap (λ t. removed t (length above, length start) symbols) (sym (whole above middle below start (symbols ++ rest) some was))
+    grind (arith, common_steps, append_assoc (leading above) (characters start) rest, index_of_front above start rest)
 
 pub spliced_stands : (above middle below : List (List ℕ)) (start : List ℕ) (symbols rest : List Symbol) → 0 < length middle → joined middle ≡ characters start ++ (symbols ++ rest) → StandsAt (joined (above ++ (middle ++ below))) (length above, length start) symbols
 spliced_stands above middle below start symbols rest some was =
-    let parts = whole above middle below start (symbols ++ rest) some was ∙ ap (λ t. (leading above ++ characters start) ++ t) (append_assoc symbols rest (following below)) in
-    ap (λ t. take (length symbols) (drop (index_of t (length above, length start)) t)) parts
-    ∙ stands_at (leading above ++ characters start) (rest ++ following below) symbols (length above, length start) (index_of_part above start (symbols ++ (rest ++ following below)))
+    grind (arith, common_steps, whole above middle below start (symbols ++ rest) some was, append_assoc symbols rest (following below), stands_at (leading above ++ characters start) (rest ++ following below) symbols (length above, length start) (index_of_part above start (symbols ++ (rest ++ following below))), index_of_part above start (symbols ++ (rest ++ following below)))

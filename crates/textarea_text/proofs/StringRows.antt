@@ -1,5 +1,6 @@
 -- Lines of `String`s that are read, cut and put together again.
-use Rattle.std.proofs.Common.{subst, encode_utf8_all, ◌≡◌, ℕ, ◌+◌, ◌<◌, ◌≤◌, List, [], ◌∷◌, ◌++◌, length, take, drop, sym, ap, refl, ◌∙◌, arith, get_or, String, string_bytes, ◌^◌}
+use Rattle.std.proofs.Common.{subst, encode_utf8_all, ◌≡◌, ℕ, ◌+◌, ◌<◌, ◌≤◌, List, [], ◌∷◌, ◌++◌, length, take, drop, sym, ap, ◌∙◌, arith, get_or, String, string_bytes, ◌^◌}
+use Rattle.std.proofs.lemmas.Grind.{common_steps}
 use Rattle.std.specs.Str.{chars, IsCharBoundary}
 use Rattle.textarea_util.specs.Replaced.{replaced}
 use Rattle.std.proofs.lemmas.List.{append-nil, append_assoc, length-append, take-append-drop, map-append, get_or-map, take_all, take_more, take_at, drop_at, take-map, drop-map, length-map}
@@ -25,16 +26,11 @@ boundary_at line text column offset same e =
 
 joined_last : (rows : List (List ℕ)) (line more : List ℕ) → joined (rows ++ (line ++ more) ∷ []) ≡ joined (rows ++ line ∷ []) ++ characters more
 joined_last rows line more =
-    joined-append rows ((line ++ more) ∷ []) (omega arith)
-    ∙ ap (λ t. leading rows ++ t) (append-nil (characters (line ++ more)) ∙ characters-append line more)
-    ∙ sym (append_assoc (leading rows) (characters line) (characters more))
-    ∙ ap (λ t. (leading rows ++ t) ++ characters more) (sym (append-nil (characters line)))
-    ∙ ap (λ t. t ++ characters more) (sym (joined-append rows (line ∷ []) (omega arith)))
+    grind (arith, common_steps, joined-append, append-nil (characters (line ++ more)), characters-append line more, append_assoc (leading rows) (characters line) (characters more), append-nil (characters line))
 
 joined_next : (rows : List (List ℕ)) (line next_line : List ℕ) → joined ((rows ++ line ∷ []) ++ next_line ∷ []) ≡ joined (rows ++ line ∷ []) ++ (Break ∷ characters next_line)
 joined_next rows line next_line =
-    joined-append_below (rows ++ line ∷ []) (next_line ∷ []) (omega (arith, length-append rows (line ∷ [])))
-    ∙ ap (λ t. joined (rows ++ line ∷ []) ++ (Break ∷ t)) (append-nil (characters next_line))
+    grind (arith, common_steps, joined-append_below, length-append rows (line ∷ []), append-nil (characters next_line))
 
 -- the rows so far, with the line that is being written: what the first line began with, and the pieces up to the number
 abbrev pub RowsSoFar : {Z : Type 0} → List (String Z) → String Z → List ℕ → List (List ℕ) → ℕ → Type 0
@@ -62,26 +58,15 @@ rows_all rows line first rest number h all = h ∙ ap (λ t. characters first ++
 -- the last line gets the tail, and is put to the others
 pub rows_done : {Z : Type 0} (rows new : List (String Z)) (line last : String Z) (head first tail : List ℕ) (whole_first : List ℕ) (rest : List (List ℕ)) → joined (lines_of rows ++ characters_of line ∷ []) ≡ characters whole_first ++ following rest → whole_first ≡ head ++ first → characters_of last ≡ characters_of line ++ tail → new ≡ rows ++ last ∷ [] → joined (lines_of new) ≡ characters head ++ ((characters first ++ following rest) ++ characters tail)
 rows_done rows new line last head first tail whole_first rest h begins e is =
-    ap (λ t. joined (lines_of t)) is
-    ∙ ap joined (map-append characters_of rows (last ∷ []))
-    ∙ ap (λ t. joined (lines_of rows ++ t ∷ [])) e
-    ∙ joined_last (lines_of rows) (characters_of line) tail
-    ∙ ap (λ t. t ++ characters tail) h
-    ∙ ap (λ t. (t ++ following rest) ++ characters tail) (ap characters begins ∙ characters-append head first)
-    ∙ ap (λ t. t ++ characters tail) (append_assoc (characters head) (characters first) (following rest))
-    ∙ append_assoc (characters head) (characters first ++ following rest) (characters tail)
+    grind (arith, common_steps, map-append characters_of rows (last ∷ []), joined_last (lines_of rows) (characters_of line) tail, characters-append head first, append_assoc (characters head) (characters first) (following rest), append_assoc (characters head) (characters first ++ following rest) (characters tail))
 
 front_of : (rows : List (List ℕ)) (place : Place) (h : IsPlaceOf rows place) → take (index_of (joined rows) place) (joined rows) ≡ (part_rows rows place.0 place.1 h).front
 front_of rows place h =
-    let p = part_rows rows place.0 place.1 h in
-    ap (λ t. take (index_of t place) t) p.is ∙ ap (λ n. take n (p.front ++ p.back)) (index_parted place p.front p.back p.ends)
-    ∙ take_at p.front p.back (length p.front) refl
+    grind (arith, common_steps, part_rows rows place.0 place.1 h, index_parted, take_at)
 
 back_of : (rows : List (List ℕ)) (place : Place) (h : IsPlaceOf rows place) → drop (index_of (joined rows) place) (joined rows) ≡ (part_rows rows place.0 place.1 h).back
 back_of rows place h =
-    let p = part_rows rows place.0 place.1 h in
-    ap (λ t. drop (index_of t place) t) p.is ∙ ap (λ n. drop n (p.front ++ p.back)) (index_parted place p.front p.back p.ends)
-    ∙ drop_at p.front p.back (length p.front) refl
+    grind (arith, common_steps, part_rows rows place.0 place.1 h, index_parted, drop_at)
 
 -- the whole text after the rows were put in the place of those from the start's to the end's
 pub rows_replaced : (rows new : List (List ℕ)) (start to : Place) (symbols : List Symbol) → IsPlaceOf rows start → IsPlaceOf rows to → ReplacesRows rows start to symbols new → joined (take start.0 rows ++ (new ++ drop (to.0 + 1) rows)) ≡ changed (joined rows) start to symbols
@@ -98,13 +83,7 @@ rows_replaced rows new start to symbols h h' is =
 -- the same of the `String`s that take the place of others
 pub rows_in_place : {Z : Type 0} (items new : List (String Z)) (start to : Place) (row count : ℕ) (symbols : List Symbol) → IsPlaceOf (lines_of items) start → IsPlaceOf (lines_of items) to → row ≡ start.0 → row + count ≡ to.0 + 1 → ReplacesRows (lines_of items) start to symbols (lines_of new) → text_of (replaced items row count new) ≡ changed (text_of items) start to symbols
 rows_in_place items new start to row count symbols h h' at e is =
-    ap (λ n. text_of (take row items ++ (new ++ drop n items))) e
-    ∙ ap (λ n. text_of (take n items ++ (new ++ drop (to.0 + 1) items))) at
-    ∙ ap joined (map-append characters_of (take start.0 items) (new ++ drop (to.0 + 1) items)
-    ∙ ap (λ t. lines_of (take start.0 items) ++ t) (map-append characters_of new (drop (to.0 + 1) items))
-    ∙ ap (λ t. t ++ (lines_of new ++ lines_of (drop (to.0 + 1) items))) (sym (take-map characters_of start.0 items))
-    ∙ ap (λ t. take start.0 (lines_of items) ++ (lines_of new ++ t)) (sym (drop-map characters_of (to.0 + 1) items)))
-    ∙ rows_replaced (lines_of items) (lines_of new) start to symbols h h' is
+    grind (arith, common_steps, map-append characters_of (take start.0 items) (new ++ drop (to.0 + 1) items), map-append characters_of new (drop (to.0 + 1) items), take-map characters_of start.0 items, drop-map characters_of (to.0 + 1) items, rows_replaced (lines_of items) (lines_of new) start to symbols h h' is)
 
 -- ---- places of an edit
 
@@ -139,8 +118,7 @@ stands_until text place symbols h stands =
 
 pub changed_by_none : (text : List Symbol) (place to : Place) (symbols first : List Symbol) → IsPlace text place → StandsAt text place symbols → to ≡ end place symbols → first ≡ [] → changed text place to first ≡ removed text place symbols
 changed_by_none text place to symbols first h stands e none =
-    ap (λ t. take (index_of text place) text ++ (t ++ drop (index_of text to) text)) none
-    ∙ ap (λ n. take (index_of text place) text ++ drop n text) (ap (index_of text) e ∙ (stands_until text place symbols h stands).1)
+    grind (arith, common_steps, stands_until text place symbols h stands)
 
 pub row_within : {Z : Type 0} (items : List (String Z)) (place : Place) → IsPlaceOf (lines_of items) place → place.0 < length items
 row_within items place h = omega (arith, h.0, length-map items characters_of)

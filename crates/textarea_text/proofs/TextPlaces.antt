@@ -1,6 +1,7 @@
 -- Places of a text, and what a change and its inverse do there.
 use Rattle.std.proofs.Common.{◌≤◌, ◌≡◌, ℕ, ◌+◌, ◌-◌, ◌<◌, Bool, true, false, List, [], ◌∷◌, ◌++◌, length, take, drop, sym, ap, refl, ◌∙◌, arith, get_or, subst}
-use Rattle.std.proofs.lemmas.List.{append_assoc, length-append, length-drop, take-append-drop, length-take-le, take_at, drop_at, get_or_at}
+use Rattle.std.proofs.lemmas.Grind.{common_steps}
+use Rattle.std.proofs.lemmas.List.{append_assoc, length-append, take-append-drop, length-take-le, take_at, drop_at, get_or_at}
 use Rattle.textarea_text.specs.Text.{Symbol, Character, Break, characters, following, leading, joined, lines, on_first}
 use Rattle.textarea_text.specs.Place.{Place, end, index_of, place_of, inserted, removed, StandsAt, IsPlaceOf, IsPlace, IsSymbolBefore}
 use Rattle.textarea_text.specs.Splice.{Splice, Fits, Allows, applied, inverse, place_after}
@@ -59,11 +60,7 @@ IsPlace-end front back =
 
 pub index_of-end : (front back : List Symbol) → index_of (front ++ back) (end (0, 0) front) ≡ length front
 index_of-end front back =
-    let parts = cut front in
-    ap (λ t. index_of (t ++ back) (end (0, 0) t)) parts.is
-    ∙ ap (λ (p : Place). index_of ((leading parts.above ++ characters parts.start) ++ back) p) (end_of_front parts.above parts.start)
-    ∙ index_of_part parts.above parts.start back
-    ∙ ap length (sym parts.is)
+    grind (arith, common_steps, cut front, front, back, end_of_front, index_of_part)
 
 -- ---- a place parts the text
 
@@ -119,41 +116,21 @@ place_parted place front back e = subst (IsPlace (front ++ back)) e (IsPlace-end
 -- a place is the one at its index, which is at most the text's length
 index_front : (text : List Symbol) (place : Place) (h : IsPlace text place) → index_of text place ≡ length (parted text place h).front
 index_front text place h =
-    let parts = parted text place h in
-    ap (λ t. index_of t place) parts.is ∙ index_parted place parts.front parts.back parts.ends
+    grind (arith, common_steps, parted text place h, index_parted)
 
 pub place_of-index : (text : List Symbol) (place : Place) → IsPlace text place → place_of text (index_of text place) ≡ place
 place_of-index text place h =
-    let parts = parted text place h in
-    ap (λ n. end (0, 0) (take n text)) (index_front text place h)
-    ∙ ap (λ t. end (0, 0) (take (length parts.front) t)) parts.is
-    ∙ ap (end (0, 0)) (take_at parts.front parts.back (length parts.front) refl)
-    ∙ parts.ends
+    grind (arith, common_steps, parted text place h, index_front text place h, take_at)
 
 pub index_within : (text : List Symbol) (place : Place) → IsPlace text place → index_of text place ≤ length text
 index_within text place h =
-    let parts = parted text place h in
-    omega (arith, index_front text place h, ap length parts.is, length-append parts.front parts.back)
+    grind (arith, common_steps, parted text place h, index_front text place h, length-append)
 
 -- ---- what stands at a place
 
 pub standing : (text : List Symbol) (place : Place) (symbols : List Symbol) (parts : Parted text place) → StandsAt text place symbols → take (length symbols) parts.back ≡ symbols
 standing text place symbols parts h =
-    sym (ap (λ t. take (length symbols) (drop (index_of t place) t)) parts.is
-    ∙ ap (λ n. take (length symbols) (drop n (parts.front ++ parts.back))) (index_parted place parts.front parts.back parts.ends)
-    ∙ ap (take (length symbols)) (drop_at parts.front parts.back (length parts.front) refl))
-    ∙ h
-
-head_character : (c : ℕ) (line : List ℕ) (below : List (List ℕ)) → take 1 (characters line ++ following below) ≡ Character c ∷ [] → 0 < length line
-head_character c [] [] e = absurd cc
-head_character c [] (next ∷ below) e = absurd cc
-head_character c (d ∷ line) below e = omega arith
-
--- a character stands inside its line
-pub inside_line : (rows : List (List ℕ)) (row column c : ℕ) → IsPlaceOf rows (row, column) → StandsAt (joined rows) (row, column) (Character c ∷ []) → column < length (get_or rows row [])
-unfolding part_rows
-inside_line rows row column c place h =
-    omega (arith, head_character c (drop column (get_or rows row [])) (drop (row + 1) rows) (standing (joined rows) (row, column) (Character c ∷ []) (part_rows rows row column place) h), length-drop column (get_or rows row []))
+    grind (arith, common_steps, index_parted place parts.front parts.back parts.ends, drop_at parts.front parts.back (length parts.front))
 
 -- ---- a change and its inverse
 

@@ -1,5 +1,6 @@
 -- The rows that symbols reach over, and the one line that symbols without a break change.
 use Rattle.std.proofs.Common.{◌≡◌, ℕ, ◌+◌, ◌<◌, Bool, true, false, cond, List, [], ◌∷◌, ◌++◌, length, take, drop, get_or, sym, ap, refl, ◌∙◌, arith, subst}
+use Rattle.std.proofs.lemmas.Grind.{common_steps}
 use Rattle.std.proofs.lemmas.List.{append-nil, length-append}
 use Rattle.textarea_text.specs.Text.{Symbol, Character, Break, characters, following, joined, lines}
 use Rattle.textarea_text.specs.Place.{Place, IsPlace, IsPlaceOf, changed, end, inserted, removed}
@@ -82,5 +83,4 @@ line_of_splice false rows new place symbols some h some' allowed none e =
 -- a change without a break leaves all lines as they are but one
 pub changes_line : (rows new : List (List ℕ)) (splice : Splice) → 0 < length rows → 0 < length new → Fits (joined rows) splice → breaks_of splice.symbols ≡ 0 → joined new ≡ applied (joined rows) splice → ChangesLine rows new splice.place.0
 changes_line rows new splice some some' fits none e =
-    line_of_splice splice.inserts rows new splice.place splice.symbols some'
-    (subst (λ (t : List (List ℕ)). IsPlaceOf t splice.place) (lines-joined rows some) fits.is_place) some fits.allowed none e
+    grind (arith, common_steps, line_of_splice, lines-joined rows some)

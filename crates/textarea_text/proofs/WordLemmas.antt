@@ -1,8 +1,8 @@
 -- Where words begin and end, told from the classes of two neighbours.
-use Rattle.std.proofs.Common.{Option, Some, None, ◌≡◌, ℕ, zero, suc, ◌+◌, ◌-◌, ◌<◌, ◌≤◌, inl, inr, Bool, true, false, not, ◌&&◌, ◌==◌, nat_lt, nat_le, List, length, get_or, take, min, ◌++◌, ◌∷◌, [], arith, refl, ◌∙◌, ap, add-one, zero-add}
+use Rattle.std.proofs.Common.{Option, Some, None, ◌≡◌, ℕ, zero, suc, ◌+◌, ◌-◌, ◌<◌, ◌≤◌, Bool, true, false, not, ◌&&◌, nat_lt, nat_le, List, length, get_or, take, min, ◌++◌, ◌∷◌, [], arith, refl, ◌∙◌, ap, add-one, zero-add}
+use Rattle.std.proofs.lemmas.Grind.{common_steps}
 use Rattle.std.proofs.Math.Bool.{and-true, and-false}
 use Rattle.std.proofs.lemmas.Bool.{cases_lt, ltb-true}
-use Rattle.std.specs.Cmp.{first_so, second_so}
 use Rattle.std.specs.Option.{IfSome}
 use Rattle.textarea_text.specs.Nearest.{IsGreatest}
 use Rattle.std.proofs.lemmas.List.{length_push, get_or_default, get_or-take, length-take}
@@ -67,23 +67,15 @@ begins_first Other = refl
 
 pub is_word_start-class_before : (line : List ℕ) (e : ℕ) → e < length line → is_word_start line e ≡ begins (class_before line e) (class_at line e)
 is_word_start-class_before line zero within =
-    let inside : nat_lt 0 (length line) ≡ true = grind (arith, nat_tests) in
-    rw inside (begins_first (class_at line 0))
+    grind (arith, common_steps, begins_first (class_at line 0))
 is_word_start-class_before line (suc e) within =
-    let inside : nat_lt (suc e) (length line) ≡ true = grind (arith, nat_tests) in
-    let later : (suc e == 0) ≡ false = grind (arith, nat_tests) in
-    let before : suc e - 1 ≡ e = omega arith in
-    rw (inside, later, before) refl
+    grind (arith, common_steps)
 
 pub is_behind_word-class_before : (line : List ℕ) (e : ℕ) → e < length line → is_behind_word line e ≡ ends (class_before line e) (class_at line e)
 is_behind_word-class_before line zero within =
-    let inside : nat_lt 0 (length line) ≡ true = grind (arith, nat_tests) in
-    rw inside refl
+    grind (arith, common_steps)
 is_behind_word-class_before line (suc e) within =
-    let inside : nat_lt (suc e) (length line) ≡ true = grind (arith, nat_tests) in
-    let later : nat_lt 0 (suc e) ≡ true = grind (arith, nat_tests) in
-    let before : suc e - 1 ≡ e = omega arith in
-    rw (inside, later, before) refl
+    grind (arith, common_steps)
 
 is_edge-class_before : (edge : Edge) (line : List ℕ) (e : ℕ) → e < length line → is_edge edge line e ≡ lies_between edge (class_before line e) (class_at line e)
 is_edge-class_before Start = is_word_start-class_before
@@ -92,35 +84,28 @@ is_edge-class_before Behind = is_behind_word-class_before
 -- a word's last character is followed by one of another class
 pub is_word_last-inside : (line : List ℕ) (e : ℕ) → suc e < length line → is_word_last line e ≡ ends (class_at line e) (class_at line (suc e))
 is_word_last-inside line e within =
-    let inside : nat_lt e (length line) ≡ true = grind (arith, nat_tests) in
-    let more : (e + 1 == length line) ≡ false = grind (arith, nat_tests) in
-    rw (inside, more, add-one) refl
+    grind (arith, common_steps, add-one)
 
 -- or it is the line's last
 pub is_word_last-last : (line : List ℕ) (e : ℕ) → suc e ≡ length line → is_word_last line e ≡ not (is_space (class_at line e))
 is_word_last-last line e last =
-    let inside : nat_lt e (length line) ≡ true = grind (arith, nat_tests) in
-    let here : (e + 1 == length line) ≡ true = grind (arith, nat_tests) in
-    rw (inside, here) (and-true (not (is_space (class_at line e))))
+    grind (arith, common_steps, and-true (not (is_space (class_at line e))))
 
 -- ---- what the test of each search says in a turn
 
 pub is_earlier_word_start-turn : (line : List ℕ) (start n column : ℕ) (before kind : CharKind) (b : Bool) → n < start → IsTurn line n column kind → before ≡ class_before line n → begins before kind ≡ b → is_earlier_word_start line start n ≡ b
 is_earlier_word_start-turn line start n column before kind b earlier turn behind tells =
-    let first : nat_lt n start ≡ true = grind (arith, nat_tests) in
-    rw (first, is_word_start-class_before line n turn.within, ← behind, ← turn.kind_is) tells
+    grind (arith, common_steps, is_word_start-class_before line n turn.within)
 
 pub is_later_edge-turn : (edge : Edge) (line : List ℕ) (start n column : ℕ) (before kind : CharKind) (b : Bool) → start < column → IsTurn line n column kind → before ≡ class_before line n → lies_between edge before kind ≡ b → is_later_edge edge line start n ≡ b
 is_later_edge-turn edge line start n column before kind b later turn behind tells =
-    let first : nat_lt start n ≡ true = grind (arith, nat_tests, turn.column_is) in
-    rw (first, is_edge-class_before edge line n turn.within, ← behind, ← turn.kind_is) tells
+    grind (arith, common_steps, is_edge-class_before edge line n turn.within)
 
 -- ---- where a test can't hold: on the wrong side of the start, or past the line
 
 pub is_later_edge-early : (edge : Edge) (line : List ℕ) (start n column : ℕ) (kind : CharKind) → column ≤ start → IsTurn line n column kind → is_later_edge edge line start n ≡ false
 is_later_edge-early edge line start n column kind early turn =
-    let first : nat_lt start n ≡ false = grind (arith, nat_tests, turn.column_is) in
-    rw first refl
+    grind (arith, common_steps)
 
 pub is_later_edge-past : (edge : Edge) (line : List ℕ) (start e : ℕ) → length line ≤ e → is_later_edge edge line start e ≡ false
 is_later_edge-past edge line start e past =
@@ -133,19 +118,11 @@ is_later_edge-past edge line start e past =
 
 pub is_word_last_from-past : (line : List ℕ) (start e : ℕ) → length line ≤ e → is_word_last_from line start e ≡ false
 is_word_last_from-past line start e past =
-    let outside : nat_lt e (length line) ≡ false = grind (arith, nat_tests) in
-    rw outside (and-false (nat_le start e))
+    grind (arith, common_steps, and-false (nat_le start e))
 
 pub is_earlier_word_start-past : (line : List ℕ) (start e : ℕ) → min start (length line) ≤ e → is_earlier_word_start line start e ≡ false
 is_earlier_word_start-past line start e past =
-    elim (cases_lt e start) [
-      | inl earlier ↦
-          let outside : nat_lt e (length line) ≡ false = grind (arith, nat_tests) in
-          rw outside (and-false (nat_lt e start))
-      | inr late ↦
-          let not_before : nat_lt e start ≡ false = grind (arith, nat_tests) in
-          rw not_before refl
-    ]
+    grind (arith, common_steps, cases_lt e start, and-false (nat_lt e start))
 
 -- ---- the column before a turn's, which may be a word's last
 
@@ -165,19 +142,14 @@ last_before_space Other = refl
 pub is_word_last_from-end : (line : List ℕ) (start column : ℕ) (before : CharKind) (b : Bool) → start < column → column ≡ length line → before ≡ class_before line column → ends before Space ≡ b → is_word_last_from line start (column - 1) ≡ b
 is_word_last_from-end line start zero before b later whole behind tells = absurd (omega arith)
 is_word_last_from-end line start (suc m) before b later whole behind tells =
-    let at : suc m - 1 ≡ m = omega arith in
-    let first : nat_le start m ≡ true = grind (arith, nat_tests) in
-    rw (at, first, is_word_last-last line m whole, ← behind) (last_before_space before ∙ tells)
+    grind (arith, common_steps, is_word_last-last line m whole, last_before_space before)
 
 pub is_word_last_from-early : (line : List ℕ) (start e : ℕ) → e < start → is_word_last_from line start e ≡ false
 is_word_last_from-early line start e early =
-    let first : nat_le start e ≡ false = grind (arith, nat_tests) in
-    rw first refl
+    grind (arith, common_steps)
 
 -- a word start before `start` lies before it, and in the line
 pub IsGreatest-within : (line : List ℕ) (start : ℕ) (found : Option ℕ) → IsGreatest (is_earlier_word_start line start) found → IfSome found (λ e. (e < start) × (e < length line))
 IsGreatest-within line start None greatest = tt
 IsGreatest-within line start (Some e) greatest =
-    let earlier : nat_lt e start ≡ true = first_so (nat_lt e start) (is_word_start line e) greatest.0 in
-    let here : is_word_start line e ≡ true = second_so (nat_lt e start) (is_word_start line e) greatest.0 in
-    (ltb-true e start earlier, ltb-true e (length line) (first_so (nat_lt e (length line)) _ here))
+    grind (arith, common_steps, ltb-true)

@@ -22,60 +22,22 @@ pub fn between(
     ensures text { IfOk result (λ pieces. text_of pieces.items ≡ part (text_of lines.now) from to) }
 {
     let mut pieces = Vec::with_capacity(alloc, to.0 - from.0 + 1)?;
-    push_between(&mut pieces, lines, from, to)?;
+    let mut start = from.1;
+    for line in &lines[from.0..to.0] {
+        push_piece(&mut pieces, text_behind(line.as_str(), start))?;
+        start = 0;
+    }
+    push_piece(&mut pieces, text_between(lines[to.0].as_str(), start, to.1))?;
     Ok(pieces)
 }
 
-// Puts the text between two places where there is no piece yet: a piece for each row that it touches.
-fn push_between(
-    pieces: &mut Vec<String>,
-    lines: &[String],
-    from: (usize, usize),
-    to: (usize, usize),
-) -> Result<(), AllocError>
-    requires none { pieces.old.items ≡ [] }
-    requires from { IsPlaceOf (lines_of lines.now) from }
-    requires to { IsPlaceOf (lines_of lines.now) to }
-    requires ordered { index_of (text_of lines.now) from ≤ index_of (text_of lines.now) to }
-    ensures len { OnOk result (vec_len pieces.new + from.0 ≡ to.0 + 1) }
-    ensures text { OnOk result
-        (text_of pieces.new.items ≡ part (text_of lines.now) from to) }
-{
-    let mut start = from.1;
-    for line in &lines[from.0..to.0] {
-        push_behind(pieces, line.as_str(), start)?;
-        start = 0;
-    }
-    push_text(pieces, lines[to.0].as_str(), start, to.1)?;
-    Ok(())
-}
-
-// Puts what stands in a line from the column on behind the other pieces.
-fn push_behind(pieces: &mut Vec<String>, line: &str, column: usize) -> Result<(), AllocError>
-    requires { column ≤ length (chars line.now) }
-    ensures rows { OnOk result (lines_of pieces.new.items
-        ≡ lines_of pieces.old.items ++ drop column (chars line.now) ∷ []) }
+// Puts a text behind the other pieces.
+fn push_piece(pieces: &mut Vec<String>, text: &str) -> Result<(), AllocError>
+    ensures rows { OnOk result
+        (lines_of pieces.new.items ≡ lines_of pieces.old.items ++ chars text.now ∷ []) }
     ensures len { OnOk result (vec_len pieces.new ≡ vec_len pieces.old + 1) }
 {
-    let piece = text_behind(*pieces.allocator(), line, column)?;
-    pieces.push(piece)?;
-    Ok(())
-}
-
-// Puts what stands between two columns of a line behind the other pieces.
-fn push_text(
-    pieces: &mut Vec<String>,
-    line: &str,
-    start: usize,
-    end: usize,
-) -> Result<(), AllocError>
-    requires start { start ≤ end }
-    requires end { end ≤ length (chars line.now) }
-    ensures rows { OnOk result (lines_of pieces.new.items
-        ≡ lines_of pieces.old.items ++ drop start (take end (chars line.now)) ∷ []) }
-    ensures len { OnOk result (vec_len pieces.new ≡ vec_len pieces.old + 1) }
-{
-    let piece = text_between(*pieces.allocator(), line, start, end)?;
+    let piece = String::from_str(*pieces.allocator(), text)?;
     pieces.push(piece)?;
     Ok(())
 }
@@ -88,22 +50,21 @@ pub(crate) fn text_before(line: &str, column: usize) -> &str
     &line[..byte_offset(line, column)]
 }
 
-// What stands in a line from the column on, as a text of its own.
-fn text_behind(alloc: Global, line: &str, column: usize) -> Result<String, AllocError>
+// What stands in a line from the column on.
+fn text_behind(line: &str, column: usize) -> &str
     requires { column ≤ length (chars line.now) }
-    ensures { IfOk result (λ s. chars (string_bytes s) ≡ drop column (chars line.now)) }
+    ensures { chars result.now ≡ drop column (chars line.now) }
 {
-    String::from_str(alloc, &line[byte_offset(line, column)..])
+    &line[byte_offset(line, column)..]
 }
 
-// What stands between two columns of a line, as a text of its own.
-fn text_between(alloc: Global, line: &str, start: usize, end: usize) -> Result<String, AllocError>
+// What stands between two columns of a line.
+fn text_between(line: &str, start: usize, end: usize) -> &str
     requires start { start ≤ end }
     requires end { end ≤ length (chars line.now) }
-    ensures { IfOk result (λ s.
-        chars (string_bytes s) ≡ drop start (take end (chars line.now))) }
+    ensures { chars result.now ≡ drop start (take end (chars line.now)) }
 {
     let from = byte_offset(line, start);
     let to = byte_offset_from(line, (start, from), end);
-    String::from_str(alloc, &line[from..to])
+    &line[from..to]
 }

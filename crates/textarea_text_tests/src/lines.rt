@@ -1,14 +1,16 @@
 //! Lines and their rows over some steps: numbers worked by hand from the rules, and the same rows as those of lines that are
 //! laid out anew.
-ghost use Rattle.std.specs.Prelude.{◌≡◌, ◌+◌, ◌<◌, false, length, vec_len, IfOk, IsTrue, OnOk, if◌then◌else◌};
-ghost use Rattle.textarea_text.specs.Place.{IsPlace, IsPlaceOf};
+ghost use Rattle.std.specs.Prelude.{◌≡◌, ◌+◌, ◌<◌, false, length, vec_len, OnOk, if◌then◌else◌};
+ghost use Rattle.textarea_text.specs.Place.{IsPlace};
 ghost use Rattle.textarea_text.specs.Splice.{Fits};
 ghost use Rattle.textarea_text.specs.Text.{lines};
 ghost use Rattle.textarea_history.specs.Edit.{IsWellFormed};
 ghost use Rattle.textarea_lines.specs.Layout.{at_width, stays_cut};
 ghost use Rattle.textarea_lines.specs.Wrappings.{is_wrapped};
 
-use crate::texts::{Place, strings};
+use crate::cases::check_each;
+use crate::lines::Step::*;
+use crate::texts::{Place, is_place, strings};
 use std::alloc::{AllocError, Global};
 use std::test::Fail;
 use textarea_history::edit::{Edit, EditKind};
@@ -23,28 +25,20 @@ const NINE_LINES: [&str; 9] = ["abcdefg"; 9];
 
 const TWO_LINES: [&str; 2] = ["abcdef", "gh"];
 
-/// What is to be so.
-#[derive(Clone, Copy)]
-enum Fact {
+/// A step over lines, and what is to be so behind it.
+#[derive(Clone, Copy, Debug)]
+enum Step {
     /// There is one empty line, or there isn't.
     Empty(bool),
-    Settings(LayoutSettings),
+    Settings(Shape),
     /// How many rows there are.
     RowCount(usize),
-    /// The texts of the rows.
-    Rows(&'static [&'static str]),
     /// Where a place is seen.
     Seen(Place, Place),
     /// How many rows there are, and where the end of the text is seen.
     End(usize, Place),
     /// Where a cursor goes from a place: up, and down.
     Moves(Place, Option<Place>, Option<Place>),
-}
-
-/// A step, and what it is to lead to.
-#[derive(Clone, Copy)]
-enum Step {
-    See(Fact),
     /// How many rows there are at a width.
     Count(u16, usize),
     /// The rows at a width that is prepared while these stand.
@@ -59,71 +53,33 @@ enum Step {
     BreakAndTakeBack(usize, Place),
 }
 
-const GLYPHS: LayoutSettings = LayoutSettings {
-    mode: WrapMode::Glyph,
-    tab_len: 4,
-    line_numbers: false,
-    inner_width: 5,
-};
+/// How lines with tab stops each four columns are laid out: the mode, whether they are numbered, and the inner width.
+type Shape = (WrapMode, bool, u16);
 
-const NUMBERED: LayoutSettings = LayoutSettings {
-    mode: WrapMode::Glyph,
-    tab_len: 4,
-    line_numbers: true,
-    inner_width: 11,
-};
+const WHOLE: Shape = (WrapMode::None, false, 20);
 
-const NUMBERED_WHOLE: LayoutSettings = LayoutSettings {
-    mode: WrapMode::None,
-    tab_len: 4,
-    line_numbers: true,
-    inner_width: 11,
-};
+const NARROW_WHOLE: Shape = (WrapMode::None, false, 4);
 
-const NARROW_WORDS: LayoutSettings = LayoutSettings {
-    mode: WrapMode::Word,
-    tab_len: 4,
-    line_numbers: false,
-    inner_width: 4,
-};
+const HIDDEN_WHOLE: Shape = (WrapMode::None, false, 0);
 
-const WHOLE: LayoutSettings = LayoutSettings {
-    mode: WrapMode::None,
-    tab_len: 4,
-    line_numbers: false,
-    inner_width: 20,
-};
+const NUMBERED_WHOLE: Shape = (WrapMode::None, true, 11);
 
-const NARROW_GLYPHS: LayoutSettings = LayoutSettings {
-    mode: WrapMode::Glyph,
-    tab_len: 4,
-    line_numbers: false,
-    inner_width: 4,
-};
+const GLYPHS: Shape = (WrapMode::Glyph, false, 5);
 
-const HIDDEN: LayoutSettings = LayoutSettings {
-    mode: WrapMode::Glyph,
-    tab_len: 4,
-    line_numbers: false,
-    inner_width: 0,
-};
+const NARROW_GLYPHS: Shape = (WrapMode::Glyph, false, 4);
 
-const HIDDEN_NUMBERED: LayoutSettings = LayoutSettings {
-    mode: WrapMode::Glyph,
-    tab_len: 4,
-    line_numbers: true,
-    inner_width: 0,
-};
+const HIDDEN: Shape = (WrapMode::Glyph, false, 0);
 
-const NARROW_WHOLE: LayoutSettings = LayoutSettings {
-    mode: WrapMode::None,
-    tab_len: 4,
-    line_numbers: false,
-    inner_width: 4,
-};
+const NUMBERED: Shape = (WrapMode::Glyph, true, 11);
+
+const HIDDEN_NUMBERED: Shape = (WrapMode::Glyph, true, 0);
+
+const NARROW_WORDS: Shape = (WrapMode::Word, false, 4);
+
+const HIDDEN_WORDS: Shape = (WrapMode::WordOrGlyph, false, 0);
 
 /// Lines, their settings, and steps over them.
-type Case = (&'static [&'static str], LayoutSettings, &'static [Step]);
+type Case = (&'static [&'static str], Shape, &'static [Step]);
 
 static CASES: [Case; 10] = [
     // A tenth line makes all rows narrower.
@@ -131,9 +87,9 @@ static CASES: [Case; 10] = [
         &NINE_LINES,
         NUMBERED,
         &[
-            Step::See(Fact::End(9, (8, 7))),
-            Step::BreakAndTakeBack(19, (18, 0)),
-            Step::See(Fact::End(9, (8, 7))),
+            End(9, (8, 7)),
+            BreakAndTakeBack(19, (18, 0)),
+            End(9, (8, 7)),
         ],
     ),
     // It counts at a width, too.
@@ -141,11 +97,11 @@ static CASES: [Case; 10] = [
         &NINE_LINES,
         HIDDEN_NUMBERED,
         &[
-            Step::Count(11, 9),
-            Step::Break((8, 7)),
-            Step::Count(11, 19),
-            Step::Count(11, 19),
-            Step::See(Fact::RowCount(10)),
+            Count(11, 9),
+            Break((8, 7)),
+            Count(11, 19),
+            Count(11, 19),
+            RowCount(10),
         ],
     ),
     // A cursor goes up and down.
@@ -153,49 +109,31 @@ static CASES: [Case; 10] = [
         &["犬犬", "abcd"],
         NARROW_WHOLE,
         &[
-            Step::See(Fact::Moves((0, 1), None, Some((1, 2)))),
-            Step::See(Fact::Moves((1, 1), Some((0, 0)), None)),
+            Moves((0, 1), None, Some((1, 2))),
+            Moves((1, 1), Some((0, 0)), None),
         ],
     ),
     (
         &["abcdef"],
         NARROW_GLYPHS,
         &[
-            Step::See(Fact::Moves((0, 1), None, Some((0, 4)))),
-            Step::See(Fact::Moves((0, 4), Some((0, 1)), None)),
+            Moves((0, 1), None, Some((0, 4))),
+            Moves((0, 4), Some((0, 1)), None),
         ],
     ),
     // Rows are counted at a width.
-    (&["abc"], HIDDEN, &[Step::Count(0, 3)]),
-    (
-        &["abcdef"],
-        LayoutSettings {
-            mode: WrapMode::WordOrGlyph,
-            tab_len: 4,
-            line_numbers: false,
-            inner_width: 0,
-        },
-        &[Step::Count(5, 2)],
-    ),
-    (
-        &["abcdef"],
-        LayoutSettings {
-            mode: WrapMode::None,
-            tab_len: 4,
-            line_numbers: false,
-            inner_width: 0,
-        },
-        &[Step::Count(1, 1)],
-    ),
+    (&["abc"], HIDDEN, &[Count(0, 3)]),
+    (&["abcdef"], HIDDEN_WORDS, &[Count(5, 2)]),
+    (&["abcdef"], HIDDEN_WHOLE, &[Count(1, 1)]),
     // Tab stops cut no whole line.
     (
         &["\ta", "abcdef"],
         WHOLE,
         &[
-            Step::See(Fact::Seen((0, 1), (0, 4))),
-            Step::PutTabLength(2),
-            Step::See(Fact::Seen((0, 1), (0, 2))),
-            Step::Count(1, 2),
+            Seen((0, 1), (0, 4)),
+            PutTabLength(2),
+            Seen((0, 1), (0, 2)),
+            Count(1, 2),
         ],
     ),
     // A width is prepared and put in.
@@ -203,11 +141,11 @@ static CASES: [Case; 10] = [
         &TWO_LINES,
         GLYPHS,
         &[
-            Step::PutWidth(4, &["abc", "def", "gh"]),
-            Step::PutWidth(4, &["abc", "def", "gh"]),
-            Step::PutWidth(0, &["abcdef", "gh"]),
-            Step::See(Fact::Settings(HIDDEN)),
-            Step::Prepare(3, &["abcdef", "gh"], &["ab", "cd", "ef", "gh"]),
+            PutWidth(4, &["abc", "def", "gh"]),
+            PutWidth(4, &["abc", "def", "gh"]),
+            PutWidth(0, &["abcdef", "gh"]),
+            Settings(HIDDEN),
+            Prepare(3, &["abcdef", "gh"], &["ab", "cd", "ef", "gh"]),
         ],
     ),
     // Rows that were measured are put in, and not those of another width or of another text.
@@ -215,24 +153,29 @@ static CASES: [Case; 10] = [
         &TWO_LINES,
         HIDDEN,
         &[
-            Step::Count(4, 3),
-            Step::PutWidth(4, &["abc", "def", "gh"]),
-            Step::Count(3, 4),
-            Step::PutWidth(5, &["abcd", "ef", "gh"]),
-            Step::Count(3, 4),
-            Step::Break((0, 1)),
-            Step::PutWidth(3, &["a", "bc", "de", "f", "gh"]),
+            Count(4, 3),
+            PutWidth(4, &["abc", "def", "gh"]),
+            Count(3, 4),
+            PutWidth(5, &["abcd", "ef", "gh"]),
+            Count(3, 4),
+            Break((0, 1)),
+            PutWidth(3, &["a", "bc", "de", "f", "gh"]),
         ],
     ),
 ];
 
+fn settings((mode, line_numbers, inner_width): Shape) -> LayoutSettings {
+    LayoutSettings {
+        mode,
+        tab_len: 4,
+        line_numbers,
+        inner_width,
+    }
+}
+
 // Lines of these texts, laid out.
-fn laid_out(
-    alloc: Global,
-    texts: &[&str],
-    settings: LayoutSettings,
-) -> Result<LaidOutLines, AllocError> {
-    LaidOutLines::new(alloc, strings(alloc, texts)?, settings)
+fn laid_out(alloc: Global, texts: &[&str], shape: Shape) -> Result<LaidOutLines, AllocError> {
+    LaidOutLines::new(alloc, strings(alloc, texts)?, settings(shape))
 }
 
 fn end_of(laid: &LaidOutLines) -> Place
@@ -243,24 +186,13 @@ fn end_of(laid: &LaidOutLines) -> Place
     (row, column_count(lines[row].as_str()))
 }
 
-fn is_place(laid: &LaidOutLines, place: Place) -> bool
-    ensures { IsTrue result → IsPlace laid.now.text place }
-{
-    let lines = laid.lines();
-    place.0 < lines.len() && place.1 <= column_count(lines[place.0].as_str())
-}
-
 // Where a place is seen, if it is there.
 fn seen(laid: &LaidOutLines, place: Place) -> Option<Place> {
-    if is_place(laid, place) {
+    if is_place(laid.lines(), place) {
         Some(laid.visual_position(place))
     } else {
         None
     }
-}
-
-fn goes(laid: &LaidOutLines, place: Place, above: Option<Place>, below: Option<Place>) -> bool {
-    is_place(laid, place) && laid.above(place) == above && laid.below(place) == below
 }
 
 // How many rows there are, and where the end of the text is seen.
@@ -278,18 +210,6 @@ fn has_rows(view: &LaidOutView<'_>, expected: &[&str]) -> bool {
         }
     }
     true
-}
-
-fn is_so(laid: &LaidOutLines, fact: Fact) -> bool {
-    match fact {
-        Fact::Empty(is_empty) => laid.is_empty() == is_empty,
-        Fact::Settings(settings) => laid.layout_settings() == settings,
-        Fact::RowCount(rows) => laid.row_count() == rows,
-        Fact::Rows(rows) => has_rows(&laid.view(), rows),
-        Fact::Seen(place, visual) => seen(laid, place) == Some(visual),
-        Fact::End(rows, visual) => end_seen(laid) == (rows, visual),
-        Fact::Moves(place, above, below) => goes(laid, place, above, below),
-    }
 }
 
 // The same lines, laid out now.
@@ -322,10 +242,7 @@ fn is_alike(laid: &LaidOutLines, anew: &LaidOutLines) -> bool {
 }
 
 fn is_as_anew(laid: &LaidOutLines) -> Result<bool, AllocError> {
-    let anew = laid_out_anew(laid)?;
-    let answer = is_alike(laid, &anew);
-    drop(anew);
-    Ok(answer)
+    Ok(is_alike(laid, &laid_out_anew(laid)?))
 }
 
 // Makes an edit and undoes it. The end as it is seen between, if the rows are those of lines laid out anew before and after.
@@ -368,7 +285,7 @@ fn insert_break(laid: &mut LaidOutLines, place: Place) -> Result<(), AllocError>
 
 // Inserts a break at a place, if it is there.
 fn breaks(laid: &mut LaidOutLines, place: Place) -> Result<bool, AllocError> {
-    let is_there = is_place(laid, place);
+    let is_there = is_place(laid.lines(), place);
     if is_there {
         insert_break(laid, place)?;
     }
@@ -419,11 +336,11 @@ fn set_tab_len(laid: &mut LaidOutLines, tab_len: u8) -> Result<(), AllocError>
 
 // Sets other tab stops, if lines aren't wrapped.
 fn sets_tab_len(laid: &mut LaidOutLines, tab_len: u8) -> Result<bool, AllocError> {
-    if is_wrapped(laid.layout_settings()) {
-        return Ok(false);
+    let is_whole = !is_wrapped(laid.layout_settings());
+    if is_whole {
+        set_tab_len(laid, tab_len)?;
     }
-    set_tab_len(laid, tab_len)?;
-    Ok(true)
+    Ok(is_whole)
 }
 
 // A line made where the lines are takes their place.
@@ -432,77 +349,57 @@ fn put_line(laid: &mut LaidOutLines, text: &str) -> Result<(), AllocError> {
     laid.set_lines(vec![in laid.allocator(); line]?)
 }
 
-fn puts_line(laid: &mut LaidOutLines, text: &str) -> Result<bool, AllocError> {
-    put_line(laid, text)?;
-    Ok(true)
-}
-
 // Takes the step; whether it led to what it is to lead to.
 fn leads_there(laid: &mut LaidOutLines, step: Step) -> Result<bool, AllocError> {
     match step {
-        Step::See(fact) => Ok(is_so(laid, fact)),
-        Step::Count(width, rows) => Ok(laid.rows_at_width(width)? == rows),
-        Step::Prepare(width, rows, expected) => prepares(laid, width, rows, expected),
-        Step::PutWidth(width, expected) => set_width(laid, width, expected),
-        Step::PutTabLength(tab_len) => sets_tab_len(laid, tab_len),
-        Step::PutLine(text) => puts_line(laid, text),
-        Step::Break(place) => breaks(laid, place),
-        Step::BreakAndTakeBack(rows, visual) => {
-            Ok(break_and_take_back(laid)? == Some((rows, visual)))
+        Empty(is_empty) => Ok(laid.is_empty() == is_empty),
+        Settings(shape) => Ok(laid.layout_settings() == settings(shape)),
+        RowCount(rows) => Ok(laid.row_count() == rows),
+        Seen(place, visual) => Ok(seen(laid, place) == Some(visual)),
+        End(rows, visual) => Ok(end_seen(laid) == (rows, visual)),
+        Moves(place, above, below) => {
+            Ok(
+                is_place(laid.lines(), place)
+                    && (laid.above(place), laid.below(place)) == (above, below),
+            )
         }
+        Count(width, rows) => Ok(laid.rows_at_width(width)? == rows),
+        Prepare(width, rows, expected) => prepares(laid, width, rows, expected),
+        PutWidth(width, expected) => set_width(laid, width, expected),
+        PutTabLength(tab_len) => sets_tab_len(laid, tab_len),
+        PutLine(text) => {
+            put_line(laid, text)?;
+            Ok(true)
+        }
+        Break(place) => breaks(laid, place),
+        BreakAndTakeBack(rows, visual) => Ok(break_and_take_back(laid)? == Some((rows, visual))),
     }
 }
 
-// The first of the steps that leads elsewhere.
-fn astray(laid: &mut LaidOutLines, steps: &[Step]) -> Result<Option<usize>, AllocError> {
-    for (n, step) in steps.iter().enumerate() {
+// Whether each of the steps leads to what it is to lead to.
+fn lead_there(laid: &mut LaidOutLines, steps: &[Step]) -> Result<bool, AllocError> {
+    for step in steps {
         if !leads_there(laid, *step)? {
-            return Ok(Some(n));
+            return Ok(false);
         }
     }
-    Ok(None)
-}
-
-// The first of the steps over the lines of a case that leads elsewhere.
-fn astray_in(alloc: Global, case: &Case) -> Result<Option<usize>, AllocError> {
-    let mut laid = laid_out(alloc, case.0, case.1)?;
-    let step = astray(&mut laid, case.2);
-    drop(laid);
-    step
-}
-
-// The first of the cases in which a step leads elsewhere, and which step that is.
-fn first_unmet(alloc: Global) -> Result<Option<(usize, usize)>, AllocError> {
-    for (n, case) in CASES.iter().enumerate() {
-        if let Some(step) = astray_in(alloc, case)? {
-            return Ok(Some((n, step)));
-        }
-    }
-    Ok(None)
+    Ok(true)
 }
 
 #[test]
 fn steps_over_lines(rt: HostRuntime) -> Result<(), Fail> {
-    let unmet = first_unmet(rt.alloc())?;
-    assert_eq!(rt; unmet, None);
-    Ok(())
-}
-
-fn put_lines(laid: &mut LaidOutLines, lines: Vec<String>) -> Result<bool, AllocError>
-    requires { 0 < vec_len lines }
-{
-    laid.set_lines(lines)?;
-    is_as_anew(laid)
+    check_each(&rt, &CASES, |alloc, (texts, shape, steps)| {
+        lead_there(&mut laid_out(alloc, texts, *shape)?, steps)
+    })
 }
 
 // Whether lines in place of others have the rows that they have when they are laid out anew.
-fn are_put(alloc: Global, lines: Vec<String>, settings: LayoutSettings) -> Result<bool, AllocError>
+fn are_put(alloc: Global, lines: Vec<String>, shape: Shape) -> Result<bool, AllocError>
     requires { 0 < vec_len lines }
 {
-    let mut others = laid_out(alloc, &[], settings)?;
-    let answer = put_lines(&mut others, lines);
-    drop(others);
-    answer
+    let mut others = laid_out(alloc, &[], shape)?;
+    others.set_lines(lines)?;
+    is_as_anew(&others)
 }
 
 // Whether the rows are those of lines laid out anew, and stay so over a character.
@@ -510,109 +407,61 @@ fn is_right(laid: &mut LaidOutLines) -> Result<bool, AllocError> {
     Ok(is_as_anew(laid)? && type_and_take_back(laid)?.is_some())
 }
 
-// Whether they are so under the settings that stand, there over a break, too, and under others.
-fn is_right_over(laid: &mut LaidOutLines, other: LayoutSettings) -> Result<bool, AllocError> {
-    let was_right = is_right(laid)? && break_and_take_back(laid)?.is_some();
-    laid.set_layout_settings(other)?;
-    Ok(is_right(laid)? && was_right)
+// Whether they are so in a shape, there over a break, too, and in another one, and for the lines in place of none.
+fn is_right_in(alloc: Global, (shape, other): &(Shape, Shape)) -> Result<bool, AllocError> {
+    let mut laid = laid_out(alloc, &NINE_LINES, *shape)?;
+    let was_right = is_right(&mut laid)? && break_and_take_back(&mut laid)?.is_some();
+    laid.set_layout_settings(settings(*other))?;
+    let is_right = is_right(&mut laid)? && was_right;
+    Ok(are_put(alloc, laid.into_lines(), *shape)? && is_right)
 }
 
-// Whether they are so under some settings and under others, and for the lines in place of none.
-fn is_right_under(
-    alloc: Global,
-    settings: LayoutSettings,
-    other: LayoutSettings,
-) -> Result<bool, AllocError> {
-    let mut laid = laid_out(alloc, &NINE_LINES, settings)?;
-    let was_right = is_right_over(&mut laid, other);
-    Ok(are_put(alloc, laid.into_lines(), settings)? && was_right?)
-}
-
-static SETTINGS: [(LayoutSettings, LayoutSettings); 4] = [
+static SHAPES: [(Shape, Shape); 4] = [
     (NUMBERED, NUMBERED_WHOLE),
     (NUMBERED_WHOLE, HIDDEN_NUMBERED),
     (NARROW_WORDS, NUMBERED),
     (HIDDEN_NUMBERED, NARROW_WORDS),
 ];
 
-// The first of the settings under which they aren't.
-fn first_wrong_under(
-    alloc: Global,
-    settings: &[(LayoutSettings, LayoutSettings)],
-) -> Result<Option<usize>, AllocError> {
-    for (n, (settings, other)) in settings.iter().enumerate() {
-        if !is_right_under(alloc, *settings, *other)? {
-            return Ok(Some(n));
-        }
-    }
-    Ok(None)
-}
-
 #[test]
 fn rows_are_those_of_lines_laid_out_anew(rt: HostRuntime) -> Result<(), Fail> {
-    assert!(rt; first_wrong_under(rt.alloc(), &SETTINGS)?.is_none());
-    Ok(())
-}
-
-fn is_one_line(lines: &[String]) -> bool {
-    lines.len() == 1 && lines[0].as_str() == "abc"
+    check_each(&rt, &SHAPES, is_right_in)
 }
 
 static HELD: [Step; 6] = [
-    Step::See(Fact::Empty(true)),
-    Step::See(Fact::Settings(WHOLE)),
-    Step::See(Fact::End(1, (0, 0))),
-    Step::PutLine("abc"),
-    Step::See(Fact::Empty(false)),
-    Step::See(Fact::End(1, (0, 3))),
+    Empty(true),
+    Settings(WHOLE),
+    End(1, (0, 0)),
+    PutLine("abc"),
+    Empty(false),
+    End(1, (0, 3)),
 ];
 
 // Whether one line takes the place of none, and is given back.
 fn is_held(alloc: Global) -> Result<bool, AllocError> {
     let mut laid = laid_out(alloc, &[], WHOLE)?;
-    let step = astray(&mut laid, &HELD);
+    let leads_there = lead_there(&mut laid, &HELD)?;
     let lines = laid.into_lines();
-    let is_given_back = is_one_line(lines.as_slice());
-    drop(lines);
-    Ok(step?.is_none() && is_given_back)
-}
-
-fn is_place_in(view: &LaidOutView<'_>, place: Place) -> bool
-    ensures { IsTrue result → IsPlaceOf view.now.lines place }
-{
-    let lines = view.lines();
-    place.0 < lines.len() && place.1 <= column_count(lines[place.0].as_str())
-}
-
-fn has_second_row(view: &LaidOutView<'_>) -> bool {
-    if view.row_count() != 3 {
-        return false;
-    }
-    let row = view.row_at(1);
-    (row.line, row.number) == (0, 1) && row.before == "abcd" && row.is_last
+    Ok(leads_there && lines.len() == 1 && lines[0].as_str() == "abc")
 }
 
 fn is_lent(view: &LaidOutView<'_>) -> bool {
-    if view.row_count() != 3 || !is_place_in(view, (0, 5)) {
+    if view.row_count() != 3 || !is_place(view.lines(), (0, 5)) {
         return false;
     }
-    view.lines().len() == 2
+    let row = view.row_at(1);
+    (row.line, row.number, row.before, row.is_last) == (0, 1, "abcd", true)
+        && view.lines().len() == 2
         && (view.greatest_column(0), view.greatest_column(1)) == (3, 2)
         && view.visual_position((0, 5)) == (1, 1)
         && view.place_near((0, 9)) == (0, 3)
 }
 
-fn lends_its_rows(laid: &LaidOutLines) -> bool {
-    let view = laid.view();
-    has_rows(&view, &["abcd", "ef", "gh"]) && has_second_row(&view) && is_lent(&view)
-}
-
 // Whether lines are lent with their rows.
 fn is_view_lent(alloc: Global) -> Result<bool, AllocError> {
     let laid = laid_out(alloc, &TWO_LINES, GLYPHS)?;
-    let answer = lends_its_rows(&laid);
-    drop(laid);
-    Ok(answer)
+    let view = laid.view();
+    Ok(has_rows(&view, &["abcd", "ef", "gh"]) && is_lent(&view))
 }
 
 #[test]

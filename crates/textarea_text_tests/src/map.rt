@@ -1,25 +1,33 @@
 //! Worked cases of the look-ups, by hand from the rules, and maps that follow hundreds of replacements.
-ghost use Rattle.std.specs.Prelude.{◌≡◌, ◌+◌, ◌<◌, ◌≤◌, length, vec_len, IfOk, IsTrue, OnOk};
+ghost use Rattle.std.specs.Prelude.{◌≡◌, ◌+◌, ◌<◌, ◌≤◌, length, vec_len, IfOk, OnOk};
 ghost use Rattle.textarea_text.specs.Text.{lines_of};
-ghost use Rattle.textarea_text.specs.Place.{IsPlaceOf};
 ghost use Rattle.textarea_screen_map.specs.Layout.{AreRowsOf};
 
-use crate::texts::{Place, strings};
+use crate::cases::check_each;
+use crate::map::Fact::*;
+use crate::texts::{Place, is_place, strings};
 use std::alloc::{AllocError, Global};
 use std::test::Fail;
 use textarea_screen_map::layout::Wrapping;
 use textarea_screen_map::screen_map::{RowText, ScreenMap};
-use textarea_text::rows::{Replacement, column_count};
+use textarea_text::rows::Replacement;
 use textarea_wrap::wrap::{WrapCount, WrapMode};
 
-const ONE_ROW_A_LINE: Wrapping = Wrapping {
-    mode: WrapMode::None,
-    width: 0,
-    tab_len: 4,
-};
+/// How lines are wrapped: the mode, the width and the tab length.
+type Shape = (WrapMode, usize, u8);
+
+const ONE_ROW_A_LINE: Shape = (WrapMode::None, 0, 4);
+
+const WITHOUT_STOPS: Shape = (WrapMode::None, 0, 0);
+
+const WORDS: Shape = (WrapMode::Word, 6, 4);
+
+const GLYPHS: Shape = (WrapMode::Glyph, 4, 4);
+
+const WIDE_WORDS: Shape = (WrapMode::Word, 9, 4);
 
 /// What is to be so in a map of some lines.
-#[derive(Clone, Copy)]
+#[derive(Clone, Copy, Debug)]
 enum Fact {
     /// How many visual rows there are.
     RowCount(usize),
@@ -33,26 +41,8 @@ enum Fact {
     Back(Place, Place),
 }
 
-const WORDS: Wrapping = Wrapping {
-    mode: WrapMode::Word,
-    width: 6,
-    tab_len: 4,
-};
-
-const GLYPHS: Wrapping = Wrapping {
-    mode: WrapMode::Glyph,
-    width: 4,
-    tab_len: 4,
-};
-
-const WITHOUT_STOPS: Wrapping = Wrapping {
-    mode: WrapMode::None,
-    width: 0,
-    tab_len: 0,
-};
-
 /// Lines, how they are wrapped, and what is to be so in their map.
-type Case = (&'static [&'static str], Wrapping, &'static [Fact]);
+type Case = (&'static [&'static str], Shape, &'static [Fact]);
 
 static CASES: [Case; 13] = [
     // Up and down.
@@ -60,36 +50,36 @@ static CASES: [Case; 13] = [
         &["犬犬", "abcd"],
         ONE_ROW_A_LINE,
         &[
-            Fact::Moves((0, 1), (0, 2), None, Some((1, 2))),
-            Fact::Moves((1, 1), (1, 1), Some((0, 0)), None),
-            Fact::Moves((1, 4), (1, 4), Some((0, 2)), None),
+            Moves((0, 1), (0, 2), None, Some((1, 2))),
+            Moves((1, 1), (1, 1), Some((0, 0)), None),
+            Moves((1, 4), (1, 4), Some((0, 2)), None),
         ],
     ),
     (
         &["🐱", "🐶", "🐰", "🐮"],
         ONE_ROW_A_LINE,
         &[
-            Fact::Moves((0, 0), (0, 0), None, Some((1, 0))),
-            Fact::Moves((2, 1), (2, 2), Some((1, 1)), Some((3, 1))),
+            Moves((0, 0), (0, 0), None, Some((1, 0))),
+            Moves((2, 1), (2, 2), Some((1, 1)), Some((3, 1))),
         ],
     ),
     (
         &["abcdefgh", "x"],
         GLYPHS,
         &[
-            Fact::Moves((0, 3), (0, 3), None, Some((0, 7))),
-            Fact::Moves((0, 4), (1, 0), Some((0, 0)), Some((1, 0))),
-            Fact::Moves((0, 8), (1, 4), Some((0, 3)), Some((1, 1))),
-            Fact::Moves((1, 1), (2, 1), Some((0, 5)), None),
+            Moves((0, 3), (0, 3), None, Some((0, 7))),
+            Moves((0, 4), (1, 0), Some((0, 0)), Some((1, 0))),
+            Moves((0, 8), (1, 4), Some((0, 3)), Some((1, 1))),
+            Moves((1, 1), (2, 1), Some((0, 5)), None),
         ],
     ),
     (
         &["abcdef ghi", "0123456"],
         WORDS,
         &[
-            Fact::Moves((0, 6), (0, 6), None, Some((0, 10))),
-            Fact::Moves((0, 7), (1, 0), Some((0, 0)), Some((1, 0))),
-            Fact::Moves((1, 6), (3, 0), Some((1, 0)), None),
+            Moves((0, 6), (0, 6), None, Some((0, 10))),
+            Moves((0, 7), (1, 0), Some((0, 0)), Some((1, 0))),
+            Moves((1, 6), (3, 0), Some((1, 0)), None),
         ],
     ),
     // Tabs.
@@ -97,60 +87,56 @@ static CASES: [Case; 13] = [
         &["a\tb", "xyzwvu"],
         ONE_ROW_A_LINE,
         &[
-            Fact::Moves((0, 2), (0, 4), None, Some((1, 4))),
-            Fact::Moves((1, 2), (1, 2), Some((0, 1)), None),
-            Fact::Moves((1, 4), (1, 4), Some((0, 2)), None),
-            Fact::Moves((1, 6), (1, 6), Some((0, 3)), None),
+            Moves((0, 2), (0, 4), None, Some((1, 4))),
+            Moves((1, 2), (1, 2), Some((0, 1)), None),
+            Moves((1, 4), (1, 4), Some((0, 2)), None),
+            Moves((1, 6), (1, 6), Some((0, 3)), None),
         ],
     ),
     (
         &["a\tb", "xyzwvu"],
         WITHOUT_STOPS,
-        &[Fact::Moves((0, 2), (0, 2), None, Some((1, 2)))],
+        &[Moves((0, 2), (0, 2), None, Some((1, 2)))],
     ),
     // Rows.
     (
         &["abcdef ghi", ""],
         WORDS,
         &[
-            Fact::RowCount(3),
-            Fact::Columns(0, (7, 6)),
-            Fact::Columns(1, (3, 3)),
-            Fact::Columns(2, (0, 0)),
+            RowCount(3),
+            Columns(0, (7, 6)),
+            Columns(1, (3, 3)),
+            Columns(2, (0, 0)),
         ],
     ),
     (
         &["ab犬猫"],
         GLYPHS,
-        &[
-            Fact::RowCount(2),
-            Fact::Columns(0, (4, 2)),
-            Fact::Columns(1, (2, 2)),
-        ],
+        &[RowCount(2), Columns(0, (4, 2)), Columns(1, (2, 2))],
     ),
     (
         &["a\tb"],
         ONE_ROW_A_LINE,
-        &[Fact::RowCount(1), Fact::Columns(0, (5, 5))],
+        &[RowCount(1), Columns(0, (5, 5))],
     ),
     (
         &["abcdef ghi", ""],
         WORDS,
         &[
-            Fact::RowCount(3),
-            Fact::Row(0, (0, 0), ("", "abcdef "), false),
-            Fact::Row(1, (0, 1), ("abcdef ", "ghi"), true),
-            Fact::Row(2, (1, 0), ("", ""), true),
+            RowCount(3),
+            Row(0, (0, 0), ("", "abcdef "), false),
+            Row(1, (0, 1), ("abcdef ", "ghi"), true),
+            Row(2, (1, 0), ("", ""), true),
         ],
     ),
     (
         &["x", "ab犬猫"],
         GLYPHS,
         &[
-            Fact::RowCount(3),
-            Fact::Row(0, (0, 0), ("", "x"), true),
-            Fact::Row(1, (1, 0), ("", "ab犬"), false),
-            Fact::Row(2, (1, 1), ("ab犬", "猫"), true),
+            RowCount(3),
+            Row(0, (0, 0), ("", "x"), true),
+            Row(1, (1, 0), ("", "ab犬"), false),
+            Row(2, (1, 1), ("ab犬", "猫"), true),
         ],
     ),
     // Back from rows and columns to places.
@@ -158,46 +144,26 @@ static CASES: [Case; 13] = [
         &["e\u{301}x犬"],
         ONE_ROW_A_LINE,
         &[
-            Fact::Back((0, 0), (0, 0)),
-            Fact::Back((0, 1), (0, 1)),
-            Fact::Back((0, 2), (0, 3)),
-            Fact::Back((0, 3), (0, 3)),
-            Fact::Back((0, 4), (0, 4)),
-            Fact::Back((0, 9), (0, 4)),
+            Back((0, 0), (0, 0)),
+            Back((0, 1), (0, 1)),
+            Back((0, 2), (0, 3)),
+            Back((0, 3), (0, 3)),
+            Back((0, 4), (0, 4)),
+            Back((0, 9), (0, 4)),
         ],
     ),
     (
         &["abcdef"],
         GLYPHS,
         &[
-            Fact::Back((0, 3), (0, 3)),
-            Fact::Back((0, 4), (0, 4)),
-            Fact::Back((0, 9), (0, 4)),
-            Fact::Back((1, 1), (0, 5)),
-            Fact::Back((1, 2), (0, 6)),
+            Back((0, 3), (0, 3)),
+            Back((0, 4), (0, 4)),
+            Back((0, 9), (0, 4)),
+            Back((1, 1), (0, 5)),
+            Back((1, 2), (0, 6)),
         ],
     ),
 ];
-
-fn is_place(lines: &[String], place: Place) -> bool
-    ensures { IsTrue result → IsPlaceOf (lines_of lines.now) place }
-{
-    place.0 < lines.len() && place.1 <= column_count(lines[place.0].as_str())
-}
-
-fn moves(
-    map: &ScreenMap,
-    lines: &[String],
-    place: Place,
-) -> Option<(Place, Option<Place>, Option<Place>)>
-    requires { AreRowsOf map.now.wrapping (lines_of lines.now) map.now.rows }
-{
-    if !is_place(lines, place) {
-        return None;
-    }
-    let seen = map.visual_position(lines, place);
-    Some((seen, map.above(lines, place), map.below(lines, place)))
-}
 
 fn is_alike(one: RowText<'_>, another: RowText<'_>) -> bool {
     (one.line, one.number, one.is_last) == (another.line, another.number, another.is_last)
@@ -205,18 +171,22 @@ fn is_alike(one: RowText<'_>, another: RowText<'_>) -> bool {
         && one.text == another.text
 }
 
-// Whether there is such a visual row, and what is to be so of it.
-fn is_so_in_row(map: &ScreenMap, lines: &[String], row: usize, fact: Fact) -> bool
+fn is_so(map: &ScreenMap, lines: &[String], fact: Fact) -> bool
     requires { AreRowsOf map.now.wrapping (lines_of lines.now) map.now.rows }
 {
-    if row >= map.row_count() {
-        return false;
-    }
+    let rows = map.row_count();
     match fact {
-        Fact::Columns(_, wanted) => {
-            (map.row_width(lines, row), map.greatest_column(lines, row)) == wanted
+        RowCount(count) => rows == count,
+        Moves(place, seen, above, below) => {
+            is_place(lines, place)
+                && map.visual_position(lines, place) == seen
+                && map.above(lines, place) == above
+                && map.below(lines, place) == below
         }
-        Fact::Row(_, (line, number), (before, text), is_last) => {
+        Columns(row, wanted) => {
+            row < rows && (map.row_width(lines, row), map.greatest_column(lines, row)) == wanted
+        }
+        Row(row, (line, number), (before, text), is_last) => {
             let wanted = RowText {
                 line,
                 number,
@@ -224,71 +194,45 @@ fn is_so_in_row(map: &ScreenMap, lines: &[String], row: usize, fact: Fact) -> bo
                 text,
                 is_last,
             };
-            is_alike(map.row_at(lines, row), wanted)
+            row < rows && is_alike(map.row_at(lines, row), wanted)
         }
-        Fact::Back((_, column), place) => map.place_at(lines, (row, column)) == place,
-        _ => false,
+        Back((row, column), place) => row < rows && map.place_at(lines, (row, column)) == place,
     }
 }
 
-fn is_so(map: &ScreenMap, lines: &[String], fact: Fact) -> bool
+fn are_so(map: &ScreenMap, lines: &[String], facts: &[Fact]) -> bool
     requires { AreRowsOf map.now.wrapping (lines_of lines.now) map.now.rows }
 {
-    match fact {
-        Fact::RowCount(rows) => map.row_count() == rows,
-        Fact::Moves(place, seen, above, below) => {
-            moves(map, lines, place) == Some((seen, above, below))
-        }
-        Fact::Columns(row, _) => is_so_in_row(map, lines, row, fact),
-        Fact::Row(row, _, _, _) => is_so_in_row(map, lines, row, fact),
-        Fact::Back(seen, _) => is_so_in_row(map, lines, seen.0, fact),
-    }
-}
-
-fn first_wrong_in(map: &ScreenMap, lines: &[String], facts: &[Fact]) -> Option<usize>
-    requires { AreRowsOf map.now.wrapping (lines_of lines.now) map.now.rows }
-{
-    for (n, fact) in facts.iter().enumerate() {
+    for fact in facts {
         if !is_so(map, lines, *fact) {
-            return Some(n);
+            return false;
         }
     }
-    None
+    true
 }
 
-fn first_wrong_of(
-    alloc: Global,
-    lines: &[String],
-    wrapping: Wrapping,
-    facts: &[Fact],
-) -> Result<Option<usize>, AllocError> {
-    let map = ScreenMap::new(alloc, lines, wrapping, &mut WrapCount::new())?;
-    let wrong = first_wrong_in(&map, lines, facts);
-    drop(map);
-    Ok(wrong)
-}
-
-// The first of the facts that is not so in the map of the lines of a case.
-fn first_wrong(alloc: Global, case: &Case) -> Result<Option<usize>, AllocError> {
-    let lines = strings(alloc, case.0)?;
-    first_wrong_of(alloc, lines.as_slice(), case.1, case.2)
-}
-
-// The first of the cases in which a fact is not so, and which fact that is.
-fn first_unmet(alloc: Global) -> Result<Option<(usize, usize)>, AllocError> {
-    for (n, case) in CASES.iter().enumerate() {
-        if let Some(fact) = first_wrong(alloc, case)? {
-            return Ok(Some((n, fact)));
-        }
+fn wrapped((mode, width, tab_len): Shape) -> Wrapping {
+    Wrapping {
+        mode,
+        width,
+        tab_len,
     }
-    Ok(None)
+}
+
+fn is_met(alloc: Global, (texts, shape, facts): &Case) -> Result<bool, AllocError> {
+    let lines = strings(alloc, texts)?;
+    let map = ScreenMap::new(
+        alloc,
+        lines.as_slice(),
+        wrapped(*shape),
+        &mut WrapCount::new(),
+    )?;
+    Ok(are_so(&map, lines.as_slice(), facts))
 }
 
 #[test]
 fn places_and_rows(rt: HostRuntime) -> Result<(), Fail> {
-    let unmet = first_unmet(rt.alloc())?;
-    assert_eq!(rt; unmet, None);
-    Ok(())
+    check_each(&rt, &CASES, is_met)
 }
 
 // Numbers that look random, each made from the one before it.
@@ -385,18 +329,7 @@ fn is_as_anew(
     requires { AreRowsOf map.now.wrapping (lines_of lines.now) map.now.rows }
 {
     let anew = ScreenMap::new(alloc, lines, wrapping, counter)?;
-    let answer = is_same(map, &anew, lines);
-    drop(anew);
-    Ok(answer)
-}
-
-fn is_copied(map: &ScreenMap, lines: &[String]) -> Result<bool, AllocError>
-    requires { AreRowsOf map.now.wrapping (lines_of lines.now) map.now.rows }
-{
-    let copy = map.clone()?;
-    let answer = is_same(map, &copy, lines);
-    drop(copy);
-    Ok(answer)
+    Ok(is_same(map, &anew, lines))
 }
 
 // Some lines, and which lines they take the place of, both fewer than the limit.
@@ -461,37 +394,7 @@ fn follows_all(
             return Ok(false);
         }
     }
-    is_copied(map, lines.as_slice())
-}
-
-fn follows_over(
-    alloc: Global,
-    lines: &mut Vec<String>,
-    made: Replacements,
-    wrapping: Wrapping,
-) -> Result<bool, AllocError>
-    requires { 0 < made.limit }
-{
-    let mut map = ScreenMap::new(alloc, lines.as_slice(), wrapping, &mut WrapCount::new())?;
-    let answer = follows_all(alloc, &mut map, lines, made, wrapping);
-    drop(map);
-    answer
-}
-
-fn wrapped(mode: WrapMode, width: usize) -> Wrapping {
-    Wrapping {
-        mode,
-        width,
-        tab_len: 4,
-    }
-}
-
-fn follows(alloc: Global, made: Replacements, wrapping: Wrapping) -> Result<bool, AllocError>
-    requires { 0 < made.limit }
-{
-    let mut numbers = Numbers { state: made.seed };
-    let mut lines = some_lines(alloc, &mut numbers, made.limit)?;
-    follows_over(alloc, &mut lines, made, wrapping)
+    Ok(is_same(map, &map.clone()?, lines.as_slice()))
 }
 
 /// The limit of lines in each replacement, and how many there are.
@@ -502,46 +405,34 @@ const SMALL: Amount = (5, 150);
 /// More lines than a block of the map has.
 const LARGE: Amount = (1500, 5);
 
-/// What the numbers of replacements begin with, the amount of these, and how their lines are wrapped: the mode and the width.
-type Followed = (u64, Amount, (WrapMode, usize));
+/// What the numbers of replacements begin with, the amount of these, and how their lines are wrapped.
+type Followed = (u64, Amount, Shape);
 
 static FOLLOWED: [Followed; 7] = [
-    (1, SMALL, (WrapMode::None, 0)),
-    (2, SMALL, (WrapMode::Word, 9)),
-    (3, SMALL, (WrapMode::Glyph, 5)),
-    (4, SMALL, (WrapMode::WordOrGlyph, 1)),
-    (5, SMALL, (WrapMode::Word, 200)),
-    (6, LARGE, (WrapMode::None, 0)),
-    (7, LARGE, (WrapMode::Word, 9)),
+    (1, SMALL, ONE_ROW_A_LINE),
+    (2, SMALL, WIDE_WORDS),
+    (3, SMALL, (WrapMode::Glyph, 5, 4)),
+    (4, SMALL, (WrapMode::WordOrGlyph, 1, 4)),
+    (5, SMALL, (WrapMode::Word, 200, 4)),
+    (6, LARGE, ONE_ROW_A_LINE),
+    (7, LARGE, WIDE_WORDS),
 ];
 
 fn is_followed(alloc: Global, case: &Followed) -> Result<bool, AllocError> {
-    let (seed, (limit, count), (mode, width)) = *case;
+    let (seed, (limit, count), shape) = *case;
     if limit == 0 {
         return Ok(false);
     }
     let made = Replacements { seed, limit, count };
-    follows(alloc, made, wrapped(mode, width))
-}
-
-// The first of the replacements, by their seed, that a map doesn't follow.
-fn first_unfollowed(alloc: Global, cases: &[Followed]) -> Result<Option<u64>, AllocError> {
-    for case in cases {
-        if !is_followed(alloc, case)? {
-            return Ok(Some(case.0));
-        }
-    }
-    Ok(None)
-}
-
-fn followed() -> &'static [Followed] {
-    &FOLLOWED
+    let wrapping = wrapped(shape);
+    let mut lines = some_lines(alloc, &mut Numbers { state: seed }, limit)?;
+    let mut map = ScreenMap::new(alloc, lines.as_slice(), wrapping, &mut WrapCount::new())?;
+    follows_all(alloc, &mut map, &mut lines, made, wrapping)
 }
 
 #[test]
 fn follows_replacements(rt: HostRuntime) -> Result<(), Fail> {
-    assert_eq!(rt; first_unfollowed(rt.alloc(), followed())?, None);
-    Ok(())
+    check_each(&rt, &FOLLOWED, is_followed)
 }
 
 // Two lines in the place of one, so many times in the same row. Whether the map is then as one that is made anew.
@@ -577,11 +468,9 @@ fn follows_breaks_of(
     row: usize,
     count: usize,
 ) -> Result<bool, AllocError> {
-    let wrapping = wrapped(WrapMode::Word, 9);
+    let wrapping = wrapped(WIDE_WORDS);
     let mut map = ScreenMap::new(alloc, lines.as_slice(), wrapping, &mut WrapCount::new())?;
-    let answer = follows_breaks(alloc, &mut map, lines, row, count, wrapping);
-    drop(map);
-    answer
+    follows_breaks(alloc, &mut map, lines, row, count, wrapping)
 }
 
 // A block that is filled up is halved.

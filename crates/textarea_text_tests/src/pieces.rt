@@ -1,6 +1,5 @@
 //! Given texts cut into pieces and joined again, parts of a text, and the spaces up to a tab stop.
-ghost use Rattle.std.specs.Prelude.{◌<◌, length};
-
+use crate::cases::check_each;
 use crate::texts::Place;
 use std::alloc::{AllocError, Global};
 use std::test::Fail;
@@ -11,7 +10,7 @@ use textarea_text::rows::column_count;
 use textarea_text::tab::spaces_to_stop;
 
 /// What is written of pieces.
-#[derive(Clone, Copy)]
+#[derive(Clone, Copy, Debug)]
 enum Written {
     /// All of them, and how many there are.
     Whole(&'static str, usize),
@@ -34,59 +33,27 @@ static CASES: [Case; 8] = [
 ];
 
 fn is_joined(alloc: Global, pieces: &[String], joined: &str) -> Result<bool, AllocError> {
-    let text = join_with_line_feeds(alloc, pieces)?;
-    let answer = text.as_str() == joined;
-    drop(text);
-    Ok(answer)
+    Ok(join_with_line_feeds(alloc, pieces)?.as_str() == joined)
 }
 
-fn is_whole(alloc: Global, pieces: &[String], joined: &str) -> Result<bool, AllocError> {
-    let copy = copy_pieces(alloc, pieces)?;
-    let answer = is_joined(alloc, &copy, joined);
-    drop(copy);
-    answer
-}
-
-fn is_part(alloc: Global, pieces: &[String], place: Place, joined: &str) -> Result<bool, AllocError>
-    requires { 0 < length pieces.now }
-{
-    let part = between(alloc, pieces, (0, 0), clip(pieces, place))?;
-    let answer = is_joined(alloc, &part, joined);
-    drop(part);
-    answer
-}
-
-fn is_written(alloc: Global, pieces: &[String], written: Written) -> Result<bool, AllocError>
-    requires { 0 < length pieces.now }
-{
-    match written {
-        Written::Whole(text, count) => Ok(pieces.len() == count && is_whole(alloc, pieces, text)?),
-        Written::Part(place, text) => is_part(alloc, pieces, place, text),
-    }
-}
-
-fn is_met(alloc: Global, case: &Case) -> Result<bool, AllocError> {
-    let pieces = pieces_of(alloc, case.0)?;
-    let answer = is_written(alloc, pieces.as_slice(), case.1);
-    drop(pieces);
-    answer
-}
-
-// The first of the cases of which something else is written.
-fn first_other(alloc: Global) -> Result<Option<usize>, AllocError> {
-    for (n, case) in CASES.iter().enumerate() {
-        if !is_met(alloc, case)? {
-            return Ok(Some(n));
+fn is_met(alloc: Global, (given, written): &Case) -> Result<bool, AllocError> {
+    let pieces = pieces_of(alloc, given)?;
+    match *written {
+        Written::Whole(text, count) => {
+            let copy = copy_pieces(alloc, pieces.as_slice())?;
+            Ok(copy.len() == count && is_joined(alloc, copy.as_slice(), text)?)
+        }
+        Written::Part(place, text) => {
+            let place = clip(pieces.as_slice(), place);
+            let part = between(alloc, pieces.as_slice(), (0, 0), place)?;
+            is_joined(alloc, part.as_slice(), text)
         }
     }
-    Ok(None)
 }
 
 #[test]
 fn given_and_written(rt: HostRuntime) -> Result<(), Fail> {
-    let other = first_other(rt.alloc())?;
-    assert_eq!(rt; other, None);
-    Ok(())
+    check_each(&rt, &CASES, is_met)
 }
 
 /// A line, a tab length, and the spaces from the line's end to the tab stop.
@@ -105,21 +72,7 @@ fn is_stop((line, tab_length, spaces): TabStop) -> bool {
     tab_length > 0 && spaces_to_stop(line, column_count(line), tab_length) == spaces
 }
 
-// The first of the lines that has other spaces behind it.
-fn first_other_stop(stops: &[TabStop]) -> Option<&'static str> {
-    for stop in stops {
-        if !is_stop(*stop) {
-            return Some(stop.0);
-        }
-    }
-    None
-}
-
-fn stops() -> &'static [TabStop] {
-    &TAB_STOPS
-}
-
 #[test]
-fn tab_stops(rt: HostRuntime) {
-    assert_eq!(rt; first_other_stop(stops()), None);
+fn tab_stops(rt: HostRuntime) -> Result<(), Fail> {
+    check_each(&rt, &TAB_STOPS, |_, stop| Ok(is_stop(*stop)))
 }

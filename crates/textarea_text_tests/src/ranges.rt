@@ -2,6 +2,7 @@
 use crate::texts::strings;
 use std::alloc::{AllocError, Global};
 use std::test::Fail;
+use textarea_data::range::AtomicRangeRejectReason::*;
 use textarea_data::range::{AtomicRange, AtomicRangeRejectReason, RejectedAtomicRange};
 use textarea_ranges::validate::validate;
 
@@ -17,19 +18,18 @@ fn rejected(range: AtomicRange, reason: AtomicRangeRejectReason) -> RejectedAtom
     RejectedAtomicRange { range, reason }
 }
 
-fn are_accepted(alloc: Global, lines: &[String]) -> Result<bool, AllocError> {
+fn accepts(alloc: Global) -> Result<bool, AllocError> {
+    let lines = strings(alloc, &["a犬c"])?;
     let given = vec![in alloc; part(0, 1, 3), part(0, 0, 1)]?;
     let expected = [part(0, 0, 1), part(0, 1, 3)];
-    let outcome = validate(alloc, given, lines)?;
-    let answer = match &outcome {
-        Ok(held) => held.as_slice() == expected.as_slice(),
-        Err(_) => false,
-    };
-    drop(outcome);
-    Ok(answer)
+    match validate(alloc, given, lines.as_slice())? {
+        Ok(held) => Ok(held.as_slice() == expected.as_slice()),
+        Err(_) => Ok(false),
+    }
 }
 
-fn are_refused(alloc: Global, lines: &[String]) -> Result<bool, AllocError> {
+fn refuses(alloc: Global) -> Result<bool, AllocError> {
+    let lines = strings(alloc, &["abc"])?;
     let given = vec![in alloc;
         part(0, 2, 4),
         part(1, 0, 1),
@@ -38,32 +38,15 @@ fn are_refused(alloc: Global, lines: &[String]) -> Result<bool, AllocError> {
         part(0, 1, 3),
     ]?;
     let expected = [
-        rejected(part(0, 1, 1), AtomicRangeRejectReason::Empty),
-        rejected(part(0, 1, 3), AtomicRangeRejectReason::OverlapsPrevious),
-        rejected(part(0, 2, 4), AtomicRangeRejectReason::ColumnOutOfBounds),
-        rejected(part(1, 0, 1), AtomicRangeRejectReason::RowOutOfBounds),
+        rejected(part(0, 1, 1), Empty),
+        rejected(part(0, 1, 3), OverlapsPrevious),
+        rejected(part(0, 2, 4), ColumnOutOfBounds),
+        rejected(part(1, 0, 1), RowOutOfBounds),
     ];
-    let outcome = validate(alloc, given, lines)?;
-    let answer = match &outcome {
-        Ok(_) => false,
-        Err(error) => error.rejected.as_slice() == expected.as_slice(),
-    };
-    drop(outcome);
-    Ok(answer)
-}
-
-fn accepts(alloc: Global) -> Result<bool, AllocError> {
-    let lines = strings(alloc, &["a犬c"])?;
-    let answer = are_accepted(alloc, lines.as_slice());
-    drop(lines);
-    answer
-}
-
-fn refuses(alloc: Global) -> Result<bool, AllocError> {
-    let lines = strings(alloc, &["abc"])?;
-    let answer = are_refused(alloc, lines.as_slice());
-    drop(lines);
-    answer
+    match validate(alloc, given, lines.as_slice())? {
+        Ok(_) => Ok(false),
+        Err(error) => Ok(error.rejected.as_slice() == expected.as_slice()),
+    }
 }
 
 #[test]

@@ -1,5 +1,10 @@
 //! Lines of the tests' own, and places in them.
+ghost use Rattle.std.specs.Prelude.{IsTrue};
+ghost use Rattle.textarea_text.specs.Place.{IsPlaceOf};
+ghost use Rattle.textarea_text.specs.Text.{lines_of};
+
 use std::alloc::{AllocError, Global};
+use textarea_text::rows::column_count;
 
 /// A line or visual row, and a column there.
 pub type Place = (usize, usize);
@@ -10,4 +15,11 @@ pub fn strings(alloc: Global, texts: &[&str]) -> Result<Vec<String>, AllocError>
         lines.push(String::from_str(alloc, text)?)?;
     }
     Ok(lines)
+}
+
+/// Whether the lines have this place.
+pub fn is_place(lines: &[String], place: Place) -> bool
+    ensures { IsTrue result → IsPlaceOf (lines_of lines.now) place }
+{
+    place.0 < lines.len() && place.1 <= column_count(lines[place.0].as_str())
 }

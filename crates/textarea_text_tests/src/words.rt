@@ -1,4 +1,6 @@
 //! The classes of characters, and the words of lines, by hand from the rules.
+use crate::cases::check_each;
+use std::test::Fail;
 use textarea_text::word::{
     CharKind, find_word_exclusive_end_forward, find_word_inclusive_end_forward,
     find_word_start_backward, find_word_start_forward,
@@ -43,49 +45,20 @@ static SEARCHES: [Searched; 16] = [
     ("", 7, [None, None, None, None]),
 ];
 
-// The first of the characters that is of another class.
-fn first_other_class(classes: &[(char, CharKind)]) -> Option<char> {
-    for (c, kind) in classes {
-        if CharKind::new(*c) != *kind {
-            return Some(*c);
-        }
-    }
-    None
-}
-
-fn answers(line: &str, start: usize) -> [Option<usize>; 4] {
-    [
-        find_word_start_forward(line, start),
-        find_word_exclusive_end_forward(line, start),
-        find_word_inclusive_end_forward(line, start),
-        find_word_start_backward(line, start),
-    ]
-}
-
-fn is_answered(searched: &Searched) -> bool {
-    answers(searched.0, searched.1) == searched.2
-}
-
-// The first of the searches that is answered in another way.
-fn first_other_search(searches: &[Searched]) -> Option<usize> {
-    for (n, searched) in searches.iter().enumerate() {
-        if !is_answered(searched) {
-            return Some(n);
-        }
-    }
-    None
-}
-
-fn classes() -> &'static [(char, CharKind)] {
-    &CLASSES
-}
-
-fn searches() -> &'static [Searched] {
-    &SEARCHES
+fn is_answered((line, start, answers): &Searched) -> bool {
+    let found = [
+        find_word_start_forward(line, *start),
+        find_word_exclusive_end_forward(line, *start),
+        find_word_inclusive_end_forward(line, *start),
+        find_word_start_backward(line, *start),
+    ];
+    found == *answers
 }
 
 #[test]
-fn classes_and_searches(rt: HostRuntime) {
-    assert_eq!(rt; first_other_class(classes()), None);
-    assert_eq!(rt; first_other_search(searches()), None);
+fn classes_and_searches(rt: HostRuntime) -> Result<(), Fail> {
+    check_each(&rt, &CLASSES, |_, (c, kind)| {
+        Ok(CharKind::new(*c) == *kind)
+    })?;
+    check_each(&rt, &SEARCHES, |_, searched| Ok(is_answered(searched)))
 }

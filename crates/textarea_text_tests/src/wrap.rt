@@ -1,4 +1,5 @@
 //! Rows of lines that are written out, worked by hand from the rules, and the numbers of some layouts.
+use crate::cases::check_each;
 use std::alloc::{AllocError, Global};
 use std::test::Fail;
 use textarea_wrap::layout::LayoutMetrics;
@@ -6,7 +7,7 @@ use textarea_wrap::wrap::columns::{
     column_behind, column_behind_text, display_column_behind, display_column_behind_text,
     fits_width, plain_columns,
 };
-use textarea_wrap::wrap::{Rows, WrapCount, WrapMode, line_ranges};
+use textarea_wrap::wrap::{WrapCount, WrapMode, line_ranges};
 
 /// A line, a width, a tab length, and the texts of the rows, each followed by a bar.
 type Wrapped = (&'static str, WrapMode, usize, u8, &'static str);
@@ -40,71 +41,29 @@ static LINES: [Wrapped; 23] = [
     ("a b", WrapMode::Word, usize::MAX, 255, "a b|"),
 ];
 
-// Writes the texts of the rows, each followed by a bar.
-fn show(text: &mut String, line: &str, rows: &[(usize, usize)]) -> Result<(), AllocError> {
+// The texts of rows, each followed by a bar.
+fn shown(alloc: Global, line: &str, rows: &[(usize, usize)]) -> Result<String, AllocError> {
+    let mut text = String::new(alloc);
     for (start, end) in rows {
         if let Some(row) = line.get(*start..*end) {
             text.push_str(row)?;
         }
         text.push('|')?;
     }
-    Ok(())
+    Ok(text)
 }
 
-// Whether the rows have these texts.
-fn is_shown(
-    alloc: Global,
-    line: &str,
-    rows: &[(usize, usize)],
-    expected: &str,
-) -> Result<bool, AllocError> {
-    let mut text = String::new(alloc);
-    let shown = show(&mut text, line, rows);
-    let answer = text.as_str() == expected;
-    drop(text);
-    shown?;
-    Ok(answer)
-}
-
-// Whether a copy of the rows has them.
-fn is_copy_shown(
-    alloc: Global,
-    line: &str,
-    rows: &Rows,
-    expected: &str,
-) -> Result<bool, AllocError> {
-    let copy = rows.clone()?;
-    let answer = is_shown(alloc, line, copy.as_slice(), expected);
-    drop(copy);
-    answer
-}
-
+// Whether a copy of the rows has these texts.
 fn is_wrapped(alloc: Global, case: &Wrapped) -> Result<bool, AllocError> {
     let (line, mode, width, tab_len, expected) = *case;
     let rows = line_ranges(alloc, line, mode, width, tab_len, &mut WrapCount::new())?;
-    let answer = is_copy_shown(alloc, line, &rows, expected);
-    drop(rows);
-    answer
-}
-
-// The first of the lines that is wrapped in another way.
-fn first_other(alloc: Global, lines: &[Wrapped]) -> Result<Option<usize>, AllocError> {
-    for (n, case) in lines.iter().enumerate() {
-        if !is_wrapped(alloc, case)? {
-            return Ok(Some(n));
-        }
-    }
-    Ok(None)
-}
-
-fn lines() -> &'static [Wrapped] {
-    &LINES
+    let copy = rows.clone()?;
+    Ok(shown(alloc, line, copy.as_slice())?.as_str() == expected)
 }
 
 #[test]
 fn wrapped_lines(rt: HostRuntime) -> Result<(), Fail> {
-    assert_eq!(rt; first_other(rt.alloc(), lines())?, None);
-    Ok(())
+    check_each(&rt, &LINES, is_wrapped)
 }
 
 fn are_right_columns() -> bool {
@@ -147,16 +106,7 @@ fn has_columns((settings, columns): Layout) -> bool {
     (metrics.line_number_width(), metrics.wrap_width()) == columns
 }
 
-fn have_columns(layouts: &[Layout]) -> bool {
-    for layout in layouts {
-        if !has_columns(*layout) {
-            return false;
-        }
-    }
-    true
-}
-
 #[test]
-fn layouts(rt: HostRuntime) {
-    assert!(rt; have_columns(&LAYOUTS));
+fn layouts(rt: HostRuntime) -> Result<(), Fail> {
+    check_each(&rt, &LAYOUTS, |_, layout| Ok(has_columns(*layout)))
 }

@@ -2,20 +2,8 @@
 use Rattle.std.proofs.Common.{◌≡◌, ℕ, ◌+◌, ◌==◌, ◌&&◌, Bool, true, false, List, [], ◌∷◌, ◌++◌, length, refl, sym, ap, ◌∙◌, subst, arith}
 use Rattle.std.proofs.lemmas.Bool.{cond-false}
 use Rattle.std.proofs.lemmas.List.{length-append}
-use Rattle.textarea_highlight.specs.Row.{ShowsRow}
-use Rattle.textarea_paint.specs.Row.{row_cell}
-use Rattle.textarea_paint.specs.declared.paint.row.RowArea.{RowArea}
-use Rattle.textarea_screen.specs.Buffer.{Changes, KeepsOutside}
-use Rattle.textarea_screen.specs.Cell.{ShownCell}
-use Rattle.textarea_screen.specs.Rect.{contains, is_in_row}
-use Rattle.textarea_screen.specs.Text.{ShownLine}
-use Rattle.textarea_screen.specs.declared.screen.buffer.Buffer.{Buffer}
-use Rattle.textarea_screen.specs.declared.screen.rect.Rect.{Rect}
+use Rattle.textarea_view.specs.Prelude.{ShowsRow, row_cell, RowArea, Changes, KeepsOutside, ShownCell, contains, is_in_row, ShownLine, Buffer, Rect, AreShown, DrawnTo, lines_change, VisualRow, row_at, highlights_of, row_highlights, SceneState}
 use Rattle.textarea_screen.proofs.ChangeLemmas.{Changes-none, Changes-then, KeepsOutside-from_changes, KeepsOutside-then, KeepsOutside-wider}
-use Rattle.textarea_view.specs.SceneDrawn.{AreShown, DrawnTo, lines_change}
-use Rattle.textarea_screen_map.specs.Rows.{VisualRow, row_at}
-use Rattle.textarea_view.specs.Rows.{highlights_of, row_highlights}
-use Rattle.textarea_view.specs.Scene.{SceneState}
 
 -- what is told of a row's text is told of the row
 pub told : (scene : SceneState) (number : ℕ) (row : VisualRow) → row ≡ row_at scene.rows.lines scene.rows.rows number → highlights_of scene row ≡ row_highlights scene number

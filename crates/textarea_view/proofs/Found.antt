@@ -1,11 +1,8 @@
 -- The matches of a line, by the line's bytes.
 use Rattle.std.proofs.Common.{◌≡◌, ◌<◌, ℕ, List, [], length, get_or, Option, None, Some, String, ap, ◌∙◌, arith, string_bytes}
 use Rattle.std.proofs.lemmas.List.{length-map}
-use Rattle.std.specs.Option.{option_map_or}
-use Rattle.textarea_text.specs.Text.{characters_of, lines_of}
+use Rattle.textarea_view.specs.Prelude.{option_map_or, characters_of, lines_of, match_spans, matches_in}
 use Rattle.textarea_screen_map.proofs.Holding.{bytes_of_line}
-use Rattle.textarea_search.specs.Matches.{match_spans}
-use Rattle.textarea_view.specs.Rows.{matches_in}
 
 pub found_in : {Z : Type 0} (pattern : Option (List ℕ)) (items : List (String Z)) (i : ℕ) (line : String Z) (text : List ℕ) (found : List (ℕ × ℕ)) → i < length (lines_of items) → line ≡ get_or items i line → text ≡ string_bytes line → found ≡ option_map_or (λ p. match_spans p text) pattern [] → found ≡ matches_in (record { pattern = pattern; lines = lines_of items }) i
 found_in pattern items i line text found within read same e =

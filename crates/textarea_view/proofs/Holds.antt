@@ -2,14 +2,8 @@
 use Rattle.std.proofs.Common.{◌≡◌, ◌≢◌, ℕ, ◌-◌, ◌<◌, ◌==◌, Bool, true, false, List, length, refl, sym, ap, ◌∙◌, arith, eq-eqb}
 use Rattle.std.proofs.lemmas.Bool.{eqb-true}
 use Rattle.std.proofs.lemmas.Bool.Decides.{nat_tests}
-use Rattle.textarea_text.specs.Place.{Place}
-use Rattle.textarea_wrap.specs.RowsView.{RowsView}
-use Rattle.textarea_screen_map.specs.declared.layout.Wrapping.{Wrapping}
-use Rattle.textarea_screen_map.specs.Layout.{AreRowsOf}
-use Rattle.textarea_screen_map.specs.Rows.{VisualRow, column_at, row_at, visual_rows}
-use Rattle.textarea_screen_map.specs.Seen.{IsInRow, IsVisualPosition}
+use Rattle.textarea_view.specs.Prelude.{Place, RowsView, Wrapping, AreRowsOf, VisualRow, column_at, row_at, visual_rows, IsInRow, IsVisualPosition, holds}
 use Rattle.textarea_screen_map.proofs.Once.{seen_once}
-use Rattle.textarea_view.specs.Rows.{holds}
 
 in_row : (row : VisualRow) (place : Place) → holds row place ≡ true → IsInRow row place
 in_row row place h = record { line = grind (arith, nat_tests); from = grind (arith, nat_tests); to = grind (arith, nat_tests); before_next = λ last. grind (arith, nat_tests) }

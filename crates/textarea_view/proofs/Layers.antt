@@ -1,28 +1,14 @@
 -- One layer of a frame after another, and the cells outside of them.
 use Rattle.std.proofs.Common.{◌≡◌, ℕ, Bool, true, false, IsTrue, List, Result, Ok, Err, OnOk, OnErr, IfOk, take, refl, sym, subst}
 use Rattle.std.proofs.lemmas.Bool.{cond-false}
-use Rattle.textarea_view.specs.Cells.{AreLinesOf, AreLinesWith, block_change, frame_change, inside_change, inside_with, lines_shown, placeholder_change, rows_change, style_change}
-use Rattle.textarea_view.specs.Placed.{row_area}
-use Rattle.textarea_view.specs.Frame.{FrameState, shows_placeholder}
-use Rattle.textarea_highlight.specs.declared.highlight.highlighter.CursorCellRender.{CursorCellRender}
-use Rattle.textarea_view.specs.declared.look.Look.{Look}
-use Rattle.textarea_paint.specs.Block.{block_cell}
-use Rattle.textarea_paint.specs.declared.paint.row.RowArea.{RowArea}
+use Rattle.textarea_view.specs.Prelude.{AreLinesOf, AreLinesWith, block_change, frame_change, inside_change, inside_with, lines_shown, placeholder_change, rows_change, style_change, row_area, FrameState, shows_placeholder, CursorCellRender, Look, block_cell, RowArea, FillsArea, lines_change, rows_above_end, in_style, placeholder_lines, cursor_cell, SceneState, ShownBlock, Changes, KeepsOutside, area_of, ShownCell, contains, ShownLine, ShownText, Buffer, Rect, Style, ViewportState}
 use Rattle.textarea_view.proofs.Drawing.{lines_inside}
-use Rattle.textarea_view.specs.SceneDrawn.{FillsArea, lines_change, rows_above_end}
-use Rattle.textarea_view.specs.Placeholder.{in_style, placeholder_lines}
-use Rattle.textarea_view.specs.Rows.{cursor_cell}
-use Rattle.textarea_view.specs.Scene.{SceneState}
 use Rattle.textarea_screen.proofs.ChangeLemmas.{Changes-then, KeepsOutside-from_changes, KeepsOutside-then, KeepsOutside-wider}
-use Rattle.textarea_screen.specs.Block.{ShownBlock}
-use Rattle.textarea_screen.specs.Buffer.{Changes, KeepsOutside, area_of}
-use Rattle.textarea_screen.specs.Cell.{ShownCell}
-use Rattle.textarea_screen.specs.Rect.{contains}
-use Rattle.textarea_screen.specs.Text.{ShownLine, ShownText}
-use Rattle.textarea_screen.specs.declared.screen.buffer.Buffer.{Buffer}
-use Rattle.textarea_screen.specs.declared.screen.rect.Rect.{Rect}
-use Rattle.textarea_screen.specs.declared.screen.style.Style.{Style}
-use Rattle.textarea_view.specs.Viewport.{ViewportState}
+
+-- what holds holds on an error too
+pub also_on_err : {T E Fact : Type 0} (r : Result T E) → Fact → OnErr r Fact
+also_on_err (Ok x) fact = tt
+also_on_err (Err e) fact = fact
 
 -- ---- around
 

@@ -1,15 +1,6 @@
 -- What is shown of a scene is shown by one list of lines.
 use Rattle.std.proofs.Common.{◌≡◌, ℕ, ◌+◌, List, [], ◌∷◌, length, refl, sym, ap, ◌∙◌, arith}
-use Rattle.textarea_highlight.specs.Highlights.{Highlights}
-use Rattle.textarea_highlight.specs.Row.{ShowsRow}
-use Rattle.textarea_paint.specs.Clusters.{row_clusters}
-use Rattle.textarea_paint.specs.Row.{row_start}
-use Rattle.textarea_paint.specs.declared.paint.row.RowArea.{RowArea}
-use Rattle.textarea_screen.specs.Text.{ShownLine}
-use Rattle.textarea_screen.specs.declared.screen.rect.Rect.{Rect}
-use Rattle.textarea_view.specs.SceneDrawn.{AreShown, FillsArea, IsRowStart}
-use Rattle.textarea_view.specs.Rows.{row_highlights}
-use Rattle.textarea_view.specs.Scene.{SceneState}
+use Rattle.textarea_view.specs.Prelude.{Highlights, ShowsRow, row_clusters, row_start, RowArea, ShownLine, Rect, AreShown, FillsArea, IsRowStart, row_highlights, SceneState}
 
 module _ (one_line : (h : Highlights) (line other : ShownLine) → ShowsRow h line → ShowsRow h other → line ≡ other) where
   shown_once : (scene : SceneState) (row : ℕ) (lines others : List ShownLine) → length lines ≡ length others →

@@ -4,26 +4,9 @@ use Rattle.std.specs.List.{flat_map}
 use Rattle.std.proofs.lemmas.Bool.{cond-false}
 use Rattle.std.proofs.lemmas.Bool.Decides.{nat_tests}
 use Rattle.std.proofs.lemmas.List.{length-take, map-append, map_more, take_more}
-use Rattle.textarea_highlight.specs.declared.highlight.highlighter.CursorCellRender.{CursorCellRender}
-use Rattle.textarea_highlight.specs.declared.highlight.highlighter.CursorCellRender.TheVariants.{Draw, Hidden}
-use Rattle.textarea_paint.specs.Clusters.{content_bytes, row_clusters, span_clusters}
-use Rattle.textarea_paint.specs.Row.{cells_of_row, first_shown, placed_row, row_cell}
-use Rattle.textarea_paint.specs.Cells.{row_change}
-use Rattle.textarea_paint.specs.declared.paint.row.RowArea.{RowArea}
-use Rattle.textarea_screen.specs.Buffer.{Changes}
-use Rattle.textarea_screen.specs.Cell.{ShownCell}
-use Rattle.textarea_screen.specs.Rect.{is_in_row}
-use Rattle.textarea_screen.specs.Style.{patched}
-use Rattle.textarea_screen.specs.Text.{ShownContent, ShownLine, ShownSpan, shown_content, shown_span, text_bytes}
-use Rattle.textarea_screen.specs.Text.ShownContent.{Lent}
-use Rattle.textarea_screen.specs.declared.screen.text.SpanText.{SpanText}
-use Rattle.textarea_screen.specs.declared.screen.text.SpanText.TheVariants.{Borrowed, Owned}
-use Rattle.textarea_screen.specs.declared.screen.buffer.Buffer.{Buffer}
-use Rattle.textarea_screen.specs.declared.screen.style.Style.{Style}
-use Rattle.textarea_screen.specs.declared.screen.text.Span.{Span}
+use Rattle.textarea_view.specs.Prelude.{CursorCellRender, Draw, Hidden, content_bytes, row_clusters, span_clusters, cells_of_row, placed_row, row_cell, row_change, RowArea, Changes, ShownCell, is_in_row, patched, ShownContent, ShownLine, ShownSpan, shown_content, shown_span, text_bytes, Lent, SpanText, Borrowed, Owned, Buffer, Style, Span, lines_change, behind_cursor, blank, cell_of_line, lent_line, lent_span, placeholder_lines}
+use Rattle.textarea_paint.specs.Row.{first_shown}
 use Rattle.textarea_screen.proofs.ChangeLemmas.{Changes-as, Changes-then}
-use Rattle.textarea_view.specs.SceneDrawn.{lines_change}
-use Rattle.textarea_view.specs.Placeholder.{behind_cursor, blank, cell_of_line, lent_line, lent_span, placeholder_lines}
 use Rattle.textarea_view.proofs.Drawing.{lines_change-push}
 
 -- ---- the lines

@@ -1,12 +1,8 @@
 -- What a row's highlighter is told, from what its tests found.
 use Rattle.std.proofs.Common.{◌≡◌, ℕ, ◌-◌, ◌&&◌, ◌==◌, true, false, Option, Some, nat_lt, sym, ap, ◌∙◌, arith}
-use Rattle.std.specs.Option.{option_map, option_map_or}
 use Rattle.std.proofs.lemmas.Bool.{cond-false, cond-true}
 use Rattle.std.proofs.lemmas.Bool.Decides.{nat_tests}
-use Rattle.textarea_highlight.specs.Highlights.{Highlights, Range, with_base, with_cursor_line, with_number, with_segment}
-use Rattle.textarea_screen_map.specs.Rows.{VisualRow}
-use Rattle.textarea_view.specs.Rows.{byte_range, holds, number_digits, numbered, part_of, with_cursor, with_line_number, with_selected, with_selected_part}
-use Rattle.textarea_view.specs.Scene.{SceneState}
+use Rattle.textarea_view.specs.Prelude.{option_map, option_map_or, Highlights, Range, with_base, with_cursor_line, with_number, with_segment, VisualRow, byte_range, holds, number_digits, numbered, part_of, with_cursor, with_line_number, with_selected, with_selected_part, SceneState}
 
 -- a line's first row has its number
 pub numbered_first : (scene : SceneState) (row : VisualRow) (h : Highlights) (digits : ℕ) → scene.line_numbers ≡ true → (row.start == 0) ≡ true → digits ≡ number_digits scene → with_number h row.line digits scene.look.line_number_style ≡ numbered scene row h

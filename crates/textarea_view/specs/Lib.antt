@@ -16,3 +16,4 @@ pub mod Placed
 pub mod Cells
 pub mod FrameDrawn
 pub mod Hit
+pub mod Prelude

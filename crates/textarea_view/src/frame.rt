@@ -1,13 +1,6 @@
 //! What one frame is drawn from, and the cells that it makes.
 ghost use Rattle.std.specs.Prelude.{◌≡◌, ℕ, IfOk, IsTrue, List, OnOk};
-ghost use Rattle.textarea_view.specs.Cells.{AreLinesOf, block_change, frame_change, inside_change, lines_shown, placeholder_change, rows_change};
-ghost use Rattle.textarea_view.specs.FrameDrawn.{IsFrameDrawn};
-ghost use Rattle.textarea_view.specs.Frame.{shows_placeholder};
-ghost use Rattle.textarea_view.specs.SceneDrawn.{FillsArea};
-ghost use Rattle.textarea_view.specs.Scene.{HasPlaces};
-ghost use Rattle.textarea_screen.specs.Buffer.{Changes, KeepsOutside, area_of};
-ghost use Rattle.textarea_screen.specs.Rect.{contains};
-ghost use Rattle.textarea_screen.specs.Text.{ShownLine};
+ghost use Rattle.textarea_view.specs.Prelude.{AreLinesOf, block_change, frame_change, inside_change, lines_shown, placeholder_change, rows_change, IsFrameDrawn, shows_placeholder, FillsArea, HasPlaces, Changes, KeepsOutside, area_of, contains, ShownLine};
 
 use crate::placing::{Placing, row_area};
 use crate::scene::Scene;
@@ -52,27 +45,6 @@ impl Frame<'_, '_> {
         ensures { result ≡ shows_placeholder self.now }
     {
         self.is_empty && self.surround.placeholder_rows() > 0
-    }
-
-    // Draws the block over the area, and into the inner area the rows or the placeholder.
-    fn draw(
-        &self,
-        alloc: Global,
-        kept: &mut KeptMatches,
-        buffer: &mut Buffer,
-        area: Rect,
-        viewport: Viewport,
-        inner: Rect,
-    ) -> Result<(), AllocError>
-        requires places { HasPlaces self.now.scene }
-        requires within { (x y : ℕ) → IsTrue (contains inner x y) → IsTrue (contains area x y) }
-        ensures ok { OnOk result ((lines : List ShownLine)
-            × AreLinesOf self.now viewport inner (area_of buffer.old) lines
-            × Changes buffer.old buffer.new (frame_change self.now viewport area inner lines)) }
-        ensures outside { KeepsOutside (contains area) buffer.old buffer.new }
-    {
-        self.draw_around(buffer, area)?;
-        self.draw_inside(alloc, kept, buffer, viewport, inner)
     }
 
     // Draws the rows or the placeholder into the inner area.
@@ -172,6 +144,7 @@ pub fn draw_frame(
     ensures outside { KeepsOutside (contains area) buffer.old buffer.new }
 {
     let placing = frame.placing(alloc, viewport, inner)?;
-    frame.draw(alloc, kept, buffer, area, placing.viewport, inner)?;
+    frame.draw_around(buffer, area)?;
+    frame.draw_inside(alloc, kept, buffer, placing.viewport, inner)?;
     Ok(placing)
 }

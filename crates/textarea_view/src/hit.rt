@@ -1,11 +1,6 @@
 //! Which place of a frame's rows a cell of the screen shows.
 ghost use Rattle.std.specs.Prelude.{◌≡◌, ◌-◌, ◌<◌, IfOk, IfSome, IsOk, Some};
-ghost use Rattle.textarea_view.specs.Hit.{IsHitInRows, IsHitOf};
-ghost use Rattle.textarea_blocks.specs.Sums.{row_total};
-ghost use Rattle.textarea_view.specs.Scene.{HasPlaces};
-ghost use Rattle.textarea_screen.specs.declared.screen.alignment.Alignment.TheVariants.{Left};
-ghost use Rattle.textarea_text.specs.Place.{IsPlaceOf};
-ghost use Rattle.textarea_view.specs.Caret.{hit_row};
+ghost use Rattle.textarea_view.specs.Prelude.{IsHitInRows, IsHitOf, row_total, HasPlaces, Left, IsPlaceOf, hit_row};
 
 use crate::Viewport;
 use crate::frame::Frame;

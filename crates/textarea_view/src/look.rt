@@ -1,6 +1,6 @@
 //! Styles and what else decides how a text is drawn, as plain values.
 ghost use Rattle.std.specs.Prelude.{◌≡◌};
-ghost use Rattle.textarea_view.specs.Look.{default_look, default_cursor_style, default_cursor_line_style, default_search_style, default_selection_style};
+ghost use Rattle.textarea_view.specs.Look.{default_look};
 
 use textarea_screen::screen::{Alignment, Color, Modifier, Style};
 
@@ -54,40 +54,16 @@ impl Default for Look {
     fn default() -> Look {
         Look {
             style: Style::new(),
-            cursor_style: cursor_style(),
-            cursor_line_style: cursor_line_style(),
+            cursor_style: Style::new().add_modifier(Modifier::REVERSED),
+            cursor_line_style: Style::new().add_modifier(Modifier::UNDERLINED),
             line_number_style: Style::new(),
-            selection_style: selection_style(),
-            search_style: search_style(),
+            selection_style: Style::new().bg(Color::LightBlue),
+            search_style: Style::new().bg(Color::Blue),
             alignment: Alignment::Left,
             mask: None,
             cursor_render_mode: CursorRenderMode::Cell,
         }
     }
-}
-
-fn cursor_style() -> Style
-    ensures { result ≡ default_cursor_style }
-{
-    Style::new().add_modifier(Modifier::REVERSED)
-}
-
-fn cursor_line_style() -> Style
-    ensures { result ≡ default_cursor_line_style }
-{
-    Style::new().add_modifier(Modifier::UNDERLINED)
-}
-
-fn selection_style() -> Style
-    ensures { result ≡ default_selection_style }
-{
-    Style::new().bg(Color::LightBlue)
-}
-
-fn search_style() -> Style
-    ensures { result ≡ default_search_style }
-{
-    Style::new().bg(Color::Blue)
 }
 
 /// A highlight of the caller's own. Its start and its end are a row and a byte of that row each; a byte inside a character

@@ -1,12 +1,6 @@
 //! Which part of the rows is shown once a frame is drawn, and where the caret is.
 ghost use Rattle.std.specs.Prelude.{◌≡◌, ◌<◌, IfOk, IsOk};
-ghost use Rattle.std.specs.Option.{option_map};
-ghost use Rattle.textarea_view.specs.Frame.{number_width};
-ghost use Rattle.textarea_view.specs.Placed.{IsPlaced, IsPlacedInRows, LiesAs, corner_caret, placed_at_corner, row_area, row_view, viewport_at};
-ghost use Rattle.textarea_view.specs.Placed.{cell_of_position};
-ghost use Rattle.textarea_blocks.specs.Sums.{row_total};
-ghost use Rattle.textarea_view.specs.Scene.{HasPlaces};
-ghost use Rattle.textarea_screen.specs.declared.screen.alignment.Alignment.TheVariants.{Left};
+ghost use Rattle.textarea_view.specs.Prelude.{option_map, number_width, IsPlaced, IsPlacedInRows, LiesAs, corner_caret, placed_at_corner, row_area, row_view, viewport_at, cell_of_position, row_total, HasPlaces, Left};
 
 use crate::frame::Frame;
 use crate::look::Look;

@@ -1,7 +1,6 @@
 //! The cell of the caret in a visual row, and the column that a cell of the row shows.
 ghost use Rattle.std.specs.Prelude.{◌≡◌, ◌+◌, ◌≤◌};
-ghost use Rattle.std.specs.Option.{option_map};
-ghost use Rattle.textarea_view.specs.Caret.{caret_at, cell_of, hit_column, left_view, offset_view};
+ghost use Rattle.textarea_view.specs.Prelude.{option_map, caret_at, cell_of, hit_column, left_view, offset_view};
 
 use crate::viewport::Viewport;
 use textarea_screen::screen::{Position, Rect};

@@ -6,15 +6,7 @@ mod parts;
 pub mod placeholder;
 
 ghost use Rattle.std.specs.Prelude.{◌≡◌, ◌≢◌, ◌+◌, ◌-◌, ◌^◌, ◌<◌, ◌≤◌, min, List, IfOk, OnErr, OnOk};
-ghost use Rattle.textarea_highlight.specs.Row.{ShowsRow};
-ghost use Rattle.textarea_blocks.specs.Sums.{row_total};
-ghost use Rattle.textarea_screen.specs.Buffer.{area_of, Changes, KeepsOutside};
-ghost use Rattle.textarea_screen.specs.Rect.{contains, is_in_row};
-ghost use Rattle.textarea_screen.specs.Text.{ShownLine, shown_line};
-ghost use Rattle.textarea_paint.specs.Row.{row_cell};
-ghost use Rattle.textarea_view.specs.SceneDrawn.{DrawnTo, FillsArea, IsRowStart, lines_change, rows_above_end};
-ghost use Rattle.textarea_view.specs.Rows.{cursor_cell, row_highlights, searched};
-ghost use Rattle.textarea_view.specs.Scene.{HasPlaces};
+ghost use Rattle.textarea_view.specs.Prelude.{ShowsRow, row_total, area_of, Changes, KeepsOutside, contains, is_in_row, ShownLine, shown_line, row_cell, DrawnTo, FillsArea, IsRowStart, lines_change, rows_above_end, cursor_cell, row_highlights, searched, HasPlaces};
 
 use crate::look::{CursorRenderMode, CustomHighlight, Look};
 use frame::Frame;
@@ -80,7 +72,8 @@ impl<'a> Scene<'a> {
         let frame = Frame::new(self);
         let lines = self.rows.lines();
         let mut matches = FoundMatches::new(alloc, self.search, lines, kept, usize::from(room))?;
-        let count = rows_drawn(room, self.rows.row_count(), top);
+        let left = self.rows.row_count().saturating_sub(top);
+        let count = left.min(usize::from(room));
         draw_rows(alloc, &frame, &mut matches, buffer, rows, top, count)
     }
 
@@ -105,18 +98,11 @@ impl<'a> Scene<'a> {
     {
         match rows.alignment {
             Alignment::Left => Ok(0),
-            _ => self.shown_start(alloc, rows, row),
+            _ => {
+                let line = self.row_line(alloc, row)?;
+                Ok(row_start(rows, &line))
+            }
         }
-    }
-
-    // The same for any alignment, by the line that shows the row.
-    fn shown_start(&self, alloc: Global, rows: RowArea, row: usize) -> Result<u16, AllocError>
-        requires places { HasPlaces self.now }
-        requires row { row < row_total self.now.rows.rows }
-        ensures { IfOk result (λ start. IsRowStart self.now rows row start) }
-    {
-        let line = self.row_line(alloc, row)?;
-        Ok(row_start(rows, &line))
     }
 
     // The line that shows a visual row.
@@ -157,13 +143,6 @@ fn draw_rows<'a>(
         draw_below(buffer, rows, i, &line)?;
     }
     Ok(())
-}
-
-// How many of so many visual rows are drawn from `top` on, where there is room for so many.
-fn rows_drawn(room: u16, row_count: usize, top: usize) -> usize
-    ensures { result ≡ min room (row_count - top) }
-{
-    row_count.saturating_sub(top).min(usize::from(room))
 }
 
 // Draws a line into the row of the area that lies so many rows below its first.

@@ -3,10 +3,7 @@ pub mod measure;
 mod placeholder;
 
 ghost use Rattle.std.specs.Prelude.{◌≡◌, IfOk, None, Some};
-ghost use Rattle.std.specs.Option.{option_map};
-ghost use Rattle.textarea_screen.specs.Block.{shown_block};
-ghost use Rattle.textarea_view.specs.State.{AreBounds, new_surround};
-ghost use Rattle.textarea_view.specs.Outcomes.{with_max_rows, with_min_rows};
+ghost use Rattle.textarea_view.specs.Prelude.{option_map, shown_block, AreBounds, new_surround, with_max_rows, with_min_rows};
 
 use std::alloc::{AllocError, Global};
 use std::marker::Model;

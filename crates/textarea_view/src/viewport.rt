@@ -1,15 +1,6 @@
 //! The part of a text's visual rows that is shown, which follows the cursor and is scrolled.
 ghost use Rattle.std.specs.Prelude.{◌≡◌};
-ghost use Rattle.textarea_view.specs.Caret.{hit_row};
-ghost use Rattle.textarea_view.specs.Scrolled.{scrolled, scrolled_by, scrolled_viewport};
-ghost use Rattle.textarea_view.specs.Shown.{
-  at_start,
-  column_to_show,
-  first_shown,
-  showing_row,
-  showing_row_and_column,
-};
-ghost use Rattle.textarea_view.specs.Viewport.{clamped, initial_viewport, last_shown};
+ghost use Rattle.textarea_view.specs.Prelude.{hit_row, scrolled, scrolled_by, scrolled_viewport, at_start, column_to_show, first_shown, showing_row, showing_row_and_column, clamped, initial_viewport, last_shown};
 
 use std::marker::Model;
 use textarea_data::scroll::Scrolling;

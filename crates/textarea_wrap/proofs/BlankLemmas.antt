@@ -1,4 +1,5 @@
 -- A whitespace unit, taken by itself, is one cluster: between whitespace characters a boundary depends on these two alone.
+use Rattle.std.proofs.lemmas.Grind.{common_steps}
 use Rattle.std.proofs.Common.{◌≡◌, ℕ, zero, suc, ◌+◌, ◌<◌, ◌≤◌, Bool, true, false, cond, not, ◌&&◌, ◌||◌, ◌==◌, nat_lt, unwrap_or, List, [], ◌∷◌, ◌++◌, map, length, refl, sym, ap, ap₂, subst, ◌∙◌, ⊎_elim, arith}
 use Rattle.std.proofs.lemmas.Bool.{false≢true, and_parts, or_cases, cases_order, cond_both}
 use Rattle.std.proofs.lemmas.Str.{chars-encodes}
@@ -149,10 +150,7 @@ cut_clusters before (c ∷ []) p =
     let one : AllByRecursion IsOneCluster ((c ∷ []) ∷ []) = (record { some = omega arith; plain_chars = (p.0, tt); whole = tt }, tt) in
     cond_both (is_grapheme_break true (c ∷ before) []) ((c ∷ []) ∷ []) (prepend (c ∷ []) []) (AllByRecursion IsOneCluster) (λ _. one) (λ _. one)
 cut_clusters before (c ∷ (d ∷ cs)) p =
-    let head = cut_head (c ∷ before) d cs in
-    let later = subst (AllByRecursion IsOneCluster) head.2 (cut_clusters (c ∷ before) (d ∷ cs) p.1) in
-    subst (λ t. AllByRecursion IsOneCluster (cond (is_grapheme_break true (c ∷ before) (d ∷ (cs ++ []))) ((c ∷ []) ∷ t) (prepend (c ∷ []) t))) (sym head.2)
-    (join (is_grapheme_break true (c ∷ before) (d ∷ (cs ++ []))) c d head.0 head.1 (sym (pair_same c d before (cs ++ []) p.0 p.1.0)) p.0 later)
+    grind (arith, common_steps, cut_head (c ∷ before) d cs, cut_clusters (c ∷ before) (d ∷ cs) p.1, join, pair_same c d before (cs ++ []) p.0 p.1.0)
 
 -- ---- texts of such characters
 
@@ -165,8 +163,7 @@ length-graphemes-one : (cs : List ℕ) → IsOneCluster cs → length (graphemes
 unfolding segments
 length-graphemes-one [] one = let some = one.some in absurd (omega arith)
 length-graphemes-one (c ∷ cs) one =
-    ap (λ t. length (map encode_utf8_all (cut (is_grapheme_break true) [] t []))) (chars-encodes (c ∷ cs) (scalars-ArePlain (c ∷ cs) one.plain_chars))
-    ∙ ap (λ t. length (map encode_utf8_all t)) (cut_one [] c cs one.plain_chars one.whole)
+    grind (arith, common_steps, chars-encodes (c ∷ cs) (scalars-ArePlain (c ∷ cs) one.plain_chars), scalars-ArePlain (c ∷ cs) one.plain_chars, cut_one [] c cs one.plain_chars one.whole)
 
 blanks_from_clusters : (segs : List (List ℕ)) → AllByRecursion IsOneCluster segs → AreBlanksClusters (map encode_utf8_all segs)
 blanks_from_clusters [] all = tt

@@ -1,4 +1,5 @@
 -- Columns of characters and pieces that are put together.
+use Rattle.std.proofs.lemmas.Grind.{common_steps}
 use Rattle.std.proofs.Common.{length, length-append, ◌≡◌, ℕ, ◌+◌, ◌-◌, ◌/◌, ◌%◌, ◌<◌, ◌≤◌, true, false, cond, nat_eq, le_refl, le_trans, List, [], ◌∷◌, ◌++◌, refl, sym, ap, subst, ◌∙◌, append-nil, arith}
 use Rattle.std.proofs.Math.Nat.{div-add-mod, mul-le-mul_left}
 use Rattle.std.proofs.lemmas.Nat.{le-div, mod_below}
@@ -24,15 +25,12 @@ stretch_width-one tab_len piece = ap (end_column tab_len 0) (append-nil (chars p
 
 pub stretch_width-push : (tab_len : ℕ) (stretch : List (List ℕ)) (piece : List ℕ) → stretch_width tab_len (stretch ++ piece ∷ []) ≡ end_column tab_len (stretch_width tab_len stretch) (chars piece)
 stretch_width-push tab_len stretch piece =
-    ap (end_column tab_len 0) (flat_map-append chars stretch (piece ∷ []) ∙ ap (λ t. flat_map chars stretch ++ t) (append-nil (chars piece)))
-    ∙ end_column-append tab_len 0 (flat_map chars stretch) (chars piece)
+    grind (arith, common_steps, flat_map-append chars stretch (piece ∷ []), append-nil (chars piece), end_column-append tab_len 0 (flat_map chars stretch) (chars piece))
 
 -- ---- columns that begin later
 
 stop-le : (t x y : ℕ) → 0 < t → x ≤ y → x + (t - x % t) ≤ y + (t - y % t)
-stop-le t x y some h =
-    let quotient : x / t ≤ y / t = le-div (x / t) y t some (omega (arith, div-add-mod x t)) in
-    omega (arith, div-add-mod x t, div-add-mod y t, mod_below x t some, mod_below y t some, mul-le-mul_left t quotient)
+stop-le t x y some h = grind (arith, common_steps, le-div, div-add-mod x t, div-add-mod y t, mod_below x t some, mod_below y t some, mul-le-mul_left)
 
 next_stop-le : (t x y : ℕ) → x ≤ y → next_stop t x ≤ next_stop t y
 next_stop-le t x y h = grind (arith, nat_tests, stop-le t x y)
@@ -41,11 +39,7 @@ next_stop-after : (t x : ℕ) → x ≤ next_stop t x
 next_stop-after t x = grind (arith, nat_tests)
 
 column_after-le : (t x y c : ℕ) → x ≤ y → column_after t x c ≤ column_after t y c
-column_after-le t x y c h =
-    elim (nat_eq c 9) as (λ is_tab. cond is_tab (next_stop t x) (x + plain_width c) ≤ cond is_tab (next_stop t y) (y + plain_width c)) [
-      | true ↦ next_stop-le t x y h
-      | false ↦ omega arith
-    ]
+column_after-le t x y c h = grind (arith, common_steps, next_stop-le t x y h)
 
 column_after-after : (t x c : ℕ) → x ≤ column_after t x c
 column_after-after t x c =

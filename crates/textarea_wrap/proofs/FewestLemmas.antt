@@ -1,4 +1,5 @@
 -- A greedy cutting has the fewest rows, since a stretch that begins later is never wider.
+use Rattle.std.proofs.lemmas.Grind.{common_steps}
 use Rattle.std.proofs.Common.{◌≡◌, ℕ, ◌<◌, ◌≤◌, ◌⊎◌, inl, inr, List, [], ◌∷◌, ◌++◌, length, refl, sym, ap, subst, ◌∙◌, ⊎_elim, append_assoc, append-nil, length-append, arith}
 use Rattle.std.proofs.lemmas.List.{length-map}
 use Rattle.std.specs.List.{concat}
@@ -22,14 +23,7 @@ fronts (x ∷ a) b (y ∷ c) d h =
 pub not_shorter : (t w : ℕ) (stretch later front rest : Stretch) (next : List ℕ) (row : Stretch) → IsGlyphRow t w stretch later → later ≡ next ∷ rest → (back : Stretch)
     → row ≡ front ++ (stretch ++ next ∷ back) → (stretch_width t row ≤ w) ⊎ (length row ≡ 1) → ⊥
 not_shorter t w stretch later front rest next row greedy later_is back row_is fits =
-    let over : w < stretch_width t (stretch ++ next ∷ []) = subst (HasNoRoomForNext t w stretch) later_is greedy.full in
-    let regroup = append_assoc stretch (next ∷ []) back in
-    let wider : stretch_width t (stretch ++ next ∷ []) ≤ stretch_width t (stretch ++ next ∷ back) =
-    subst (λ r. stretch_width t (stretch ++ next ∷ []) ≤ stretch_width t r) regroup (stretch_width-front t (stretch ++ next ∷ []) back) in
-    let whole = subst (λ r. stretch_width t (stretch ++ next ∷ back) ≤ stretch_width t r) (sym row_is) (stretch_width-back t front (stretch ++ next ∷ back)) in
-    let some = greedy.nonempty in
-    ⊎_elim (λ within. omega arith)
-    (λ one. omega (arith, ap length row_is, length-append front (stretch ++ next ∷ back), length-append stretch (next ∷ back))) fits
+    grind (arith, common_steps, append_assoc stretch (next ∷ []) back, stretch_width-front t (stretch ++ next ∷ []) back, stretch_width-back t front (stretch ++ next ∷ back), length-append front (stretch ++ next ∷ back), length-append stretch (next ∷ back))
 
 -- so a fitting row that goes on behind a greedy one ends with it
 ended : (t w : ℕ) (stretch left rest row front back over : Stretch) → IsGlyphRow t w stretch (left ++ []) → row ≡ front ++ back → back ≡ stretch ++ over → left ≡ over ++ rest
@@ -43,8 +37,7 @@ pub greedy_ahead : (t w : ℕ) (others greedy : List Stretch) (front : Stretch) 
     → AreFittingRows t w others → length greedy ≤ length others
 greedy_ahead t w others [] front cut same fit = omega arith
 greedy_ahead t w [] (stretch ∷ greedy) front cut same fit =
-    let some = cut.0.nonempty in
-    absurd (omega (arith, ap length same, length-append front (stretch ++ pieces_of greedy), length-append stretch (pieces_of greedy)))
+    grind (arith, common_steps, length-append front (stretch ++ pieces_of greedy), length-append stretch (pieces_of greedy))
 greedy_ahead t w (row ∷ others) (stretch ∷ greedy) front cut same fit =
     ⊎_elim
     (λ p.

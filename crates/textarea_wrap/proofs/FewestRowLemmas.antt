@@ -1,4 +1,5 @@
 -- The rows of a line are the fewest that its mode allows.
+use Rattle.std.proofs.lemmas.Grind.{common_steps}
 use Rattle.std.proofs.Common.{◌≡◌, ℕ, suc, ◌+◌, ◌<◌, List, [], ◌∷◌, length, refl, ap, arith}
 use Rattle.textarea_wrap.specs.declared.wrap.WrapMode.{WrapMode}
 use Rattle.textarea_wrap.specs.declared.wrap.WrapMode.TheVariants as mode
@@ -22,5 +23,4 @@ pub HasFewestRows-wrapped : (mode : WrapMode) (t w : ℕ) (line : List ℕ) (ran
     → HasFewestRows mode t w line (length ranges)
 HasFewestRows-wrapped mode t w [] ranges some wrapped = absurd (omega arith)
 HasFewestRows-wrapped mode t w (byte ∷ line) ranges some wrapped =
-    rw (wrapped.ranges_are, length-ranges_from)
-    (HasFewestRows-cutting mode t w (byte ∷ line) wrapped.texts wrapped.cut)
+    grind (arith, common_steps, length-ranges_from, HasFewestRows-cutting mode t w (byte ∷ line) wrapped.texts wrapped.cut)

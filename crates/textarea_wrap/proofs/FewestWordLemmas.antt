@@ -1,4 +1,5 @@
 -- A greedy cutting at unit ends has the fewest rows, where each whitespace unit is one cluster.
+use Rattle.std.proofs.lemmas.Grind.{common_steps}
 use Rattle.std.proofs.Common.{◌≡◌, ℕ, ◌<◌, ◌≤◌, ◌⊎◌, inl, inr, true, List, [], ◌∷◌, ◌++◌, length, refl, sym, ap, subst, ◌∙◌, ⊎_elim, append_assoc, append-nil, length-append, arith}
 use Rattle.std.proofs.lemmas.Bool.{cases_lt}
 use Rattle.std.proofs.lemmas.List.{length-map, nil_from_length}
@@ -22,11 +23,7 @@ push-injective : (a b : Stretch) (x y : List ℕ) → a ++ x ∷ [] ≡ b ++ y �
 push-injective [] [] x y h = let e : x ≡ y = cc in (refl, e)
 push-injective [] (z ∷ b) x y h = absurd (omega (arith, ap length h, length-append b (y ∷ [])))
 push-injective (z ∷ a) [] x y h = absurd (omega (arith, ap length h, length-append a (x ∷ [])))
-push-injective (z ∷ a) (v ∷ b) x y h =
-    let heads : z ≡ v = cc in
-    let tails : a ++ x ∷ [] ≡ b ++ y ∷ [] = cc in
-    let rest = push-injective a b x y tails in
-    (ap (λ t. z ∷ t) rest.0 ∙ ap (λ k. k ∷ b) heads, rest.1)
+push-injective (z ∷ a) (v ∷ b) x y h = grind (arith, common_steps)
 
 module _ (t w : ℕ) (row later : Stretch) (fit : IsFittingStretch t w row later) where
   front_within : stretch_width t fit.front ≤ w
@@ -37,26 +34,14 @@ module _ (t w : ℕ) (row later : Stretch) (fit : IsFittingStretch t w row later
   -- what stands before a part of the row is within the width
   part_within : (a b : Stretch) → row ≡ a ++ b → 0 < length b → stretch_width t a ≤ w
   part_within a b row_is some =
-      ⊎_elim
-      (λ p. let less = subst (λ r. stretch_width t a ≤ stretch_width t r) (sym p.1) (stretch_width-front t a p.0) in
-      let front = front_within in omega arith)
-      (λ p. let none : length p.0 ≡ 0 = omega (arith, ap length p.2, length-append p.0 b) in
-      let same = p.1 ∙ ap (λ r. fit.front ++ r) (nil_from_length p.0 none) ∙ append-nil fit.front in
-      subst (λ r. stretch_width t r ≤ w) (sym same) front_within)
-      (fronts a b fit.front (fit.last ∷ []) (sym row_is ∙ fit.stretch_is))
+      grind (arith, common_steps, stretch_width-front, front_within, length-append, nil_from_length, append-nil fit.front, fronts a b fit.front (fit.last ∷ []) (sym row_is ∙ fit.stretch_is))
 
   -- a unit that is too wide may only end the row, as whitespace behind other units
   pub wide_ends : (front : Stretch) (unit : List ℕ) (back : Stretch) → row ≡ front ++ unit ∷ back → w < stretch_width t (unit ∷ []) → (back ≡ []) × (0 < length front) × (is_blank unit ≡ true)
   wide_ends front unit [] row_is wide =
-      let same = push-injective fit.front front fit.last unit (sym fit.stretch_is ∙ row_is) in
-      let wider = stretch_width-back t front (unit ∷ []) in
-      ⊎_elim
-      (λ within. let whole = subst (λ r. stretch_width t r ≤ w) (sym fit.stretch_is ∙ row_is) within in absurd (omega arith))
-      (λ hang. (refl, subst (λ r. 0 < length r) same.0 hang.0, ap is_blank (sym same.1) ∙ hang.2.1)) fit.fits
+      grind (arith, common_steps, push-injective fit.front front fit.last unit (sym fit.stretch_is ∙ row_is), stretch_width-back t front (unit ∷ []))
   wide_ends front unit (next ∷ back) row_is wide =
-      let within = part_within (front ++ unit ∷ []) (next ∷ back) (row_is ∙ sym (append_assoc front (unit ∷ []) (next ∷ back))) (omega arith) in
-      let wider = stretch_width-back t front (unit ∷ []) in
-      absurd (omega arith)
+      grind (arith, common_steps, part_within, append_assoc front (unit ∷ []) (next ∷ back), stretch_width-back t front (unit ∷ []))
 
   -- what begins later in the row fits too
   pub later_fits : (front stretch : Stretch) (next : List ℕ) (back : Stretch) → row ≡ front ++ (stretch ++ next ∷ back) → 0 < length stretch → FitsBehind t w stretch next (back ++ later)
@@ -73,17 +58,13 @@ module _ (t w : ℕ) (row later : Stretch) (fit : IsFittingStretch t w row later
       ))
       (λ within. inl within) (cases_lt w (stretch_width t (stretch ++ next ∷ [])))) fit.fits
   later_fits front stretch next (more ∷ back) row_is some =
-      let regroup = row_is ∙ ap (λ r. front ++ r) (sym (append_assoc stretch (next ∷ []) (more ∷ back))) ∙ sym (append_assoc front (stretch ++ next ∷ []) (more ∷ back)) in
-      let within = part_within (front ++ (stretch ++ next ∷ [])) (more ∷ back) regroup (omega arith) in
-      let wider = stretch_width-back t front (stretch ++ next ∷ []) in
-      inl (omega arith)
+      grind (arith, common_steps, append_assoc stretch (next ∷ []) (more ∷ back), append_assoc front (stretch ++ next ∷ []) (more ∷ back), part_within, stretch_width-back t front (stretch ++ next ∷ []))
 
 -- a unit's rows are no more than any fitting rows of its clusters
 glyph_count : (t w : ℕ) (unit : List ℕ) (rows : List (List ℕ)) (others : List Stretch) → IsGlyphCutting t w unit rows → pieces_of others ≡ graphemes true unit
     → AreFittingRows t w others → length rows ≤ length others
 glyph_count t w unit rows others cutting whole fit =
-    let least = greedy_ahead t w others cutting.stretches [] cutting.cut (cutting.whole ∙ sym whole) fit in
-    omega (arith, ap length cutting.rows_are, length-map cutting.stretches concat)
+    grind (arith, common_steps, greedy_ahead t w others cutting.stretches [] cutting.cut (cutting.whole ∙ sym whole) fit, length-map cutting.stretches concat)
 
 only_cluster : (t w : ℕ) (unit : List ℕ) (rows : List (List ℕ)) → IsGlyphCutting t w unit rows → length (graphemes true unit) ≡ 1 → length rows ≤ 1
 only_cluster t w unit rows cutting one = glyph_count t w unit rows (graphemes true unit ∷ []) cutting (append-nil (graphemes true unit)) (inr one, tt)
@@ -119,11 +100,9 @@ block_reaches t w (shared stretch) (shared row) left rest front next over is fit
     let some : 0 < length stretch = omega (arith, ap length is.0.stretch_is, length-append is.0.front (is.0.last ∷ [])) in
     (rw (left_is, append_assoc over rest []) at is.1) (later_fits t w row (rest ++ []) fit front stretch next over other_is some)
 block_reaches t w (shared stretch) (split unit rows) left rest front next over is fit other_is left_is =
-    let some : 0 < length stretch = omega (arith, ap length is.0.stretch_is, length-append is.0.front (is.0.last ∷ [])) in
-    omega (arith, ap length other_is, length-append front (stretch ++ next ∷ over), length-append stretch (next ∷ over))
+    grind (arith, common_steps, length-append is.0.front (is.0.last ∷ []), length-append front (stretch ++ next ∷ over), length-append stretch (next ∷ over))
 block_reaches t w (split unit rows) (shared row) left rest front next over is fit other_is left_is =
-    let ends = wide_ends t w row (rest ++ []) fit front unit (next ∷ over) other_is is.0 in
-    omega (arith, ap length ends.0)
+    grind (arith, common_steps, wide_ends t w row (rest ++ []) fit front unit (next ∷ over) other_is is.0)
 block_reaches t w (split unit rows) (split wide others) left rest front next over is fit other_is left_is =
     omega (arith, ap length other_is, length-append front (unit ∷ next ∷ over))
 
@@ -152,10 +131,7 @@ step_into t w block other left rest front (x ∷ part) is fit blanks other_is sa
 step : (t w : ℕ) (block other : Block) (left rest front : Stretch) → IsBlock t w block (left ++ []) → IsFittingBlock t w other (rest ++ []) → AreBlanksClusters (units_of block)
     → front ++ (units_of block ++ left) ≡ units_of other ++ rest → Step block other left rest
 step t w block other left rest front is fit blanks same =
-    ⊎_elim
-    (λ p. step_into t w block other left rest front p.0 is fit blanks p.1 p.2)
-    (λ p. inl (p.0, sym p.2))
-    (fronts front (units_of block ++ left) (units_of other) rest same)
+    grind (arith, common_steps, step_into, fronts front (units_of block ++ left) (units_of other) rest same)
 
 pub block_some : (t w : ℕ) (block : Block) (left : Stretch) → IsBlock t w block left → 0 < length (units_of block)
 block_some t w (shared stretch) left is = omega (arith, ap length is.0.stretch_is, length-append is.0.front (is.0.last ∷ []))
@@ -166,8 +142,7 @@ pub words_ahead : (t w : ℕ) (others greedy : List Block) (front : Stretch) →
     → front ++ flat_map units_of greedy ≡ flat_map units_of others → AreFittingBlocks t w others [] → length (flat_map rows_of greedy) ≤ length (flat_map rows_of others)
 words_ahead t w others [] front blanks cut same fit = omega arith
 words_ahead t w [] (block ∷ greedy) front blanks cut same fit =
-    let some = block_some t w block (flat_map units_of greedy ++ []) cut.0 in
-    absurd (omega (arith, ap length same, length-append front (units_of block ++ flat_map units_of greedy), length-append (units_of block) (flat_map units_of greedy)))
+    grind (arith, common_steps, block_some t w block (flat_map units_of greedy ++ []) cut.0, length-append front (units_of block ++ flat_map units_of greedy), length-append (units_of block) (flat_map units_of greedy))
 words_ahead t w (other ∷ others) (block ∷ greedy) front blanks cut same fit =
     let parts = all_parts BlankIsCluster (units_of block) (flat_map units_of greedy) blanks in
     let greedy_rows = length-append (rows_of block) (flat_map rows_of greedy) in

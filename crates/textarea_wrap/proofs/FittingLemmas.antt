@@ -1,4 +1,5 @@
 -- Where the clusters of a line fit the width, no cursor stands in a column behind it.
+use Rattle.std.proofs.lemmas.Grind.{common_steps}
 use Rattle.std.proofs.Common.{◌≡◌, ◌≢◌, ℕ, zero, suc, ◌+◌, ◌-◌, ◌*◌, ◌^◌, ◌<◌, ◌≤◌, true, false, cond, nat_eq, List, [], ◌∷◌, ◌++◌, map, length, take, drop, get_or, refl, sym, ap, subst, ◌∙◌, ⊎_elim, append-nil, length-append, le_trans, arith}
 use Rattle.std.proofs.lemmas.Bool.Decides.{nat_tests}
 use Rattle.std.proofs.lemmas.Grind.{flat_map-append}
@@ -26,11 +27,7 @@ use Rattle.textarea_wrap.proofs.RowLemmas.{IsPiece, ArePieces, ArePieces-line_un
 -- ---- characters
 
 column_within : (t x c : ℕ) → column_after t x c ≤ x + cond (nat_eq c 9) t (plain_width c)
-column_within t x c =
-    elim (nat_eq c 9) as (λ is_tab. cond is_tab (next_stop t x) (x + plain_width c) ≤ x + cond is_tab t (plain_width c)) [
-      | true ↦ grind (arith, nat_tests)
-      | false ↦ omega arith
-    ]
+column_within t x c = grind (arith, common_steps, nat_tests)
 
 -- characters take no more columns than with each tab at its full length
 pub end_column-full : (t x : ℕ) (cs : List ℕ) → end_column t x cs ≤ x + full_width t cs
@@ -89,8 +86,7 @@ glyph_rows_within t w (stretch ∷ stretches) later cut all p =
 
 glyphs_within : (t w : ℕ) (text : List ℕ) (rows : List (List ℕ)) → IsUtf8 text → AreFittingClusters t w text → IsGlyphCutting t w text rows → AllByRecursion (λ row. end_of t row ≤ w) rows
 glyphs_within t w text rows u all cut =
-    subst (AllByRecursion (λ row. end_of t row ≤ w)) (sym cut.rows_are)
-    (glyph_rows_within t w cut.stretches [] cut.cut (subst (AllByRecursion (IsFittingCluster t w)) (sym cut.whole) all) (subst ArePieces (sym cut.whole) (ArePieces-segments (is_grapheme_break true) text u)))
+    grind (arith, common_steps, glyph_rows_within t w cut.stretches [] cut.cut (subst (AllByRecursion (IsFittingCluster t w)) (sym cut.whole) all) (subst ArePieces (sym cut.whole) (ArePieces-segments (is_grapheme_break true) text u)), ArePieces-segments (is_grapheme_break true) text u)
 
 -- ---- rows of units
 
@@ -98,8 +94,7 @@ some_rows : (t w : ℕ) (blocks : List Block) (later : Stretch) → AreBlocks t 
 some_rows t w [] later cut p e = absurd cc
 some_rows t w (shared stretch ∷ blocks) later cut p e = omega arith
 some_rows t w (split unit [] ∷ blocks) later cut p e =
-    let none : [] ≡ unit = concat-glyphs t w unit [] p.0.utf8 cut.0.1 in
-    absurd (omega (arith, cut.0.0, stretch_width-one t unit, ap (end_of t) none, ap (end_column t 0) chars-nil))
+    grind (arith, common_steps, concat-glyphs t w unit [] p.0.utf8 cut.0.1, stretch_width-one t unit, chars-nil)
 some_rows t w (split unit (row ∷ rows) ∷ blocks) later cut p e = omega arith
 
 -- a whitespace unit is one cluster, so it is one character where it has a width
@@ -117,17 +112,11 @@ last_parts P front last all = let parts = all_parts P front (last ∷ []) all in
 
 without_last : (t : ℕ) (front : Stretch) (last : List ℕ) → ArePieces (front ++ last ∷ []) → length (chars last) ≡ 1 → last_of t (concat (front ++ last ∷ [])) ≡ stretch_width t front
 without_last t front last p one =
-    let text = concat (front ++ last ∷ []) in
-    let whole : chars text ≡ flat_map chars front ++ chars last =
-    sym (chars-pieces (front ++ last ∷ []) p) ∙ flat_map-append chars front (last ∷ []) ∙ ap (λ cs. flat_map chars front ++ cs) (append-nil (chars last)) in
-    let size : length (flat_map chars front) ≡ length (chars text) - 1 = omega (arith, ap length whole, length-append (flat_map chars front) (chars last), one) in
-    ap (end_column t 0) (ap (take (length (chars text) - 1)) whole ∙ take_at (flat_map chars front) (chars last) (length (chars text) - 1) size)
+    grind (arith, common_steps, chars-pieces (front ++ last ∷ []) p, flat_map-append chars front (last ∷ []), append-nil (chars last), length-append (flat_map chars front) (chars last), take_at)
 
 hangs_within : (t w : ℕ) (front : Stretch) (last : List ℕ) (later : Stretch) → ArePieces (front ++ last ∷ []) → stretch_width t front ≤ w → HangsOver w (stretch_width t (front ++ last ∷ [])) last later → IsFittingCluster t w last → last_of t (concat (front ++ last ∷ [])) ≤ w
 hangs_within t w front last later p fits over cluster =
-    let wide : 0 < full_width t (chars last) =
-    omega (arith, over.0, fits, stretch_width-push t front last, end_column-full t (stretch_width t front) (chars last)) in
-    omega (arith, fits, without_last t front last p (cluster.single over.1 wide))
+    grind (arith, common_steps, stretch_width-push t front last, end_column-full t (stretch_width t front) (chars last), without_last)
 
 block_within : (t w : ℕ) (block : Block) (blocks : List Block) → IsBlock t w block (flat_map units_of blocks ++ []) → AreBlocks t w blocks [] → ArePieces (units_of block) → ArePieces (flat_map units_of blocks)
     → AllByRecursion BlankIsCluster (units_of block) → AllByRecursion (AreFittingClusters t w) (units_of block) → AreWithin t w (flat_map rows_of blocks) → AreWithin t w (rows_of block ++ flat_map rows_of blocks)
@@ -160,10 +149,7 @@ blocks_within t w (block ∷ blocks) cut p blanks all =
 
 words_within : (t w : ℕ) (line : List ℕ) (rows : List (List ℕ)) → IsUtf8 line → HasFittingClusters t w line → IsWordCutting t w line rows → AreWithin t w rows
 words_within t w line rows u all cut =
-    subst (AreWithin t w) (sym cut.rows_are)
-    (blocks_within t w cut.blocks cut.cut (subst ArePieces (sym cut.whole) (ArePieces-line_units line u))
-    (subst (AllByRecursion BlankIsCluster) (sym cut.whole) (AreBlanksClusters-line_units line))
-    (subst (AllByRecursion (AreFittingClusters t w)) (sym cut.whole) all.of_units))
+    grind (arith, common_steps, blocks_within t w cut.blocks cut.cut (subst ArePieces (sym cut.whole) (ArePieces-line_units line u)) (subst (AllByRecursion BlankIsCluster) (sym cut.whole) (AreBlanksClusters-line_units line)) (subst (AllByRecursion (AreFittingClusters t w)) (sym cut.whole) all.of_units), ArePieces-line_units line u, AreBlanksClusters-line_units line)
 
 -- ---- in each mode that wraps
 
@@ -200,9 +186,7 @@ row_within t w (text ∷ next ∷ texts) (suc k) h more = row_within t w (next �
 -- ---- without wrapping
 
 full_columns : (t c : ℕ) → t < 2 ^ 8 → cond (nat_eq c 9) t (plain_width c) ≤ 255
-full_columns t c h =
-    let narrow = width_or_zero-le false c in
-    elim (nat_eq c 9) as (λ is_tab. cond is_tab t (plain_width c) ≤ 255) [ true ↦ omega (arith, h) | false ↦ omega (arith, narrow) ]
+full_columns t c h = grind (arith, common_steps, width_or_zero-le false c)
 
 full_width-few : (t : ℕ) (cs : List ℕ) → t < 2 ^ 8 → full_width t cs ≤ 255 * length cs
 full_width-few t [] h = omega arith

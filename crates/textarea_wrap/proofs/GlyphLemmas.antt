@@ -1,4 +1,5 @@
 -- A walk over the clusters of a text, with the rows that are full and the row that is open.
+use Rattle.std.proofs.lemmas.Grind.{common_steps}
 use Rattle.std.proofs.Common.{◌≡◌, ℕ, ◌+◌, ◌<◌, ◌≤◌, ◌⊎◌, inl, inr, true, List, [], ◌∷◌, ◌++◌, map, length, refl, sym, ap, subst, ◌∙◌, ⊎_elim, append_assoc, append-nil, length-append, arith}
 use Rattle.std.proofs.lemmas.List.{map-append}
 use Rattle.std.proofs.lemmas.List.Folds.{concat-append}
@@ -24,8 +25,7 @@ concat-pieces_of (stretch ∷ stretches) = ap (λ t. concat stretch ++ t) (conca
 pub ranges_from-append : (at : ℕ) (texts others : List (List ℕ)) → ranges_from at (texts ++ others) ≡ ranges_from at texts ++ ranges_from (at + length (concat texts)) others
 ranges_from-append at [] others = ap (λ n. ranges_from n others) (omega arith)
 ranges_from-append at (text ∷ texts) others =
-    ap (λ t. (at, at + length text) ∷ t) (ranges_from-append (at + length text) texts others
-    ∙ ap (λ n. ranges_from (at + length text) texts ++ ranges_from n others) (omega (arith, length-append text (concat texts))))
+    grind (arith, common_steps, ranges_from-append (at + length text) texts others, length-append text (concat texts))
 
 pub AreGlyphRows-push : (tab_len width : ℕ) (stretches : List Stretch) (stretch later : Stretch) → AreGlyphRows tab_len width stretches (stretch ++ later)
     → IsGlyphRow tab_len width stretch later → AreGlyphRows tab_len width (stretches ++ stretch ∷ []) later

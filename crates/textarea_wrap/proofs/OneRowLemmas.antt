@@ -1,4 +1,5 @@
 -- A line that is not wrapped or is no wider than the width takes one row, whatever its clusters and units are.
+use Rattle.std.proofs.lemmas.Grind.{common_steps}
 use Rattle.std.proofs.Common.{◌≡◌, ℕ, ◌<◌, ◌≤◌, inl, true, List, [], ◌∷◌, ◌++◌, length, refl, sym, ap, subst, ◌∙◌, ⊎_elim, append-nil, arith}
 use Rattle.std.proofs.lemmas.Str.{chars-nil, chars-append}
 use Rattle.std.specs.List.{concat, flat_map}
@@ -72,10 +73,7 @@ module _ (t w : ℕ) (line : List ℕ) (ranges : List (ℕ × ℕ)) (u : IsUtf8 
 pub IsWrapped-one_row : (kind : WrapMode) (t w : ℕ) (line : List ℕ) (ranges : List (ℕ × ℕ)) → IsUtf8 line → TakesOneRow kind t w line
     → ranges ≡ (0, length line) ∷ [] → IsWrapped kind t w line ranges
 IsWrapped-one_row kind t w [] ranges u one ranges_are = IsWrapped-empty kind t w [] ranges refl ranges_are
-IsWrapped-one_row kind t w (byte ∷ line) ranges u one ranges_are =
-    ⊎_elim
-    (λ none. subst (λ k. IsWrapped k t w (byte ∷ line) ranges) (sym none) (IsWrapped-whole t w (byte ∷ line) ranges u (omega arith) ranges_are))
-    (λ within. one_row_within t w (byte ∷ line) ranges u (omega arith) within ranges_are kind) one
+IsWrapped-one_row kind t w (byte ∷ line) ranges u one ranges_are = grind (arith, common_steps, IsWrapped-whole, one_row_within)
 
 -- only a line that holds something is wider than a width
 pub nonempty_unless_fits : (t w : ℕ) (line : List ℕ) → (end_column t 0 (chars line) ≤ w → ⊥) → 0 < length line

@@ -1,4 +1,5 @@
 -- What is left of a row that fits, when its front is cut off.
+use Rattle.std.proofs.lemmas.Grind.{common_steps}
 use Rattle.std.proofs.Common.{◌≡◌, ℕ, ◌<◌, ◌⊎◌, inl, inr, List, [], ◌∷◌, ◌++◌, length, refl, sym, ap, subst, ⊎_elim, length-append, arith}
 use Rattle.std.proofs.lemmas.Bool.{cases_lt}
 use Rattle.textarea_wrap.specs.Columns.{stretch_width}
@@ -10,11 +11,7 @@ use Rattle.textarea_wrap.proofs.ColumnLemmas.{stretch_width-back}
 use Rattle.textarea_wrap.proofs.FewestWordLemmas.{BlankIsCluster, AreBlanksClusters, later_fits, wide_ends}
 
 pub clusters_fit : (t w : ℕ) (front back : Stretch) → 0 < length back → IsFittingRow t w (front ++ back) → IsFittingRow t w back
-clusters_fit t w front back some fit =
-    ⊎_elim
-    (λ within. let less = stretch_width-back t front back in inl (omega arith))
-    (λ one. inr (omega (arith, length-append front back)))
-    fit
+clusters_fit t w front back some fit = grind (arith, common_steps, stretch_width-back t front back, length-append front back)
 
 -- one unit is left: it fits, or it is whitespace that hung over
 one_left : (t w : ℕ) (front later : Stretch) (unit : List ℕ) → AreBlanksClusters (unit ∷ []) → IsFittingStretch t w (front ++ unit ∷ []) later → IsFittingStretch t w (unit ∷ []) later ⊎ IsBlankCluster (unit ∷ [])

@@ -1,4 +1,5 @@
 -- A walk over the units of a line, with the blocks that are full and the row that is open.
+use Rattle.std.proofs.lemmas.Grind.{common_steps}
 use Rattle.std.proofs.Common.{◌≡◌, ℕ, ◌+◌, ◌<◌, ◌≤◌, ◌⊎◌, inl, inr, true, not, List, [], ◌∷◌, ◌++◌, length, refl, sym, ap, subst, ◌∙◌, ⊎_elim, append_assoc, append-nil, length-append, arith, map, ◌-◌, add-one, take, take_all, drop, drop-cons, length-drop, get_or, Bor}
 use Rattle.std.proofs.lemmas.Grind.{flat_map-append}
 use Rattle.std.proofs.lemmas.List.Folds.{concat-append}
@@ -27,9 +28,7 @@ AreBlocks-push tab_len width (first ∷ blocks) block later before here =
 ranges-push : (before rows : List (ℕ × ℕ)) (blocks : List Block) (block : Block) (at : ℕ)
     → rows ≡ before ++ ranges_from 0 (flat_map rows_of blocks) → at ≡ length (concat (flat_map rows_of blocks))
     → rows ++ ranges_from at (rows_of block) ≡ before ++ ranges_from 0 (flat_map rows_of (blocks ++ block ∷ []))
-ranges-push before rows blocks block at rows_are at_is =
-    let offset : 0 + length (concat (flat_map rows_of blocks)) ≡ at = omega arith in
-    simp (rows_of-push, ranges_from-append, rows_are, append_assoc, offset)
+ranges-push before rows blocks block at rows_are at_is = grind (arith, common_steps, rows_of-push, ranges_from-append, append_assoc)
 
 length-rows-push : (blocks : List Block) (block : Block)
     → length (concat (flat_map rows_of (blocks ++ block ∷ []))) ≡ length (concat (flat_map rows_of blocks)) + length (concat (rows_of block))
@@ -60,10 +59,7 @@ module _ (tab_len width : ℕ) (units : Stretch) (before : List (ℕ × ℕ)) wh
 
     -- an open row before whitespace is within the width
     open_within : row_start < row_end → is_blank unit ≡ true → stretch_width tab_len w.open_stretch ≤ width
-    open_within started blank =
-        let stretch = w.opened started in
-        subst (λ r. stretch_width tab_len r ≤ width) (sym stretch.stretch_is)
-        (⊎_elim (λ within. within) (λ hang. let content : not (is_blank unit) ≡ true = hang.2.2 in absurd (let no : not true ≡ true = ap not (sym blank) ∙ content in cc)) stretch.fits)
+    open_within started blank = grind (arith, common_steps)
 
     -- the unit joins the open row, which is empty or has room for it
     pub IsWordWalk-join : (end ≤ width) ⊎ ((row_start < row_end) × HangsOver width end unit left)

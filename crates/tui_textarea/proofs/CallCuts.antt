@@ -2,6 +2,8 @@
 use Rattle.std.proofs.Common.{◌≡◌, ◌≤◌, ℕ, List, [], ◌∷◌, Option, None, Some, is_some, true, false, ap, refl, subst, sym, ◌∙◌, inl, inr, ⊎_elim}
 use Rattle.textarea_calls.specs.declared.action.Action.{Action}
 use Rattle.textarea_calls.specs.declared.action.Action.TheVariants as action
+use Rattle.textarea_calls.specs.declared.kind.Edit.TheVariants as edit
+use Rattle.textarea_calls.specs.declared.kind.Write.TheVariants as write
 use Rattle.textarea_lines.specs.Cuts.{AreSpliced, CutsAllLines, IsSetTo, IsWidened}
 use Rattle.textarea_lines.specs.Layout.{LaidOut}
 use Rattle.textarea_lines.specs.declared.settings.LayoutSettings.{LayoutSettings}
@@ -29,13 +31,13 @@ use Rattle.tui_textarea.specs.Removals.{break_before_removed, symbols_ahead_remo
 use Rattle.tui_textarea.specs.Search.{next_match, previous_match, searched}
 use Rattle.tui_textarea.specs.Selection.{unselected}
 use Rattle.tui_textarea.specs.Selection as selection
-use Rattle.tui_textarea.specs.Splices.{ahead_splices, clear_splices, selected_splices_or, splices_by, str_splices}
+use Rattle.tui_textarea.specs.Splices.{ahead_splices, clear_splices, selected_splices_or, str_splices}
 use Rattle.tui_textarea.specs.State.{State, with_other_lines}
-use Rattle.tui_textarea.specs.Calls.{IsLeft, rejected_ranges, with_ranges_if}
+use Rattle.tui_textarea.specs.Calls.{rejected_ranges, with_ranges_if}
 use Rattle.tui_textarea.specs.CallCuts.{CutsByCall}
-use Rattle.tui_textarea.specs.Outcomes.{IsBehind, behind_pattern}
+use Rattle.tui_textarea.specs.Outcomes.{IsBehind, behind_pattern, IsLeft}
 use Rattle.tui_textarea.specs.Said.{Said, PatternRefused}
-use Rattle.tui_textarea.specs.CallSplices.{OfLeft, splices_of}
+use Rattle.tui_textarea.specs.CallSplices.{OfLeft, splices_of, splices_by}
 use Rattle.textarea_calls.specs.declared.call.Call.{Call}
 use Rattle.textarea_calls.specs.declared.call.Call.TheVariants as call
 
@@ -46,8 +48,6 @@ pub record TheLaws : Type 0 where
   pub inputs : (old new : State) (asked : Action) → IsSound old.document → IsActed old asked new → SplicedBy old.document (splices_by old asked) new.document
   pub text : (state : State) (symbols : List Symbol) → IsSound state.document → SplicedBy state.document (str_splices state symbols) (str_inserted state symbols).document
   pub ahead : (state : State) (count : ℕ) → IsSound state.document → SplicedBy state.document (selected_splices_or state.document (ahead_splices state.document count)) (unselected_or state (symbols_ahead_removed state count)).document
-  pub break_before : (state : State) → IsSound state.document → SplicedBy state.document (selected_splices_or state.document (break_splices state.document)) (unselected_or state (break_before_removed state)).document
-  pub all : (state : State) → IsSound state.document → SplicedBy state.document (clear_splices state.document) (text_cleared state).document
   pub range : (state : State) (direction : AtomicDeleteDirection) → IsSound state.document → SplicedBy state.document (hit_splices state.document direction) (hit_range_removed state direction).document
   pub selected : (state : State) → IsSound state.document → SplicedBy state.document (selected_splices state.document) (unselected state).document
   pub drawing : (old new : State) (area : Rect) → IsRendered old area new → CutsByWidth old.document new.document
@@ -86,24 +86,24 @@ module _ (laws : TheLaws) where
       subst (CutsBySettings old.document settings) (sym (same ∙ ap (λ (s : State). s.document) is)) (laws.settings old settings)
 
   pub call_cuts : (old new : State) (made : Call) (answer : Said) → IsSound old.document → IsBehind old made answer new → CutsByCall old made new
-  call_cuts old new (call.InsertChar c) answer h k = laws.inputs old new (action.InsertChar c) h k
+  call_cuts old new (call.InsertChar c) answer h k = laws.inputs old new (action.Write (write.InsertChar c)) h k
   call_cuts old new (call.InsertStr text) answer h k = edited old new _ _ k (laws.text old (given (chars text.now)) h)
-  call_cuts old new call.InsertTab answer h k = laws.inputs old new action.InsertTab h k
-  call_cuts old new call.InsertNewline answer h k = laws.inputs old new action.InsertNewline h k
-  call_cuts old new call.Paste answer h k = laws.inputs old new action.Paste h k
+  call_cuts old new call.InsertTab answer h k = laws.inputs old new (action.Edit edit.InsertTab) h k
+  call_cuts old new call.InsertNewline answer h k = laws.inputs old new (action.Write write.InsertNewline) h k
+  call_cuts old new call.Paste answer h k = laws.inputs old new (action.Edit edit.Paste) h k
   call_cuts old new (call.DeleteStr count) answer h k = edited old new _ _ k (laws.ahead old count h)
-  call_cuts old new call.DeleteNewline answer h k = edited old new _ _ k (laws.break_before old h)
-  call_cuts old new call.DeleteChar answer h k = laws.inputs old new action.DeleteChar h k
-  call_cuts old new call.DeleteNextChar answer h k = laws.inputs old new action.DeleteNextChar h k
-  call_cuts old new call.DeleteLineByEnd answer h k = laws.inputs old new action.DeleteLineByEnd h k
-  call_cuts old new call.DeleteLineByHead answer h k = laws.inputs old new action.DeleteLineByHead h k
-  call_cuts old new call.DeleteWord answer h k = laws.inputs old new action.DeleteWord h k
-  call_cuts old new call.DeleteNextWord answer h k = laws.inputs old new action.DeleteNextWord h k
-  call_cuts old new call.Clear answer h k = edited old new _ _ k (laws.all old h)
-  call_cuts old new call.Cut answer h k = laws.inputs old new action.Cut h k
-  call_cuts old new call.Copy answer h k = laws.inputs old new action.Copy h k
-  call_cuts old new call.Undo answer h k = laws.inputs old new action.Undo h k
-  call_cuts old new call.Redo answer h k = laws.inputs old new action.Redo h k
+  call_cuts old new call.DeleteNewline answer h k = laws.inputs old new (action.Edit edit.DeleteNewline) h k
+  call_cuts old new call.DeleteChar answer h k = laws.inputs old new (action.Edit edit.DeleteChar) h k
+  call_cuts old new call.DeleteNextChar answer h k = laws.inputs old new (action.Edit edit.DeleteNextChar) h k
+  call_cuts old new call.DeleteLineByEnd answer h k = laws.inputs old new (action.Edit edit.DeleteLineByEnd) h k
+  call_cuts old new call.DeleteLineByHead answer h k = laws.inputs old new (action.Edit edit.DeleteLineByHead) h k
+  call_cuts old new call.DeleteWord answer h k = laws.inputs old new (action.Edit edit.DeleteWord) h k
+  call_cuts old new call.DeleteNextWord answer h k = laws.inputs old new (action.Edit edit.DeleteNextWord) h k
+  call_cuts old new call.Clear answer h k = laws.inputs old new (action.Edit edit.Clear) h k
+  call_cuts old new call.Cut answer h k = laws.inputs old new (action.Edit edit.Cut) h k
+  call_cuts old new call.Copy answer h k = laws.inputs old new (action.Write write.Copy) h k
+  call_cuts old new call.Undo answer h k = laws.inputs old new (action.Edit edit.Undo) h k
+  call_cuts old new call.Redo answer h k = laws.inputs old new (action.Edit edit.Redo) h k
   call_cuts old new (call.DeleteAtomicRangeAtCursor direction) answer h k = edited old new _ _ k (laws.range old direction h)
   call_cuts old new (call.SetLines lines cursor) answer h k =
       subst (λ (s : State). CutsAll old.document s.document) (sym k)
@@ -136,10 +136,10 @@ module _ (laws : TheLaws) where
   stayed old new same = inl (edited old new old [] same refl)
 
   act_left : (old new : State) (asked : Action) → IsSound old.document → IsLeftBy old asked new → LeftBy old new
-  act_left old new (action.InsertChar c) h k = left_by old new h k
-  act_left old new action.InsertNewline h k = left_by old new h k
-  act_left old new action.InsertTab h k = left_by old new h k
-  act_left old new action.Paste h k = left_by old new h k
+  act_left old new (action.Write (write.InsertChar c)) h k = left_by old new h k
+  act_left old new (action.Write write.InsertNewline) h k = left_by old new h k
+  act_left old new (action.Edit edit.InsertTab) h k = left_by old new h k
+  act_left old new (action.Edit edit.Paste) h k = left_by old new h k
   act_left old new asked h k = stayed old new k
 
   pub refused_cuts : (old new : State) (made : Call) → IsSound old.document → IsLeft old made new → LeftBy old new

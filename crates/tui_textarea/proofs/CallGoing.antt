@@ -4,6 +4,8 @@ use Rattle.std.proofs.lemmas.List.{append-nil, append_assoc, map-append}
 use Rattle.std.specs.Str.{chars}
 use Rattle.textarea_calls.specs.declared.action.Action.{Action}
 use Rattle.textarea_calls.specs.declared.action.Action.TheVariants as action
+use Rattle.textarea_calls.specs.declared.kind.Edit.TheVariants as edit
+use Rattle.textarea_calls.specs.declared.kind.Write.TheVariants as write
 use Rattle.textarea_text.specs.Given.{given}
 use Rattle.textarea_data.specs.declared.range.AtomicDeleteDirection.{AtomicDeleteDirection}
 use Rattle.textarea_data.specs.declared.range.AtomicRange.{AtomicRange}
@@ -28,14 +30,15 @@ use Rattle.tui_textarea.specs.Removals.{break_before_removed, line_end_removed, 
 use Rattle.tui_textarea.specs.Search.{next_match, previous_match, searched}
 use Rattle.tui_textarea.specs.Selection.{selection_cut, unselected}
 use Rattle.tui_textarea.specs.Selection as selection
-use Rattle.tui_textarea.specs.Splices.{ahead_splices, clear_splices, selected_splices_or, splices_by, str_splices}
+use Rattle.tui_textarea.specs.Splices.{ahead_splices, clear_splices, selected_splices_or, str_splices}
 use Rattle.tui_textarea.specs.State.{State, with_document}
-use Rattle.tui_textarea.specs.Calls.{IsLeft, ranges_answer, rejected_ranges, with_ranges_if}
+use Rattle.textarea_calls.specs.Kinds.{call_of_edit, call_of_write}
+use Rattle.tui_textarea.specs.Calls.{state_after, ranges_answer, rejected_ranges, with_ranges_if}
 use Rattle.tui_textarea.specs.CallGoes.{GivesRanges, GoesByCall, IsUndoOrRedo, IsUndoOrRedoAct, NoneGives, RangesGo, RangesInRun, RangesOfRun, SinceGiven}
-use Rattle.tui_textarea.specs.Outcomes.{IsAnswer, IsBehind, behind_pattern}
+use Rattle.tui_textarea.specs.Outcomes.{IsAnswer, IsBehind, behind_pattern, IsLeft}
 use Rattle.tui_textarea.specs.Run.{Leads, Makes}
 use Rattle.tui_textarea.specs.Said.{Said, Done, PatternRefused, said}
-use Rattle.tui_textarea.specs.CallSplices.{LeadsBy, OfLeft, splices_of}
+use Rattle.tui_textarea.specs.CallSplices.{LeadsBy, OfLeft, splices_of, splices_by}
 use Rattle.textarea_calls.specs.declared.call.Call.{Call}
 use Rattle.textarea_calls.specs.declared.call.Call.TheVariants as call
 use Rattle.textarea_calls.specs.declared.answer.Answer.{Answer}
@@ -47,8 +50,6 @@ pub record TheLaws : Type 0 where
   pub inputs : (old new : State) (asked : Action) → IsSound old.document → IsActed old asked new → GoesByAct asked old.document (splices_by old asked) new.document
   pub text : (state : State) (symbols : List Symbol) → IsSound state.document → GoesUncut state.document (str_splices state symbols) (str_inserted state symbols).document
   pub ahead : (state : State) (count : ℕ) → IsSound state.document → GoesUncut state.document (selected_splices_or state.document (ahead_splices state.document count)) (unselected_or state (symbols_ahead_removed state count)).document
-  pub break_before : (state : State) → IsSound state.document → GoesUncut state.document (selected_splices_or state.document (break_splices state.document)) (unselected_or state (break_before_removed state)).document
-  pub all : (state : State) → IsSound state.document → GoesUncut state.document (clear_splices state.document) (text_cleared state).document
   pub range : (state : State) (direction : AtomicDeleteDirection) → IsSound state.document → GoesUncut state.document (hit_splices state.document direction) (hit_range_removed state direction).document
   pub selected : (state : State) → IsSound state.document → GoesUncut state.document (selected_splices state.document) (unselected state).document
   pub drawing : (old new : State) (area : Rect) → IsRendered old area new → GoesUncut old.document [] new.document
@@ -101,24 +102,24 @@ module _ (laws : TheLaws) where
   edited old new outcome splices is h = subst (λ (s : State). GoesUncut old.document splices s.document) (sym is) h
 
   pub call_goes : (old new : State) (made : Call) (answer : Said) → IsSound old.document → IsAnswer old made answer → IsBehind old made answer new → GoesByCall old made answer new
-  call_goes old new (call.InsertChar c) answer h e k = laws.inputs old new (action.InsertChar c) h k
+  call_goes old new (call.InsertChar c) answer h e k = laws.inputs old new (action.Write (write.InsertChar c)) h k
   call_goes old new (call.InsertStr text) answer h e k = edited old new _ _ k (laws.text old (given (chars text.now)) h)
-  call_goes old new call.InsertTab answer h e k = laws.inputs old new action.InsertTab h k
-  call_goes old new call.InsertNewline answer h e k = laws.inputs old new action.InsertNewline h k
-  call_goes old new call.Paste answer h e k = laws.inputs old new action.Paste h k
+  call_goes old new call.InsertTab answer h e k = laws.inputs old new (action.Edit edit.InsertTab) h k
+  call_goes old new call.InsertNewline answer h e k = laws.inputs old new (action.Write write.InsertNewline) h k
+  call_goes old new call.Paste answer h e k = laws.inputs old new (action.Edit edit.Paste) h k
   call_goes old new (call.DeleteStr count) answer h e k = edited old new _ _ k (laws.ahead old count h)
-  call_goes old new call.DeleteNewline answer h e k = edited old new _ _ k (laws.break_before old h)
-  call_goes old new call.DeleteChar answer h e k = laws.inputs old new action.DeleteChar h k
-  call_goes old new call.DeleteNextChar answer h e k = laws.inputs old new action.DeleteNextChar h k
-  call_goes old new call.DeleteLineByEnd answer h e k = laws.inputs old new action.DeleteLineByEnd h k
-  call_goes old new call.DeleteLineByHead answer h e k = laws.inputs old new action.DeleteLineByHead h k
-  call_goes old new call.DeleteWord answer h e k = laws.inputs old new action.DeleteWord h k
-  call_goes old new call.DeleteNextWord answer h e k = laws.inputs old new action.DeleteNextWord h k
-  call_goes old new call.Clear answer h e k = edited old new _ _ k (laws.all old h)
-  call_goes old new call.Cut answer h e k = laws.inputs old new action.Cut h k
-  call_goes old new call.Copy answer h e k = laws.inputs old new action.Copy h k
-  call_goes old new call.Undo answer h e k = laws.inputs old new action.Undo h k
-  call_goes old new call.Redo answer h e k = laws.inputs old new action.Redo h k
+  call_goes old new call.DeleteNewline answer h e k = laws.inputs old new (action.Edit edit.DeleteNewline) h k
+  call_goes old new call.DeleteChar answer h e k = laws.inputs old new (action.Edit edit.DeleteChar) h k
+  call_goes old new call.DeleteNextChar answer h e k = laws.inputs old new (action.Edit edit.DeleteNextChar) h k
+  call_goes old new call.DeleteLineByEnd answer h e k = laws.inputs old new (action.Edit edit.DeleteLineByEnd) h k
+  call_goes old new call.DeleteLineByHead answer h e k = laws.inputs old new (action.Edit edit.DeleteLineByHead) h k
+  call_goes old new call.DeleteWord answer h e k = laws.inputs old new (action.Edit edit.DeleteWord) h k
+  call_goes old new call.DeleteNextWord answer h e k = laws.inputs old new (action.Edit edit.DeleteNextWord) h k
+  call_goes old new call.Clear answer h e k = laws.inputs old new (action.Edit edit.Clear) h k
+  call_goes old new call.Cut answer h e k = laws.inputs old new (action.Edit edit.Cut) h k
+  call_goes old new call.Copy answer h e k = laws.inputs old new (action.Write write.Copy) h k
+  call_goes old new call.Undo answer h e k = laws.inputs old new (action.Edit edit.Undo) h k
+  call_goes old new call.Redo answer h e k = laws.inputs old new (action.Edit edit.Redo) h k
   call_goes old new (call.DeleteAtomicRangeAtCursor direction) answer h e k = edited old new _ _ k (laws.range old direction h)
   call_goes old new (call.SetLines lines cursor) answer h e k = ap (λ (s : State). s.document.ranges) k
   call_goes old new call.ClearAtomicRanges answer h e k = ap (λ (s : State). s.document.ranges) k
@@ -142,10 +143,10 @@ module _ (laws : TheLaws) where
       k
 
   act_left : (old new : State) (asked : Action) → IsSound old.document → IsLeftBy old asked new → LeftUncut old new
-  act_left old new (action.InsertChar c) h k = left_goes old new h k
-  act_left old new action.InsertNewline h k = left_goes old new h k
-  act_left old new action.InsertTab h k = left_goes old new h k
-  act_left old new action.Paste h k = left_goes old new h k
+  act_left old new (action.Write (write.InsertChar c)) h k = left_goes old new h k
+  act_left old new (action.Write write.InsertNewline) h k = left_goes old new h k
+  act_left old new (action.Edit edit.InsertTab) h k = left_goes old new h k
+  act_left old new (action.Edit edit.Paste) h k = left_goes old new h k
   act_left old new asked h k = inl (kept old new old k refl refl)
 
   pub refused_goes : (old new : State) (made : Call) → IsSound old.document → IsLeft old made new → LeftUncut old new
@@ -161,39 +162,30 @@ module _ (laws : TheLaws) where
   -- ---- the splices of each call, whatever it leaves
 
   act_fits : (state : State) (asked : Action) → IsSound state.document → Fitting state (IsUndoOrRedoAct asked) (splices_by state asked)
-  act_fits state (action.InsertChar c) h = uncut state _ _ (laws.inputs state (char_inserted state c) (action.InsertChar c) h refl)
-  act_fits state action.InsertNewline h = uncut state _ _ (laws.inputs state (newline_inserted state) action.InsertNewline h refl)
-  act_fits state action.InsertTab h = uncut state _ _ (laws.inputs state (tab_inserted state) action.InsertTab h refl)
-  act_fits state action.DeleteChar h = uncut state _ _ (laws.inputs state (unselected_or state (symbol_before_removed state)) action.DeleteChar h refl)
-  act_fits state action.DeleteNextChar h = uncut state _ _ (laws.inputs state (unselected_or state (symbol_behind_removed state)) action.DeleteNextChar h refl)
-  act_fits state action.DeleteLineByEnd h = uncut state _ _ (laws.inputs state (unselected_or state (line_end_removed state)) action.DeleteLineByEnd h refl)
-  act_fits state action.DeleteLineByHead h = uncut state _ _ (laws.inputs state (unselected_or state (line_head_removed state)) action.DeleteLineByHead h refl)
-  act_fits state action.DeleteWord h = uncut state _ _ (laws.inputs state (unselected_or state (word_before_removed state)) action.DeleteWord h refl)
-  act_fits state action.DeleteNextWord h = uncut state _ _ (laws.inputs state (unselected_or state (word_behind_removed state)) action.DeleteNextWord h refl)
-  act_fits state action.Undo h = ((laws.inputs state (with_document state (undone state.document)) action.Undo h refl).text.can, λ no. absurd (no tt))
-  act_fits state action.Redo h = ((laws.inputs state (with_document state (redone state.document)) action.Redo h refl).text.can, λ no. absurd (no tt))
-  act_fits state action.Paste h = uncut state _ _ (laws.inputs state (str_inserted state state.yank) action.Paste h refl)
-  act_fits state action.Cut h = uncut state _ _ (laws.inputs state (selection_cut state) action.Cut h refl)
+  act_fits state (action.Edit edit.Undo) h = ((laws.inputs state (with_document state (undone state.document)) (action.Edit edit.Undo) h refl).text.can, λ no. absurd (no tt))
+  act_fits state (action.Edit edit.Redo) h = ((laws.inputs state (with_document state (redone state.document)) (action.Edit edit.Redo) h refl).text.can, λ no. absurd (no tt))
+  act_fits state (action.Edit other) h = uncut state _ _ (laws.inputs state (state_after state (call_of_edit other)) (action.Edit other) h refl)
+  act_fits state (action.Write write) h = uncut state _ _ (laws.inputs state (state_after state (call_of_write write)) (action.Write write) h refl)
   act_fits state asked h = (tt, λ no. tt)
 
   pub call_fits : (state : State) (made : Call) → IsSound state.document → Fitting state (IsUndoOrRedo made) (splices_of state made)
-  call_fits state (call.InsertChar c) h = act_fits state (action.InsertChar c) h
+  call_fits state (call.InsertChar c) h = act_fits state (action.Write (write.InsertChar c)) h
   call_fits state (call.InsertStr text) h = uncut state _ _ (laws.text state (given (chars text.now)) h)
-  call_fits state call.InsertTab h = act_fits state action.InsertTab h
-  call_fits state call.InsertNewline h = act_fits state action.InsertNewline h
-  call_fits state call.Paste h = act_fits state action.Paste h
+  call_fits state call.InsertTab h = act_fits state (action.Edit edit.InsertTab) h
+  call_fits state call.InsertNewline h = act_fits state (action.Write write.InsertNewline) h
+  call_fits state call.Paste h = act_fits state (action.Edit edit.Paste) h
   call_fits state (call.DeleteStr count) h = uncut state _ _ (laws.ahead state count h)
-  call_fits state call.DeleteNewline h = uncut state _ _ (laws.break_before state h)
-  call_fits state call.DeleteChar h = act_fits state action.DeleteChar h
-  call_fits state call.DeleteNextChar h = act_fits state action.DeleteNextChar h
-  call_fits state call.DeleteLineByEnd h = act_fits state action.DeleteLineByEnd h
-  call_fits state call.DeleteLineByHead h = act_fits state action.DeleteLineByHead h
-  call_fits state call.DeleteWord h = act_fits state action.DeleteWord h
-  call_fits state call.DeleteNextWord h = act_fits state action.DeleteNextWord h
-  call_fits state call.Clear h = uncut state _ _ (laws.all state h)
-  call_fits state call.Cut h = act_fits state action.Cut h
-  call_fits state call.Undo h = act_fits state action.Undo h
-  call_fits state call.Redo h = act_fits state action.Redo h
+  call_fits state call.DeleteNewline h = act_fits state (action.Edit edit.DeleteNewline) h
+  call_fits state call.DeleteChar h = act_fits state (action.Edit edit.DeleteChar) h
+  call_fits state call.DeleteNextChar h = act_fits state (action.Edit edit.DeleteNextChar) h
+  call_fits state call.DeleteLineByEnd h = act_fits state (action.Edit edit.DeleteLineByEnd) h
+  call_fits state call.DeleteLineByHead h = act_fits state (action.Edit edit.DeleteLineByHead) h
+  call_fits state call.DeleteWord h = act_fits state (action.Edit edit.DeleteWord) h
+  call_fits state call.DeleteNextWord h = act_fits state (action.Edit edit.DeleteNextWord) h
+  call_fits state call.Clear h = act_fits state (action.Edit edit.Clear) h
+  call_fits state call.Cut h = act_fits state (action.Edit edit.Cut) h
+  call_fits state call.Undo h = act_fits state (action.Edit edit.Undo) h
+  call_fits state call.Redo h = act_fits state (action.Edit edit.Redo) h
   call_fits state (call.DeleteAtomicRangeAtCursor direction) h = uncut state _ _ (laws.range state direction h)
   call_fits state (call.Input input) h = act_fits state (asked_by input.now) h
   call_fits state (call.InputWithoutShortcuts input) h = act_fits state (asked_without_shortcuts input.now) h
@@ -202,8 +194,8 @@ module _ (laws : TheLaws) where
 -- ---- a run
 
 act_goes : (asked : Action) (old new : DocumentState) (splices : List Splice) → GoesByAct asked old splices new → GoesOver old splices new
-act_goes action.Undo old new splices h = h
-act_goes action.Redo old new splices h = h
+act_goes (action.Edit edit.Undo) old new splices h = h
+act_goes (action.Edit edit.Redo) old new splices h = h
 act_goes asked old new splices h = h.0
 
 -- a call that gives no ranges anew: they go with the text over its splices

@@ -3,6 +3,8 @@ use Rattle.std.proofs.Common.{◌≡◌, ℕ, Bool, List, [], ◌∷◌, ◌++�
 use Rattle.textarea_data.specs.declared.cursor.CursorMove.TheVariants as move
 use Rattle.textarea_calls.specs.declared.action.Action.{Action}
 use Rattle.textarea_calls.specs.declared.action.Action.TheVariants as action
+use Rattle.textarea_calls.specs.declared.kind.Edit.TheVariants as edit
+use Rattle.textarea_calls.specs.declared.kind.Write.TheVariants as write
 use Rattle.textarea_history.specs.Log.{newest, next}
 use Rattle.textarea_lines.specs.Cuts.{AreSpliced}
 use Rattle.textarea_lines.specs.Layout.{LaidOut}
@@ -18,8 +20,9 @@ use Rattle.tui_textarea.specs.Drawing.{viewport_scrolled}
 use Rattle.tui_textarea.specs.Input.{IsActed}
 use Rattle.tui_textarea.specs.Removals.{line_end_removed, line_head_removed, symbol_before_removed, symbol_behind_removed, word_before_removed, word_behind_removed}
 use Rattle.tui_textarea.specs.State.{State}
-use Rattle.tui_textarea.specs.Splices.{splices_by}
-use Rattle.tui_textarea.proofs.Stepping.{Reckoning, Seen, after_by, before_by, char_by, copied_seen, cut_by, line_end_by, line_head_by, moves_seen, newline_by, seen, str_by, tab_by, unselected_by, word_after_by, word_before_by}
+use Rattle.tui_textarea.specs.CallSplices.{splices_by}
+use Rattle.tui_textarea.proofs.Acting.{Past, acts_by, by_any_act}
+use Rattle.tui_textarea.proofs.Stepping.{Reckoning, Seen, seen}
 
 -- what the law of documents says of a step, an undo and a redo
 abbrev pub StepsCut : Type 0
@@ -58,29 +61,10 @@ redone_by_splices cut document (Some splice) h is = (laid_out_of (redone documen
 
 -- ---- inputs
 
--- what a state that is another's outcome has of it
-as_outcome : (old new outcome : State) (splices : List Splice) → new ≡ outcome → SplicedBy old.document splices outcome.document → SplicedBy old.document splices new.document
-as_outcome old new outcome splices is h = subst (λ (s : State). SplicedBy old.document splices s.document) (sym is) h
-
-still : (old new : State) → seen new.document ≡ seen old.document → SplicedBy old.document [] new.document
-still old new same = ap (λ (s : Seen). s.0) same
-
 pub acts_cut : StepsCut → UndosCut → RedosCut → (old new : State) (asked : Action) → IsSound old.document → IsActed old asked new → SplicedBy old.document (splices_by old asked) new.document
-acts_cut cut undos redos old new action.Nothing h k = still old new (ap (λ (s : State). seen s.document) k)
-acts_cut cut undos redos old new (action.InsertChar c) h k = as_outcome old new _ _ k (char_by SplicedBy (reckoned cut) old c h)
-acts_cut cut undos redos old new action.InsertNewline h k = as_outcome old new _ _ k (newline_by SplicedBy (reckoned cut) old h)
-acts_cut cut undos redos old new action.InsertTab h k = as_outcome old new _ _ k (tab_by SplicedBy (reckoned cut) old h)
-acts_cut cut undos redos old new action.DeleteChar h k = as_outcome old new _ _ k (unselected_by SplicedBy (reckoned cut) old (symbol_before_removed old) _ h (before_by SplicedBy (reckoned cut) old.document old.settings.undo_coalescing old.moment h))
-acts_cut cut undos redos old new action.DeleteNextChar h k = as_outcome old new _ _ k (unselected_by SplicedBy (reckoned cut) old (symbol_behind_removed old) _ h (after_by SplicedBy (reckoned cut) old.document old.settings.undo_coalescing old.moment h))
-acts_cut cut undos redos old new action.DeleteLineByEnd h k = as_outcome old new _ _ k (unselected_by SplicedBy (reckoned cut) old (line_end_removed old) _ h (line_end_by SplicedBy (reckoned cut) old h))
-acts_cut cut undos redos old new action.DeleteLineByHead h k = as_outcome old new _ _ k (unselected_by SplicedBy (reckoned cut) old (line_head_removed old) _ h (line_head_by SplicedBy (reckoned cut) old h))
-acts_cut cut undos redos old new action.DeleteWord h k = as_outcome old new _ _ k (unselected_by SplicedBy (reckoned cut) old (word_before_removed old) _ h (word_before_by SplicedBy (reckoned cut) old h))
-acts_cut cut undos redos old new action.DeleteNextWord h k = as_outcome old new _ _ k (unselected_by SplicedBy (reckoned cut) old (word_behind_removed old) _ h (word_after_by SplicedBy (reckoned cut) old h))
-acts_cut cut undos redos old new action.Undo h k = as_outcome old new _ _ k (undone_by_splices undos old.document (newest old.document.log) h refl)
-acts_cut cut undos redos old new action.Redo h k = as_outcome old new _ _ k (redone_by_splices redos old.document (next old.document.log) h refl)
-acts_cut cut undos redos old new action.Paste h k = as_outcome old new _ _ k (str_by SplicedBy (reckoned cut) old old.yank h)
-acts_cut cut undos redos old new action.Cut h k = as_outcome old new _ _ k (cut_by SplicedBy (reckoned cut) old h)
-acts_cut cut undos redos old new action.Copy h k = still old new (ap (λ (s : State). seen s.document) k ∙ copied_seen old)
-acts_cut cut undos redos old new (action.MoveWithShift cursor_move shift) h k = still old new (moves_seen old new shift cursor_move k)
-acts_cut cut undos redos old new (action.ScrollWithShift scrolling shift) h k = still old new (moves_seen (viewport_scrolled old scrolling) new shift move.InViewport k)
-acts_cut cut undos redos old new (action.Scroll scrolling) h k = still old new (moves_seen (viewport_scrolled old scrolling) new (is_some old.document.anchor) move.InViewport k)
+acts_cut cut undos redos old new asked h k =
+    let past : Past SplicedBy = record {
+      undos = λ document sound. undone_by_splices undos document (newest document.log) sound refl;
+      redos = λ document sound. redone_by_splices redos document (next document.log) sound refl;
+    } in
+    by_any_act SplicedBy asked old.document new.document (splices_by old asked) (acts_by SplicedBy SplicedBy (reckoned cut) past old new asked h k)

@@ -3,6 +3,8 @@ use Rattle.std.proofs.Common.{◌≡◌, ℕ, Bool, List, [], ◌∷◌, Option,
 use Rattle.textarea_data.specs.declared.cursor.CursorMove.TheVariants as move
 use Rattle.textarea_calls.specs.declared.action.Action.{Action}
 use Rattle.textarea_calls.specs.declared.action.Action.TheVariants as action
+use Rattle.textarea_calls.specs.declared.kind.Edit.TheVariants as edit
+use Rattle.textarea_calls.specs.declared.kind.Write.TheVariants as write
 use Rattle.textarea_history.specs.Log.{newest, next}
 use Rattle.textarea_screen.specs.declared.screen.rect.Rect.{Rect}
 use Rattle.textarea_text.specs.Splice.{Splice, StoodBefore, inverse}
@@ -19,8 +21,9 @@ use Rattle.tui_textarea.specs.Input.{IsActed}
 use Rattle.tui_textarea.specs.Removals.{line_end_removed, line_head_removed, symbol_before_removed, symbol_behind_removed, word_before_removed, word_behind_removed}
 use Rattle.tui_textarea.specs.State.{State}
 use Rattle.tui_textarea.proofs.Frames.{drawn_document}
-use Rattle.tui_textarea.specs.Splices.{splices_by}
-use Rattle.tui_textarea.proofs.Stepping.{Reckoning, Seen, after_by, before_by, char_by, copied_seen, cut_by, line_end_by, line_head_by, moves_seen, newline_by, seen, str_by, tab_by, unselected_by, word_after_by, word_before_by}
+use Rattle.tui_textarea.specs.CallSplices.{splices_by}
+use Rattle.tui_textarea.proofs.Acting.{ByAct, Past, acts_by}
+use Rattle.tui_textarea.proofs.Stepping.{Reckoning, Seen, seen}
 
 -- what the law of documents says of a step, an undo and a redo
 abbrev pub StepsGo : Type 0
@@ -71,28 +74,15 @@ drawing_goes old new area h =
 
 -- ---- inputs
 
-as_outcome : (old new outcome : State) (splices : List Splice) → new ≡ outcome → GoesUncut old.document splices outcome.document → GoesUncut old.document splices new.document
-as_outcome old new outcome splices is h = subst (λ (s : State). GoesUncut old.document splices s.document) (sym is) h
-
-as_undone : (old new outcome : State) (splices : List Splice) → new ≡ outcome → GoesOver old.document splices outcome.document → GoesOver old.document splices new.document
-as_undone old new outcome splices is h = subst (λ (s : State). GoesOver old.document splices s.document) (sym is) h
+goes_by_act : (asked : Action) (old new : DocumentState) (splices : List Splice) → ByAct GoesUncut GoesOver asked old splices new → GoesByAct asked old splices new
+goes_by_act (action.Edit edit.Undo) old new splices h = h
+goes_by_act (action.Edit edit.Redo) old new splices h = h
+goes_by_act asked old new splices h = h
 
 pub acts_go : StepsGo → UndosGo → RedosGo → (old new : State) (asked : Action) → IsSound old.document → IsActed old asked new → GoesByAct asked old.document (splices_by old asked) new.document
-acts_go steps undos redos old new action.Nothing h k = still old.document new.document (ap (λ (s : State). seen s.document) k)
-acts_go steps undos redos old new (action.InsertChar c) h k = as_outcome old new _ _ k (char_by GoesUncut (going steps) old c h)
-acts_go steps undos redos old new action.InsertNewline h k = as_outcome old new _ _ k (newline_by GoesUncut (going steps) old h)
-acts_go steps undos redos old new action.InsertTab h k = as_outcome old new _ _ k (tab_by GoesUncut (going steps) old h)
-acts_go steps undos redos old new action.DeleteChar h k = as_outcome old new _ _ k (unselected_by GoesUncut (going steps) old (symbol_before_removed old) _ h (before_by GoesUncut (going steps) old.document old.settings.undo_coalescing old.moment h))
-acts_go steps undos redos old new action.DeleteNextChar h k = as_outcome old new _ _ k (unselected_by GoesUncut (going steps) old (symbol_behind_removed old) _ h (after_by GoesUncut (going steps) old.document old.settings.undo_coalescing old.moment h))
-acts_go steps undos redos old new action.DeleteLineByEnd h k = as_outcome old new _ _ k (unselected_by GoesUncut (going steps) old (line_end_removed old) _ h (line_end_by GoesUncut (going steps) old h))
-acts_go steps undos redos old new action.DeleteLineByHead h k = as_outcome old new _ _ k (unselected_by GoesUncut (going steps) old (line_head_removed old) _ h (line_head_by GoesUncut (going steps) old h))
-acts_go steps undos redos old new action.DeleteWord h k = as_outcome old new _ _ k (unselected_by GoesUncut (going steps) old (word_before_removed old) _ h (word_before_by GoesUncut (going steps) old h))
-acts_go steps undos redos old new action.DeleteNextWord h k = as_outcome old new _ _ k (unselected_by GoesUncut (going steps) old (word_behind_removed old) _ h (word_after_by GoesUncut (going steps) old h))
-acts_go steps undos redos old new action.Undo h k = as_undone old new _ _ k (undone_goes undos old.document (newest old.document.log) h refl)
-acts_go steps undos redos old new action.Redo h k = as_undone old new _ _ k (redone_goes redos old.document (next old.document.log) h refl)
-acts_go steps undos redos old new action.Paste h k = as_outcome old new _ _ k (str_by GoesUncut (going steps) old old.yank h)
-acts_go steps undos redos old new action.Cut h k = as_outcome old new _ _ k (cut_by GoesUncut (going steps) old h)
-acts_go steps undos redos old new action.Copy h k = still old.document new.document (ap (λ (s : State). seen s.document) k ∙ copied_seen old)
-acts_go steps undos redos old new (action.MoveWithShift cursor_move shift) h k = still old.document new.document (moves_seen old new shift cursor_move k)
-acts_go steps undos redos old new (action.ScrollWithShift scrolling shift) h k = still old.document new.document (moves_seen (viewport_scrolled old scrolling) new shift move.InViewport k)
-acts_go steps undos redos old new (action.Scroll scrolling) h k = still old.document new.document (moves_seen (viewport_scrolled old scrolling) new (is_some old.document.anchor) move.InViewport k)
+acts_go steps undos redos old new asked h k =
+    let past : Past GoesOver = record {
+      undos = λ document sound. undone_goes undos document (newest document.log) sound refl;
+      redos = λ document sound. redone_goes redos document (next document.log) sound refl;
+    } in
+    goes_by_act asked old.document new.document (splices_by old asked) (acts_by GoesUncut GoesOver (going steps) past old new asked h k)

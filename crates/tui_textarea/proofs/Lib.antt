@@ -1,3 +1,4 @@
+mod Acting
 pub mod Ahead
 pub mod Copying
 mod Filled

@@ -15,20 +15,8 @@ IsOneMove = (old first second : State) (shift : Bool) (cursor_move : CursorMove)
 
 pub one_act : (one : IsOneMove) (old first second : State) (asked : Action) → IsActed old asked first → IsActed old asked second → first ≡ second
 one_act one old first second action.Nothing h k = h ∙ sym k
-one_act one old first second (action.InsertChar c) h k = h ∙ sym k
-one_act one old first second action.InsertNewline h k = h ∙ sym k
-one_act one old first second action.InsertTab h k = h ∙ sym k
-one_act one old first second action.DeleteChar h k = h ∙ sym k
-one_act one old first second action.DeleteNextChar h k = h ∙ sym k
-one_act one old first second action.DeleteLineByEnd h k = h ∙ sym k
-one_act one old first second action.DeleteLineByHead h k = h ∙ sym k
-one_act one old first second action.DeleteWord h k = h ∙ sym k
-one_act one old first second action.DeleteNextWord h k = h ∙ sym k
-one_act one old first second action.Undo h k = h ∙ sym k
-one_act one old first second action.Redo h k = h ∙ sym k
-one_act one old first second action.Paste h k = h ∙ sym k
-one_act one old first second action.Cut h k = h ∙ sym k
-one_act one old first second action.Copy h k = h ∙ sym k
+one_act one old first second (action.Write write) h k = h ∙ sym k
+one_act one old first second (action.Edit edit) h k = h ∙ sym k
 one_act one old first second (action.MoveWithShift cursor_move shift) h k = one old first second shift cursor_move h k
 one_act one old first second (action.ScrollWithShift scrolling shift) h k = one (viewport_scrolled old scrolling) first second shift move.InViewport h k
 one_act one old first second (action.Scroll scrolling) h k = one (viewport_scrolled old scrolling) first second (is_some old.document.anchor) move.InViewport h k

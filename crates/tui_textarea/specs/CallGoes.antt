@@ -9,6 +9,7 @@ use Rattle.textarea_ranges.specs.Order.{in_order}
 use Rattle.textarea_screen.specs.declared.screen.buffer.Buffer.{Buffer}
 use Rattle.textarea_calls.specs.declared.action.Action.{Action}
 use Rattle.textarea_calls.specs.declared.action.Action.TheVariants as action
+use Rattle.textarea_calls.specs.declared.kind.Edit.TheVariants as edit
 use Rattle.tui_textarea.specs.Goes.{GoesByAct}
 use Rattle.tui_textarea.specs.Input.{asked_by, asked_without_shortcuts}
 use Rattle.tui_textarea.specs.State.{State}
@@ -112,8 +113,8 @@ RangesOfRun old buffer calls answers new =
 
 -- the call takes back an edit or makes one again, which may cut a range
 abbrev pub IsUndoOrRedoAct : Action → Type 0
-IsUndoOrRedoAct action.Undo = Unit {0}
-IsUndoOrRedoAct action.Redo = Unit {0}
+IsUndoOrRedoAct (action.Edit edit.Undo) = Unit {0}
+IsUndoOrRedoAct (action.Edit edit.Redo) = Unit {0}
 IsUndoOrRedoAct asked = ⊥
 
 abbrev pub IsUndoOrRedo : Call → Type 0

@@ -3,42 +3,55 @@ use Rattle.std.specs.Prelude.{◌≡◌, ◌⊎◌, List, [], ◌∷◌, ◌++�
 use Rattle.std.specs.Str.{chars}
 use Rattle.textarea_text.specs.Splice.{Splice}
 use Rattle.textarea_text.specs.Given.{given}
+use Rattle.textarea_text.specs.Text.{Break}
 use Rattle.textarea_calls.specs.declared.action.Action.TheVariants as action
 use Rattle.textarea_screen.specs.declared.screen.buffer.Buffer.{Buffer}
-use Rattle.textarea_document.specs.Splices.{break_splices, hit_splices, selected_splices}
+use Rattle.textarea_document.specs.Splices.{after_splices, before_splices, break_splices, hit_splices, redo_splices, selected_splices, undo_splices}
+use Rattle.textarea_calls.specs.Kinds.{call_of_edit, call_of_write}
+use Rattle.textarea_calls.specs.declared.action.Action.{Action}
 use Rattle.tui_textarea.specs.Input.{asked_by, asked_without_shortcuts}
-use Rattle.tui_textarea.specs.Splices.{ahead_splices, clear_splices, selected_splices_or, splices_by, str_splices}
+use Rattle.tui_textarea.specs.Splices.{ahead_splices, char_splices, clear_splices, line_end_splices, line_head_splices, selected_splices_or, str_splices, tab_splices, word_after_splices, word_before_splices}
 use Rattle.tui_textarea.specs.State.{State}
 use Rattle.tui_textarea.specs.Run.{Makes}
 use Rattle.tui_textarea.specs.Said.{Said}
 use Rattle.textarea_calls.specs.declared.call.Call.{Call}
 use Rattle.textarea_calls.specs.declared.call.Call.TheVariants.{InsertChar, InsertStr, InsertTab, InsertNewline, DeleteStr, DeleteNewline, DeleteChar, DeleteNextChar, DeleteLineByEnd, DeleteLineByHead, DeleteWord, DeleteNextWord, Clear, Cut, Paste, Undo, Redo, DeleteAtomicRangeAtCursor, Input, InputWithoutShortcuts}
 
--- The splices of the call in this state, one after another; of a call that inputs ask for too, those of its action. An insertion has
--- two where a symbol is selected, the first of them the removal of what is selected; any other edit, an undo and a redo have one;
--- where nothing changes, and of every other call, there is none. The call that sets other lines replaces the text, and has none.
+-- The splices of the call in this state, one after another. An insertion has two where a symbol is selected, the first of them the
+-- removal of what is selected; any other edit, an undo and a redo have one; where nothing changes, and of every other call, there is
+-- none. The call that sets other lines replaces the text, and has none. Those of inputs are said below.
+abbrev pub call_splices : State → Call → List Splice
+call_splices state (InsertChar c) = char_splices state c
+call_splices state (InsertStr text) = str_splices state (given (chars text.now))
+call_splices state InsertTab = tab_splices state
+call_splices state InsertNewline = str_splices state (Break ∷ [])
+call_splices state Paste = str_splices state state.yank
+call_splices state (DeleteStr count) = selected_splices_or state.document (ahead_splices state.document count)
+call_splices state DeleteNewline = selected_splices_or state.document (break_splices state.document)
+call_splices state DeleteChar = selected_splices_or state.document (before_splices state.document)
+call_splices state DeleteNextChar = selected_splices_or state.document (after_splices state.document)
+call_splices state DeleteLineByEnd = selected_splices_or state.document (line_end_splices state.document)
+call_splices state DeleteLineByHead = selected_splices_or state.document (line_head_splices state.document)
+call_splices state DeleteWord = selected_splices_or state.document (word_before_splices state.document)
+call_splices state DeleteNextWord = selected_splices_or state.document (word_after_splices state.document)
+call_splices state Clear = clear_splices state.document
+call_splices state Cut = selected_splices state.document
+call_splices state Undo = undo_splices state.document
+call_splices state Redo = redo_splices state.document
+call_splices state (DeleteAtomicRangeAtCursor direction) = hit_splices state.document direction
+call_splices state call = []
+
+-- the splices of an input that asks for the action: those of its call
+abbrev pub splices_by : State → Action → List Splice
+splices_by state (action.Edit edit) = call_splices state (call_of_edit edit)
+splices_by state (action.Write write) = call_splices state (call_of_write write)
+splices_by state asked = []
+
+-- the splices of any call in this state; of an input, those of its action
 abbrev pub splices_of : State → Call → List Splice
-splices_of state (InsertChar c) = splices_by state (action.InsertChar c)
-splices_of state (InsertStr text) = str_splices state (given (chars text.now))
-splices_of state InsertTab = splices_by state action.InsertTab
-splices_of state InsertNewline = splices_by state action.InsertNewline
-splices_of state Paste = splices_by state action.Paste
-splices_of state (DeleteStr count) = selected_splices_or state.document (ahead_splices state.document count)
-splices_of state DeleteNewline = selected_splices_or state.document (break_splices state.document)
-splices_of state DeleteChar = splices_by state action.DeleteChar
-splices_of state DeleteNextChar = splices_by state action.DeleteNextChar
-splices_of state DeleteLineByEnd = splices_by state action.DeleteLineByEnd
-splices_of state DeleteLineByHead = splices_by state action.DeleteLineByHead
-splices_of state DeleteWord = splices_by state action.DeleteWord
-splices_of state DeleteNextWord = splices_by state action.DeleteNextWord
-splices_of state Clear = clear_splices state.document
-splices_of state Cut = splices_by state action.Cut
-splices_of state Undo = splices_by state action.Undo
-splices_of state Redo = splices_by state action.Redo
-splices_of state (DeleteAtomicRangeAtCursor direction) = hit_splices state.document direction
 splices_of state (Input input) = splices_by state (asked_by input.now)
 splices_of state (InputWithoutShortcuts input) = splices_by state (asked_without_shortcuts input.now)
-splices_of state call = []
+splices_of state call = call_splices state call
 
 -- the fact holds of the splices that a call leaves which ran out of memory: none, or the removal of what was selected
 abbrev pub OfLeft : State → (List Splice → Type 0) → Type 0

@@ -29,7 +29,6 @@ use Rattle.textarea_view.specs.State.{style_with_lines}
 use Rattle.textarea_view.specs.Outcomes.{with_max_rows, with_min_rows, with_placeholder_style, with_placeholder_text}
 use Rattle.textarea_screen.specs.declared.screen.alignment.Alignment.TheVariants.{Left}
 use Rattle.tui_textarea.specs.Drawing.{highlighted, unhighlighted, with_look}
-use Rattle.tui_textarea.specs.Input.{IsLeftBy, MayRefuseAct, acts, asked_by, asked_without_shortcuts}
 use Rattle.tui_textarea.specs.Layout.{alignment_set, mode_set, number_style, numbers_set, stays_cut, tab_length, tab_length_set, with_alignment, with_line_numbers, with_tab_length, with_wrap_mode, without_line_numbers}
 use Rattle.tui_textarea.specs.Measure.{reads_rows, with_surround}
 use Rattle.tui_textarea.specs.Search.{next_match, previous_match, searched, with_pattern}
@@ -38,7 +37,7 @@ use Rattle.tui_textarea.specs.Ranges.{cursor_normalized, hit_range_removed, rang
 use Rattle.tui_textarea.specs.Said as told
 use Rattle.tui_textarea.specs.Said.{Said, Done, Flag, Range, Rejected, Text}
 use Rattle.textarea_calls.specs.declared.call.Call.{Call}
-use Rattle.textarea_calls.specs.declared.call.Call.TheVariants.{InsertChar, InsertStr, InsertTab, InsertNewline, DeleteStr, DeleteNewline, DeleteChar, DeleteNextChar, DeleteLineByEnd, DeleteLineByHead, DeleteWord, DeleteNextWord, Clear, Cut, Copy, Paste, Undo, Redo, StartSelection, CancelSelection, SelectAll, SetYankText, YankText, SetTabLength, SetHardTabIndent, SetMaxHistories, SetUndoCoalescing, SetNow, SetLines, TrySetAtomicRanges, ClearAtomicRanges, NormalizeCursorAroundAtomicRanges, AtomicRangeAtCursor, DeleteAtomicRangeAtCursor, SetSearchPattern, SearchForward, SearchBack, SetWrapMode, SetLineNumberStyle, RemoveLineNumber, Measure, SetBlock, RemoveBlock, SetPlaceholderText, SetStyledPlaceholder, SetPlaceholderStyle, SetMinRows, SetMaxRows, SetStyle, Style, SetCursorStyle, CursorStyle, SetCursorLineStyle, CursorLineStyle, SetSelectionStyle, SelectionStyle, SetSearchStyle, SearchStyle, SetMaskChar, ClearMaskChar, MaskChar, SetCursorRenderMode, CursorRenderMode, SetAlignment, Alignment, CustomHighlight, ClearCustomHighlight, Render, RenderedCursorPosition, CursorAtPosition, Input, InputWithoutShortcuts, Cursor, IsEmpty, IsSelecting, SelectionRange, TabLength, HardTabIndent, MaxHistories, UndoCoalescing, WrapMode, LineNumberStyle, PlaceholderStyle, MinRows, MaxRows}
+use Rattle.textarea_calls.specs.declared.call.Call.TheVariants.{InsertChar, InsertStr, InsertTab, InsertNewline, DeleteStr, DeleteNewline, DeleteChar, DeleteNextChar, DeleteLineByEnd, DeleteLineByHead, DeleteWord, DeleteNextWord, Clear, Cut, Copy, Paste, Undo, Redo, StartSelection, CancelSelection, SelectAll, SetYankText, YankText, SetTabLength, SetHardTabIndent, SetMaxHistories, SetUndoCoalescing, SetNow, SetLines, TrySetAtomicRanges, ClearAtomicRanges, NormalizeCursorAroundAtomicRanges, AtomicRangeAtCursor, DeleteAtomicRangeAtCursor, SetSearchPattern, SearchForward, SearchBack, SetWrapMode, SetLineNumberStyle, RemoveLineNumber, Measure, SetBlock, RemoveBlock, SetPlaceholderText, SetStyledPlaceholder, SetPlaceholderStyle, SetMinRows, SetMaxRows, SetStyle, Style, SetCursorStyle, CursorStyle, SetCursorLineStyle, CursorLineStyle, SetSelectionStyle, SelectionStyle, SetSearchStyle, SearchStyle, SetMaskChar, ClearMaskChar, MaskChar, SetCursorRenderMode, CursorRenderMode, SetAlignment, Alignment, CustomHighlight, ClearCustomHighlight, Render, RenderedCursorPosition, CursorAtPosition, Cursor, IsEmpty, IsSelecting, SelectionRange, TabLength, HardTabIndent, MaxHistories, UndoCoalescing, WrapMode, LineNumberStyle, PlaceholderStyle, MinRows, MaxRows}
 
 -- the given ranges that are rejected, in their order, each with its reason
 abbrev pub rejected_ranges : State → List AtomicRange → List RejectedAtomicRange
@@ -54,7 +53,7 @@ abbrev pub with_ranges_if : List RejectedAtomicRange → State → List AtomicRa
 with_ranges_if [] state ranges = ranges_accepted state ranges
 with_ranges_if (range ∷ rejected) state ranges = state
 
--- what the call answers; a pattern that is set, where it isn't refused. What is measured or hit isn't said here
+-- what the call answers; a pattern that is set, where it isn't refused. What is measured or hit, and what an input answers, isn't said here
 abbrev pub answer_of : State → Call → Said
 answer_of state (InsertStr text) = Flag (inserts_text state (given (chars text.now)))
 answer_of state InsertTab = Flag (inserts_tab state)
@@ -87,8 +86,6 @@ answer_of state MaskChar = told.Character state.drawing.look.mask
 answer_of state CursorRenderMode = told.CursorRenderMode state.drawing.look.cursor_render_mode
 answer_of state Alignment = told.Alignment state.drawing.look.alignment
 answer_of state RenderedCursorPosition = told.Position state.drawing.caret
-answer_of state (Input input) = Flag (acts state (asked_by input.now))
-answer_of state (InputWithoutShortcuts input) = Flag (acts state (asked_without_shortcuts input.now))
 answer_of state Cursor = told.Cursor state.document.cursor
 answer_of state IsEmpty = Flag (not (is_filled state.document.text))
 answer_of state IsSelecting = Flag (is_some state.document.anchor)
@@ -175,65 +172,55 @@ state_after state (CustomHighlight range style priority) = highlighted state ran
 state_after state ClearCustomHighlight = unhighlighted state
 state_after state call = state
 
--- the call may answer out of memory: not where it has nothing to do, where a setting cuts no line, where a measure reads the rows
--- that are kept, and where a hit is in rows at the left; and a move, a scroll, any other setting and what reads one, a begun, dropped
+-- the call may ask for memory: not where it has nothing to do, where a setting cuts no line, where a measure reads the rows that are
+-- kept, and where a hit is in rows at the left; and a move, a scroll, any other setting and what reads one, a begun, dropped
 -- or whole selection, ranges that are forgotten or looked up, and highlights that are forgotten never
-abbrev pub MayRefuse : State → Call → Type 0
-MayRefuse state (InsertChar c) = Unit {0}
-MayRefuse state (InsertStr text) = inserts_text state (given (chars text.now)) ≢ false
-MayRefuse state InsertTab = inserts_tab state ≢ false
-MayRefuse state InsertNewline = Unit {0}
-MayRefuse state (DeleteStr count) = removes_or state (has_ahead state count) ≢ false
-MayRefuse state DeleteNewline = removes_or state (has_break_before state) ≢ false
-MayRefuse state DeleteChar = removes_or state (has_before state) ≢ false
-MayRefuse state DeleteNextChar = removes_or state (has_behind state) ≢ false
-MayRefuse state DeleteLineByEnd = removes_or state (has_line_behind state) ≢ false
-MayRefuse state DeleteLineByHead = removes_or state (has_line_before state) ≢ false
-MayRefuse state DeleteWord = removes_or state (has_word_before state) ≢ false
-MayRefuse state DeleteNextWord = removes_or state (has_word_behind state) ≢ false
-MayRefuse state Clear = is_filled state.document.text ≢ false
-MayRefuse state Cut = is_selected state.document ≢ false
-MayRefuse state Copy = is_selected state.document ≢ false
-MayRefuse state Paste = inserts_text state state.yank ≢ false
-MayRefuse state Undo = newest state.document.log ≢ None
-MayRefuse state Redo = next state.document.log ≢ None
-MayRefuse state (SetYankText text) = Unit {0}
-MayRefuse state YankText = Unit {0}
-MayRefuse state (TrySetAtomicRanges ranges) = Unit {0}
-MayRefuse state (DeleteAtomicRangeAtCursor direction) = hit_at_cursor state.document direction ≢ None
-MayRefuse state (SetLines lines cursor) = Unit {0}
-MayRefuse state (SetSearchPattern text) = IsNewPattern state text.now
-MayRefuse state (SearchForward at_cursor) = state.pattern ≢ None
-MayRefuse state (SearchBack at_cursor) = state.pattern ≢ None
-MayRefuse state (SetTabLength columns) = stays_cut state (tab_length_set state columns) ≢ true
-MayRefuse state (SetWrapMode mode) = stays_cut state (mode_set state mode) ≢ true
-MayRefuse state (SetLineNumberStyle style) = stays_cut state (numbers_set state true) ≢ true
-MayRefuse state RemoveLineNumber = stays_cut state (numbers_set state false) ≢ true
-MayRefuse state (Measure width) = reads_rows state width ≢ true
-MayRefuse state (SetBlock block) = Unit {0}
-MayRefuse state (SetPlaceholderText text) = text.now ≢ []
-MayRefuse state (SetStyledPlaceholder text) = Unit {0}
-MayRefuse state (SetAlignment alignment) = stays_cut state (alignment_set state alignment) ≢ true
-MayRefuse state (CustomHighlight range style priority) = Unit {0}
-MayRefuse state (Render area) = Unit {0}
-MayRefuse state (CursorAtPosition position) = state.drawing.look.alignment ≢ Left
-MayRefuse state (Input input) = MayRefuseAct state (asked_by input.now)
-MayRefuse state (InputWithoutShortcuts input) = MayRefuseAct state (asked_without_shortcuts input.now)
-MayRefuse state call = ⊥
+abbrev pub NeedsMemory : State → Call → Type 0
+NeedsMemory state (InsertChar c) = Unit {0}
+NeedsMemory state (InsertStr text) = inserts_text state (given (chars text.now)) ≢ false
+NeedsMemory state InsertTab = inserts_tab state ≢ false
+NeedsMemory state InsertNewline = Unit {0}
+NeedsMemory state (DeleteStr count) = removes_or state (has_ahead state count) ≢ false
+NeedsMemory state DeleteNewline = removes_or state (has_break_before state) ≢ false
+NeedsMemory state DeleteChar = removes_or state (has_before state) ≢ false
+NeedsMemory state DeleteNextChar = removes_or state (has_behind state) ≢ false
+NeedsMemory state DeleteLineByEnd = removes_or state (has_line_behind state) ≢ false
+NeedsMemory state DeleteLineByHead = removes_or state (has_line_before state) ≢ false
+NeedsMemory state DeleteWord = removes_or state (has_word_before state) ≢ false
+NeedsMemory state DeleteNextWord = removes_or state (has_word_behind state) ≢ false
+NeedsMemory state Clear = is_filled state.document.text ≢ false
+NeedsMemory state Cut = is_selected state.document ≢ false
+NeedsMemory state Copy = is_selected state.document ≢ false
+NeedsMemory state Paste = inserts_text state state.yank ≢ false
+NeedsMemory state Undo = newest state.document.log ≢ None
+NeedsMemory state Redo = next state.document.log ≢ None
+NeedsMemory state (SetYankText text) = Unit {0}
+NeedsMemory state YankText = Unit {0}
+NeedsMemory state (TrySetAtomicRanges ranges) = Unit {0}
+NeedsMemory state (DeleteAtomicRangeAtCursor direction) = hit_at_cursor state.document direction ≢ None
+NeedsMemory state (SetLines lines cursor) = Unit {0}
+NeedsMemory state (SetSearchPattern text) = IsNewPattern state text.now
+NeedsMemory state (SearchForward at_cursor) = state.pattern ≢ None
+NeedsMemory state (SearchBack at_cursor) = state.pattern ≢ None
+NeedsMemory state (SetTabLength columns) = stays_cut state (tab_length_set state columns) ≢ true
+NeedsMemory state (SetWrapMode mode) = stays_cut state (mode_set state mode) ≢ true
+NeedsMemory state (SetLineNumberStyle style) = stays_cut state (numbers_set state true) ≢ true
+NeedsMemory state RemoveLineNumber = stays_cut state (numbers_set state false) ≢ true
+NeedsMemory state (Measure width) = reads_rows state width ≢ true
+NeedsMemory state (SetBlock block) = Unit {0}
+NeedsMemory state (SetPlaceholderText text) = text.now ≢ []
+NeedsMemory state (SetStyledPlaceholder text) = Unit {0}
+NeedsMemory state (SetAlignment alignment) = stays_cut state (alignment_set state alignment) ≢ true
+NeedsMemory state (CustomHighlight range style priority) = Unit {0}
+NeedsMemory state (Render area) = Unit {0}
+NeedsMemory state (CursorAtPosition position) = state.drawing.look.alignment ≢ Left
+NeedsMemory state call = ⊥
 
--- what a call that answered out of memory leaves: the state as it was, or, of an insertion, also one that an input asks for, the one
--- without what was selected
-abbrev pub IsLeft : State → Call → State → Type 0
-IsLeft old (InsertChar c) new = selection.IsLeft old new
-IsLeft old (InsertStr text) new = selection.IsLeft old new
-IsLeft old InsertTab new = selection.IsLeft old new
-IsLeft old InsertNewline new = selection.IsLeft old new
-IsLeft old Paste new = selection.IsLeft old new
-IsLeft old (Input input) new = IsLeftBy old (asked_by input.now) new
-IsLeft old (InputWithoutShortcuts input) new = IsLeftBy old (asked_without_shortcuts input.now) new
-IsLeft old call new = new ≡ old
-
--- the call answered out of memory, which it may, and this is the state that it left
-pub record Refused (old : State) (call : Call) (new : State) : Type 0 where
-  pub may : MayRefuse old call
-  pub left : IsLeft old call new
+-- what a call that answered out of memory leaves: the state as it was, or, of an insertion, the one without what was selected
+abbrev pub LeftRefused : State → Call → State → Type 0
+LeftRefused old (InsertChar c) new = selection.IsLeft old new
+LeftRefused old (InsertStr text) new = selection.IsLeft old new
+LeftRefused old InsertTab new = selection.IsLeft old new
+LeftRefused old InsertNewline new = selection.IsLeft old new
+LeftRefused old Paste new = selection.IsLeft old new
+LeftRefused old call new = new ≡ old

@@ -4,7 +4,6 @@ pub mod Edits
 pub mod Removals
 pub mod Selection
 pub mod Moves
-pub mod Kinds
 pub mod Input
 pub mod Ranges
 pub mod Search

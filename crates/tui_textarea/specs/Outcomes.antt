@@ -9,14 +9,14 @@ use Rattle.textarea_screen.specs.Rect.{contains}
 use Rattle.textarea_screen.specs.declared.screen.buffer.Buffer.{Buffer}
 use Rattle.textarea_screen.specs.declared.screen.rect.Position.{Position}
 use Rattle.tui_textarea.specs.Drawing.{IsRendered, parts_of}
-use Rattle.tui_textarea.specs.Input.{IsActed, asked_by, asked_without_shortcuts}
+use Rattle.tui_textarea.specs.Input.{IsActed, IsLeftBy, MayRefuseAct, acts, asked_by, asked_without_shortcuts}
 use Rattle.tui_textarea.specs.Measure.{IsMeasured}
 use Rattle.tui_textarea.specs.Moves.{IsMoved, IsScrolled}
 use Rattle.tui_textarea.specs.State.{State}
 use Rattle.tui_textarea.specs.Search.{with_pattern}
-use Rattle.tui_textarea.specs.Calls.{answer_of, state_after}
+use Rattle.tui_textarea.specs.Calls.{LeftRefused, NeedsMemory, answer_of, state_after}
 use Rattle.tui_textarea.specs.Patterns.{MayRefusePattern}
-use Rattle.tui_textarea.specs.Said.{Said, Done, Measured, PatternRefused, Place}
+use Rattle.tui_textarea.specs.Said.{Said, Done, Flag, Measured, PatternRefused, Place}
 use Rattle.textarea_calls.specs.declared.call.Call.{Call}
 use Rattle.textarea_calls.specs.declared.call.Call.TheVariants.{CursorAtPosition, Input, InputWithoutShortcuts, Measure, Move, Render, Scroll, SetSearchPattern}
 
@@ -45,6 +45,8 @@ abbrev pub IsAnswer : State → Call → Said → Type 0
 IsAnswer state (SetSearchPattern text) answer = IsPatternAnswer state text.now answer
 IsAnswer state (Measure width) answer = IsMeasureAnswer state width answer
 IsAnswer state (CursorAtPosition cell) answer = IsHitAnswer state cell answer
+IsAnswer state (Input input) answer = answer ≡ Flag (acts state (asked_by input.now))
+IsAnswer state (InputWithoutShortcuts input) answer = answer ≡ Flag (acts state (asked_without_shortcuts input.now))
 IsAnswer state call answer = answer ≡ answer_of state call
 
 -- this is the state behind the call, where it answers so
@@ -56,6 +58,23 @@ IsBehind old (Render area) answer new = IsRendered old area new
 IsBehind old (Input input) answer new = IsActed old (asked_by input.now) new
 IsBehind old (InputWithoutShortcuts input) answer new = IsActed old (asked_without_shortcuts input.now) new
 IsBehind old call answer new = new ≡ state_after old call
+
+-- the call may answer out of memory: where it, or the call that an input asks for, may ask for memory
+abbrev pub MayRefuse : State → Call → Type 0
+MayRefuse state (Input input) = MayRefuseAct state (asked_by input.now)
+MayRefuse state (InputWithoutShortcuts input) = MayRefuseAct state (asked_without_shortcuts input.now)
+MayRefuse state call = NeedsMemory state call
+
+-- what a call that answered out of memory leaves
+abbrev pub IsLeft : State → Call → State → Type 0
+IsLeft old (Input input) new = IsLeftBy old (asked_by input.now) new
+IsLeft old (InputWithoutShortcuts input) new = IsLeftBy old (asked_without_shortcuts input.now) new
+IsLeft old call new = LeftRefused old call new
+
+-- the call answered out of memory, which it may, and this is the state that it left
+pub record Refused (old : State) (call : Call) (new : State) : Type 0 where
+  pub may : MayRefuse old call
+  pub left : IsLeft old call new
 
 -- this is what the call leaves of the buffer, where it leaves this state: a drawing, what is drawn of that state in the area, and
 -- any other call, the buffer as it was

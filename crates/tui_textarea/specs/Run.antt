@@ -6,8 +6,7 @@ use Rattle.tui_textarea.specs.State.{State}
 use Rattle.textarea_calls.specs.declared.call.Call.{Call}
 use Rattle.textarea_calls.specs.declared.answer.Answer.{Answer}
 use Rattle.tui_textarea.specs.Said.{Said, said}
-use Rattle.tui_textarea.specs.Calls.{Refused}
-use Rattle.tui_textarea.specs.Outcomes.{IsAnswer, IsBehind, IsShown, IsSpared}
+use Rattle.tui_textarea.specs.Outcomes.{IsAnswer, IsBehind, IsShown, IsSpared, Refused}
 
 -- the call may answer so in the old state and over the old buffer, and leave the new ones
 pub record Makes (old : State) (buffer : Buffer) (call : Call) (answer : Said) (new : State) (shown : Buffer) : Type 0 where

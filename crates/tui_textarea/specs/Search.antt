@@ -4,7 +4,9 @@ use Rattle.std.specs.Str.{encode_utf8_all}
 use Rattle.textarea_text.specs.Text.{Symbol, lines}
 use Rattle.textarea_text.specs.Place.{Place}
 use Rattle.textarea_search.specs.Matches.{match_columns}
-use Rattle.textarea_search.specs.Starts.{next_start, previous_start, starts_from}
+use Rattle.textarea_search.specs.Starts.{found_start, starts_from}
+use Rattle.textarea_search.specs.declared.search.direction.Direction.{Direction}
+use Rattle.textarea_search.specs.declared.search.direction.Direction.TheVariants.{Forward, Back}
 use Rattle.textarea_document.specs.Outcomes.{moved}
 use Rattle.tui_textarea.specs.State.{State, with_document}
 
@@ -23,17 +25,18 @@ abbrev pub starts_in : Option (List ℕ) → List Symbol → List Place
 starts_in None text = []
 starts_in (Some pattern) text = starts_from (match_columns pattern) 0 (map encode_utf8_all (lines text))
 
--- where a search leads: to the next start behind the cursor or, where that counts, at it, and past the end of the text to
--- its first start
-abbrev pub next_match : State → Bool → Option Place
-next_match state at_cursor =
-    next_start (starts_in state.pattern state.document.text) state.document.cursor at_cursor
+-- where a search from the cursor leads
+abbrev pub found_match : Direction → State → Bool → Option Place
+found_match direction state at_cursor =
+    found_start direction (starts_in state.pattern state.document.text) state.document.cursor at_cursor
 
--- where a search back leads: to the last start before the cursor or, where that counts, at it, and past the beginning of
--- the text to its last start
+-- to the next start behind the cursor or, where that counts, at it, and past the end of the text to its first start
+abbrev pub next_match : State → Bool → Option Place
+next_match state at_cursor = found_match Forward state at_cursor
+
+-- to the last start before the cursor or, where that counts, at it, and past the beginning of the text to its last start
 abbrev pub previous_match : State → Bool → Option Place
-previous_match state at_cursor =
-    previous_start (starts_in state.pattern state.document.text) state.document.cursor at_cursor
+previous_match state at_cursor = found_match Back state at_cursor
 
 -- the cursor goes to the place that was found, if one was; the anchor stays, and a run of typing ends
 abbrev pub searched : State → Option Place → State

@@ -1,4 +1,4 @@
--- The splices by which each call that edits the text changes it, and by which an input does: one function from the state to their list.
+-- The splices of each edit: functions from the state to their list.
 use Rattle.std.specs.Prelude.{ℕ, ◌==◌, List, [], ◌∷◌, ◌++◌, length, nat_lt, replicate, if◌then◌else◌}
 use Rattle.textarea_text.specs.Place.{place_of}
 use Rattle.textarea_text.specs.Splice.{Splice}
@@ -7,8 +7,6 @@ use Rattle.textarea_document.specs.Edits.{cursor_index, hit_before, hit_behind, 
 use Rattle.textarea_document.specs.Selection.{is_selected}
 use Rattle.textarea_document.specs.Splices.{after_splices, before_splices, break_splices, insertion_splices, range_splices_or, redo_splices, removal_splices, selected_splices, undo_splices}
 use Rattle.textarea_document.specs.State.{DocumentState}
-use Rattle.textarea_calls.specs.declared.action.Action.{Action}
-use Rattle.textarea_calls.specs.declared.action.Action.TheVariants.{InsertChar, InsertNewline, InsertTab, DeleteChar, DeleteNextChar, DeleteLineByEnd, DeleteLineByHead, DeleteWord, DeleteNextWord, Undo, Redo, Paste, Cut}
 use Rattle.textarea_document.specs.Target.{word_end_after, word_start_before}
 use Rattle.tui_textarea.specs.Edits.{breaks_line, spaces_to_stop}
 use Rattle.tui_textarea.specs.Layout.{tab_length}
@@ -77,22 +75,3 @@ word_after_splices document =
 abbrev pub clear_splices : DocumentState → List Splice
 clear_splices document =
     if is_filled document.text then removal_splices document (0, 0) (place_of document.text (length document.text)) else []
-
--- ---- inputs
-
--- the splices of an input that asks for the action: those of its call
-abbrev pub splices_by : State → Action → List Splice
-splices_by state (InsertChar c) = char_splices state c
-splices_by state InsertNewline = str_splices state (Break ∷ [])
-splices_by state InsertTab = tab_splices state
-splices_by state DeleteChar = selected_splices_or state.document (before_splices state.document)
-splices_by state DeleteNextChar = selected_splices_or state.document (after_splices state.document)
-splices_by state DeleteLineByEnd = selected_splices_or state.document (line_end_splices state.document)
-splices_by state DeleteLineByHead = selected_splices_or state.document (line_head_splices state.document)
-splices_by state DeleteWord = selected_splices_or state.document (word_before_splices state.document)
-splices_by state DeleteNextWord = selected_splices_or state.document (word_after_splices state.document)
-splices_by state Undo = undo_splices state.document
-splices_by state Redo = redo_splices state.document
-splices_by state Paste = str_splices state state.yank
-splices_by state Cut = selected_splices state.document
-splices_by state action = []

@@ -36,9 +36,14 @@ ghost use Rattle.tui_textarea.specs.Moves.{IsMovedWith, IsScrolledWith};
 ghost use Rattle.tui_textarea.specs.Ranges.{hit_range_removed};
 ghost use Rattle.tui_textarea.specs.Removals.{break_before_removed, symbols_ahead_removed, text_cleared, unselected_or};
 ghost use Rattle.tui_textarea.specs.Selection.{unselected};
-ghost use Rattle.tui_textarea.specs.Splices.{ahead_splices, clear_splices, selected_splices_or, splices_by, str_splices};
+ghost use Rattle.tui_textarea.specs.Splices.{ahead_splices, clear_splices, selected_splices_or, str_splices};
+ghost use Rattle.tui_textarea.specs.CallSplices.{splices_by};
 ghost use Rattle.tui_textarea.specs.State.{State, with_other_lines};
 
+pub use crate::textarea::laws::{
+    copy_then_paste, cursor_and_anchor_are_places, edits_fit, is_sound, redo_gives_all_back,
+    rows_are_laid_out_anew, undos_give_back,
+};
 use textarea_document::laws::{
     edits_cut, layouts_cut, one_place_up_and_down, one_row_count, ranges_go_along,
 };
@@ -156,12 +161,6 @@ pub fn calls_cut()
         SplicedBy state.document
         (selected_splices_or state.document (ahead_splices state.document count))
         (unselected_or state (symbols_ahead_removed state count)).document }
-    ensures break_before { (state : State) → IsSound state.document →
-        SplicedBy state.document
-        (selected_splices_or state.document (break_splices state.document))
-        (unselected_or state (break_before_removed state)).document }
-    ensures all { (state : State) → IsSound state.document →
-        SplicedBy state.document (clear_splices state.document) (text_cleared state).document }
     ensures range { (state : State) (direction : AtomicDeleteDirection) →
         IsSound state.document →
         SplicedBy state.document (hit_splices state.document direction)
@@ -207,12 +206,6 @@ pub fn ranges_go_behind_calls()
         GoesUncut state.document
         (selected_splices_or state.document (ahead_splices state.document count))
         (unselected_or state (symbols_ahead_removed state count)).document }
-    ensures break_before { (state : State) → IsSound state.document →
-        GoesUncut state.document
-        (selected_splices_or state.document (break_splices state.document))
-        (unselected_or state (break_before_removed state)).document }
-    ensures all { (state : State) → IsSound state.document →
-        GoesUncut state.document (clear_splices state.document) (text_cleared state).document }
     ensures range { (state : State) (direction : AtomicDeleteDirection) →
         IsSound state.document →
         GoesUncut state.document (hit_splices state.document direction)

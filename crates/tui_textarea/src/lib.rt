@@ -49,16 +49,12 @@ pub mod layout {
 
 /// The visual rows of all lines, kept line by line.
 pub mod screen_map {
-    pub use textarea_screen_map::screen_map::{
-        NewRows, PreparedRows, RowText, ScreenMap, new_rows,
-    };
+    pub use textarea_screen_map::screen_map::{PreparedRows, ScreenMap};
 }
 
 /// Searches for a pattern, and its matches in lines.
 pub mod search {
-    pub use textarea_search::search::{
-        KeepingMatcher, KeptMatches, LineMatcher, Matches, Search, SearchError,
-    };
+    pub use textarea_search::search::{Matches, Search, SearchError};
 }
 
 /// Classes of characters, and searches for the words of a line.
@@ -71,5 +67,5 @@ pub mod word {
 
 /// The rows of one line at a width.
 pub mod wrap {
-    pub use textarea_wrap::wrap::{Rows, WrapCount, WrapMode, is_short, line_ranges};
+    pub use textarea_wrap::wrap::{Rows, WrapCount, WrapMode, line_ranges};
 }

@@ -2,7 +2,7 @@
 mod constructors;
 mod edits;
 mod input;
-mod laws;
+pub(crate) mod laws;
 mod layout;
 mod look;
 mod measure;

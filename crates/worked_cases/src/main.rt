@@ -3,7 +3,7 @@
 //! Standard input has sections. A line `== KIND TITLE` begins one, and its cases stand behind it, with an empty line between each
 //! two. The first lines of a case may be comments, which begin with `# `. A blank at a line's end is written `\u{20}`. The kinds:
 //!
-//! - `transcripts`: calls and what they answer, and the text area on the way (`textarea_transcripts`).
+//! - `transcripts`: calls and what they answer, and the text area on the way (`transcript`).
 //! - `unread`: lines, none of which is a script.
 //! - `sessions`: behind `> `, the keys of a session of the modal editor, with the escapes of scripts; and what is printed of it.
 //! - `runs`: behind `> `, keys of the modal editor with Ctrl and Alt, and what is told at their end (`runs`).

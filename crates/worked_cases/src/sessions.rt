@@ -3,7 +3,7 @@ use std::alloc::Global;
 use std::str::from_utf8;
 use textarea_cases::lines::keys_and_rest;
 use textarea_cases::stop::{Stop, compare};
-use textarea_script::{serve as script, session};
+use textarea_script::{modal, script};
 
 /// Runs a session, of which this must be printed and nothing else.
 pub fn check(alloc: Global, case: &str) -> Result<(), Stop> {
@@ -14,7 +14,7 @@ pub fn check(alloc: Global, case: &str) -> Result<(), Stop> {
 fn check_keys(alloc: Global, keys: &str, wanted: &str) -> Result<(), Stop> {
     let mut output = Vec::new(alloc);
     let mut errors = Vec::new(alloc);
-    let status = session::serve(alloc, &mut keys.as_bytes(), &mut output, &mut errors);
+    let status = modal::serve(alloc, &mut keys.as_bytes(), &mut output, &mut errors);
     check_end(alloc, status, output.as_slice(), errors.as_slice(), wanted)
 }
 
@@ -38,7 +38,7 @@ fn check_unread_line(alloc: Global, line: &str) -> Result<(), Stop> {
     let mut output = Vec::new(alloc);
     let mut errors = Vec::new(alloc);
     let status = script::serve(alloc, &mut line.as_bytes(), &mut output, &mut errors);
-    if status == script::LINE_NOT_READ
+    if status == script::NOT_READ
         && output.is_empty()
         && errors.as_slice() == b"line 1: not read\n".as_slice()
     {

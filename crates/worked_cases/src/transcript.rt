@@ -1,11 +1,37 @@
-//! Transcripts (`textarea_transcripts`), and the scripts that their calls are.
+//! Transcripts: calls and what they answer, and the text area on the way.
+//!
+//! A line `CALL => ANSWER` is a call, as a line of a script or as words (`textarea_cases`), and what it answers; `*` stands for any
+//! answer. `input_without_shortcuts` has the words of `input`, and other words tell what no call answers (`textarea_cases::told`).
+//! The inputs of a line `input HELD KEY | HELD KEY .. => ANSWER` are tried one after another, each in a text area of its own.
+//!
+//! Any other line is as `tascript` prints it of the text area at that place: its lines, its cursor, its selection, its screen; what
+//! isn't shown is as it was shown last, also at the end, and before that there is no screen. Where all calls are lines of scripts,
+//! `tascript` must print the same of the script.
+ghost use Rattle.std.specs.Prelude.{IfSome};
+ghost use Rattle.textarea_calls.specs.Made.{CanBeMade};
+
 use crate::sessions::check_script;
-use std::alloc::Global;
-use textarea_cases::stop::Stop;
-use textarea_cases::words::Lent;
-use textarea_script::serve::{COLUMNS, ROWS};
-use textarea_transcripts::transcript::{check_choice, choices, lent};
-use tui_textarea::Rect;
+use std::alloc::{AllocError, Global};
+use std::mem::replace;
+use textarea_calls::Call;
+use textarea_calls::commands::{Command, read};
+use textarea_cases::lines::unescaped;
+use textarea_cases::parts::told_answer;
+use textarea_cases::shown::{Script, Shown};
+use textarea_cases::stop::{Stop, compare};
+use textarea_cases::told::told_of;
+use textarea_cases::words::{Lent, call_of, character, lines_in, titled};
+use textarea_run::perform::perform;
+use textarea_run::printing::{Report, Screen};
+use textarea_script::script::{COLUMNS, ROWS};
+use tui_textarea::{Borders, Buffer, Color, Rect, Style, TextArea};
+
+// The script of a transcript's calls: its lines, each with a line feed, and what `tascript` must print of it.
+#[derive(Drop)]
+struct Tried {
+    lines: String,
+    wanted: String,
+}
 
 /// Makes the calls of a transcript, once for each of its inputs.
 pub fn check(alloc: Global, case: &str) -> Result<(), Stop> {
@@ -16,11 +42,274 @@ pub fn check(alloc: Global, case: &str) -> Result<(), Stop> {
     Ok(())
 }
 
+// What is lent to the calls of transcripts: a block in green on yellow, a placeholder of two lines, and a letter's key.
+fn lent(alloc: Global) -> Result<Lent, AllocError> {
+    let block = titled(alloc, Borders::ALL, "hi")?
+        .style(Style::new().bg(Color::Yellow))
+        .border_style(Style::new().fg(Color::Green));
+    Ok(Lent {
+        block,
+        placeholder: lines_in(alloc, Style::new(), &["type", "here"])?,
+        letter: character('z'),
+    })
+}
+
+// How many inputs the line with the most has, and 1 at least.
+fn choices(case: &str) -> usize {
+    let mut most = 1usize;
+    for line in case.lines() {
+        if line.starts_with("input") {
+            most = most.max(line.split(" | ").count());
+        }
+    }
+    most
+}
+
 // Makes the calls with the input of this number. `tascript` must print the same of the script, where all are lines of one.
 fn check_input(alloc: Global, case: &str, choice: usize, lent: &Lent) -> Result<(), Stop> {
-    let size = Rect::new(0, 0, COLUMNS, ROWS);
-    match check_choice(alloc, case, choice, lent, size)? {
+    match check_choice(alloc, case, choice, lent)? {
         Some(tried) => check_script(alloc, tried.lines.as_str(), tried.wanted.as_str()),
         None => Ok(()),
     }
+}
+
+// Makes the calls in a new text area, and compares what comes of them with what stands there. Where all are lines of scripts, their
+// script is given.
+fn check_choice(
+    alloc: Global,
+    case: &str,
+    choice: usize,
+    lent: &Lent,
+) -> Result<Option<Tried>, Stop> {
+    let mut trial = Trial::new(alloc, choice)?;
+    let checked = check_new(alloc, case, lent, &mut trial);
+    drop(trial);
+    checked
+}
+
+fn check_new(
+    alloc: Global,
+    case: &str,
+    lent: &Lent,
+    trial: &mut Trial,
+) -> Result<Option<Tried>, Stop> {
+    let mut area = TextArea::try_default(alloc)?;
+    let checked = check_area(alloc, case, lent, &mut area, trial);
+    drop(area);
+    checked
+}
+
+fn check_area(
+    alloc: Global,
+    case: &str,
+    lent: &Lent,
+    area: &mut TextArea<'_>,
+    trial: &mut Trial,
+) -> Result<Option<Tried>, Stop> {
+    for line in case.lines() {
+        trial.try_line(alloc, area, lent, line)?;
+    }
+    trial.shown.is_new = trial.shown.is_known;
+    trial.compare_shown(alloc, area)?;
+    Ok(trial.tried(alloc, area)?)
+}
+
+// The line with the input of this number alone, where it has several.
+fn chosen(alloc: Global, call: &str, choice: usize) -> Result<String, AllocError> {
+    match call.split_once(' ') {
+        Some((name, inputs)) if name.starts_with("input") => {
+            let input = inputs.split(" | ").nth(choice).unwrap_or(inputs);
+            format!(in alloc; "{name} {input}")
+        }
+        _ => String::from_str(alloc, call),
+    }
+}
+
+// What the lines of a transcript come to.
+#[derive(Drop)]
+struct Trial {
+    // The number of the input that is tried, where a line has several.
+    choice: usize,
+    cells: Cells,
+    shown: Shown,
+    script: Script,
+}
+
+impl Trial {
+    fn new(alloc: Global, choice: usize) -> Result<Trial, AllocError> {
+        Ok(Trial {
+            choice,
+            cells: Cells {
+                buffer: Buffer::empty(alloc, Rect::new(0, 0, COLUMNS, ROWS))?,
+                drawn: None,
+            },
+            shown: Shown::new(alloc)?,
+            script: Script::new(alloc),
+        })
+    }
+
+    // Makes the call of a line, behind which it must answer so, or takes in what it shows.
+    fn try_line(
+        &mut self,
+        alloc: Global,
+        area: &mut TextArea<'_>,
+        lent: &Lent,
+        line: &str,
+    ) -> Result<(), Stop> {
+        match line.split_once(" => ") {
+            Some((call, answer)) => {
+                self.compare_shown(alloc, area)?;
+                self.try_call(alloc, area, lent, (call, answer))
+            }
+            None => self.shown.show(alloc, line),
+        }
+    }
+
+    // Makes a call, which must answer so.
+    fn try_call(
+        &mut self,
+        alloc: Global,
+        area: &mut TextArea<'_>,
+        lent: &Lent,
+        (call, answer): (&str, &str),
+    ) -> Result<(), Stop> {
+        let chosen = chosen(alloc, call, self.choice)?;
+        let found = self.answer_to(alloc, area, lent, chosen.as_str())?;
+        match answer {
+            "*" => Ok(()),
+            _ => compare(found, answer),
+        }
+    }
+
+    // What the call of a line answers, or what is told where it is none.
+    fn answer_to(
+        &mut self,
+        alloc: Global,
+        area: &mut TextArea<'_>,
+        lent: &Lent,
+        line: &str,
+    ) -> Result<String, Stop> {
+        if let Some(told) = told_of(alloc, area, &self.cells.buffer, line)? {
+            return Ok(told);
+        }
+        if let Some(told) = self.cells.told_words(alloc, area, lent, line)? {
+            self.script.has_words = true;
+            return Ok(told);
+        }
+        let told = self.cells.told_line(alloc, area, line)?;
+        self.script.push(line, told.as_str())?;
+        Ok(told)
+    }
+
+    // What was shown since the last call, if anything was, must be what is printed of the text area.
+    fn compare_shown(&mut self, alloc: Global, area: &TextArea<'_>) -> Result<(), Stop> {
+        if !self.shown.is_new {
+            return Ok(());
+        }
+        self.shown.is_new = false;
+        let wanted = self.shown.printed(alloc)?;
+        compare(self.cells.printed(alloc, area)?, wanted.as_str())
+    }
+
+    // Hands the script out, where all calls are lines of one.
+    fn tried(&mut self, alloc: Global, area: &TextArea<'_>) -> Result<Option<Tried>, AllocError> {
+        if self.script.has_words {
+            return Ok(None);
+        }
+        let printed = self.cells.printed(alloc, area)?;
+        let wanted = format!(in alloc; "{}{printed}", self.script.answers)?;
+        let lines = replace(&mut self.script.lines, String::new(alloc));
+        Ok(Some(Tried { lines, wanted }))
+    }
+}
+
+// What calls draw into, and the area that was drawn last.
+#[derive(Drop)]
+struct Cells {
+    buffer: Buffer,
+    drawn: Option<Rect>,
+}
+
+impl Cells {
+    // What the call of words answers, if the line is one.
+    fn told_words(
+        &mut self,
+        alloc: Global,
+        area: &mut TextArea<'_>,
+        lent: &Lent,
+        line: &str,
+    ) -> Result<Option<String>, Stop> {
+        if let Some(input) = line.strip_prefix("input_without_shortcuts ") {
+            return Ok(Some(self.told_input(alloc, area, input)?));
+        }
+        let words = unescaped(alloc, line)?;
+        match call_of(words.as_str(), lent) {
+            Some(call) => Ok(Some(self.told_call(alloc, area, call)?)),
+            None => Ok(None),
+        }
+    }
+
+    // What an input answers, without shortcuts.
+    fn told_input(
+        &mut self,
+        alloc: Global,
+        area: &mut TextArea<'_>,
+        input: &str,
+    ) -> Result<String, Stop> {
+        let line = format!(in alloc; "input {input}")?;
+        let commands = read(alloc, line.as_bytes())?;
+        match call_in(commands.as_slice()) {
+            Some(Call::Input(input)) => {
+                self.told_call(alloc, area, Call::InputWithoutShortcuts(input))
+            }
+            _ => Err(Stop::Unread),
+        }
+    }
+
+    // What a line of a script answers.
+    fn told_line(
+        &mut self,
+        alloc: Global,
+        area: &mut TextArea<'_>,
+        line: &str,
+    ) -> Result<String, Stop> {
+        let commands = read(alloc, line.as_bytes())?;
+        match call_in(commands.as_slice()) {
+            Some(call) => self.told_call(alloc, area, call),
+            None => Err(Stop::Unread),
+        }
+    }
+
+    fn told_call(
+        &mut self,
+        alloc: Global,
+        area: &mut TextArea<'_>,
+        call: Call<'_>,
+    ) -> Result<String, Stop>
+        requires { CanBeMade call }
+    {
+        if let Call::Render(place) = call {
+            self.drawn = Some(place);
+        }
+        let answer = perform(area, call, &mut self.buffer)?;
+        Ok(told_answer(alloc, &answer)?)
+    }
+
+    // What is printed of a text area, and of what was drawn last.
+    fn printed(&self, alloc: Global, area: &TextArea<'_>) -> Result<String, AllocError> {
+        let buffer = &self.buffer;
+        let report = Report {
+            answers: &[],
+            area,
+            screen: self.drawn.map(|area| Screen { buffer, area }),
+        };
+        format!(in alloc; "{report}")
+    }
+}
+
+// The call of the first command, if there is one.
+fn call_in(commands: &[Command]) -> Option<Call<'_>>
+    ensures { IfSome result CanBeMade }
+{
+    Some(commands.first()?.call())
 }

@@ -1,7 +1,6 @@
 //! Edits of what the calls hand in and cut out.
 ghost use Rattle.std.specs.Prelude.{◌≡◌, ◌<◌, ◌≤◌, ◌∷◌, [], false, vec_len, IfSome, None};
-ghost use Rattle.textarea_text.specs.Text.{symbol_in, text_of};
-ghost use Rattle.textarea_history.specs.Edit.{inserts_of, pieces_of, symbols_of};
+ghost use Rattle.textarea_document.specs.Prelude.{symbol_in, text_of, inserts_of, pieces_of, symbols_of};
 
 use textarea_history::edit::{Edit, EditKind};
 

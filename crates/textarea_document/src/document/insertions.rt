@@ -1,12 +1,6 @@
 //! Insertions at the cursor of a document, or at the end of the atomic range that strictly holds it.
 ghost use Rattle.std.specs.Prelude.{◌≡◌, ◌<◌, ◌≤◌, true, OnOk, OnErr, IsOk, IfOk, All, []};
-ghost use Rattle.std.specs.Duration.{as_nanos};
-ghost use Rattle.textarea_util.specs.Limit.{size_limit};
-ghost use Rattle.textarea_text.specs.Text.{text_of};
-ghost use Rattle.textarea_text.specs.Place.{IsPlace};
-ghost use Rattle.textarea_text.specs.Size.{size_of};
-ghost use Rattle.textarea_ranges.specs.Held.{IsInside};
-ghost use Rattle.textarea_document.specs.Edits.{break_inserted, character_inserted, insertion_place, is_filled, nothing_inserted, symbols_inserted};
+ghost use Rattle.textarea_document.specs.Prelude.{as_nanos, size_limit, text_of, IsPlace, size_of, IsInside, break_inserted, character_inserted, insertion_place, is_filled, nothing_inserted, symbols_inserted};
 
 use crate::document::Document;
 use crate::document::edits::edit_of;

@@ -1,11 +1,6 @@
 //! Laws of documents, each the contract of a function that only looks.
 ghost use Rattle.std.specs.Prelude.{◌≡◌, ◌≤◌, ◌<◌, ℕ, Bool, length};
-ghost use Rattle.textarea_text.specs.Splice.{Fits, Splice};
-ghost use Rattle.textarea_document.specs.Edits.{IsMade, Step, splice_of};
-ghost use Rattle.textarea_document.specs.Law.{GivesAllBack, GivesBack, ListsFit};
-ghost use Rattle.textarea_document.specs.Outcomes.{edited};
-ghost use Rattle.textarea_document.specs.Ranges.{CutsNone};
-ghost use Rattle.textarea_document.specs.Sound.{IsSound};
+ghost use Rattle.textarea_document.specs.Prelude.{Fits, Splice, IsMade, Step, splice_of, GivesAllBack, GivesBack, ListsFit, edited, CutsNone, IsSound};
 
 use crate::document::Document;
 

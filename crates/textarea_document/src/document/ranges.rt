@@ -1,15 +1,6 @@
 //! Atomic ranges: parts of a line that are edited as a whole.
 ghost use Rattle.std.specs.Prelude.{◌≡◌, ◌<◌, IfOk, IfSome, IsOk, MatchResult, None, OnErr, OnOk, false, is_some};
-ghost use Rattle.std.specs.Duration.{as_nanos};
-ghost use Rattle.textarea_text.specs.Text.{lines};
-ghost use Rattle.textarea_text.specs.Place.{IsPlace, index_of};
-ghost use Rattle.textarea_ranges.specs.Held.{inside, range_start, range_end};
-ghost use Rattle.textarea_ranges.specs.Order.{AreInOrder};
-ghost use Rattle.textarea_ranges.specs.Rejected.{AreRefused};
-ghost use Rattle.textarea_ranges.specs.Valid.{AreValid};
-ghost use Rattle.textarea_data.specs.declared.range.AtomicDeleteDirection.TheVariants.{Backward, Forward};
-ghost use Rattle.textarea_document.specs.Edits.{hit_at_cursor, is_at_end, is_at_start};
-ghost use Rattle.textarea_document.specs.Ranges.{accepted, anchor_out, anchored, holding, normalized, unless_empty, range_removed, ranges_forgotten};
+ghost use Rattle.textarea_document.specs.Prelude.{as_nanos, lines, IsPlace, index_of, inside, range_start, range_end, AreInOrder, AreRefused, AreValid, Backward, Forward, hit_at_cursor, is_at_end, is_at_start, accepted, anchor_out, anchored, holding, normalized, unless_empty, range_removed, ranges_forgotten};
 
 use crate::document::Document;
 use std::alloc::AllocError;

@@ -1,15 +1,6 @@
 //! Removals from a document.
 ghost use Rattle.std.specs.Prelude.{◌≡◌, ◌<◌, ◌≤◌, OnOk, OnErr, IsOk, IfOk, IfSome, MatchOption, not, true, false, ◌==◌, ◌++◌, ◌∷◌, ◌+◌, None, [], drop, take, encode_utf8_all, length, vec_len};
-ghost use Rattle.std.specs.Str.{chars};
-ghost use Rattle.std.specs.Duration.{as_nanos};
-ghost use Rattle.textarea_text.specs.Offset.{offset_at};
-ghost use Rattle.textarea_text.specs.Text.{lines_of, symbol_in, text_of};
-ghost use Rattle.textarea_text.specs.Place.{IsPlace, IsPlaceOf, index_of};
-ghost use Rattle.textarea_text.specs.Part.{part};
-ghost use Rattle.textarea_data.specs.declared.range.AtomicDeleteDirection.TheVariants.{Backward, Forward};
-ghost use Rattle.textarea_ranges.specs.Held.{TakesWhole, range_start, range_end, widened};
-ghost use Rattle.textarea_document.specs.Edits.{IsSymbolBehind, hit_at_cursor, hit_before, hit_behind, hit_removed, is_at_end, is_at_start, removal, taken_symbols, removed_before, removed_behind, break_removed, part_removed, symbol_removed_before, symbol_removed_behind};
-ghost use Rattle.textarea_document.specs.Outcomes.{edited};
+ghost use Rattle.textarea_document.specs.Prelude.{chars, as_nanos, offset_at, lines_of, symbol_in, text_of, IsPlace, IsPlaceOf, index_of, part, Backward, Forward, TakesWhole, widened, IsSymbolBehind, hit_at_cursor, hit_before, hit_behind, hit_removed, is_at_end, is_at_start, removal, taken_symbols, removed_before, removed_behind, break_removed, part_removed, symbol_removed_before, symbol_removed_behind, edited};
 
 use crate::document::Document;
 use crate::document::edits::{deletion_of, edit_of};
@@ -101,20 +92,6 @@ impl Document {
         held::widen(self.ranges(), from, to)
     }
 
-    /// Removes the atomic range, whose ends are places of the text, with each other range that it overlaps.
-    pub fn remove_range(&mut self, range: AtomicRange, now: Duration) -> Result<(), AllocError>
-        requires start { IsPlace self.old.text (range_start range) }
-        requires end { IsPlace self.old.text (range_end range) }
-        requires ordered { index_of self.old.text (range_start range)
-            < index_of self.old.text (range_end range) }
-        ensures ok { OnOk result (self.new
-            ≡ part_removed self.old (range_start range) (range_end range) (as_nanos now)) }
-        ensures err { OnErr result (self.new ≡ self.old) }
-    {
-        let start = (range.row, range.start_col);
-        self.remove(start, (range.row, range.end_col), now)
-    }
-
     /// Removes the range that the direction hits from the cursor, and hands it out; nothing is selected then. None
     /// where no range is hit, and then nothing changes.
     pub fn remove_hit(
@@ -136,7 +113,8 @@ impl Document {
         let Some(range) = self.range_at_cursor(direction) else {
             return Ok(None);
         };
-        self.remove_range(range, now)?;
+        let start = (range.row, range.start_col);
+        self.remove(start, (range.row, range.end_col), now)?;
         Ok(Some(range))
     }
 

@@ -1,11 +1,6 @@
 //! The visual rows of a document.
 ghost use Rattle.std.specs.Prelude.{◌≡◌, true, IfOk, IfSome, IsOk, OnErr, OnOk};
-ghost use Rattle.textarea_text.specs.Place.{IsPlace};
-ghost use Rattle.textarea_blocks.specs.Sums.{row_total};
-ghost use Rattle.textarea_lines.specs.Layout.{at_width, is_cut_at, stays_cut};
-ghost use Rattle.textarea_lines.specs.Rows.{OfRows};
-ghost use Rattle.textarea_lines.specs.View.{IsPrepared, IsViewOf};
-ghost use Rattle.textarea_document.specs.Rows.{HasRowsAt, IsAboveCursor, IsBelowCursor, laid_out_of, with_inner_width, with_layout_settings};
+ghost use Rattle.textarea_document.specs.Prelude.{IsPlace, row_total, at_width, is_cut_at, stays_cut, OfRows, IsPrepared, IsViewOf, HasRowsAt, IsAboveCursor, IsBelowCursor, laid_out_of, with_inner_width, with_layout_settings};
 
 use crate::document::Document;
 use std::alloc::AllocError;

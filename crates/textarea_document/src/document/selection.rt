@@ -1,9 +1,6 @@
 //! What is selected in a document.
 ghost use Rattle.std.specs.Prelude.{◌≡◌, ◌<◌, ◌≤◌, OnOk, OnErr, IsOk, IfOk, IfSome, MatchOption, is_some, true, false};
-ghost use Rattle.std.specs.Duration.{as_nanos};
-ghost use Rattle.textarea_text.specs.Text.{text_of};
-ghost use Rattle.textarea_text.specs.Place.{IsPlace, IsUpTo, index_of, is_before};
-ghost use Rattle.textarea_document.specs.Selection.{is_selected, selected_removed, selected_taken, selection, selection_end, selection_start};
+ghost use Rattle.textarea_document.specs.Prelude.{as_nanos, text_of, IsPlace, IsUpTo, index_of, is_before, is_selected, selected_removed, selected_taken, selection, selection_end, selection_start};
 
 use crate::document::Document;
 use std::alloc::AllocError;

@@ -1,10 +1,6 @@
 //! What the laws of the caret say of a drawing that left a document so.
 ghost use Rattle.std.specs.Prelude.{◌≡◌};
-ghost use Rattle.textarea_drawing.specs.Back.{IsHitBack};
-ghost use Rattle.textarea_drawing.specs.Frame.{Parts};
-ghost use Rattle.textarea_drawing.specs.Rendered.{IsRendered};
-ghost use Rattle.textarea_drawing.specs.Shown.{IsCaretShown};
-ghost use Rattle.textarea_screen.specs.declared.screen.rect.Rect.{Rect};
+ghost use Rattle.textarea_drawing.specs.Prelude.{IsHitBack, Parts, IsRendered, IsCaretShown, Rect};
 
 use crate::laws::{caret_is_hit_back, caret_is_shown};
 use textarea_document::Document;

@@ -1,8 +1,6 @@
 //! The frame of a document.
 ghost use Rattle.std.specs.Prelude.{◌≡◌};
-ghost use Rattle.textarea_drawing.specs.Frame.{frame_of};
-ghost use Rattle.textarea_view.specs.Scene.{HasPlaces};
-ghost use Rattle.textarea_text.specs.Text.{lines};
+ghost use Rattle.textarea_drawing.specs.Prelude.{parts_of, frame_of, HasPlaces, lines};
 
 use super::Drawing;
 use textarea_document::Document;
@@ -22,12 +20,8 @@ impl Drawing {
         search: &'f Search,
     ) -> Frame<'f, 's>
         requires { rows.lines ≡ lines document.now.text }
-        ensures frame { result ≡ frame_of (record {
-          document = document.now;
-          pattern = search.now;
-          surround = surround.now;
-          drawing = self.now;
-        }) rows.entry }
+        ensures frame { result
+            ≡ frame_of (parts_of document.now search.now surround.now self.now) rows.entry }
         ensures places { HasPlaces result.scene }
     {
         let settings = document.layout_settings();

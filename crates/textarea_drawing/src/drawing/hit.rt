@@ -1,9 +1,6 @@
 //! Which place a cell of the screen shows, and which place is the nearest one that is shown.
 ghost use Rattle.std.specs.Prelude.{◌≡◌, IfOk, IfSome, IsOk};
-ghost use Rattle.textarea_drawing.specs.Back.{IsCursorAtCaret};
-ghost use Rattle.textarea_drawing.specs.Hit.{IsHit, IsInside, IsLastArea};
-ghost use Rattle.textarea_screen.specs.declared.screen.alignment.Alignment.TheVariants.{Left};
-ghost use Rattle.textarea_text.specs.Place.{IsPlace};
+ghost use Rattle.textarea_drawing.specs.Prelude.{parts_of, IsCursorAtCaret, IsHit, IsInside, IsLastArea, Left, IsPlace};
 
 use super::Drawing;
 use super::caret::caret_leads_back;
@@ -25,23 +22,17 @@ impl Drawing {
         search: &Search,
         position: Position,
     ) -> Result<Option<(usize, usize)>, AllocError>
-        ensures hit { IfOk result (IsHit (record {
-          document = document.now;
-          pattern = search.now;
-          surround = surround.now;
-          drawing = self.now;
-        }) position.x position.y) }
+        ensures hit { IfOk result (IsHit (parts_of document.now search.now surround.now self.now)
+            position.x position.y) }
         ensures place { IfOk result (λ found. IfSome found (IsPlace document.now.text)) }
-        ensures back { IfOk result (IsCursorAtCaret (record {
-          document = document.now;
-          pattern = search.now;
-          surround = surround.now;
-          drawing = self.now;
-        }) position.x position.y) }
+        ensures back { IfOk result (IsCursorAtCaret
+            (parts_of document.now search.now surround.now self.now) position.x position.y) }
         ensures left { self.now.look.alignment ≡ Left → IsOk result }
     {
         caret_leads_back(document);
-        hit_place(self, document, surround, search, position)
+        let frame = self.frame(document, document.view(), surround, search);
+        let inner = self.last_area(document);
+        frame.hit(document.allocator(), self.viewport, inner, position)
     }
 
     // The inner area of the last drawing.
@@ -71,26 +62,4 @@ impl Drawing {
             rows.place_near((row, column))
         }
     }
-}
-
-// The place that a cell of the screen shows, without what the law says of the caret's.
-fn hit_place(
-    drawing: &Drawing,
-    document: &Document,
-    surround: &Surround<'_>,
-    search: &Search,
-    position: Position,
-) -> Result<Option<(usize, usize)>, AllocError>
-    ensures hit { IfOk result (IsHit (record {
-      document = document.now;
-      pattern = search.now;
-      surround = surround.now;
-      drawing = drawing.now;
-    }) position.x position.y) }
-    ensures place { IfOk result (λ found. IfSome found (IsPlace document.now.text)) }
-    ensures left { drawing.now.look.alignment ≡ Left → IsOk result }
-{
-    let frame = drawing.frame(document, document.view(), surround, search);
-    let inner = drawing.last_area(document);
-    frame.hit(document.allocator(), drawing.viewport, inner, position)
 }

@@ -1,13 +1,6 @@
 //! A drawing into a buffer.
 ghost use Rattle.std.specs.Prelude.{◌≡◌, ℕ, IfOk, IsTrue, OnErr, OnOk};
-ghost use Rattle.textarea_document.specs.Rows.{laid_out_of, with_inner_width};
-ghost use Rattle.textarea_drawing.specs.Back.{IsHitBack};
-ghost use Rattle.textarea_drawing.specs.Rendered.{IsDrawn, IsRendered, drawn_into};
-ghost use Rattle.textarea_drawing.specs.Shown.{IsCaretShown};
-ghost use Rattle.textarea_drawing.specs.Steps.{IsDrawnAt};
-ghost use Rattle.textarea_lines.specs.View.{IsPrepared};
-ghost use Rattle.textarea_screen.specs.Buffer.{KeepsOutside};
-ghost use Rattle.textarea_screen.specs.Rect.{contains};
+ghost use Rattle.textarea_drawing.specs.Prelude.{parts_of, laid_out_of, IsHitBack, IsDrawn, IsRendered, drawn_into, IsCaretShown, IsDrawnAt, IsPrepared, KeepsOutside, contains};
 
 use super::Drawing;
 use super::caret::{caret_has_room, caret_leads_back};
@@ -17,9 +10,9 @@ use textarea_document::Document;
 use textarea_lines::laid_out::PreparedWidth;
 use textarea_screen::screen::{Buffer, Position, Rect};
 use textarea_search::search::{KeptMatches, Search};
+use textarea_view::Surround;
 use textarea_view::frame::draw_frame;
 use textarea_view::placing::Placing;
-use textarea_view::{Surround, Viewport};
 
 impl Drawing {
     /// Draws the document with its surround and the pattern's matches into the area of a buffer. The text is laid out for the
@@ -37,40 +30,26 @@ impl Drawing {
         area: Rect,
         buffer: &mut Buffer,
     ) -> Result<(), AllocError>
-        ensures ok { OnOk result (IsRendered
-            (record {
-              document = document.old;
-              pattern = search.now;
-              surround = surround.now;
-              drawing = self.old;
-            }) area (record {
-              document = document.new;
-              pattern = search.now;
-              surround = surround.now;
-              drawing = self.new;
-            })) }
-        ensures cells { OnOk result (IsDrawn (record {
-          document = document.new;
-          pattern = search.now;
-          surround = surround.now;
-          drawing = self.new;
-        }) area buffer.old buffer.new) }
-        ensures back { OnOk result (IsHitBack (record {
-          document = document.new;
-          pattern = search.now;
-          surround = surround.now;
-          drawing = self.new;
-        })) }
-        ensures shown { OnOk result (IsCaretShown (record {
-          document = document.new;
-          pattern = search.now;
-          surround = surround.now;
-          drawing = self.new;
-        })) }
+        ensures ok { OnOk result
+            (IsRendered (parts_of document.old search.now surround.now self.old) area
+            (parts_of document.new search.now surround.now self.new)) }
+        ensures cells { OnOk result (IsDrawn
+            (parts_of document.new search.now surround.now self.new) area buffer.old buffer.new) }
+        ensures back { OnOk result (IsHitBack (parts_of document.new search.now surround.now self.new)) }
+        ensures shown { OnOk result (IsCaretShown (parts_of document.new search.now surround.now self.new)) }
         ensures outside { KeepsOutside (contains area) buffer.old buffer.new }
         ensures err { OnErr result ((document.new ≡ document.old) × (self.new ≡ self.old)) }
     {
-        draw(self, document, surround, search, area, buffer)?;
+        let inner = surround.inner_area(area);
+        let prepared = document.prepare_width(inner.width())?;
+        let mut kept = self.take_matches(document.allocator());
+        let drawn = draw_at_width(
+            self, document, &prepared, surround, search, &mut kept, buffer, area, inner,
+        );
+        self.put_matches(kept);
+        let placing = drawn?;
+        document.put_width(prepared);
+        self.put(inner, placing);
         caret_leads_back(document);
         caret_has_room(document);
         Ok(())
@@ -104,48 +83,6 @@ impl Drawing {
     }
 }
 
-// Draws as `Drawing::render` does, without what the laws say of the caret.
-fn draw(
-    drawing: &mut Drawing,
-    document: &mut Document,
-    surround: &Surround<'_>,
-    search: &Search,
-    area: Rect,
-    buffer: &mut Buffer,
-) -> Result<(), AllocError>
-    ensures ok { OnOk result (IsRendered
-        (record {
-          document = document.old;
-          pattern = search.now;
-          surround = surround.now;
-          drawing = drawing.old;
-        }) area (record {
-          document = document.new;
-          pattern = search.now;
-          surround = surround.now;
-          drawing = drawing.new;
-        })) }
-    ensures cells { OnOk result (IsDrawn (record {
-      document = document.new;
-      pattern = search.now;
-      surround = surround.now;
-      drawing = drawing.new;
-    }) area buffer.old buffer.new) }
-    ensures outside { KeepsOutside (contains area) buffer.old buffer.new }
-    ensures err { OnErr result ((document.new ≡ document.old) × (drawing.new ≡ drawing.old)) }
-{
-    let inner = surround.inner_area(area);
-    let prepared = document.prepare_width(inner.width())?;
-    let mut kept = drawing.take_matches(document.allocator());
-    let drawn = draw_at_width(
-        drawing, document, &prepared, surround, search, &mut kept, buffer, area, inner,
-    );
-    drawing.put_matches(kept);
-    let placing = drawn?;
-    keep(drawing, document, prepared, inner, placing);
-    Ok(())
-}
-
 // Draws the document with its rows at a width that is prepared, and gives what is shown then. Nothing is kept.
 fn draw_at_width(
     drawing: &Drawing,
@@ -160,12 +97,9 @@ fn draw_at_width(
 ) -> Result<Placing, AllocError>
     requires prepared { IsPrepared (laid_out_of document.now) prepared.now }
     requires within { (x y : ℕ) → IsTrue (contains inner x y) → IsTrue (contains area x y) }
-    ensures ok { IfOk result (IsDrawnAt (record {
-      document = document.now;
-      pattern = search.now;
-      surround = surround.now;
-      drawing = drawing.now;
-    }) prepared.now.inner_width area inner buffer.old buffer.new) }
+    ensures ok { IfOk result
+        (IsDrawnAt (parts_of document.now search.now surround.now drawing.now)
+        prepared.now.inner_width area inner buffer.old buffer.new) }
     ensures outside { KeepsOutside (contains area) buffer.old buffer.new }
 {
     let frame = drawing.frame(document, document.view_with(prepared), surround, search);
@@ -178,20 +112,4 @@ fn draw_at_width(
         drawing.viewport,
         inner,
     )
-}
-
-// Keeps the width that was drawn at, and what was drawn. That takes no memory.
-fn keep(
-    drawing: &mut Drawing,
-    document: &mut Document,
-    prepared: PreparedWidth,
-    inner: Rect,
-    placing: Placing,
-)
-    requires { IsPrepared (laid_out_of document.old) prepared }
-    ensures document { document.new ≡ with_inner_width document.old prepared.inner_width }
-    ensures drawing { drawing.new ≡ drawn_into drawing.old inner placing }
-{
-    document.put_width(prepared);
-    drawing.put(inner, placing);
 }

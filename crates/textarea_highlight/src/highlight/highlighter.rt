@@ -12,11 +12,12 @@ ghost use Rattle.textarea_highlight.specs.Row.{AddsRow, ShowsNothing, ShowsRow};
 use super::borders::{Border, borders_of_matches, push_highlight, sort};
 use super::brackets::OpenStyles;
 use super::cut::{RowStyle, cut, push_end_cell};
-use super::numbers::{push_number, push_placeholder};
+use super::numbers::number_text;
 use std::alloc::{AllocError, Global};
 use std::marker::Model;
 use std::mem;
-use textarea_screen::screen::{Line, Span, Style};
+use textarea_screen::screen::{Line, Span, SpanText, Style};
+use textarea_text::util::spaces;
 use textarea_wrap::wrap::is_short;
 
 /// How the cell at the cursor is drawn.
@@ -149,7 +150,9 @@ impl<'a> LineHighlighter<'a> {
         ensures ok { OnOk result (self.new ≡ with_number self.old row lnum_len style) }
         ensures unchanged { OnErr result (self.new ≡ self.old) }
     {
-        push_number(self.alloc, &mut self.spans, row, lnum_len, style)
+        let content = SpanText::Owned(number_text(self.alloc, row + 1, lnum_len)?);
+        self.spans.push(Span { content, style })?;
+        Ok(())
     }
 
     /// Puts `lnum_len + 2` spaces in front of the row, as wide as a line's number.
@@ -158,7 +161,9 @@ impl<'a> LineHighlighter<'a> {
         ensures ok { OnOk result (self.new ≡ with_placeholder self.old lnum_len style) }
         ensures unchanged { OnErr result (self.new ≡ self.old) }
     {
-        push_placeholder(&mut self.spans, lnum_len, style)
+        let content = SpanText::Borrowed(spaces(lnum_len + 2));
+        self.spans.push(Span { content, style })?;
+        Ok(())
     }
 
     /// The cursor stands at this column, in characters of the row, and `style` is that of its line. Its
@@ -228,8 +233,7 @@ impl<'a> LineHighlighter<'a> {
         ensures unchanged { OnErr result (self.new ≡ self.old) }
     {
         let range = ((start_row, start_offset), (end_row, end_offset));
-        let style = self.select_style;
-        self.add_range(current_row, range, style, SELECTION_RANK)
+        self.custom(current_row, range, self.select_style, SELECTION_RANK)
     }
 
     /// Adds a part of a selection in this row, and with `select_at_end` the row's break.
@@ -272,20 +276,6 @@ impl<'a> LineHighlighter<'a> {
         ensures nothing { AddsNoRange self.old current_row range → IsOk result }
         ensures unchanged { OnErr result (self.new ≡ self.old) }
     {
-        self.add_range(current_row, range, style, priority)
-    }
-
-    fn add_range(
-        &mut self,
-        current_row: usize,
-        range: ((usize, usize), (usize, usize)),
-        style: Style,
-        rank: u8,
-    ) -> Result<(), AllocError>
-        ensures ok { OnOk result (self.new ≡ with_range self.old current_row range style rank) }
-        ensures nothing { AddsNoRange self.old current_row range → IsOk result }
-        ensures unchanged { OnErr result (self.new ≡ self.old) }
-    {
         let ((start_row, start_offset), (end_row, end_offset)) = range;
         if current_row < start_row || current_row > end_row {
             return Ok(());
@@ -300,7 +290,7 @@ impl<'a> LineHighlighter<'a> {
         } else {
             self.row.len()
         };
-        push_highlight(&mut self.borders, self.row, start, end, style, rank)?;
+        push_highlight(&mut self.borders, self.row, start, end, style, priority)?;
         if current_row < end_row {
             self.break_is_selected = true;
         }

@@ -1,13 +1,6 @@
 //! Changes: edits that are lent with the direction in which they go.
 ghost use Rattle.std.specs.Prelude.{◌≡◌, ◌<◌, ◌≤◌, ◌+◌, ◌++◌, ◌↔◌, length, min, reverse, IsTrue, IsOk, OnOk, OnErr, IfOk, true, false, vec_len};
-ghost use Rattle.std.specs.Str.{chars};
-ghost use Rattle.textarea_text.specs.Text.{characters, following, lines_of, text_of};
-ghost use Rattle.textarea_text.specs.Size.{weight};
-ghost use Rattle.textarea_text.specs.Offset.{offset_at};
-ghost use Rattle.textarea_text.specs.Place.{IsPlaceOf, end};
-ghost use Rattle.textarea_text.specs.Splice.{Fits, place_after, place_before};
-ghost use Rattle.textarea_text.specs.Touched.{IsReplacementFor, breaks_of};
-ghost use Rattle.textarea_history.specs.Change.{IsRemovalInLine, Makes};
+ghost use Rattle.textarea_history.specs.Prelude.{chars, characters, following, lines_of, text_of, weight, offset_at, IsPlaceOf, end, Fits, place_after, place_before, IsReplacementFor, breaks_of, IsRemovalInLine, Makes};
 
 use super::{Content, Edit};
 use crate::texts::reverse_text;
@@ -135,7 +128,9 @@ impl<'a> Change<'a> {
         ensures offset { offset ≡ offset_at (lines_of lines.new.items) self.now.place }
     {
         if !self.inserts {
-            self.remove_inside(lines, offset);
+            let start = self.start();
+            let end = self.end();
+            remove_inside(lines, start, offset, end.1, offset + self.weight());
             return Ok(());
         }
         let edit = self.edit;
@@ -149,28 +144,12 @@ impl<'a> Change<'a> {
                 if edit.inserts {
                     self.insert_inside(lines, offset, text.as_str())
                 } else {
-                    self.insert_reversed(lines, offset, text.as_str())
+                    let restored = reverse_text(*lines.allocator(), text.as_str())?;
+                    self.insert_inside(lines, offset, restored.as_str())
                 }
             }
             Content::Break | Content::Chunk(_) => unreachable!(),
         }
-    }
-
-    // Removes its symbols, in place and without memory; they begin behind so many bytes of their line.
-    fn remove_inside(&self, lines: &mut Vec<String>, offset: usize)
-        requires removes { self.now.inserts ≡ false }
-        requires inside { breaks_of self.now.symbols ≡ 0 }
-        requires nonempty { 0 < vec_len lines.old }
-        requires fits { Fits (text_of lines.old.items) self.now }
-        requires offset { offset ≡ offset_at (lines_of lines.old.items) self.now.place }
-        ensures text { Makes self.now lines.old.items lines.new.items }
-        ensures len { vec_len lines.new ≡ vec_len lines.old }
-        ensures start { IsPlaceOf (lines_of lines.new.items) self.now.place }
-        ensures offset { offset ≡ offset_at (lines_of lines.new.items) self.now.place }
-    {
-        let start = self.start();
-        let end = self.end();
-        remove_inside(lines, start, offset, end.1, offset + self.weight());
     }
 
     // Inserts its symbols, which are this text, in place, behind so many bytes of their line.
@@ -194,28 +173,6 @@ impl<'a> Change<'a> {
         insert_inside(lines, self.start(), offset, text)
     }
 
-    // Inserts its symbols, which are this text from its end on, in place, behind so many bytes of their line.
-    fn insert_reversed(
-        &self,
-        lines: &mut Vec<String>,
-        offset: usize,
-        text: &str,
-    ) -> Result<(), AllocError>
-        requires inserts { self.now.inserts ≡ true }
-        requires symbols { characters (reverse (chars text.now)) ≡ self.now.symbols }
-        requires nonempty { 0 < vec_len lines.old }
-        requires fits { Fits (text_of lines.old.items) self.now }
-        requires offset { offset ≡ offset_at (lines_of lines.old.items) self.now.place }
-        ensures ok { OnOk result (Makes self.now lines.old.items lines.new.items) }
-        ensures err { OnErr result (lines.new.items ≡ lines.old.items) }
-        ensures len { vec_len lines.new ≡ vec_len lines.old }
-        ensures start { IsPlaceOf (lines_of lines.new.items) self.now.place }
-        ensures offset { offset ≡ offset_at (lines_of lines.new.items) self.now.place }
-    {
-        let restored = reverse_text(*lines.allocator(), text)?;
-        self.insert_inside(lines, offset, restored.as_str())
-    }
-
     /// The lines that take the place of others when the change is made; the lines stay.
     pub fn prepare(&self, alloc: Global, lines: &[String]) -> Result<Replacement, AllocError>
         requires nonempty { 0 < length lines.now }
@@ -223,7 +180,8 @@ impl<'a> Change<'a> {
         ensures { IfOk result (IsReplacementFor lines.now self.now) }
     {
         if !self.inserts {
-            return self.prepare_removal(alloc, lines);
+            let start = self.start();
+            return prepare_replacement(alloc, lines, start, self.end(), "", &[]);
         }
         let edit = self.edit;
         match &edit.content {
@@ -236,7 +194,8 @@ impl<'a> Change<'a> {
                 if edit.inserts {
                     self.prepare_insertion(alloc, lines, text.as_str(), &[])
                 } else {
-                    self.prepare_reversed(alloc, lines, text.as_str())
+                    let restored = reverse_text(alloc, text.as_str())?;
+                    self.prepare_insertion(alloc, lines, restored.as_str(), &[])
                 }
             }
             Content::Break => self.prepare_insertion(alloc, lines, "", &[String::new(alloc)]),
@@ -244,18 +203,6 @@ impl<'a> Change<'a> {
                 self.prepare_insertion(alloc, lines, pieces[0].as_str(), &pieces[1..])
             }
         }
-    }
-
-    // The lines without its symbols.
-    fn prepare_removal(&self, alloc: Global, lines: &[String]) -> Result<Replacement, AllocError>
-        requires removes { self.now.inserts ≡ false }
-        requires nonempty { 0 < length lines.now }
-        requires fits { Fits (text_of lines.now) self.now }
-        ensures { IfOk result (IsReplacementFor lines.now self.now) }
-    {
-        let start = self.start();
-        let end = self.end();
-        prepare_replacement(alloc, lines, start, end, "", &[])
     }
 
     // The lines with its symbols, which are the first piece, and each further one behind a break.
@@ -275,23 +222,6 @@ impl<'a> Change<'a> {
     {
         let start = self.start();
         prepare_replacement(alloc, lines, start, start, first, rest)
-    }
-
-    // The lines with its symbols, which are this text from its end on.
-    fn prepare_reversed(
-        &self,
-        alloc: Global,
-        lines: &[String],
-        text: &str,
-    ) -> Result<Replacement, AllocError>
-        requires inserts { self.now.inserts ≡ true }
-        requires symbols { characters (reverse (chars text.now)) ≡ self.now.symbols }
-        requires nonempty { 0 < length lines.now }
-        requires fits { Fits (text_of lines.now) self.now }
-        ensures { IfOk result (IsReplacementFor lines.now self.now) }
-    {
-        let restored = reverse_text(alloc, text)?;
-        self.prepare_insertion(alloc, lines, restored.as_str(), &[])
     }
 }
 

@@ -1,9 +1,6 @@
 //! How a run of typing grows in an edit.
 ghost use Rattle.std.specs.Prelude.{◌≡◌, ◌≤◌, ◌∷◌, [], IfSome, OnOk, true};
-ghost use Rattle.textarea_text.specs.Text.{Character};
-ghost use Rattle.textarea_text.specs.Splice.{place_after, place_before};
-ghost use Rattle.textarea_history.specs.Edit.{IsWellFormed};
-ghost use Rattle.textarea_history.specs.Run.{character_of, merged};
+ghost use Rattle.textarea_history.specs.Prelude.{Character, place_after, place_before, IsWellFormed, character_of, merged};
 
 use super::{Content, Edit};
 use crate::texts::only_character;

@@ -2,11 +2,7 @@
 //! whose edits were each made on the lines when they were recorded. Lines of the same text are the same lines
 //! (`lines_are_the_text`).
 ghost use Rattle.std.specs.Prelude.{◌≡◌, ◌≤◌, ℕ, Bool, List, Option, Some, length};
-ghost use Rattle.textarea_text.specs.Text.{Symbol};
-ghost use Rattle.textarea_text.specs.Place.{Place};
-ghost use Rattle.textarea_text.specs.Splice.{Splice, Fits};
-ghost use Rattle.textarea_history.specs.Log.{Logged, Redoes, Undoes, empty_log, newest, redone, undone};
-ghost use Rattle.textarea_history.specs.Law.{EachFits, GivesBack, IsRedone, IsSound, edited};
+ghost use Rattle.textarea_history.specs.Prelude.{Symbol, Place, Splice, Fits, Logged, Redoes, Undoes, empty_log, newest, redone, undone, EachFits, GivesBack, IsRedone, IsSound, edited};
 
 /// What the other laws ask for, that the done edits can be taken back from the text and the undone ones made again,
 /// holds of a text without a past, and still after each edit that fits and is recorded, each undo and each redo.

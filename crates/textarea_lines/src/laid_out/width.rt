@@ -4,7 +4,7 @@ ghost use Rattle.textarea_lines.specs.Layout.{at_width, laid_out_with, stays_cut
 ghost use Rattle.textarea_lines.specs.View.{IsCutWhereOther, IsPrepared, IsViewOf, IsWholeCut};
 
 use super::LaidOutLines;
-use crate::cut::{CutAnew, let_go, take_if_cut};
+use crate::cut::{CutAnew, let_go};
 use crate::settings::{LayoutSettings, is_same, is_wrapped, wrapping_for};
 use std::alloc::AllocError;
 use std::marker::Model;
@@ -64,7 +64,11 @@ impl LaidOutLines {
         ensures same { self.new ≡ self.old }
         ensures kept { IfSome result (IsWholeCut self.old wrapping) }
     {
-        take_if_cut(&mut self.kept, wrapping)
+        let cut = self.kept.take()?;
+        if cut.map.wrapping() != wrapping {
+            return None;
+        }
+        Some(cut)
     }
 
     // All lines, each cut once.
@@ -84,7 +88,8 @@ impl LaidOutLines {
     {
         match cut {
             Some(cut) => {
-                cut.put_in(&mut self.map, &mut self.count);
+                self.map = cut.map;
+                self.count = cut.count;
                 let_go(&mut self.kept);
             }
             None => {

@@ -48,37 +48,17 @@ fn draw_sides(
     ensures inline { IsOk result }
     ensures err { OnErr result (KeepsOutside (contains area) buffer.old buffer.new) }
 {
-    let right = area.x + area.width - 1;
-    let bottom = area.y + area.height - 1;
-    let has_left = borders.contains(Borders::LEFT);
+    let left = Rect::new(area.x, area.y, 1, area.height);
+    draw_border(buffer, borders.contains(Borders::LEFT), left, "│", style)?;
+    let top = Rect::new(area.x, area.y, area.width, 1);
+    draw_border(buffer, borders.contains(Borders::TOP), top, "─", style)?;
+    let right = Rect::new(area.x + area.width - 1, area.y, 1, area.height);
+    draw_border(buffer, borders.contains(Borders::RIGHT), right, "│", style)?;
+    let bottom = Rect::new(area.x, area.y + area.height - 1, area.width, 1);
     draw_border(
         buffer,
-        has_left,
-        Rect::new(area.x, area.y, 1, area.height),
-        "│",
-        style,
-    )?;
-    let has_top = borders.contains(Borders::TOP);
-    draw_border(
-        buffer,
-        has_top,
-        Rect::new(area.x, area.y, area.width, 1),
-        "─",
-        style,
-    )?;
-    let has_right = borders.contains(Borders::RIGHT);
-    draw_border(
-        buffer,
-        has_right,
-        Rect::new(right, area.y, 1, area.height),
-        "│",
-        style,
-    )?;
-    let has_bottom = borders.contains(Borders::BOTTOM);
-    draw_border(
-        buffer,
-        has_bottom,
-        Rect::new(area.x, bottom, area.width, 1),
+        borders.contains(Borders::BOTTOM),
+        bottom,
         "─",
         style,
     )
@@ -104,34 +84,14 @@ fn draw_corners(
     let has_top = borders.contains(Borders::TOP);
     let has_right = borders.contains(Borders::RIGHT);
     let has_bottom = borders.contains(Borders::BOTTOM);
-    draw_border(
-        buffer,
-        has_right & has_bottom,
-        Rect::new(right, bottom, 1, 1),
-        "┘",
-        style,
-    )?;
-    draw_border(
-        buffer,
-        has_right & has_top,
-        Rect::new(right, area.y, 1, 1),
-        "┐",
-        style,
-    )?;
-    draw_border(
-        buffer,
-        has_left & has_bottom,
-        Rect::new(area.x, bottom, 1, 1),
-        "└",
-        style,
-    )?;
-    draw_border(
-        buffer,
-        has_left & has_top,
-        Rect::new(area.x, area.y, 1, 1),
-        "┌",
-        style,
-    )
+    let corner = Rect::new(right, bottom, 1, 1);
+    draw_border(buffer, has_right & has_bottom, corner, "┘", style)?;
+    let corner = Rect::new(right, area.y, 1, 1);
+    draw_border(buffer, has_right & has_top, corner, "┐", style)?;
+    let corner = Rect::new(area.x, bottom, 1, 1);
+    draw_border(buffer, has_left & has_bottom, corner, "└", style)?;
+    let corner = Rect::new(area.x, area.y, 1, 1);
+    draw_border(buffer, has_left & has_top, corner, "┌", style)
 }
 
 fn draw_title(buffer: &mut Buffer, area: Rect, block: &Block) -> Result<(), AllocError>

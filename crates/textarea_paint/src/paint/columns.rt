@@ -8,7 +8,7 @@ use unicode_width::UnicodeWidthChar;
 
 /// The columns that a cluster takes: those of its characters together, or none where it has a
 /// control character.
-pub(crate) fn cluster_columns(cluster: &str) -> usize
+pub fn cluster_columns(cluster: &str) -> usize
     ensures { result ≡ columns_of cluster.now }
 {
     if has_control(cluster) {

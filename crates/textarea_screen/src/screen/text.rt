@@ -117,10 +117,7 @@ impl<'a> Line<'a> {
             content: SpanText::Owned(text),
             style: Style::new(),
         })?;
-        Ok(Line {
-            spans,
-            style: Style::new(),
-        })
+        Ok(Line::from_spans(spans))
     }
 
     /// The same line, the texts copied that its spans own.

@@ -104,36 +104,19 @@ fn kept_line(
 ) -> Result<KeptLine, AllocError>
     requires { spans.now ≡ match_spans pattern.now line.now }
 {
-    let (kept_pattern, text, list) = match before {
+    let (mut kept_pattern, mut text, mut list) = match before {
         Some(kept) => (kept.pattern, kept.text, kept.spans),
         None => (String::new(alloc), String::new(alloc), Vec::new(alloc)),
     };
-    Ok(KeptLine {
-        pattern: with_text(kept_pattern, pattern)?,
-        text: with_text(text, line)?,
-        spans: with_spans(list, spans)?,
-    })
-}
-
-// A string of this text, in the memory of another.
-fn with_text(memory: String, text: &str) -> Result<String, AllocError>
-    ensures { IfOk result (λ string. string_bytes string ≡ text.now) }
-{
-    let mut string = memory;
-    string.clear();
-    string.push_str(text)?;
-    Ok(string)
-}
-
-// A vector of these spans, in the memory of another.
-fn with_spans(
-    memory: Vec<(usize, usize)>,
-    spans: &[(usize, usize)],
-) -> Result<Vec<(usize, usize)>, AllocError>
-    ensures { IfOk result (λ list. list.items ≡ spans.now) }
-{
-    let mut list = memory;
+    kept_pattern.clear();
+    kept_pattern.push_str(pattern)?;
+    text.clear();
+    text.push_str(line)?;
     list.clear();
     list.extend_from_slice(spans)?;
-    Ok(list)
+    Ok(KeptLine {
+        pattern: kept_pattern,
+        text,
+        spans: list,
+    })
 }

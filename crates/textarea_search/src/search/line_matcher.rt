@@ -3,7 +3,7 @@ ghost use Rattle.regex.specs.Strings.{matcher_pattern};
 ghost use Rattle.textarea_search.specs.Matches.{match_spans};
 ghost use Rattle.textarea_search.specs.Spans.{ListsMatchesOf};
 
-use crate::search::listed::{list_spans, listed_spans};
+use crate::search::listed::list_spans;
 use regex::Matcher;
 use std::alloc::{AllocError, Global};
 use std::marker::Model;
@@ -46,7 +46,9 @@ impl<'a> LineMatcher<'a> {
         ensures found { IfOk result (λ spans. spans.items ≡ match_spans self.old line.now) }
         ensures same { self.new ≡ self.old }
     {
-        listed_spans(self.alloc, &mut self.matcher, line)
+        let mut spans = Vec::new(self.alloc);
+        self.spans_into(line, &mut spans)?;
+        Ok(spans)
     }
 
     /// The same, put into a vector in the place of what it holds and in its memory.

@@ -1,9 +1,10 @@
-//! The way from a cursor to the next start of a match in a text, by one matcher for all lines.
+//! The way from a cursor to a start of a match in a text, by one matcher for all lines.
 ghost use Rattle.std.specs.Prelude.{◌≡◌, ◌+◌, ◌^◌, ◌<◌, length, reverse, slice_get, IfSome};
 ghost use Rattle.regex.specs.Strings.{matcher_pattern};
-ghost use Rattle.textarea_search.specs.Starts.{starts_by, next_start, previous_start, IsPlaceFrom, IsPlaceIn};
+ghost use Rattle.textarea_search.specs.Starts.{starts_by, found_start, IsPlaceFrom, IsPlaceIn};
 
-use crate::search::listed::{column_ahead, column_behind, first_column, last_column};
+use crate::search::direction::Direction;
+use crate::search::listed::{column_ahead, end_column};
 use regex::Matcher;
 
 /// The first place of these lines at which a match starts.
@@ -19,7 +20,7 @@ fn first_start(
     ensures same { matcher_pattern matcher.new ≡ matcher_pattern matcher.old }
 {
     for (i, line) in lines.iter().enumerate() {
-        if let Some(column) = first_column(matcher, line) {
+        if let Some(column) = end_column(matcher, line, Direction::Forward) {
             return Some((first_row + i, column));
         }
     }
@@ -41,53 +42,39 @@ fn last_start(
     let mut i = lines.len();
     while i > 0 {
         i -= 1;
-        if let Some(column) = last_column(matcher, &lines[i]) {
+        if let Some(column) = end_column(matcher, &lines[i], Direction::Back) {
             return Some((first_row + i, column));
         }
     }
     None
 }
 
-/// The next start behind the cursor or, where that counts, at it, and past the last one the first of the text.
-pub(crate) fn next_start(
+/// The first start that a search meets on its way from the cursor or, where that counts, the one at it; past the last start of
+/// the text it goes on from the text's other end.
+pub(crate) fn found_start(
     matcher: &mut Matcher<'_>,
+    direction: Direction,
     lines: &[String],
     cursor: (usize, usize),
     match_cursor: bool,
 ) -> Option<(usize, usize)>
     requires { cursor.0 < length lines.now }
-    ensures found { result
-        ≡ next_start (starts_by (matcher_pattern matcher.old) 0 lines.now) cursor match_cursor }
+    ensures found { result ≡ found_start direction
+        (starts_by (matcher_pattern matcher.old) 0 lines.now) cursor match_cursor }
     ensures within { IfSome result (IsPlaceIn lines.now) }
 {
     let (row, column) = cursor;
-    if let Some(start) = column_ahead(matcher, &lines[row], column, match_cursor) {
+    if let Some(start) = column_ahead(matcher, &lines[row], direction, column, match_cursor) {
         return Some((row, start));
     }
-    match first_start(matcher, &lines[row + 1..], row + 1) {
-        Some(place) => Some(place),
-        None => first_start(matcher, &lines[..row + 1], 0),
-    }
-}
-
-/// The last start before the cursor or, where that counts, at it, and past the first one the last of the text.
-pub(crate) fn previous_start(
-    matcher: &mut Matcher<'_>,
-    lines: &[String],
-    cursor: (usize, usize),
-    match_cursor: bool,
-) -> Option<(usize, usize)>
-    requires { cursor.0 < length lines.now }
-    ensures found { result
-        ≡ previous_start (starts_by (matcher_pattern matcher.old) 0 lines.now) cursor match_cursor }
-    ensures within { IfSome result (IsPlaceIn lines.now) }
-{
-    let (row, column) = cursor;
-    if let Some(start) = column_behind(matcher, &lines[row], column, match_cursor) {
-        return Some((row, start));
-    }
-    match last_start(matcher, &lines[..row], 0) {
-        Some(place) => Some(place),
-        None => last_start(matcher, &lines[row..], row),
+    match direction {
+        Direction::Forward => match first_start(matcher, &lines[row + 1..], row + 1) {
+            Some(place) => Some(place),
+            None => first_start(matcher, &lines[..row + 1], 0),
+        },
+        Direction::Back => match last_start(matcher, &lines[..row], 0) {
+            Some(place) => Some(place),
+            None => last_start(matcher, &lines[row..], row),
+        },
     }
 }

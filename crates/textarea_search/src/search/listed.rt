@@ -1,14 +1,16 @@
 //! The matches that `regex` lists for a line, one after another, by a matcher whose pattern stays known, so that one
 //! serves line after line.
-ghost use Rattle.std.specs.Prelude.{◌≡◌, ◌+◌, ◌≤◌, ◌<◌, [], ◌∷◌, length, take, find, reverse, slice_get, option_map, encode_utf8_all, IsCharBoundary, IsUtf8, IfOk, IfSome, MatchOption, OnOk};
+ghost use Rattle.std.specs.Prelude.{◌≡◌, ◌+◌, ◌≤◌, ◌<◌, [], ◌∷◌, length, take, find, reverse, slice_get, option_map, encode_utf8_all, IsCharBoundary, IsUtf8, IfSome, MatchOption, OnOk};
 ghost use Rattle.std.specs.Str.{chars};
 ghost use Rattle.regex.specs.Strings.{matcher_pattern, match_span, match_haystack};
 ghost use Rattle.textarea_search.specs.Columns.{column_at};
 ghost use Rattle.textarea_search.specs.Spans.{spans_after, columns_in};
-ghost use Rattle.textarea_search.specs.Starts.{is_ahead_in_line};
+ghost use Rattle.textarea_search.specs.Starts.{along, is_ahead_in_line, is_past};
 
+use crate::search::direction::Direction;
 use regex::{Match, Matcher};
-use std::alloc::{AllocError, Global};
+use std::alloc::AllocError;
+use textarea_text::rows::{byte_offset, column_count};
 
 /// The first listed match behind the one that ended at `after - 1`, or the first of all where `after` is 0.
 fn next_listed<'h>(matcher: &mut Matcher<'_>, line: &'h str, after: usize) -> Option<Match<'h>>
@@ -27,23 +29,8 @@ fn next_listed<'h>(matcher: &mut Matcher<'_>, line: &'h str, after: usize) -> Op
     Some(found)
 }
 
-/// All listed matches of a line, each by the offset of its first byte and that behind its last.
-pub(crate) fn listed_spans(
-    alloc: Global,
-    matcher: &mut Matcher<'_>,
-    line: &str,
-) -> Result<Vec<(usize, usize)>, AllocError>
-    ensures found { IfOk result (λ spans. spans.items
-        ≡ spans_after (matcher_pattern matcher.old) line.now 0) }
-    ensures utf8 { IsUtf8 line.now }
-    ensures same { matcher_pattern matcher.new ≡ matcher_pattern matcher.old }
-{
-    let mut spans = Vec::new(alloc);
-    list_spans(matcher, line, &mut spans)?;
-    Ok(spans)
-}
-
-/// The same, put into a vector in the place of what it holds.
+/// Puts all listed matches of a line into a vector, in the place of what it holds: each by the offset of its first byte and that
+/// behind its last.
 pub(crate) fn list_spans(
     matcher: &mut Matcher<'_>,
     line: &str,
@@ -63,9 +50,9 @@ pub(crate) fn list_spans(
     Ok(())
 }
 
-/// Whether a place of a line is behind the mark or, where that counts, at it.
-fn is_ahead(mark: usize, at_mark: bool, place: usize) -> bool
-    ensures { result ≡ is_ahead_in_line mark at_mark place }
+/// Whether a place of a line is past the mark or, where that counts, at it.
+fn is_past(mark: usize, at_mark: bool, place: usize) -> bool
+    ensures { result ≡ is_past mark at_mark place }
 {
     place > mark || (at_mark && place == mark)
 }
@@ -77,7 +64,7 @@ fn first_ahead<'h>(
     byte: usize,
     at_byte: bool,
 ) -> Option<Match<'h>>
-    ensures found { option_map match_span result ≡ find (λ s. is_ahead_in_line byte at_byte s.0)
+    ensures found { option_map match_span result ≡ find (λ s. is_past byte at_byte s.0)
         (spans_after (matcher_pattern matcher.old) line.now 0) }
     ensures within { IfSome result (λ m. match_haystack m ≡ line.now) }
     ensures same { matcher_pattern matcher.new ≡ matcher_pattern matcher.old }
@@ -85,7 +72,7 @@ fn first_ahead<'h>(
     let mut after = 0;
     loop {
         let found = next_listed(matcher, line, after)?;
-        if is_ahead(byte, at_byte, found.start()) {
+        if is_past(byte, at_byte, found.start()) {
             return Some(found);
         }
         after = found.end() + 1;
@@ -99,7 +86,7 @@ fn last_behind<'h>(
     byte: usize,
     at_byte: bool,
 ) -> Option<Match<'h>>
-    ensures found { option_map match_span result ≡ find (λ s. is_ahead_in_line s.0 at_byte byte)
+    ensures found { option_map match_span result ≡ find (λ s. is_past s.0 at_byte byte)
         (reverse (spans_after (matcher_pattern matcher.old) line.now 0)) }
     ensures within { IfSome result (λ m. match_haystack m ≡ line.now) }
     ensures same { matcher_pattern matcher.new ≡ matcher_pattern matcher.old }
@@ -110,12 +97,32 @@ fn last_behind<'h>(
         let Some(found) = next_listed(matcher, line, after) else {
             return last;
         };
-        if is_ahead(found.start(), at_byte, byte) {
+        if is_past(found.start(), at_byte, byte) {
             last = Some(found);
             after = found.end() + 1;
         } else {
             return last;
         }
+    }
+}
+
+/// The first listed match that a search meets on its way from the byte or, where that counts, the one at it.
+fn nearest<'h>(
+    matcher: &mut Matcher<'_>,
+    line: &'h str,
+    direction: Direction,
+    byte: usize,
+    at_byte: bool,
+) -> Option<Match<'h>>
+    ensures found { option_map match_span result
+        ≡ find (λ s. is_ahead_in_line direction byte at_byte s.0)
+        (along direction (spans_after (matcher_pattern matcher.old) line.now 0)) }
+    ensures within { IfSome result (λ m. match_haystack m ≡ line.now) }
+    ensures same { matcher_pattern matcher.new ≡ matcher_pattern matcher.old }
+{
+    match direction {
+        Direction::Forward => first_ahead(matcher, line, byte, at_byte),
+        Direction::Back => last_behind(matcher, line, byte, at_byte),
     }
 }
 
@@ -126,13 +133,10 @@ fn byte_of(line: &str, column: usize) -> usize
         result ≡ length (encode_utf8_all (take column (chars line.now))) }
     ensures past { length (chars line.now) < column → length line.now < result }
 {
-    let mut rest = line.chars();
-    for _index in 0..column {
-        if rest.next().is_none() {
-            return line.len() + 1;
-        }
+    if column_count(line) < column {
+        return line.len() + 1;
     }
-    line.len() - rest.as_str().len()
+    byte_offset(line, column)
 }
 
 /// How many characters of a line stand before a byte.
@@ -154,53 +158,37 @@ fn start_column(line: &str, found: Option<Match<'_>>) -> Option<usize>
     Some(column_of(line, found.start()))
 }
 
-/// The first column behind the given one or, where that counts, at it, at which a listed match starts.
+/// The first column that a search meets on its way from the given one or, where that counts, at it, at which a listed match
+/// starts.
 pub(crate) fn column_ahead(
     matcher: &mut Matcher<'_>,
     line: &str,
+    direction: Direction,
     column: usize,
     at_column: bool,
 ) -> Option<usize>
-    ensures found { result ≡ find (λ start. is_ahead_in_line column at_column start)
-        (columns_in (matcher_pattern matcher.old) line.now) }
+    ensures found { result ≡ find (is_ahead_in_line direction column at_column)
+        (along direction (columns_in (matcher_pattern matcher.old) line.now)) }
     ensures within { IfSome result (λ start. start ≤ length (chars line.now)) }
     ensures same { matcher_pattern matcher.new ≡ matcher_pattern matcher.old }
 {
     let byte = byte_of(line, column);
-    start_column(line, first_ahead(matcher, line, byte, at_column))
+    start_column(line, nearest(matcher, line, direction, byte, at_column))
 }
 
-/// The last column before the given one or, where that counts, at it, at which a listed match starts.
-pub(crate) fn column_behind(
+/// The first column that a search meets in a whole line, at which a listed match starts.
+pub(crate) fn end_column(
     matcher: &mut Matcher<'_>,
     line: &str,
-    column: usize,
-    at_column: bool,
+    direction: Direction,
 ) -> Option<usize>
-    ensures found { result ≡ find (λ start. is_ahead_in_line start at_column column)
-        (reverse (columns_in (matcher_pattern matcher.old) line.now)) }
-    ensures within { IfSome result (λ start. start ≤ length (chars line.now)) }
-    ensures same { matcher_pattern matcher.new ≡ matcher_pattern matcher.old }
-{
-    let byte = byte_of(line, column);
-    start_column(line, last_behind(matcher, line, byte, at_column))
-}
-
-/// The first column at which a listed match starts.
-pub(crate) fn first_column(matcher: &mut Matcher<'_>, line: &str) -> Option<usize>
-    ensures found { result ≡ slice_get (columns_in (matcher_pattern matcher.old) line.now) 0 }
-    ensures within { IfSome result (λ start. start ≤ length (chars line.now)) }
-    ensures same { matcher_pattern matcher.new ≡ matcher_pattern matcher.old }
-{
-    start_column(line, first_ahead(matcher, line, 0, true))
-}
-
-/// The last column at which a listed match starts.
-pub(crate) fn last_column(matcher: &mut Matcher<'_>, line: &str) -> Option<usize>
     ensures found { result
-        ≡ slice_get (reverse (columns_in (matcher_pattern matcher.old) line.now)) 0 }
+        ≡ slice_get (along direction (columns_in (matcher_pattern matcher.old) line.now)) 0 }
     ensures within { IfSome result (λ start. start ≤ length (chars line.now)) }
     ensures same { matcher_pattern matcher.new ≡ matcher_pattern matcher.old }
 {
-    start_column(line, last_behind(matcher, line, line.len(), true))
+    match direction {
+        Direction::Forward => start_column(line, first_ahead(matcher, line, 0, true)),
+        Direction::Back => start_column(line, last_behind(matcher, line, line.len(), true)),
+    }
 }

@@ -1,4 +1,5 @@
 //! A pattern to search for, the matches that `regex` lists for a line, and the way from a cursor to the next of them.
+mod direction;
 mod keeping_matcher;
 mod kept_matches;
 mod line_matcher;
@@ -8,6 +9,7 @@ mod matches;
 mod state;
 
 pub use crate::error::SearchError;
+pub use direction::Direction;
 pub use keeping_matcher::KeepingMatcher;
 pub use kept_matches::KeptMatches;
 pub use line_matcher::LineMatcher;

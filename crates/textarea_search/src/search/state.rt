@@ -2,14 +2,16 @@ ghost use Rattle.std.specs.Prelude.{◌≡◌, ◌≢◌, ◌<◌, [], length, o
 ghost use Rattle.std.specs.Option.{option_copied};
 ghost use Rattle.textarea_search.specs.Failures.{IsPatternFailure, IsCarried, IsOwnFailure};
 ghost use Rattle.textarea_search.specs.Matches.{match_spans};
-ghost use Rattle.textarea_search.specs.Starts.{starts_of, next_start, previous_start, IsPlaceIn};
+ghost use Rattle.textarea_search.specs.Starts.{IsFound};
+ghost use Rattle.textarea_search.specs.declared.search.direction.Direction.TheVariants.{Forward, Back};
 
 use crate::error::SearchError;
 use crate::pattern::Pattern;
+use crate::search::direction::Direction;
 use crate::search::keeping_matcher::KeepingMatcher;
 use crate::search::kept_matches::KeptMatches;
 use crate::search::line_matcher::LineMatcher;
-use crate::search::lines::{next_start, previous_start};
+use crate::search::lines::found_start;
 use crate::search::matches::Matches;
 use std::alloc::{AllocError, Global};
 use std::marker::Model;
@@ -102,8 +104,7 @@ impl Search {
     }
 
     /// The row and column, in characters, of the next start of a match behind the cursor or, with `match_cursor`, at
-    /// it; past the last of them the search goes on from the beginning of the text. It reads no line behind the one in
-    /// which it finds.
+    /// it; past the last of them the search goes on from the beginning of the text.
     pub fn forward(
         &self,
         lines: &[String],
@@ -111,21 +112,13 @@ impl Search {
         match_cursor: bool,
     ) -> Result<Option<(usize, usize)>, AllocError>
         requires { cursor.0 < length lines.now }
-        ensures found { IfOk result (λ place. place
-            ≡ next_start (starts_of self.now lines.now) cursor match_cursor) }
-        ensures within { IfOk result (λ place. IfSome place (IsPlaceIn lines.now)) }
-        ensures no_pattern { IsNone self.now → IsOk result }
+        ensures { IsFound Forward self.now lines.now cursor match_cursor result }
     {
-        let Some(pattern) = &self.pattern else {
-            return Ok(None);
-        };
-        let mut matcher = pattern.matcher()?;
-        Ok(next_start(&mut matcher, lines, cursor, match_cursor))
+        self.find(Direction::Forward, lines, cursor, match_cursor)
     }
 
     /// The row and column, in characters, of the last start of a match before the cursor or, with `match_cursor`, at
-    /// it; past the first of them the search goes on from the end of the text. It reads no line before the one in which
-    /// it finds.
+    /// it; past the first of them the search goes on from the end of the text.
     pub fn back(
         &self,
         lines: &[String],
@@ -133,16 +126,28 @@ impl Search {
         match_cursor: bool,
     ) -> Result<Option<(usize, usize)>, AllocError>
         requires { cursor.0 < length lines.now }
-        ensures found { IfOk result (λ place. place
-            ≡ previous_start (starts_of self.now lines.now) cursor match_cursor) }
-        ensures within { IfOk result (λ place. IfSome place (IsPlaceIn lines.now)) }
-        ensures no_pattern { IsNone self.now → IsOk result }
+        ensures { IsFound Back self.now lines.now cursor match_cursor result }
+    {
+        self.find(Direction::Back, lines, cursor, match_cursor)
+    }
+
+    /// The first start of a match on the way from the cursor or, with `match_cursor`, at it, as `forward` and `back` find it. It
+    /// reads no line past the one in which it finds.
+    pub fn find(
+        &self,
+        direction: Direction,
+        lines: &[String],
+        cursor: (usize, usize),
+        match_cursor: bool,
+    ) -> Result<Option<(usize, usize)>, AllocError>
+        requires { cursor.0 < length lines.now }
+        ensures { IsFound direction self.now lines.now cursor match_cursor result }
     {
         let Some(pattern) = &self.pattern else {
             return Ok(None);
         };
         let mut matcher = pattern.matcher()?;
-        Ok(previous_start(&mut matcher, lines, cursor, match_cursor))
+        Ok(found_start(&mut matcher, direction, lines, cursor, match_cursor))
     }
 
     /// A search for the same pattern, which the two share.

@@ -82,6 +82,65 @@ fn remove_front(bytes: &mut Vec<u8>, count: usize)
     bytes.truncate(len - count);
 }
 
+// Adds the events of bytes where none is pending, and keeps those of an event that is begun. An `Err` may leave some events added.
+fn read_fresh(
+    pending: &mut Vec<u8>,
+    bytes: &[u8],
+    events: &mut Vec<Event>,
+) -> Result<(), AllocError>
+    requires { pending.old.items ≡ [] }
+    ensures pending { OnOk result (pending.new.items ≡ rest_of bytes.now) }
+    ensures events { OnOk result (Adds events.old.items events.new.items (events_of bytes.now)) }
+    ensures err { OnErr result (pending.new.items ≡ pending.old.items) }
+    ensures front { take (vec_len events.old) events.new.items ≡ events.old.items }
+{
+    let alloc = *pending.allocator();
+    let rest = read_units(alloc, bytes, 0, events)?;
+    pending.extend_from_slice(rest)
+}
+
+// Adds the events of bytes that come after the pending ones, and keeps those of an event that is begun. An `Err` may leave some
+// bytes and events added.
+fn read_begun(
+    pending: &mut Vec<u8>,
+    bytes: &[u8],
+    events: &mut Vec<Event>,
+) -> Result<(), AllocError>
+    requires { unit_at pending.old.items ≡ None }
+    ensures pending { OnOk result (pending.new.items ≡ rest_of (pending.old.items ++ bytes.now)) }
+    ensures events { OnOk result (Adds events.old.items events.new.items (events_of (pending.old.items ++ bytes.now))) }
+    ensures err { OnErr result (take (vec_len pending.old) pending.new.items ≡ pending.old.items) }
+    ensures front { take (vec_len events.old) events.new.items ≡ events.old.items }
+{
+    let begun = pending.len();
+    pending.extend_from_slice(bytes)?;
+    let alloc = *pending.allocator();
+    let rest = read_units(alloc, pending.as_slice(), begun, events)?;
+    let left = rest.len();
+    let count = pending.len() - left;
+    remove_front(pending, count);
+    Ok(())
+}
+
+// The same, whether any are pending or not.
+fn read_pieces(
+    pending: &mut Vec<u8>,
+    bytes: &[u8],
+    events: &mut Vec<Event>,
+) -> Result<(), AllocError>
+    requires { unit_at pending.old.items ≡ None }
+    ensures pending { OnOk result (pending.new.items ≡ rest_of (pending.old.items ++ bytes.now)) }
+    ensures events { OnOk result (Adds events.old.items events.new.items (events_of (pending.old.items ++ bytes.now))) }
+    ensures err { OnErr result (take (vec_len pending.old) pending.new.items ≡ pending.old.items) }
+    ensures front { take (vec_len events.old) events.new.items ≡ events.old.items }
+{
+    if pending.is_empty() {
+        read_fresh(pending, bytes, events)
+    } else {
+        read_begun(pending, bytes, events)
+    }
+}
+
 // Adds the events of bytes that come after the pending ones, and keeps those of an event that is begun. An `Err` changes
 // nothing.
 fn feed_pending(
@@ -97,15 +156,8 @@ fn feed_pending(
 {
     let begun = pending.len();
     let events_before = events.len();
-    pending.extend_from_slice(bytes)?;
-    let alloc = *pending.allocator();
-    match read_units(alloc, pending.as_slice(), begun, events) {
-        Ok(rest) => {
-            let left = rest.len();
-            let count = pending.len() - left;
-            remove_front(pending, count);
-            Ok(())
-        }
+    match read_pieces(pending, bytes, events) {
+        Ok(()) => Ok(()),
         Err(error) => {
             events.truncate(events_before);
             pending.truncate(begun);

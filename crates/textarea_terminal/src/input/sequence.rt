@@ -109,6 +109,7 @@ fn mouse(parameters: Parameters, last: u8) -> Event
     }
 }
 
+#[inline(always)]
 #[tactic(auto, unfolding(crate::specs::InputSequence::sequence_event))]
 fn by_bytes(inner: &[u8], last: u8) -> Event
     ensures { value_of result ≡ sequence_event inner.now last }
@@ -166,15 +167,10 @@ fn read_console(bytes: &[u8]) -> Option<(Event, &[u8])>
 fn read_ended<'a>(inner: &[u8], last: u8, rest: &'a [u8]) -> Option<(Event, &'a [u8])>
     ensures { Reads (λ x. (value_of x.0, x.1.now)) result (final_at inner.now last rest.now) }
 {
-    match inner {
-        [] => {
-            if last == b'[' {
-                read_console(rest)
-            } else {
-                Some((by_bytes(inner, last), rest))
-            }
-        }
-        [_, ..] => Some((by_bytes(inner, last), rest)),
+    if inner.is_empty() && last == b'[' {
+        read_console(rest)
+    } else {
+        Some((by_bytes(inner, last), rest))
     }
 }
 

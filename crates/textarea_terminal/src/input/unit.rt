@@ -1,13 +1,13 @@
 //! The event at the front of bytes.
 
-ghost use Rattle.std.specs.Prelude.{◌≡◌, ◌≢◌, ◌≤◌, ◌<◌, ◌∷◌, length, take, None, IfOk};
+ghost use Rattle.std.specs.Prelude.{◌≡◌, ◌≢◌, ◌≤◌, ◌<◌, ◌∷◌, length, take, Some, None, IfOk, IfSome};
 ghost use Rattle.textarea_terminal.specs.InputReading.{Reads};
-ghost use Rattle.textarea_terminal.specs.InputEvent.{value_of};
+ghost use Rattle.textarea_terminal.specs.InputEvent.{value_of, input};
 ghost use Rattle.textarea_terminal.specs.InputUnit.{key_at, single_at, with_escape, second_escape_at, escape_at, key_or_sequence, unit_at};
 
 use crate::input::character::read_character;
 use crate::input::event::Event;
-use crate::input::key::{alt_input, plain_input, single_byte, single_letter};
+use crate::input::key::{alt_input, letter_key, plain_input, single_byte, single_letter};
 use crate::input::paste::{after_start, read_paste};
 use crate::input::sequence::read_bracket;
 use std::alloc::{AllocError, Global};
@@ -119,6 +119,21 @@ fn read_key_or_sequence(bytes: &[u8]) -> Option<(Event, &[u8])>
     }
 }
 
+// The key whose sequence is a letter after `ESC [`, of which the ESC is read, and the bytes after it.
+#[inline]
+fn read_letter_key(bytes: &[u8]) -> Option<(Input, &[u8])>
+    ensures unit { IfSome result (λ x. unit_at (27 ∷ bytes.now) ≡ Some (input x.0, x.1.now)) }
+    ensures shorter { IfSome result (λ x. length x.1.now < length bytes.now) }
+{
+    let (bracket, after) = bytes.split_first()?;
+    if *bracket != b'[' {
+        return None;
+    }
+    let (letter, rest) = after.split_first()?;
+    let key = letter_key(*letter)?;
+    Some((plain_input(key), rest))
+}
+
 // A pasted text, a key or a sequence. Of the bytes, the first `begun` are known to end within it.
 #[tactic(auto, unfolding(crate::specs::InputUnit::unit_at))]
 fn read_escape(
@@ -150,7 +165,10 @@ pub fn read_unit(
 {
     match bytes {
         [] => Ok(None),
-        [ESCAPE, ..] => read_escape(alloc, bytes, begun),
+        [ESCAPE, rest @ ..] => match read_letter_key(rest) {
+            Some((input, rest)) => Ok(Some((Event::Input(input), rest))),
+            None => read_escape(alloc, bytes, begun),
+        },
         [first, rest @ ..] => Ok(read_input(*first, rest)),
     }
 }

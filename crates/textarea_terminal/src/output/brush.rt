@@ -10,6 +10,7 @@ ghost use Rattle.textarea_terminal.specs.Paint.{Wrote, BeginsUpdate, MovesTo, Ta
 use super::controls::{write_move, write_pen};
 use super::look::{Look, has_look, is_same_look, look_of};
 use super::spot::Spot;
+use super::symbol::{is_same_symbol, write_symbol};
 use super::width::cluster_columns;
 use std::alloc::AllocError;
 use textarea_screen::screen::Cell;
@@ -36,6 +37,7 @@ fn begin_update(bytes: &mut Vec<u8>, is_updating: bool) -> Result<(), AllocError
 }
 
 /// Moves the cursor to a place, if it isn't there.
+#[inline]
 pub(super) fn move_to(
     bytes: &mut Vec<u8>,
     at: Option<usize>,
@@ -79,33 +81,23 @@ fn cursor_after(columns: usize, spot: Spot, width: usize) -> Option<usize>
     }
 }
 
-/// Writes the bytes of a cluster.
-fn write_symbol(bytes: &mut Vec<u8>, symbol: &str) -> Result<(), AllocError>
-    ensures { OnOk result (bytes.new.items ≡ bytes.old.items ++ symbol.now) }
-{
-    match symbol.as_bytes() {
-        [only] => bytes.push(*only)?,
-        all => bytes.extend_from_slice(all)?,
-    }
-    Ok(())
-}
-
 /// Prints the cluster that begins in a cell.
+#[inline(never)]
 fn write_cell(
     bytes: &mut Vec<u8>,
-    brush: Brush,
+    brush: &mut Brush,
     columns: usize,
     spot: Spot,
     cell: &Cell,
-) -> Result<Brush, AllocError>
+) -> Result<(), AllocError>
     requires columns { (0 < columns) × (columns < 2 ^ 16) }
     requires place { spot.place < 2 ^ 32 }
     requires spot { IsSpot columns spot }
     requires begins { IsTrue (can_begin columns spot.place (shown_cell cell.now)) }
-    ensures brush { IfOk result (λ after.
-        after ≡ brush_after columns spot.place (shown_cell cell.now)) }
+    ensures brush { OnOk result
+        (brush.new ≡ brush_after columns spot.place (shown_cell cell.now)) }
     ensures wrote { OnOk result (Wrote bytes.old.items bytes.new.items
-        (PrintsCell brush columns spot.place (shown_cell cell.now))) }
+        (PrintsCell brush.old columns spot.place (shown_cell cell.now))) }
 {
     let look = look_of(cell);
     let width = cluster_columns(cell.symbol());
@@ -113,45 +105,44 @@ fn write_cell(
     move_to(bytes, brush.at, columns, spot)?;
     take_look(bytes, brush.pen, look)?;
     write_symbol(bytes, cell.symbol())?;
-    Ok(Brush {
-        at: cursor_after(columns, spot, width),
-        pen: Some(look),
-        is_updating: true,
-    })
+    brush.at = cursor_after(columns, spot, width);
+    brush.pen = Some(look);
+    brush.is_updating = true;
+    Ok(())
 }
 
 /// Whether two cells show the same.
 fn is_alike(a: &Cell, b: &Cell) -> bool
     ensures { IsTrue result ↔ (shown_cell a.now ≡ shown_cell b.now) }
 {
-    a.symbol() == b.symbol() && is_same_look(look_of(a), look_of(b))
+    is_same_symbol(a.symbol(), b.symbol()) && is_same_look(look_of(a), look_of(b))
 }
 
 /// Prints the cluster that begins in a cell of the new frame, unless the cell is as in the old one.
+#[inline]
 fn write_change(
     bytes: &mut Vec<u8>,
-    brush: Brush,
+    brush: &mut Brush,
     columns: usize,
     spot: Spot,
     old: &Cell,
     new: &Cell,
-) -> Result<Brush, AllocError>
+) -> Result<(), AllocError>
     requires columns { (0 < columns) × (columns < 2 ^ 16) }
     requires place { spot.place < 2 ^ 32 }
     requires spot { IsSpot columns spot }
     requires begins { is_half (shown_cell new.now) ≡ false
         → IsTrue (can_begin columns spot.place (shown_cell new.now)) }
-    ensures { IfOk result (λ after. Wrote bytes.old.items bytes.new.items (λ controls.
+    ensures { OnOk result (Wrote bytes.old.items bytes.new.items (λ controls.
         (((is_half (shown_cell new.now) ≡ true) ⊎ (shown_cell old.now ≡ shown_cell new.now))
-        × KeepsCell brush after (shown_cell old.now) (shown_cell new.now) controls)
-        ⊎ ChangesCell brush after columns spot.place (shown_cell old.now) (shown_cell new.now)
-        controls)) }
+        × KeepsCell brush.old brush.new (shown_cell old.now) (shown_cell new.now) controls)
+        ⊎ ChangesCell brush.old brush.new columns spot.place (shown_cell old.now)
+        (shown_cell new.now) controls)) }
 {
-    if new.symbol().is_empty() || is_alike(old, new) {
-        Ok(brush)
-    } else {
-        write_cell(bytes, brush, columns, spot, new)
+    if is_alike(old, new) || new.symbol().is_empty() {
+        return Ok(());
     }
+    write_cell(bytes, brush, columns, spot, new)
 }
 
 /// Writes what brings a terminal from the cells of the old frame to those of the new one.
@@ -174,7 +165,7 @@ pub(super) fn write_cells(
     let mut brush = start;
     let mut spot = Spot::first(columns);
     for place in 0..new.len() {
-        brush = write_change(bytes, brush, columns, spot, &old[place], &new[place])?;
+        write_change(bytes, &mut brush, columns, spot, &old[place], &new[place])?;
         spot = spot.next(columns);
     }
     Ok(brush)

@@ -5,7 +5,6 @@ ghost use Rattle.textarea_terminal.specs.Control.Control.{MoveTo, SetPen};
 ghost use Rattle.textarea_terminal.specs.Pen.{Rendition, renditions_bytes, renditions_of, added, all_numbers, foreground, background, color_bytes};
 
 use super::look::Look;
-use itoa::Buffer;
 use std::alloc::AllocError;
 use textarea_screen::screen::{Color, Modifier};
 
@@ -16,11 +15,17 @@ const MODIFIERS: [u8; 9] = [1, 2, 3, 4, 5, 6, 7, 8, 9];
 fn write_number(bytes: &mut Vec<u8>, number: u64) -> Result<(), AllocError>
     ensures { OnOk result (bytes.new.items ≡ bytes.old.items ++ decimal number) }
 {
-    let mut digits = Buffer::new();
-    bytes.extend_from_slice(digits.format(number).as_bytes())
+    if number < 10 {
+        bytes.push(b'0' + number as u8)?;
+        return Ok(());
+    }
+    write_number(bytes, number / 10)?;
+    bytes.push(b'0' + (number % 10) as u8)?;
+    Ok(())
 }
 
 /// Moves the cursor to a row and a column, each counted from 0.
+#[inline(never)]
 pub(super) fn write_move(bytes: &mut Vec<u8>, row: u64, column: u64) -> Result<(), AllocError>
     requires row { row + 1 < 2 ^ 64 }
     requires column { column + 1 < 2 ^ 64 }
@@ -35,6 +40,7 @@ pub(super) fn write_move(bytes: &mut Vec<u8>, row: u64, column: u64) -> Result<(
 }
 
 /// Resets the pen, and gives it a look.
+#[inline(never)]
 pub(super) fn write_pen(bytes: &mut Vec<u8>, look: Look) -> Result<(), AllocError>
     ensures { OnOk result
         (bytes.new.items ≡ bytes.old.items ++ control_bytes (SetPen (renditions_of look))) }

@@ -8,6 +8,7 @@ ghost use Rattle.textarea_terminal.specs.PaintCells.{begins_empty, cell_in, cell
 
 use super::look::{Look, look_of};
 use super::spot::Spot;
+use super::symbol::is_same_symbol;
 use super::width::cluster_columns;
 use std::alloc::{AllocError, Global};
 use textarea_screen::screen::{Buffer, Cell, Color, Modifier, Rect};
@@ -89,7 +90,7 @@ fn fill_cell(
 fn show(alloc: Global, cell: &mut Cell, symbol: &str, look: Look) -> Result<(), AllocError>
     ensures { OnOk result (shown_cell cell.new ≡ in_look look symbol.now) }
 {
-    if cell.symbol() != symbol {
+    if !is_same_symbol(cell.symbol(), symbol) {
         cell.set_symbol(alloc, symbol)?;
     }
     cell.fg = look.fg;

@@ -2,7 +2,7 @@
 ghost use Rattle.std.specs.Prelude.{◌≡◌, ◌↔◌, Some, IsTrue};
 ghost use Rattle.textarea_screen.specs.Cell.{shown_cell};
 ghost use Rattle.textarea_terminal.specs.Pen.{look_of};
-ghost use Rattle.textarea_terminal.specs.PenColors.{named, parts_of};
+ghost use Rattle.textarea_terminal.specs.PenColors.{named, number_of, parts_of};
 
 use textarea_screen::screen::{Cell, Color, Modifier};
 
@@ -84,13 +84,24 @@ impl ColorParts {
     }
 }
 
+/// A colour as one number.
+#[inline]
+fn number_of(color: Color) -> u32
+    ensures { result ≡ number_of (parts_of color) }
+{
+    let parts = ColorParts::new(color);
+    u32::from(parts.kind)
+        + 256 * u32::from(parts.first)
+        + 65536 * u32::from(parts.second)
+        + 16777216 * u32::from(parts.third)
+}
+
 /// Whether two colours are the same.
+#[inline]
 fn is_same_color(a: Color, b: Color) -> bool
     ensures { IsTrue result ↔ (a ≡ b) }
 {
-    let a = ColorParts::new(a);
-    let b = ColorParts::new(b);
-    a.kind == b.kind && a.first == b.first && a.second == b.second && a.third == b.third
+    number_of(a) == number_of(b)
 }
 
 /// Whether two looks are the same.

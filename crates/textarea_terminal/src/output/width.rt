@@ -7,17 +7,28 @@ ghost use Rattle.textarea_paint.specs.Plain.{IsPrintable};
 ghost use Rattle.textarea_terminal.specs.PaintCells.{cluster_columns};
 ghost use Rattle.unicode_segmentation.specs.Grapheme.{graphemes};
 
+use textarea_paint::paint::columns;
 use unicode_segmentation::UnicodeSegmentation;
-use unicode_width::UnicodeWidthChar;
 
 /// The columns in which a terminal shows a text that is one grapheme cluster; 0 where it is none, or can't be shown.
+#[inline]
 pub(super) fn cluster_columns(text: &str) -> usize
     ensures value { result ≡ cluster_columns text.now }
 {
     if is_plain(text.as_bytes()) {
         1
-    } else if is_cluster(text) {
-        columns_of(text)
+    } else {
+        any_columns(text)
+    }
+}
+
+/// The same, where it isn't a character of printable ASCII.
+#[inline(never)]
+fn any_columns(text: &str) -> usize
+    ensures value { result ≡ cluster_columns text.now }
+{
+    if is_cluster(text) {
+        columns::cluster_columns(text)
     } else {
         0
     }
@@ -39,28 +50,4 @@ fn is_cluster(text: &str) -> bool
 {
     let mut clusters = text.graphemes(true);
     clusters.next().is_some() && clusters.next().is_none()
-}
-
-/// The columns of a cluster.
-fn columns_of(cluster: &str) -> usize
-    ensures { result ≡ columns_of cluster.now }
-{
-    if has_control(cluster) {
-        0
-    } else {
-        sum_of_columns(cluster)
-    }
-}
-
-fn has_control(text: &str) -> bool
-    ensures { result ≡ list_any is_control (chars text.now) }
-{
-    text.chars().any(|c| c.is_control())
-}
-
-fn sum_of_columns(text: &str) -> usize
-    requires { sum_by char_columns (chars text.now) < 2 ^ 64 }
-    ensures { result ≡ sum_by char_columns (chars text.now) }
-{
-    text.chars().map(|c| c.width().unwrap_or(0)).sum()
 }

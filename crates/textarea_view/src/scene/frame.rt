@@ -1,13 +1,6 @@
 //! One visual row after another, cut into spans.
 ghost use Rattle.std.specs.Prelude.{◌≡◌, ◌<◌, chars, encode_utf8_all, length, IfOk, OnOk};
-ghost use Rattle.textarea_highlight.specs.Highlights.{plain_row};
-ghost use Rattle.textarea_highlight.specs.Row.{ShowsRow};
-ghost use Rattle.textarea_blocks.specs.Sums.{row_total};
-ghost use Rattle.textarea_screen_map.specs.Rows.{row_at};
-ghost use Rattle.textarea_screen_map.specs.Shown.{shown_row};
-ghost use Rattle.textarea_screen.specs.Text.{shown_line};
-ghost use Rattle.textarea_view.specs.Rows.{cursor_cell, matches_in, row_highlights, searched, with_customs, with_found, with_selected};
-ghost use Rattle.textarea_view.specs.Scene.{HasPlaces};
+ghost use Rattle.textarea_view.specs.Prelude.{plain_row, ShowsRow, row_total, row_at, shown_row, shown_line, cursor_cell, matches_in, row_highlights, searched, HasPlaces};
 
 use super::Scene;
 use super::matches::FoundMatches;
@@ -138,23 +131,8 @@ impl<'f, 'a> Frame<'f, 'a> {
         self.begin(highlighter, shown.text);
         self.add_number(highlighter, shown)?;
         self.add_cursor(highlighter, row, shown)?;
-        self.add_ranges(highlighter, shown, matches)
-    }
-
-    // The row's parts of ranges, one kind after another: the later ones lie over the earlier ones.
-    fn add_ranges(
-        &self,
-        highlighter: &mut LineHighlighter<'_>,
-        shown: RowText<'_>,
-        matches: &[(usize, usize)],
-    ) -> Result<(), AllocError>
-        requires { matches.now ≡ matches_in (searched self.now) shown.line }
-        ensures { let row = shown_row shown.entry in OnOk result (highlighter.new
-            ≡ with_customs self.now row (with_selected self.now row
-            (with_found self.now row highlighter.old))) }
-    {
         self.add_matches(highlighter, shown, matches)?;
-        self.add_selection(highlighter, shown)?;
+        self.add_selection(highlighter, shown)?; // over the matches
         self.add_customs(highlighter, shown)
     }
 

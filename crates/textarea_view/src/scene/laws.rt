@@ -1,10 +1,6 @@
 //! Laws of drawn rows, each the contract of a function that does nothing.
 ghost use Rattle.std.specs.Prelude.{◌≡◌, ℕ, List};
-ghost use Rattle.textarea_screen.specs.Text.{ShownLine};
-ghost use Rattle.textarea_screen.specs.declared.screen.rect.Rect.{Rect};
-ghost use Rattle.textarea_paint.specs.declared.paint.row.RowArea.{RowArea};
-ghost use Rattle.textarea_view.specs.SceneDrawn.{FillsArea, IsRowStart};
-ghost use Rattle.textarea_view.specs.Scene.{SceneState};
+ghost use Rattle.textarea_view.specs.Prelude.{ShownLine, Rect, RowArea, FillsArea, IsRowStart, SceneState};
 
 use textarea_highlight::laws::one_line_shows_a_row;
 

@@ -1,7 +1,6 @@
 //! The matches of one line after another, looked for once a line.
 ghost use Rattle.std.specs.Prelude.{◌≡◌, ◌<◌, length, IfOk, OnOk};
-ghost use Rattle.textarea_text.specs.Text.{lines_of};
-ghost use Rattle.textarea_view.specs.Rows.{matches_in};
+ghost use Rattle.textarea_view.specs.Prelude.{lines_of, matches_in};
 
 use std::alloc::{AllocError, Global};
 use std::marker::Model;

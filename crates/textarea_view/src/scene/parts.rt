@@ -1,11 +1,6 @@
 //! What a row's highlighter is told, one thing after another.
 ghost use Rattle.std.specs.Prelude.{◌≡◌, ◌<◌, chars, encode_utf8_all, length, OnOk};
-ghost use Rattle.textarea_blocks.specs.Sums.{row_total};
-ghost use Rattle.textarea_screen_map.specs.Rows.{row_at};
-ghost use Rattle.textarea_screen_map.specs.Shown.{shown_row};
-ghost use Rattle.textarea_text.specs.Place.{IsPlaceOf};
-ghost use Rattle.textarea_text.specs.Text.{lines_of};
-ghost use Rattle.textarea_view.specs.Rows.{byte_place, from_in, holds, matches_in, numbered, part_of, searched, to_in, with_cursor, with_customs, with_found, with_part, with_selected};
+ghost use Rattle.textarea_view.specs.Prelude.{row_total, row_at, shown_row, IsPlaceOf, lines_of, byte_place, from_in, holds, matches_in, numbered, part_of, searched, to_in, with_cursor, with_customs, with_found, with_part, with_selected};
 
 use super::frame::Frame;
 use std::alloc::AllocError;

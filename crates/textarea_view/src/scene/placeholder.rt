@@ -1,12 +1,6 @@
 //! A placeholder, drawn in the place of the rows.
 ghost use Rattle.std.specs.Prelude.{◌≡◌, IfOk, IsOk, OnErr, OnOk, take};
-ghost use Rattle.textarea_screen.specs.Buffer.{area_of, Changes, KeepsOutside};
-ghost use Rattle.textarea_screen.specs.Rect.{contains, is_in_row};
-ghost use Rattle.textarea_screen.specs.Text.{shown_line, shown_text};
-ghost use Rattle.textarea_paint.specs.Clusters.{AreInline, row_clusters};
-ghost use Rattle.textarea_paint.specs.Row.{row_cell};
-ghost use Rattle.textarea_view.specs.SceneDrawn.{lines_change, rows_above_end};
-ghost use Rattle.textarea_view.specs.Placeholder.{AreLinesInline, behind_cursor, cell_of_line, in_style, lent_line, placeholder_lines};
+ghost use Rattle.textarea_view.specs.Prelude.{area_of, Changes, KeepsOutside, contains, is_in_row, shown_line, shown_text, AreInline, row_clusters, row_cell, lines_change, rows_above_end, AreLinesInline, behind_cursor, cell_of_line, in_style, lent_line, placeholder_lines};
 
 use super::rows_above_end;
 use std::alloc::{AllocError, Global};

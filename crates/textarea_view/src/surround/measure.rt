@@ -1,9 +1,6 @@
 //! What the surround takes of an area, and the height that is measured.
 ghost use Rattle.std.specs.Prelude.{◌≡◌, ◌≤◌, ℕ, IsTrue};
-ghost use Rattle.textarea_screen.specs.Rect.{contains};
-ghost use Rattle.textarea_view.specs.Inner.{IsInner};
-ghost use Rattle.textarea_view.specs.State.{AreBounds};
-ghost use Rattle.textarea_view.specs.Measure.{chrome_of, measure_of, rows_shown, saturated, width_inside};
+ghost use Rattle.textarea_view.specs.Prelude.{contains, IsInner, AreBounds, chrome_of, measure_of, rows_shown, saturated, width_inside};
 
 use crate::surround::Surround;
 use textarea_screen::screen::Rect;
@@ -62,7 +59,8 @@ impl<'a> Surround<'a> {
             × (result.preferred_rows ≤ result.max_rows) }
     {
         let chrome = self.chrome(width);
-        let content_rows = saturate(self.shown_rows(rows, is_empty));
+        let shown = self.shown_rows(rows, is_empty);
+        let content_rows = shown.min(usize::from(u16::MAX)) as u16;
         let min_rows = self.min_rows.max(chrome.saturating_add(1));
         let max_rows = self.max_rows.max(min_rows);
         TextAreaMeasure {
@@ -86,11 +84,4 @@ impl<'a> Surround<'a> {
             rows
         }
     }
-}
-
-// The number, or 65535 where it is greater.
-fn saturate(number: usize) -> u16
-    ensures { result ≡ saturated number }
-{
-    number.min(usize::from(u16::MAX)) as u16
 }

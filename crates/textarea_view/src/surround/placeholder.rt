@@ -1,8 +1,6 @@
 //! What is shown in place of an empty text.
 ghost use Rattle.std.specs.Prelude.{◌≡◌, [], IfOk, IsOk, OnErr, OnOk, length, map};
-ghost use Rattle.textarea_screen.specs.Text.{shown_line, shown_text};
-ghost use Rattle.textarea_view.specs.State.{first_bytes, style_with_lines};
-ghost use Rattle.textarea_view.specs.Outcomes.{plain_lines, with_placeholder_style, with_placeholder_text};
+ghost use Rattle.textarea_view.specs.Prelude.{shown_line, shown_text, first_bytes, style_with_lines, plain_lines, with_placeholder_style, with_placeholder_text};
 
 use crate::surround::Surround;
 use std::alloc::{AllocError, Global};

@@ -1,10 +1,6 @@
 //! Laws of the caret, each the contract of a function that does nothing.
 ghost use Rattle.std.specs.Prelude.{◌≡◌, ◌⊎◌, ◌+◌, ◌*◌, ◌^◌, ◌<◌, ◌≤◌, ℕ, IsSome};
-ghost use Rattle.textarea_screen.specs.declared.screen.rect.Rect.{Rect};
-ghost use Rattle.textarea_view.specs.Caret.{caret_at, hit_column, hit_row, left_view};
-ghost use Rattle.textarea_view.specs.Shown.{at_start, showing_row, showing_row_and_column};
-ghost use Rattle.textarea_view.specs.Viewport.{ViewportState};
-ghost use Rattle.textarea_view.specs.declared.row_view.RowView.{RowView};
+ghost use Rattle.textarea_view.specs.Prelude.{Rect, caret_at, hit_column, hit_row, left_view, at_start, showing_row, showing_row_and_column, ViewportState, RowView};
 
 /// A caret that is shown is hit back: its cell leads to its row, and from there to its column, where the row is one of the
 /// text's and the column one at which a cursor can stand in it.

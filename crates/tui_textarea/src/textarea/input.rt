@@ -1,13 +1,16 @@
 //! Keys: each input asks for one of the calls, by one of the two tables of `textarea_calls`.
-ghost use Rattle.std.specs.Prelude.{◌≡◌, false, IfOk, OnErr, OnOk};
+ghost use Rattle.std.specs.Prelude.{◌≡◌, IfOk, OnErr, OnOk};
+ghost use Rattle.textarea_calls.specs.Kinds.{call_of_edit};
+ghost use Rattle.textarea_calls.specs.declared.action.Action.TheVariants as act;
 ghost use Rattle.tui_textarea.specs.Input.{IsActed, IsLeftBy, MayRefuseAct, acts, asked_by, asked_without_shortcuts};
-ghost use Rattle.tui_textarea.specs.Kinds.{kind_of};
-ghost use Rattle.tui_textarea.specs.declared.textarea.input.Kind.TheVariants.{Deletes, Edits, Goes, Plain};
+ghost use Rattle.tui_textarea.specs.Outcomes.{IsAnswer, IsBehind, Refused};
+ghost use Rattle.tui_textarea.specs.Said.{Flag};
 
 use crate::textarea::TextArea;
 use std::alloc::AllocError;
 use textarea_calls::action::Action;
 use textarea_calls::keys::{action_of, action_without_shortcuts};
+use textarea_calls::kind::{Edit, Write};
 use textarea_data::input::Input;
 
 impl TextArea<'_> {
@@ -45,116 +48,53 @@ impl TextArea<'_> {
         ensures err { OnErr result (IsLeftBy self.old action self.new) }
         ensures may { OnErr result (MayRefuseAct self.old action) }
     {
-        match kind_of(&action) {
-            Kind::Plain => self.act_plainly(action),
-            Kind::Deletes => self.act_by_deleting(action),
-            Kind::Edits => self.act_by_editing(action),
-            Kind::Goes => {
-                self.act_by_going(action);
+        match action {
+            Action::Nothing => Ok(false),
+            Action::Edit(edit) => self.edit(edit),
+            Action::Write(Write::InsertChar(c)) => self.insert_char(c).map(|()| true),
+            Action::Write(Write::InsertNewline) => self.insert_newline().map(|()| true),
+            Action::Write(Write::Copy) => self.copy().map(|()| false),
+            Action::MoveWithShift(cursor_move, shift) => {
+                self.move_with_shift(cursor_move, shift);
+                Ok(false)
+            }
+            Action::ScrollWithShift(scrolling, shift) => {
+                self.scroll_with_shift(scrolling, shift);
+                Ok(false)
+            }
+            Action::Scroll(scrolling) => {
+                self.scroll(scrolling);
                 Ok(false)
             }
         }
     }
 
-    // Makes the call, if there is one, of an action that answers the same whatever was there.
-    fn act_plainly(&mut self, action: Action) -> Result<bool, AllocError>
-        requires { kind_of action ≡ Plain }
-        ensures answer { IfOk result (λ changed. changed ≡ acts self.old action) }
-        ensures ok { OnOk result (IsActed self.old action self.new) }
-        ensures err { OnErr result (IsLeftBy self.old action self.new) }
-        ensures may { OnErr result (MayRefuseAct self.old action) }
+    /// Makes the edit, the undo or the redo, as the method of its name does, and says whether there was something to do. Out of
+    /// memory leaves what that method leaves.
+    pub fn edit(&mut self, edit: Edit) -> Result<bool, AllocError>
+        ensures answer { IfOk result (λ done. IsAnswer self.old (call_of_edit edit) (Flag done)) }
+        ensures behind { IfOk result
+            (λ done. IsBehind self.old (call_of_edit edit) (Flag done) self.new) }
+        ensures refused { OnErr result (Refused self.old (call_of_edit edit) self.new) }
+        ensures changed { IfOk result (λ done. done ≡ acts self.old (act.Edit edit)) }
+        ensures ok { OnOk result (IsActed self.old (act.Edit edit) self.new) }
+        ensures err { OnErr result (IsLeftBy self.old (act.Edit edit) self.new) }
+        ensures may { OnErr result (MayRefuseAct self.old (act.Edit edit)) }
     {
-        match action {
-            Action::Nothing => Ok(false),
-            Action::InsertChar(c) => self.insert_char(c).map(|()| true),
-            Action::InsertNewline => self.insert_newline().map(|()| true),
-            Action::Copy => self.copy().map(|()| false),
-            _ => unreachable!(),
+        match edit {
+            Edit::InsertTab => self.insert_tab(),
+            Edit::DeleteNewline => self.delete_newline(),
+            Edit::DeleteChar => self.delete_char(),
+            Edit::DeleteNextChar => self.delete_next_char(),
+            Edit::DeleteLineByEnd => self.delete_line_by_end(),
+            Edit::DeleteLineByHead => self.delete_line_by_head(),
+            Edit::DeleteWord => self.delete_word(),
+            Edit::DeleteNextWord => self.delete_next_word(),
+            Edit::Clear => self.clear(),
+            Edit::Cut => self.cut(),
+            Edit::Paste => self.paste(),
+            Edit::Undo => self.undo(),
+            Edit::Redo => self.redo(),
         }
-    }
-
-    // Makes the call of an action that removes what is selected, or else a part of the text beside the cursor.
-    fn act_by_deleting(&mut self, action: Action) -> Result<bool, AllocError>
-        requires { kind_of action ≡ Deletes }
-        ensures answer { IfOk result (λ changed. changed ≡ acts self.old action) }
-        ensures ok { OnOk result (IsActed self.old action self.new) }
-        ensures err { OnErr result (IsLeftBy self.old action self.new) }
-        ensures may { OnErr result (MayRefuseAct self.old action) }
-    {
-        match action {
-            Action::DeleteChar => self.delete_char(),
-            Action::DeleteNextChar => self.delete_next_char(),
-            Action::DeleteLineByEnd => self.delete_line_by_end(),
-            Action::DeleteLineByHead => self.delete_line_by_head(),
-            Action::DeleteWord => self.delete_word(),
-            Action::DeleteNextWord => self.delete_next_word(),
-            _ => unreachable!(),
-        }
-    }
-
-    // Makes the call of any other action that edits the text, or takes an edit back or makes it again.
-    fn act_by_editing(&mut self, action: Action) -> Result<bool, AllocError>
-        requires { kind_of action ≡ Edits }
-        ensures answer { IfOk result (λ changed. changed ≡ acts self.old action) }
-        ensures ok { OnOk result (IsActed self.old action self.new) }
-        ensures err { OnErr result (IsLeftBy self.old action self.new) }
-        ensures may { OnErr result (MayRefuseAct self.old action) }
-    {
-        match action {
-            Action::InsertTab => self.insert_tab(),
-            Action::Undo => self.undo(),
-            Action::Redo => self.redo(),
-            Action::Paste => self.paste(),
-            Action::Cut => self.cut(),
-            _ => unreachable!(),
-        }
-    }
-
-    // Makes the call of an action that moves or scrolls.
-    fn act_by_going(&mut self, action: Action)
-        requires { kind_of action ≡ Goes }
-        ensures answer { acts self.old action ≡ false }
-        ensures ok { IsActed self.old action self.new }
-    {
-        match action {
-            Action::MoveWithShift(cursor_move, shift) => self.move_with_shift(cursor_move, shift),
-            Action::ScrollWithShift(scrolling, shift) => self.scroll_with_shift(scrolling, shift),
-            Action::Scroll(scrolling) => self.scroll(scrolling),
-            _ => unreachable!(),
-        }
-    }
-}
-
-// How an action answers.
-#[derive(Drop)]
-enum Kind {
-    // The same whatever was there; it may run out of memory.
-    Plain,
-    // Whether a part of the text was removed; it may run out of memory.
-    Deletes,
-    // Whether it made another edit, or took one back or made it again; it may run out of memory.
-    Edits,
-    // That the text was not changed; it moves or scrolls, and takes no memory.
-    Goes,
-}
-
-// The kind of the action.
-fn kind_of(action: &Action) -> Kind
-    ensures { result ≡ kind_of action.now }
-{
-    match action {
-        Action::Nothing | Action::InsertChar(_) | Action::InsertNewline | Action::Copy => {
-            Kind::Plain
-        }
-        Action::DeleteChar
-        | Action::DeleteNextChar
-        | Action::DeleteLineByEnd
-        | Action::DeleteLineByHead
-        | Action::DeleteWord
-        | Action::DeleteNextWord => Kind::Deletes,
-        Action::InsertTab | Action::Undo | Action::Redo | Action::Paste | Action::Cut => {
-            Kind::Edits
-        }
-        Action::MoveWithShift(..) | Action::ScrollWithShift(..) | Action::Scroll(_) => Kind::Goes,
     }
 }

@@ -3,11 +3,11 @@ ghost use Rattle.std.specs.Prelude.{◌≡◌, [], Some, None, OnOk, OnErr, IsOk
 ghost use Rattle.std.specs.Option.{option_copied};
 ghost use Rattle.textarea_text.specs.Place.{IsPlace};
 ghost use Rattle.textarea_search.specs.Failures.{IsCarried, IsOwnFailure, IsPatternFailure};
-ghost use Rattle.tui_textarea.specs.Search.{next_match, previous_match, searched, with_pattern};
+ghost use Rattle.tui_textarea.specs.Search.{found_match, next_match, previous_match, searched, with_pattern};
 
 use crate::textarea::TextArea;
 use std::alloc::AllocError;
-use textarea_search::search::SearchError;
+use textarea_search::search::{Direction, SearchError};
 
 impl TextArea<'_> {
     /// Searches for this pattern from now on, in the syntax of `regex`, and for none if it is empty. The empty text and
@@ -43,7 +43,7 @@ impl TextArea<'_> {
         ensures err { OnErr result (self.new ≡ self.old) }
         ensures no_pattern { self.old.pattern ≡ None → IsOk result }
     {
-        let found = self.next_match(match_cursor)?;
+        let found = self.found_match(Direction::Forward, match_cursor)?;
         Ok(self.go_to(found))
     }
 
@@ -60,32 +60,25 @@ impl TextArea<'_> {
         ensures err { OnErr result (self.new ≡ self.old) }
         ensures no_pattern { self.old.pattern ≡ None → IsOk result }
     {
-        let found = self.previous_match(match_cursor)?;
+        let found = self.found_match(Direction::Back, match_cursor)?;
         Ok(self.go_to(found))
     }
 
     // Where a search from the cursor leads.
-    fn next_match(&self, match_cursor: bool) -> Result<Option<(usize, usize)>, AllocError>
-        ensures found { IfOk result (λ place. place ≡ next_match self.now match_cursor) }
+    fn found_match(
+        &self,
+        direction: Direction,
+        match_cursor: bool,
+    ) -> Result<Option<(usize, usize)>, AllocError>
+        ensures found { IfOk result
+            (λ place. place ≡ found_match direction self.now match_cursor) }
         ensures place { OnOk result
-            (IfSome (next_match self.now match_cursor) (IsPlace self.now.document.text)) }
+            (IfSome (found_match direction self.now match_cursor) (IsPlace self.now.document.text)) }
         ensures no_pattern { self.now.pattern ≡ None → IsOk result }
     {
         let cursor = self.document.cursor();
         self.search
-            .forward(self.document.lines(), cursor, match_cursor)
-    }
-
-    // Where a search back from the cursor leads.
-    fn previous_match(&self, match_cursor: bool) -> Result<Option<(usize, usize)>, AllocError>
-        ensures found { IfOk result (λ place. place ≡ previous_match self.now match_cursor) }
-        ensures place { OnOk result
-            (IfSome (previous_match self.now match_cursor) (IsPlace self.now.document.text)) }
-        ensures no_pattern { self.now.pattern ≡ None → IsOk result }
-    {
-        let cursor = self.document.cursor();
-        self.search
-            .back(self.document.lines(), cursor, match_cursor)
+            .find(direction, self.document.lines(), cursor, match_cursor)
     }
 
     // Goes to the place that was found, if one was, and says whether.

@@ -1,19 +1,19 @@
-use Rattle.std.proofs.Common.{◌≤◌, ◌∙◌, ap, filter_map, refl, subst, sym}
-use Rattle.textarea_util.specs.Limit.{size_limit}
-use Rattle.textarea_text.specs.Place.{Place}
-use Rattle.textarea_text.specs.Splice.{place_before}
-use Rattle.textarea_ranges.specs.Moved.{moved_by, moved_ranges}
-use Rattle.textarea_document.proofs.Failures.{if_err}
+use Rattle.std.proofs.Common.{◌≡◌, ◌≤◌, ◌∙◌, List, ap, arith, filter_map, subst, sym}
+use Rattle.textarea_document.specs.Prelude.{size_limit, Symbol, Place, IsPlace, LaidOut, applied, place_after, place_before, moved_by, moved_ranges}
+use Rattle.textarea_text.proofs.TextPlaces.{takes_back}
 use Rattle.textarea_document.proofs.Moves.{movable}
 use Rattle.textarea_document.proofs.document.make_change.Goals as goal
 
 pub move_ranges-requires-clause-movable : goal.move_ranges-requires-clause-movable
-move_ranges-requires-clause-movable c =
-    movable c.args.laid.now.text c.args.ranges.now.items c.in_ok-change_lines.ensures.places c.requires.valid
+move_ranges-requires-clause-movable c = movable c.args.laid.now.text c.args.ranges.now.items c.lines-lines.ensures.small c.requires.valid
 
 pub move_ranges-requires-clause-small : goal.move_ranges-requires-clause-small
 move_ranges-requires-clause-small c =
-    subst (λ (p : Place). (p.0 ≤ size_limit) × (p.1 ≤ size_limit)) (sym c.cursor_after-new.ensures) c.in_ok-change_lines.ensures.cursor
+    let splice = c.args.change in
+    let text = c.args.laid.now.text in
+    let text_is : c.apply.new.self.text ≡ applied text splice = ap (λ (l : LaidOut). l.text) c.in_ok-apply.ensures.ok in
+    let small = c.lines-changed.ensures.small (place_after splice) (subst (λ (t : List Symbol). IsPlace t (place_after splice)) (sym text_is) (takes_back text splice c.requires.fits).is_place) in
+    subst (λ (p : Place). (p.0 ≤ size_limit) × (p.1 ≤ size_limit)) (sym c.cursor_after-new.ensures) (omega (arith, small.0), small.1)
 
 pub returns-clause-ranges : goal.returns-clause-ranges
 unfolding moved_ranges
@@ -24,9 +24,3 @@ returns-clause-ranges c =
     ∙ ap (λ (p : Place). filter_map (moved_by p c.cursor_before-old.result c.cursor_after-new.result) ranges) c.start-start.ensures
     ∙ ap (λ (p : Place). filter_map (moved_by splice.place p c.cursor_after-new.result) ranges) c.cursor_before-old.ensures
     ∙ ap (λ (p : Place). filter_map (moved_by splice.place (place_before splice) p) ranges) c.cursor_after-new.ensures
-
-pub returns-clause-cursor : goal.returns-clause-cursor
-returns-clause-cursor c = c.cursor_after-new.ensures
-
-pub returns-in_err-change_lines-clause-ranges_stay : goal.returns-in_err-change_lines-clause-ranges_stay
-returns-in_err-change_lines-clause-ranges_stay c = if_err c.from_residual.result refl

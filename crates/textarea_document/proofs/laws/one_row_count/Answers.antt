@@ -1,6 +1,4 @@
-use Rattle.textarea_text.specs.Text.{lines}
-use Rattle.textarea_lines.specs.Layout.{wrapping_at}
-use Rattle.textarea_document.specs.Rows.{HasRowsAt, laid_out_of}
+use Rattle.textarea_document.specs.Prelude.{lines, wrapping_at, HasRowsAt, laid_out_of}
 use Rattle.textarea_document.proofs.laws.one_row_count.Goals as goal
 
 pub returns : goal.returns

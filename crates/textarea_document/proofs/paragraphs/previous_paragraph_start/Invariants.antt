@@ -1,6 +1,5 @@
 use Rattle.std.proofs.Common.{◌≡◌, ◌≤◌, ℕ, false}
-use Rattle.textarea_text.specs.Text.{lines_of}
-use Rattle.textarea_text.specs.Paragraphs.{is_earlier_paragraph_start}
+use Rattle.textarea_document.specs.Prelude.{lines_of, is_earlier_paragraph_start}
 use Rattle.textarea_document.proofs.paragraphs.previous_paragraph_start.Given as goal
 
 abbrev pub invariant-loop-row : goal.invariant-loop-row

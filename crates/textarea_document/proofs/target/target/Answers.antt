@@ -1,9 +1,5 @@
 use Rattle.std.proofs.Common.{◌≡◌, ◌∙◌, ap, refl, ℕ, Some}
-use Rattle.textarea_text.specs.Text.{lines_of}
-use Rattle.textarea_text.specs.Place.{last_row, line_end}
-use Rattle.textarea_data.specs.declared.cursor.CursorMove.TheVariants.{End, Top, Bottom, WordForward, WordEnd, WordBack, ParagraphForward, ParagraphBack, Jump}
-use Rattle.textarea_document.specs.Target.{paragraph_back, paragraph_forward, word_back, word_end, word_forward}
-use Rattle.textarea_text.specs.Part.{clip}
+use Rattle.textarea_document.specs.Prelude.{lines_of, last_row, line_end, End, Top, Bottom, WordForward, WordEnd, WordBack, ParagraphForward, ParagraphBack, Jump, paragraph_back, paragraph_forward, word_back, word_end, word_forward, clip}
 use Rattle.textarea_document.proofs.Rows.{leads}
 use Rattle.textarea_document.proofs.target.target.Goals as goal
 

@@ -1,10 +1,7 @@
 use Rattle.std.proofs.Common.{◌≡◌, ◌∙◌, ap, sym, arith, length, Some, None, Option, ℕ, List}
 use Rattle.std.proofs.lemmas.List.{length-map}
-use Rattle.textarea_text.specs.Text.{characters_of, lines_of}
-use Rattle.textarea_text.specs.Place.{last_row, line_end, line_of}
-use Rattle.textarea_text.specs.Words.{next_word_last}
+use Rattle.textarea_document.specs.Prelude.{characters_of, lines_of, last_row, line_end, line_of, next_word_last, first_word_end, found_or, is_later_word_row, next_word_row}
 use Rattle.textarea_text.proofs.NearestLemmas.{least_below-found, least_below-none}
-use Rattle.textarea_document.specs.Target.{first_word_end, found_or, is_later_word_row, next_word_row}
 use Rattle.textarea_document.proofs.Rows.{is_later_word_row-at}
 use Rattle.textarea_document.proofs.words.later_word_end.Goals as goal
 

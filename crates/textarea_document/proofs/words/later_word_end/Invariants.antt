@@ -1,6 +1,5 @@
 use Rattle.std.proofs.Common.{◌≡◌, ◌<◌, ℕ, false}
-use Rattle.textarea_text.specs.Text.{lines_of}
-use Rattle.textarea_document.specs.Target.{is_later_word_row}
+use Rattle.textarea_document.specs.Prelude.{lines_of, is_later_word_row}
 use Rattle.textarea_document.proofs.words.later_word_end.Given as goal
 
 abbrev pub invariant-loop-row : goal.invariant-loop-row

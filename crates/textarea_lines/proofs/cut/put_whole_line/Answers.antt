@@ -1,3 +1,4 @@
+use Rattle.std.proofs.lemmas.Grind.{common_steps}
 use Rattle.std.proofs.Common.{◌∙◌, ℕ, List, [], ap, encode_utf8_all, get_or, arith, inl, length, refl, string_bytes, subst}
 use Rattle.std.proofs.lemmas.List.{nil_from_length}
 use Rattle.std.proofs.lemmas.Result.{IfOk-at_ok}
@@ -16,8 +17,7 @@ use Rattle.textarea_lines.proofs.cut.put_whole_line.Goals as goal
 
 pub unwrap-cut-requires : goal.unwrap-cut-requires
 unwrap-cut-requires c =
-    let bytes = bytes_of_line c.args.lines.now c.args.row c.index-lines-row.result c.as_str-line.result.now c.requires.whole.within c.index-lines-row.is c.as_str-line.ensures.value in
-    c.line_ranges.ensures.one_row (omega (arith, c.requires.whole.size, ap length bytes)) (inl refl)
+    grind (arith, common_steps, bytes_of_line c.args.lines.now c.args.row c.index-lines-row.result c.as_str-line.result.now c.requires.whole.within c.index-lines-row.is c.as_str-line.ensures.value)
 
 pub replace-requires : goal.replace-requires
 replace-requires c =

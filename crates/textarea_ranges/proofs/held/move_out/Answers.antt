@@ -1,7 +1,5 @@
 use Rattle.std.proofs.Common.{◌≡◌, ◌∙◌, ap, subst, sym, All, Option}
-use Rattle.textarea_text.specs.Place.{Place, IsPlaceOf}
-use Rattle.textarea_data.specs.declared.range.AtomicRange.{AtomicRange}
-use Rattle.textarea_ranges.specs.Held.{IsInside, border_or, moved_out}
+use Rattle.textarea_ranges.specs.Prelude.{Place, IsPlaceOf, AtomicRange, IsInside, border_or, moved_out}
 use Rattle.textarea_ranges.proofs.HeldLemmas.{IsPlaceOf-moved_out, outside-moved_out}
 use Rattle.textarea_ranges.proofs.held.move_out.Goals as goal
 

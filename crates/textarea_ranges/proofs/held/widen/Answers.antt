@@ -1,7 +1,5 @@
 use Rattle.std.proofs.Common.{◌≡◌, ◌∙◌, ap, subst, sym}
-use Rattle.textarea_text.specs.Place.{Place}
-use Rattle.textarea_data.specs.declared.range.AtomicCursorBias.TheVariants.{Backward}
-use Rattle.textarea_ranges.specs.Held.{IsWidened, moved_out, widened}
+use Rattle.textarea_ranges.specs.Prelude.{Place, Backward, IsWidened, moved_out, widened}
 use Rattle.textarea_ranges.proofs.HeldLemmas.{IsWidened-widened}
 use Rattle.textarea_ranges.proofs.held.widen.Goals as goal
 

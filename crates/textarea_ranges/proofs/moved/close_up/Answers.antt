@@ -1,6 +1,5 @@
 use Rattle.std.proofs.Common.{◌≡◌, ◌<◌, ◌+◌, ℕ, List, Some, None, arith, get_or, length, set, subst, sym, ◌∙◌}
-use Rattle.textarea_data.specs.declared.range.AtomicRange.{AtomicRange}
-use Rattle.textarea_ranges.specs.Moved.{IsMovable, moved_by}
+use Rattle.textarea_ranges.specs.Prelude.{AtomicRange, IsMovable, moved_by}
 use Rattle.textarea_ranges.proofs.Closing.{Closing, closing_none, closing_some}
 use Rattle.textarea_ranges.proofs.moved.close_up.Goals as goal
 use Rattle.textarea_ranges.proofs.moved.close_up.Goals.{in-Some, in_default}

@@ -1,9 +1,5 @@
 use Rattle.std.proofs.Common.{◌≡◌, ◌∙◌, true, false, cond, Some, None, ap, sym}
-use Rattle.textarea_text.specs.Place.{Place}
-use Rattle.textarea_text.specs.Carried.{is_up_to, shifted}
-use Rattle.textarea_data.specs.declared.range.AtomicRange.{AtomicRange}
-use Rattle.textarea_ranges.specs.Held.{range_end, range_start}
-use Rattle.textarea_ranges.specs.Moved.{moved_by, shifted_range}
+use Rattle.textarea_ranges.specs.Prelude.{Place, is_up_to, shifted, AtomicRange, range_end, range_start, moved_by, shifted_range}
 use Rattle.textarea_ranges.proofs.moved.moved.Goals as goal
 
 -- a range that doesn't end by the start, and starts at the old place or behind it, goes along with both its ends

@@ -1,7 +1,6 @@
 use Rattle.std.proofs.Common.{ℕ, rules}
 use Rattle.std.proofs.lemmas.List.Sorted.{answers_always}
-use Rattle.textarea_data.specs.declared.range.AtomicRange.{AtomicRange}
-use Rattle.textarea_ranges.specs.Order.{is_before}
+use Rattle.textarea_ranges.specs.Prelude.{AtomicRange, is_before}
 use Rattle.textarea_ranges.proofs.OrderLemmas.{in_order-sorted, order_of_ranges}
 use Rattle.textarea_ranges.proofs.Sorts.{later-IsSortedBy}
 use Rattle.textarea_ranges.proofs.order.in_order.Goals as goal

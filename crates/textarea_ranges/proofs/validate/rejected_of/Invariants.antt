@@ -1,7 +1,5 @@
 use Rattle.std.proofs.Common.{◌≡◌, ◌++◌, drop, length}
-use Rattle.textarea_text.specs.Place.{line_of}
-use Rattle.textarea_text.specs.Text.{lines_of}
-use Rattle.textarea_ranges.specs.Rejected.{rejected_behind, rejected_of}
+use Rattle.textarea_ranges.specs.Prelude.{line_of, lines_of, rejected_behind, rejected_of}
 use Rattle.textarea_ranges.proofs.validate.rejected_of.Given as goal
 
 -- those listed so far, and those that the rest gives behind the last valid range, are all; and the columns of the row that was

@@ -1,8 +1,7 @@
 use Rattle.std.proofs.Common.{◌≡◌, ◌≢◌, ◌∙◌, [], ap, arith, eqb-true, length, sym, vec_len}
 use Rattle.std.proofs.lemmas.Bool.{eqb-false}
 use Rattle.std.proofs.lemmas.List.{nil_from_length}
-use Rattle.textarea_text.specs.Text.{lines_of}
-use Rattle.textarea_ranges.specs.Rejected.{rejected_of}
+use Rattle.textarea_ranges.specs.Prelude.{lines_of, rejected_of}
 use Rattle.textarea_ranges.proofs.RejectedLemmas.{AreAccepted-in_order, AreRefused-in_order}
 use Rattle.textarea_ranges.proofs.validate.validate.Goals as goal
 

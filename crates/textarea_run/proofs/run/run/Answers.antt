@@ -1,7 +1,12 @@
-use Rattle.std.proofs.Common.{◌+◌, ◌<◌, ◌∙◌, arith, inl, length, refl, sym, vec_capacity, vec_len}
+use Rattle.std.proofs.Common.{◌≡◌, ◌+◌, ◌<◌, ◌∙◌, Result, Ok, Err, arith, false, inl, length, refl, sym, true, vec_capacity, vec_len}
+use Rattle.std.specs.Result.{OnErr, is_err}
 use Rattle.tui_textarea.proofs.CallGoing.{ranges_at_first}
-use Rattle.textarea_run.proofs.Told.{so_of_refused}
 use Rattle.textarea_run.proofs.run.run.Goals as goal
+
+-- what is so of a call that is refused, where it is
+so_of_refused : {T E : Type 0} (outcome : Result T E) (P : Type 0) → is_err outcome ≡ true → OnErr outcome P → P
+so_of_refused (Ok done) P is so = let no : false ≡ true = is in cc
+so_of_refused (Err error) P is so = so
 
 pub returns-then-is_err-clause-ranges : goal.returns-then-is_err-clause-ranges
 returns-then-is_err-clause-ranges c =

@@ -1,3 +1,4 @@
+use Rattle.std.proofs.lemmas.Grind.{common_steps}
 use Rattle.std.proofs.Common.{◌≡◌, ◌+◌, ◌-◌, ◌++◌, ◌∙◌, List, ap, arith, drop, length, subst, sym, take, ℕ}
 use Rattle.std.proofs.lemmas.List.{append_assoc, length-drop, length-take-le, map-append}
 use Rattle.std.proofs.Math.Seq.{take-add}
@@ -11,9 +12,7 @@ use Rattle.textarea_screen_map.proofs.blocks.push_lines.Goals as goal
 
 ticks_further : (ticks before more : List ℕ) (start count done size all : ℕ) → before ≡ ticks ++ ticks_behind start done → count ≡ start + done → more ≡ ticks_behind count size → done + size ≡ all → before ++ more ≡ ticks ++ ticks_behind start all
 ticks_further ticks before more start count done size all first at next sum =
-    ap (λ t. t ++ more) first
-    ∙ append_assoc ticks (ticks_behind start done) more
-    ∙ ap (λ t. ticks ++ t) (ap (λ t. ticks_behind start done ++ t) (next ∙ ap (λ n. ticks_behind n size) at) ∙ ticks_append start done size ∙ ap (ticks_behind start) sum)
+    grind (arith, common_steps, append_assoc ticks (ticks_behind start done) more, ticks_append start done size)
 
 pub cutting-preserved : goal.cutting-preserved
 cutting-preserved c =

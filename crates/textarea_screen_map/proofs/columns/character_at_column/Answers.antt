@@ -1,3 +1,4 @@
+use Rattle.std.proofs.lemmas.Grind.{common_steps}
 use Rattle.std.proofs.Common.{◌≡◌, ◌<◌, ◌≤◌, ◌⊎◌, inl, inr, ap, ◌∙◌, arith, below_more, length}
 use Rattle.std.proofs.lemmas.List.{length-drop, nil_from_length}
 use Rattle.std.proofs.lemmas.Str.{chars-nil, chars_past_char, IsUtf8-past_char}
@@ -51,9 +52,4 @@ loop-c-preserved c =
 
 pub returns : goal.returns
 returns c =
-    let was = c.loop-c.invariant in
-    let cs = chars c.args.text.now in
-    let none = nil_from_length (chars_rest c.loop-c.c-iterator) c.in-None.ensures.steps.0.0 in
-    let end : c.loop-c.index ≡ length cs =
-    omega (arith, was.within, length-drop c.loop-c.index cs, ap length (was.left ∙ ap chars none ∙ chars-nil)) in
-    leads_to_end c.args.tab_len cs c.args.column c.loop-c.index c.loop-c.at end was.at was.reached was.before
+    grind (arith, common_steps, nil_from_length (chars_rest c.loop-c.c-iterator) c.in-None.ensures.steps.0.0, length-drop, chars-nil, leads_to_end)

@@ -1,3 +1,4 @@
+use Rattle.std.proofs.lemmas.Grind.{common_steps}
 use Rattle.std.proofs.Common.{◌≡◌, ℕ, ◌+◌, ◌++◌, ◌∷◌, List, [], ap, arith, length, max, refl, subst}
 use Rattle.std.proofs.lemmas.List.{length-map, take_all}
 use Rattle.textarea_text.specs.Text.{characters_of, lines_of}
@@ -15,8 +16,7 @@ loop-line-init c = (([], tt, refl), omega arith)
 
 pub overflow_add-total : goal.overflow_add-total
 overflow_add-total c =
-    let few = (size_of_line c.args.wrapping.mode c.args.wrapping.tab_len (max c.args.wrapping.width 1) c.as_str.result.now c.in_ok-cut.cut.ranges c.in_ok-cut.ensures.rows).1 in
-    omega (arith, c.loop-line.invariant.1, few, c.in_ok-cut.ensures.short, ap length c.as_slice.ensures, size_of_more c.args.lines.now c.loop-line.line-index c.line-item.result (omega arith) c.line-item.is, size_of_take c.args.lines.now (c.loop-line.line-index + 1), c.in_ok-size_within_limit.ensures.limit.0 refl)
+    grind (arith, common_steps, size_of_line c.args.wrapping.mode c.args.wrapping.tab_len (max c.args.wrapping.width 1) c.as_str.result.now c.in_ok-cut.cut.ranges c.in_ok-cut.ensures.rows, size_of_more, size_of_take c.args.lines.now (c.loop-line.line-index + 1))
 
 pub loop-line-preserved : goal.loop-line-preserved
 loop-line-preserved c =

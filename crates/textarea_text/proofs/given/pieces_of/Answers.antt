@@ -1,4 +1,5 @@
-use Rattle.std.proofs.Common.{rules, ap}
+use Rattle.std.proofs.Common.{arith, rules, ap}
+use Rattle.std.proofs.lemmas.Grind.{common_steps}
 use Rattle.std.specs.Str.{chars}
 use Rattle.textarea_text.specs.Given.{given}
 use Rattle.textarea_text.proofs.GivenLemmas.{given_more, given_done}
@@ -13,5 +14,4 @@ loop-line-preserved c = (
 
 pub returns-clause-text : goal.returns-clause-text
 returns-clause-text c =
-    given_done c.loop-line.pieces.items c.push-2.new.self.items c.in_ok-from_str-2.field-0 (chars c.loop-line.rest.now) (given (chars c.args.text.now))
-    c.loop-line.invariant.1 c.in_default.ensures.lines (ap chars c.in_ok-from_str-2.ensures.ok) c.in_ok-push-2.ensures.items
+    grind (arith, common_steps, given_done c.loop-line.pieces.items c.push-2.new.self.items c.in_ok-from_str-2.field-0 (chars c.loop-line.rest.now) (given (chars c.args.text.now)) c.loop-line.invariant.1 c.in_default.ensures.lines (ap chars c.in_ok-from_str-2.ensures.ok) c.in_ok-push-2.ensures.items)

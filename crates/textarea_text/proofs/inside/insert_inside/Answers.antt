@@ -1,4 +1,5 @@
-use Rattle.std.proofs.Common.{◌≡◌, ◌∙◌, ◌++◌, ap, arith, length, sym, take, drop, string_bytes}
+use Rattle.std.proofs.Common.{◌≡◌, ◌∙◌, ◌++◌, ap, arith, sym, take, drop, string_bytes}
+use Rattle.std.proofs.lemmas.Grind.{common_steps}
 use Rattle.std.specs.Str.{chars}
 use Rattle.std.proofs.lemmas.Result.{on_err_weaker}
 use Rattle.std.proofs.lemmas.Str.{IsUtf8-string_bytes}
@@ -18,15 +19,7 @@ insert_str-requires c =
 -- the line's characters afterwards
 now : (c : After-insert_str) → characters_of c.insert_str.new.self ≡ take c.args.place.1 (characters_of c.index_mut-line.result.now) ++ (chars c.args.text.now ++ drop c.args.place.1 (characters_of c.index_mut-line.result.now))
 now c =
-    let line = c.make_room.new.line in
-    let new = c.insert_str.new.self in
-    let column = c.args.place.1 in
-    let more = chars c.args.text.now in
-    let here = offset_given c.args.lines.now.items c.args.place c.index_mut-line.result.now c.args.offset c.requires.place c.index_mut-line.ensures.value c.requires.offset in
-    let at : c.args.offset ≡ offset_in (chars (string_bytes line)) column = here ∙ ap (λ t. offset_in (chars t) column) (sym c.in_ok-make_room.ensures.bytes) in
-    let bytes = always_ok c.insert_str.result _ c.insert_str.ensures.bytes (on_err_weaker c.insert_str.result (λ full. omega (arith, full, c.in_ok-make_room.ensures.ok, ap length c.in_ok-make_room.ensures.bytes, line.bytes.ok.0, c.index_mut-line.result.now.bytes.ok.0)) c.insert_str.ensures.full) in
-    chars_between (string_bytes line) c.args.text.now (string_bytes new) column column c.args.offset c.args.offset (IsUtf8-string_bytes line) c.utf8.text (IsUtf8-string_bytes new) at at bytes
-    ∙ ap (λ t. take column (chars t) ++ (more ++ drop column (chars t))) c.in_ok-make_room.ensures.bytes
+    grind (arith, common_steps, offset_given c.args.lines.now.items c.args.place c.index_mut-line.result.now c.args.offset c.requires.place c.index_mut-line.ensures.value c.requires.offset, offset_in, always_ok, on_err_weaker, chars_between, IsUtf8-string_bytes)
 
 pub returns-clause-ok : goal.returns-clause-ok
 returns-clause-ok c =

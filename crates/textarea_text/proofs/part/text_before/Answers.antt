@@ -1,4 +1,5 @@
-use Rattle.std.proofs.Common.{◌≡◌, ◌∙◌, ◌-◌, ℕ, ap, arith, subst, sym, take}
+use Rattle.std.proofs.Common.{◌≡◌, ◌-◌, ℕ, arith, subst, sym}
+use Rattle.std.proofs.lemmas.Grind.{common_steps}
 use Rattle.std.specs.Str.{IsCharBoundary}
 use Rattle.textarea_text.proofs.Columns.{IsCharBoundary-column, chars-take}
 use Rattle.textarea_text.proofs.part.text_before.Goals as goal
@@ -12,5 +13,4 @@ sub-zero n = omega arith
 
 pub returns : goal.returns
 returns c =
-    chars-take c.args.line.now c.range.result.now c.args.column c.utf8.line c.range.utf8
-    (c.range.ensures.value ∙ ap (λ n. take n c.args.line.now) (sub-zero c.byte_offset.result ∙ c.byte_offset.ensures))
+    grind (arith, common_steps, chars-take, sub-zero c.byte_offset.result)

@@ -1,6 +1,6 @@
-use Rattle.std.proofs.Common.{◌≡◌, ◌∙◌, ap, subst, sym, drop, string_bytes}
-use Rattle.std.specs.Str.{IsCharBoundary, chars}
-use Rattle.std.proofs.lemmas.Result.{IfOk-weaker}
+use Rattle.std.proofs.Common.{arith, subst, sym}
+use Rattle.std.proofs.lemmas.Grind.{common_steps}
+use Rattle.std.specs.Str.{IsCharBoundary}
 use Rattle.textarea_text.proofs.Columns.{IsCharBoundary-column, chars-drop}
 use Rattle.textarea_text.proofs.part.text_behind.Goals as goal
 
@@ -10,7 +10,4 @@ range_from-requires c =
 
 pub returns : goal.returns
 returns c =
-    let behind = chars-drop c.args.line.now c.range_from.result.now c.args.column c.utf8.line c.range_from.utf8
-    (c.range_from.ensures.value ∙ ap (λ n. drop n c.args.line.now) c.byte_offset.ensures) in
-    IfOk-weaker c.from_str.result (λ s. string_bytes s ≡ c.range_from.result.now) (λ s. chars (string_bytes s) ≡ drop c.args.column (chars c.args.line.now))
-    (λ s e. ap chars e ∙ behind) c.from_str.ensures.ok
+    grind (arith, common_steps, chars-drop)

@@ -1,7 +1,6 @@
-use Rattle.std.proofs.Common.{◌≡◌, ◌∙◌, ◌-◌, ◌+◌, ◌++◌, arith, ap, subst, sym, take, drop, length, string_bytes, encode_utf8_all}
+use Rattle.std.proofs.Common.{◌≡◌, ◌∙◌, ◌-◌, ◌+◌, ◌++◌, arith, ap, subst, sym, take, drop, length, encode_utf8_all}
 use Rattle.std.specs.Str.{IsCharBoundary, chars}
 use Rattle.std.proofs.lemmas.List.{drop-take, drop_at, take-take}
-use Rattle.std.proofs.lemmas.Result.{IfOk-weaker}
 use Rattle.textarea_text.proofs.Columns.{IsCharBoundary-column, chars_from_bytes, encodes_cut, offsets_ordered, take_offset}
 use Rattle.textarea_text.proofs.part.text_between.Goals as goal
 
@@ -33,5 +32,4 @@ returns c =
     let is : c.range.result.now ≡ encode_utf8_all (drop c.args.start until) =
     c.range.ensures.value ∙ sym (drop-take from (to - from) bytes) ∙ ap (λ n. drop from (take n bytes)) added ∙ ap (drop from) whole
     ∙ drop_at (encode_utf8_all (take c.args.start until)) (encode_utf8_all (drop c.args.start until)) from (sym at) in
-    let same = chars_from_bytes c.range.result.now (drop c.args.start until) c.range.utf8 is in
-    IfOk-weaker c.from_str.result (λ s. string_bytes s ≡ c.range.result.now) (λ s. chars (string_bytes s) ≡ drop c.args.start until) (λ s e. ap chars e ∙ same) c.from_str.ensures.ok
+    chars_from_bytes c.range.result.now (drop c.args.start until) c.range.utf8 is

@@ -1,4 +1,5 @@
-use Rattle.std.proofs.Common.{◌≡◌, ◌∙◌, ap, arith, drop, length, subst, sym}
+use Rattle.std.proofs.Common.{◌∙◌, ap, arith, drop, length, subst, sym}
+use Rattle.std.proofs.lemmas.Grind.{common_steps}
 use Rattle.std.specs.Str.{chars, IsCharBoundary}
 use Rattle.textarea_text.proofs.Columns.{IsCharBoundary-column, drop_offset, length_cut, next_more}
 use Rattle.textarea_text.proofs.rows.offset_ahead.Goals as goal
@@ -20,5 +21,4 @@ overflow_sub-result c = omega (arith, length_cut c.args.line.now c.loop-index._i
 
 pub returns : goal.returns
 returns c =
-    let same : c.loop-index._index ≡ c.args.column = omega (arith, c.requires.ordered) in
-    rw (← same) (omega (arith, length_cut c.args.line.now c.loop-index._index c.utf8.line, ap length (c.as_str.ensures ∙ c.loop-index.invariant)))
+    grind (arith, common_steps, length_cut c.args.line.now c.loop-index._index c.utf8.line)

@@ -1,5 +1,5 @@
-use Rattle.std.proofs.Common.{◌∙◌, ◌<◌, ◌++◌, ◌∷◌, [], String, ap, arith, length, sym}
-use Rattle.std.specs.Str.{chars}
+use Rattle.std.proofs.Common.{ap, arith, length}
+use Rattle.std.proofs.lemmas.Grind.{common_steps}
 use Rattle.std.proofs.lemmas.List.{length-map}
 use Rattle.textarea_text.specs.Text.{characters_of, lines_of}
 use Rattle.textarea_text.proofs.StringRows.{line_at, rows_all, rows_more, rows_none}
@@ -13,13 +13,7 @@ loop-piece-init c = (
 
 pub loop-piece-preserved : goal.loop-piece-preserved
 loop-piece-preserved c =
-    let within : c.loop-piece.piece-index < length c.args.rest.now = omega arith in (
-      omega (arith, c.in_ok-push.ensures.len, c.loop-piece.invariant.0),
-      rows_more c.loop-piece.rows.items c.push.new.self.items c.loop-piece.line c.replace.new.dest (characters_of c.args.line.now) (lines_of c.args.rest.now) c.loop-piece.piece-index c.loop-piece.invariant.1
-          (c.in_ok-push.ensures.items ∙ ap (λ (s : String _). c.loop-piece.rows.items ++ s ∷ []) c.replace.ensures.value)
-          (omega (arith, length-map c.args.rest.now characters_of))
-          (ap characters_of c.replace.ensures.after ∙ ap chars (c.in_ok-next.ensures.ok ∙ c.as_str.ensures.value) ∙ sym (line_at c.args.rest.now c.loop-piece.piece-index c.piece-item.result within c.piece-item.is)),
-    )
+    grind (arith, common_steps, rows_more, length-map c.args.rest.now characters_of, line_at)
 
 pub returns-clause-rows : goal.returns-clause-rows
 returns-clause-rows c =

@@ -1,8 +1,8 @@
-use Rattle.std.proofs.Common.{◌-◌, ◌∙◌, ap, arith, refl}
+use Rattle.std.proofs.Common.{◌∙◌, ap, arith, refl}
+use Rattle.std.proofs.lemmas.Grind.{common_steps}
 use Rattle.std.proofs.lemmas.List.{nil_from_length}
 use Rattle.std.proofs.lemmas.Str.{chars-nil, chars_past_char, IsUtf8-past_char}
 use Rattle.std.specs.Option.{unwrap_or}
-use Rattle.std.specs.Str.{chars}
 use Rattle.std.specs.Str.Iter.{chars_rest}
 use Rattle.textarea_text.proofs.TabLemmas.{width_of_done, width_of_more}
 use Rattle.textarea_text.proofs.tab.spaces_to_stop.Goals as goal
@@ -20,7 +20,4 @@ loop-c-preserved c =
 
 pub returns : goal.returns
 returns c =
-    let none = nil_from_length (chars_rest c.loop-c.c-iterator) c.in-None.ensures.steps.0.0 in
-    let was = c.loop-c.invariant in
-    ap (λ n. c.args.tab_length - n)
-    (width_of_done c.args.tab_length c.loop-c.behind_stop (chars (chars_rest c.loop-c.c-iterator)) _ was.left (ap chars none ∙ chars-nil) was.below)
+    grind (arith, common_steps, nil_from_length (chars_rest c.loop-c.c-iterator) c.in-None.ensures.steps.0.0, width_of_done, chars-nil)

@@ -1,11 +1,5 @@
 use Rattle.std.proofs.Common.{ap, subst, take}
-use Rattle.textarea_screen.specs.Buffer.{KeepsOutside, area_of}
-use Rattle.textarea_screen.specs.Rect.{contains}
-use Rattle.textarea_screen.specs.Text.{shown_text}
-use Rattle.textarea_screen.specs.declared.screen.rect.Rect.{Rect}
-use Rattle.textarea_paint.specs.declared.paint.row.RowArea.{RowArea}
-use Rattle.textarea_view.specs.SceneDrawn.{rows_above_end}
-use Rattle.textarea_view.specs.Placeholder.{in_style, placeholder_lines}
+use Rattle.textarea_view.specs.Prelude.{KeepsOutside, area_of, contains, shown_text, Rect, RowArea, rows_above_end, in_style, placeholder_lines}
 use Rattle.textarea_view.proofs.Layers.{either, lines_outside, on_ok, placeholder_drawn}
 use Rattle.textarea_view.proofs.frame.draw_placeholder_of.Goals as goal
 

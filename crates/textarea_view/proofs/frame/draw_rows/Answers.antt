@@ -1,9 +1,6 @@
 use Rattle.std.proofs.Common.{ap, subst}
 use Rattle.textarea_screen.proofs.ChangeLemmas.{KeepsOutside-then}
-use Rattle.textarea_screen.specs.Buffer.{KeepsOutside}
-use Rattle.textarea_screen.specs.Rect.{contains}
-use Rattle.textarea_screen.specs.declared.screen.rect.Rect.{Rect}
-use Rattle.textarea_paint.specs.declared.paint.row.RowArea.{RowArea}
+use Rattle.textarea_view.specs.Prelude.{KeepsOutside, contains, Rect, RowArea}
 use Rattle.textarea_view.proofs.Layers.{either, lines_outside, on_ok, rows_drawn, styled_inside}
 use Rattle.textarea_view.proofs.frame.draw_rows.Goals as goal
 

@@ -1,10 +1,5 @@
 use Rattle.std.proofs.Common.{◌≡◌, ◌≢◌, ℕ, refl, ap, ◌∙◌}
-use Rattle.textarea_paint.specs.declared.paint.row.RowArea.{RowArea}
-use Rattle.textarea_view.specs.SceneDrawn.{IsRowStart}
-use Rattle.textarea_view.specs.Scene.{SceneState}
-use Rattle.textarea_screen.specs.declared.screen.alignment.Alignment.{Alignment}
-use Rattle.textarea_screen.specs.declared.screen.alignment.Alignment.TheVariants.{Left, Center, Right}
-use Rattle.textarea_view.specs.Placed.{IsStart}
+use Rattle.textarea_view.specs.Prelude.{RowArea, IsRowStart, SceneState, Alignment, Left, Center, Right, IsStart}
 use Rattle.textarea_view.proofs.placing.row_view.Goals as goal
 
 start_of : (a : Alignment) (scene : SceneState) (rows : RowArea) (row start : ℕ) → (a ≡ Left → start ≡ 0) → (a ≢ Left → IsRowStart scene rows row start) → IsStart a scene rows row start

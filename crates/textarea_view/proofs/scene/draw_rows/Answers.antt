@@ -1,13 +1,8 @@
-use Rattle.std.proofs.Common.{Result, Ok, Err, ◌∙◌}
-use Rattle.std.specs.Result.{OnErr}
+use Rattle.std.proofs.Common.{◌∙◌}
 use Rattle.textarea_screen.specs.Text.{shown_line}
 use Rattle.textarea_view.proofs.Drawing.{drawn_inside, drawn_more, drawn_none, failed_inside}
+use Rattle.textarea_view.proofs.Layers.{also_on_err}
 use Rattle.textarea_view.proofs.scene.draw_rows.Goals as goal
-
--- what holds holds on an error too
-also_on_err : {T E : Type 0} {Fact : Type 0} (r : Result T E) → Fact → OnErr r Fact
-also_on_err (Ok x) fact = tt
-also_on_err (Err e) fact = fact
 
 pub returns-in_err-show_in-clause-err : goal.returns-in_err-show_in-clause-err
 returns-in_err-show_in-clause-err c =

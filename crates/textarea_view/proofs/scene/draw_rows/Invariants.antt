@@ -1,6 +1,5 @@
 use Rattle.std.proofs.Common.{◌≡◌}
-use Rattle.textarea_view.specs.SceneDrawn.{DrawnTo}
-use Rattle.textarea_view.specs.Rows.{searched}
+use Rattle.textarea_view.specs.Prelude.{DrawnTo, searched}
 use Rattle.textarea_view.proofs.scene.draw_rows.Given as goal
 
 abbrev pub invariant-loop-i : goal.invariant-loop-i

@@ -1,3 +1,4 @@
+use Rattle.std.proofs.lemmas.Grind.{common_steps}
 use Rattle.std.proofs.Common.{suc, length, sym, ap, arith}
 use Rattle.std.proofs.Math.Nat.{pow-suc}
 use Rattle.std.proofs.lemmas.Fmt.{decimal_digit, length-decimal-le}
@@ -8,14 +9,10 @@ pub returns-in-None-clause-value : goal.returns-in-None-clause-value
 returns-in-None-clause-value c = rw c.in-None.ensures.none (sym (ap length (decimal_digit 0 (omega arith))))
 
 pub returns-in-Some-clause-value : goal.returns-in-Some-clause-value
-returns-in-Some-clause-value c =
-    let is = c.in-Some.ensures in
-    sym (length-decimal-power c.in-Some.exponent c.args.number is.power_le is.next_power_gt (omega arith))
+returns-in-Some-clause-value c = grind (arith, common_steps, length-decimal-power)
 
 pub returns-in-None-clause-most : goal.returns-in-None-clause-most
 returns-in-None-clause-most c = λ smaller within. length-decimal-le 1 smaller (omega arith) (omega (arith, c.in-None.ensures.none)) (omega (arith, c.in-None.ensures.none))
 
 pub returns-in-Some-clause-most : goal.returns-in-Some-clause-most
-returns-in-Some-clause-most c =
-    let is = c.in-Some.ensures in
-    λ smaller within. omega (arith, length-decimal-le (suc c.in-Some.exponent) smaller (omega arith) (omega (arith, pow-suc 10 c.in-Some.exponent, is.next_power_gt)) (omega arith))
+returns-in-Some-clause-most c = grind (arith, common_steps, length-decimal-le, pow-suc 10 c.in-Some.exponent)

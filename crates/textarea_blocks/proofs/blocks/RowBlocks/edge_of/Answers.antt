@@ -1,3 +1,4 @@
+use Rattle.std.proofs.lemmas.Grind.{common_steps}
 use Rattle.std.proofs.Common.{arith, length, sym, ◌∙◌}
 use Rattle.textarea_blocks.proofs.InBlocks.{before_within, edge_there, lines_sum, before_all}
 use Rattle.textarea_blocks.proofs.blocks.RowBlocks.edge_of.Goals as goal
@@ -11,7 +12,4 @@ returns-clause-edge c =
     edge_there c.args.self.now.blocks c.args.line c.place_of.result.0 c.requires c.place_of.ensures.block
 
 pub returns-then-line-line_count-clause-edge : goal.returns-then-line-line_count-clause-edge
-returns-then-line-line_count-clause-edge c =
-    before_all length c.args.self.now.blocks c.block_count.result (omega (arith, c.block_count.ensures))
-    ∙ sym c.line_count.ensures
-    ∙ sym c.if-line-line_count.true
+returns-then-line-line_count-clause-edge c = grind (arith, common_steps, before_all)

@@ -1,3 +1,4 @@
+use Rattle.std.proofs.lemmas.Grind.{common_steps}
 use Rattle.std.proofs.Common.{◌≡◌, ◌+◌, ◌<◌, ◌≤◌, ◌∙◌, List, [], ap, arith, get_or, length, set, ℕ}
 use Rattle.textarea_util.specs.Replaced.{replaced}
 use Rattle.textarea_util.proofs.Replacing.{length-replaced}
@@ -87,12 +88,7 @@ invariant_of-self c =
     })
 
 pub returns : goal.returns
-returns c =
-    let known = exchanged (goal.at.returns c).After-replace_items in
-    let blocks = rows_of_each c.self.inside.blocks.items in
-    blocks_set c.self.inside.blocks.items c.args.block c.replace_items.new.items
-    ∙ ap (set blocks c.args.block) known.now_is
-    ∙ ap (λ (v : BlocksView). set v.blocks c.args.block (replaced (get_or v.blocks c.args.block []) c.args.start c.args.count c.args.rows.items)) c.self.view_is
+returns c = grind (arith, common_steps, exchanged, blocks_set c.self.inside.blocks.items c.args.block c.replace_items.new.items)
 
 pub index-requires : goal.index-requires
 index-requires c =
@@ -111,8 +107,4 @@ overflow_add-block-2 c =
     omega (arith, c.requires.block, ap (λ (v : BlocksView). length v.blocks) c.self.view_is, block_count c.self.inside.blocks.items, c.self.inside.blocks.ok.0, c.self.inside.blocks.small)
 
 pub replace_items-requires-clause-within : goal.replace_items-requires-clause-within
-replace_items-requires-clause-within c =
-    let items = c.self.inside.blocks.items in
-    let block = c.args.block in
-    let here : block < length items = omega (arith, c.requires.block, ap (λ (v : BlocksView). length v.blocks) c.self.view_is, block_count items) in
-    omega (arith, c.requires.within, ap (λ (v : BlocksView). length (get_or v.blocks block [])) c.self.view_is, ap length (rows_are items block c.index_mut.result.now here c.index_mut.ensures.value), c.index_mut.result.now.ok.0)
+replace_items-requires-clause-within c = grind (arith, common_steps, block_count, rows_are)

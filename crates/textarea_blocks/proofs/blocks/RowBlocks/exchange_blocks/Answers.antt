@@ -1,3 +1,4 @@
+use Rattle.std.proofs.lemmas.Grind.{common_steps}
 use Rattle.std.proofs.Common.{◌≡◌, ◌-◌, ◌≤◌, ◌∙◌, ap, arith, length}
 use Rattle.textarea_util.specs.Replaced.{replaced}
 use Rattle.textarea_blocks.specs.Blocks.{BlocksView, all_rows, lines_before, rows_of_each}
@@ -97,13 +98,7 @@ invariant_of-self c =
     })
 
 pub returns : goal.returns
-returns c =
-    let from = c.args.from in
-    let to = c.args.to in
-    ap rows_of_each c.replace_items.ensures.items
-    ∙ blocks_exchanged c.self.inside.blocks.items c.new.inside.blocks.items from (to - from)
-    ∙ ap (λ (v : BlocksView). replaced v.blocks from (to - from) (rows_of_each c.new.inside.blocks.items)) c.self.view_is
-    ∙ ap (λ (v : BlocksView). replaced c.args.self.now.blocks from (to - from) v.blocks) c.new.view_is
+returns c = grind (arith, common_steps, blocks_exchanged)
 
 pub replace_items-requires-clause-room : goal.replace_items-requires-clause-room
 replace_items-requires-clause-room c =

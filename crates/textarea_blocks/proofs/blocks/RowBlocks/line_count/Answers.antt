@@ -1,9 +1,8 @@
+use Rattle.std.proofs.lemmas.Grind.{common_steps}
 use Rattle.textarea_blocks.proofs.InBlocks.{before_all, block_count}
 use Rattle.std.proofs.Common.{ap, arith, length, ◌∙◌}
 use Rattle.textarea_blocks.specs.Blocks.{BlocksView}
 use Rattle.textarea_blocks.proofs.blocks.RowBlocks.line_count.Goals as goal
 
 pub returns : goal.returns
-returns c =
-    c.lines_before.ensures
-    ∙ before_all length c.args.self.now.blocks c.len.result (omega (arith, c.len.ensures, ap (λ (v : BlocksView). length v.blocks) c.self.view_is, block_count c.self.inside.blocks.items, c.self.inside.blocks.ok.0))
+returns c = grind (arith, common_steps, before_all, block_count c.self.inside.blocks.items)

@@ -1,3 +1,4 @@
+use Rattle.std.proofs.lemmas.Grind.{common_steps}
 use Rattle.std.proofs.Common.{◌≡◌, ◌+◌, ◌-◌, ◌<◌, ◌≤◌, ◌∙◌, List, [], ap, arith, get_or, length, take, ℕ}
 use Rattle.textarea_wrap.specs.RowsView.{RowsView}
 use Rattle.textarea_blocks.specs.Blocks.{BlocksView, all_rows, lines_before, rows_of_each}
@@ -61,41 +62,13 @@ pub row_in-index-requires : goal.row_in-index-requires
 row_in-index-requires c = (found (goal.at.row_in-index-requires c).After-at).to
 
 pub overflow_add-result : goal.overflow_add-result
-overflow_add-result c =
-    let at = goal.at.overflow_add-result c in
-    omega (arith, (line at.After-at-2 (found at.After-at)).there, c.self.invariant.few_lines)
+overflow_add-result c = grind (arith, common_steps, line, found)
 
 pub returns-clause-line : goal.returns-clause-line
-returns-clause-line c =
-    let at = goal.at.returns-clause-line c in
-    omega (arith, (line at.After-at-2 (found at.After-at)).there, ap (λ (v : BlocksView). length (all_rows v.blocks)) c.self.view_is)
+returns-clause-line c = grind (arith, common_steps, line, found)
 
 pub returns-clause-row : goal.returns-clause-row
-returns-clause-row c =
-    let at = goal.at.returns-clause-row c in
-    let known = found at.After-at in
-    let n = c.at-2.result + c.row_in-index.result.0 in
-    omega (
-      arith,
-      (line at.After-at-2 known).up_to,
-      known.before_is,
-      known.from,
-      c.row_in-index.ensures.row,
-      ap (λ t. row_total (take c.row_in-index.result.0 t)) known.here_is,
-      ap (λ (v : BlocksView). row_total (take n (all_rows v.blocks))) c.self.view_is,
-    )
+returns-clause-row c = grind (arith, common_steps, found, line)
 
 pub returns-clause-inside : goal.returns-clause-inside
-returns-clause-inside c =
-    let at = goal.at.returns-clause-inside c in
-    let known = found at.After-at in
-    let n = c.at-2.result + c.row_in-index.result.0 + 1 in
-    omega (
-      arith,
-      (line at.After-at-2 known).behind,
-      known.before_is,
-      known.from,
-      c.row_in-index.ensures.inside,
-      ap (λ t. row_total (take (c.row_in-index.result.0 + 1) t)) known.here_is,
-      ap (λ (v : BlocksView). row_total (take n (all_rows v.blocks))) c.self.view_is,
-    )
+returns-clause-inside c = grind (arith, common_steps, found, line)

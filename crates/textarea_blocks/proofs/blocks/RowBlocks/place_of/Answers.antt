@@ -1,3 +1,4 @@
+use Rattle.std.proofs.lemmas.Grind.{common_steps}
 use Rattle.std.proofs.Common.{◌<◌, [], ap, arith, get_or, length, subst}
 use Rattle.textarea_blocks.specs.Blocks.{BlocksView, all_rows, rows_of_each, IsBlockOf, lines_before}
 use Rattle.textarea_blocks.proofs.InBlocks.{before_more, lines_sum}
@@ -25,11 +26,7 @@ pub overflow_sub-result : goal.overflow_sub-result
 overflow_sub-result c = omega (arith, c.at.ensures, c.last_at_most-block.ensures.from)
 
 pub returns-clause-line : goal.returns-clause-line
-returns-clause-line c =
-    let blocks = rows_of_each c.self.inside.blocks.items in
-    let block = c.last_at_most-block.result in
-    let within : block < length blocks = omega (arith, c.last_at_most-block.ensures.within, c.self.invariant.lines_are.len) in
-    omega (arith, c.at.ensures, c.last_at_most-block.ensures.from, c.self.invariant.lines_are.right block within, ap (λ (v : BlocksView). lines_before v.blocks block) c.self.view_is)
+returns-clause-line c = grind (arith, common_steps)
 
 pub returns-clause-block : goal.returns-clause-block
 returns-clause-block c =

@@ -1,3 +1,4 @@
+use Rattle.std.proofs.lemmas.Grind.{common_steps}
 use Rattle.std.proofs.Common.{◌≡◌, ◌+◌, ◌-◌, ◌<◌, ◌≤◌, ◌∙◌, List, [], ap, arith, get_or, length, set, ℕ}
 use Rattle.std.proofs.lemmas.List.{length-set}
 use Rattle.textarea_util.specs.Replaced.{replaced}
@@ -57,10 +58,7 @@ returns-then-index-len c =
 
 -- the block without its first lines
 cut : (c : After-exchange) → c.exchange.new.self.blocks ≡ set c.args.self.now.blocks c.place_of-last.result.0 (replaced (get_or c.args.self.now.blocks c.place_of-last.result.0 []) 0 (c.place_of-last.result.1 + 1) [])
-cut c =
-    let blocks = c.args.self.now.blocks in
-    let last = c.place_of-last.result.0 in
-    c.exchange.ensures ∙ ap (λ (t : List RowsView). set blocks last (replaced (get_or blocks last []) 0 (c.place_of-last.result.1 + 1) t)) c.new-2.ensures.items
+cut c = grind (arith, common_steps)
 
 pub exchange_blocks-requires-2-clause-ordered : goal.exchange_blocks-requires-2-clause-ordered
 exchange_blocks-requires-2-clause-ordered c = (found (goal.at.exchange_blocks-requires-2-clause-ordered c).After-len).ordered

@@ -1,3 +1,4 @@
+use Rattle.std.proofs.lemmas.Grind.{common_steps}
 use Rattle.std.proofs.Common.{◌≡◌, ◌+◌, ◌<◌, ◌≤◌, ◌∙◌, [], ap, arith, get_or, length, set, sym, vec_capacity, vec_len}
 use Rattle.std.proofs.lemmas.List.{get_or-set_same, length-set, set-get_or}
 use Rattle.std.proofs.lemmas.Result.{on_ok_weaker}
@@ -12,12 +13,7 @@ within c =
 
 -- the rows of the blocks stay
 kept : (c : After-reserve) → rows_of_each (set c.self.inside.blocks.items c.place_of-block.result.0 c.reserve.new.self) ≡ rows_of_each c.self.inside.blocks.items
-kept c =
-    let items = c.self.inside.blocks.items in
-    let block = c.place_of-block.result.0 in
-    blocks_set items block c.reserve.new.self
-    ∙ ap (set (rows_of_each items) block) (c.reserve.ensures.items ∙ rows_are items block c.index_mut.result.now (within c) c.index_mut.ensures.value)
-    ∙ set-get_or (rows_of_each items) block []
+kept c = grind (arith, common_steps, blocks_set, rows_are, within c, set-get_or)
 
 pub invariant_of-self : goal.invariant_of-self
 invariant_of-self c = rw (kept (goal.at.invariant_of-self c).After-reserve) c.self.invariant

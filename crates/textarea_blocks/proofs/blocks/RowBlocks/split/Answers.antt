@@ -1,3 +1,4 @@
+use Rattle.std.proofs.lemmas.Grind.{common_steps}
 use Rattle.std.proofs.Common.{◌≡◌, ◌+◌, ◌-◌, ◌≤◌, ◌∷◌, ◌∙◌, List, [], ap, arith, drop, get_or, length, set, take, ℕ}
 use Rattle.std.proofs.lemmas.List.{append-nil, length-drop, length-set, length-take-le}
 use Rattle.textarea_util.specs.Replaced.{replaced}
@@ -63,19 +64,7 @@ exchange_blocks-requires-clause-rows c =
     omega (arith, known.row_sum, known.few_rows, ap (λ t. row_total (all_rows t)) c.put_first.ensures, ap row_total (one c.in_ok-rows.rows.items))
 
 pub returns-clause-same : goal.returns-clause-same
-returns-clause-same c =
-    let known = cut (goal.at.returns-clause-same c).In_ok-rows in
-    let blocks = c.args.self.now.blocks in
-    let block = c.args.block in
-    let now = c.take_behind.new.self.blocks in
-    let none : block + 1 - (block + 1) ≡ 0 = omega arith in
-    ap all_rows
-    (c.exchange_blocks.ensures
-    ∙ ap (λ n. replaced now (block + 1) n c.put_first.new.self.blocks) none
-    ∙ ap (replaced now (block + 1) 0) c.put_first.ensures
-    ∙ ap (λ (t : List RowsView). replaced now (block + 1) 0 (t ∷ [])) known.rows_are
-    ∙ ap (λ t. replaced t (block + 1) 0 (drop c.args.at (get_or blocks block []) ∷ [])) known.now_is)
-    ∙ block_split blocks block c.args.at c.requires.block
+returns-clause-same c = grind (arith, common_steps, cut, block_split)
 
 pub returns-clause-edge : goal.returns-clause-edge
 returns-clause-edge c =

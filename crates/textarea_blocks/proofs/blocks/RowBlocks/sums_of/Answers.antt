@@ -1,3 +1,4 @@
+use Rattle.std.proofs.lemmas.Grind.{common_steps}
 use Rattle.std.proofs.Common.{◌≡◌, ◌+◌, ◌-◌, ◌<◌, ◌≤◌, ◌∙◌, inl, inr, [], ap, arith, drop, get_or, length, sym, take}
 use Rattle.std.proofs.lemmas.Bool.{cases_lt}
 use Rattle.textarea_blocks.specs.Blocks.{BlocksView, all_rows, rows_of_each}
@@ -9,9 +10,7 @@ use Rattle.textarea_blocks.proofs.blocks.RowBlocks.sums_of.Goals as goal
 use Rattle.textarea_blocks.proofs.blocks.RowBlocks.sums_of.Goals.{After-count_rows-rows}
 
 here_is : (c : After-count_rows-rows) → c.as_slice-here.result.now ≡ get_or (rows_of_each c.self.inside.blocks.items) c.walking.block []
-here_is c =
-    let items = c.self.inside.blocks.items in
-    c.as_slice-here.ensures.value ∙ rows_are items c.walking.block c.index.result.now (c.walking.invariant.3 c.walking-test.true) c.index.ensures
+here_is c = grind (arith, common_steps, rows_are)
 
 -- the total of the lines with those of one block more
 further : (c : After-count_rows-rows) (total : Sum) → IsSum total → total (take (c.args.count - (c.walking.left - c.min-taken.result)) (drop c.args.line (all_rows (rows_of_each c.self.inside.blocks.items)))) ≡ total (take (c.args.count - c.walking.left) (drop c.args.line (all_rows (rows_of_each c.self.inside.blocks.items)))) + total (take (c.walking.index + c.min-taken.result - c.walking.index) (drop c.walking.index c.as_slice-here.result.now))

@@ -1,3 +1,4 @@
+use Rattle.std.proofs.lemmas.Grind.{common_steps}
 use Rattle.std.proofs.Common.{◌≡◌, ◌+◌, ◌<◌, ◌≤◌, ◌∙◌, List, [], ap, arith, drop, get_or, length, set, take, ℕ}
 use Rattle.std.proofs.lemmas.List.{length-drop, length-take-le}
 use Rattle.textarea_wrap.specs.RowsView.{RowsView}
@@ -78,23 +79,14 @@ invariant_of-self-2 c =
     })
 
 pub returns-clause-kept : goal.returns-clause-kept
-returns-clause-kept c =
-    let known = taken (goal.at.returns-clause-kept c).After-len in
-    let blocks = rows_of_each c.self.inside.blocks.items in
-    blocks_set c.self.inside.blocks.items c.args.block c.split_off.new.self
-    ∙ ap (set blocks c.args.block) known.kept_is
-    ∙ ap (λ (v : BlocksView). set v.blocks c.args.block (take c.args.at (get_or v.blocks c.args.block []))) c.self.view_is
+returns-clause-kept c = grind (arith, common_steps, taken, blocks_set c.self.inside.blocks.items c.args.block c.split_off.new.self)
 
 pub index_mut-requires : goal.index_mut-requires
 index_mut-requires c =
     omega (arith, c.requires.block, ap (λ (v : BlocksView). length v.blocks) c.self.view_is, block_count c.self.inside.blocks.items, c.self.inside.blocks.ok.0)
 
 pub split_off-requires : goal.split_off-requires
-split_off-requires c =
-    let items = c.self.inside.blocks.items in
-    let block = c.args.block in
-    let here : block < length items = omega (arith, c.requires.block, ap (λ (v : BlocksView). length v.blocks) c.self.view_is, block_count items) in
-    omega (arith, c.requires.at, ap (λ (v : BlocksView). length (get_or v.blocks block [])) c.self.view_is, ap length (rows_are items block c.index_mut.result.now here c.index_mut.ensures.value), c.index_mut.result.now.ok.0)
+split_off-requires c = grind (arith, common_steps, block_count, rows_are)
 
 pub overflow_add-block : goal.overflow_add-block
 overflow_add-block c =

@@ -1,6 +1,5 @@
 use Rattle.std.proofs.Common.{subst}
-use Rattle.textarea_document.specs.State.{DocumentState}
-use Rattle.textarea_document.specs.Rows.{IsAboveCursor}
+use Rattle.textarea_document.specs.Prelude.{DocumentState, IsAboveCursor}
 use Rattle.textarea_document.proofs.document.Document.above.Goals as goal
 
 pub returns-clause-above : goal.returns-clause-above

@@ -1,6 +1,5 @@
 use Rattle.std.proofs.Common.{subst}
-use Rattle.textarea_document.specs.State.{DocumentState}
-use Rattle.textarea_document.specs.Rows.{IsBelowCursor}
+use Rattle.textarea_document.specs.Prelude.{DocumentState, IsBelowCursor}
 use Rattle.textarea_document.proofs.document.Document.below.Goals as goal
 
 pub returns-clause-below : goal.returns-clause-below

@@ -1,40 +1,43 @@
-use Rattle.std.proofs.Common.{◌∙◌, ap, sym, subst}
-use Rattle.std.specs.Duration.{as_nanos}
-use Rattle.textarea_text.specs.Splice.{Fits}
-use Rattle.textarea_lines.specs.Layout.{LaidOut}
-use Rattle.textarea_document.specs.State.{DocumentState, document_of}
-use Rattle.textarea_document.specs.Outcomes.{edited}
-use Rattle.textarea_document.specs.Sound.{IsSound}
-use Rattle.textarea_document.proofs.Sounds.{edited_is, same_document, sound_edited, sound_left}
+use Rattle.std.proofs.Common.{◌≡◌, ◌∙◌, None, ap, refl, sym, subst}
+use Rattle.textarea_document.specs.Prelude.{as_nanos, Fits, place_after, applied_to, moved_ranges, Log, DocumentState, document_of, edited, recorded, IsSound}
+use Rattle.textarea_document.proofs.Sounds.{changed_is, same_document, sound_edited}
 use Rattle.textarea_document.proofs.document.Document.edit.Goals as goal
+use Rattle.textarea_document.proofs.document.Document.edit.Goals.{After-put}
 
-pub make_edit-requires-clause-fits : goal.make_edit-requires-clause-fits
-make_edit-requires-clause-fits c = subst (λ (s : DocumentState). Fits s.text c.args.edit.splice) (sym c.self.view_is) c.requires.fits
+pub make_change-requires-clause-fits : goal.make_change-requires-clause-fits
+make_change-requires-clause-fits c =
+    subst (Fits c.self.inside.laid.text) (sym c.change.ensures) (subst (λ (s : DocumentState). Fits s.text c.args.edit.splice) (sym c.self.view_is) c.requires.fits)
 
-pub make_edit-requires-clause-valid : goal.make_edit-requires-clause-valid
-make_edit-requires-clause-valid c = c.self.invariant.ranges
+-- what is left is the document after the edit
+left : (c : After-put) → document_of c.make_change.new.laid c.in_ok-ahead.ahead None c.make_change.new.ranges.items c.put.new.self.log ≡ edited (document_of c.self.inside.laid c.self.inside.cursor c.self.inside.anchor c.self.inside.ranges.items c.self.inside.history.log) c.args.edit.splice c.args.typed (as_nanos c.args.now)
+left c =
+    let inside = c.self.inside in
+    let splice = c.args.edit.splice in
+    let is = c.in_ok-ahead.ensures in
+    changed_is inside.laid c.make_change.new.laid inside.cursor c.in_ok-ahead.ahead inside.anchor inside.ranges.items c.make_change.new.ranges.items inside.history.log c.put.new.self.log (recorded inside.history.log splice c.args.typed (as_nanos c.args.now)) splice
+    (is.laid ∙ ap (applied_to inside.laid) c.change.ensures)
+    (is.cursor ∙ ap place_after c.change.ensures)
+    (is.ranges ∙ ap (moved_ranges inside.ranges.items) c.change.ensures)
+    (c.put.ensures ∙ ap (λ (l : Log). recorded l splice c.args.typed (as_nanos c.args.now)) c.reserve.ensures.same)
 
 pub invariant_of-self : goal.invariant_of-self
 invariant_of-self c =
     let inside = c.self.inside in
+    subst IsSound (sym (same_document inside.laid inside.laid inside.cursor inside.anchor inside.ranges.items inside.ranges.items inside.history.log c.reserve.new.self.log refl refl c.reserve.ensures.same)) c.self.invariant
+
+pub invariant_of-self-in_err-ahead : goal.invariant_of-self-in_err-ahead
+invariant_of-self-in_err-ahead c =
+    let inside = c.self.inside in
     let stays = c.in_err-ahead.ensures in
-    subst IsSound (sym (same_document inside.laid c.make_edit.new.laid inside.cursor inside.anchor inside.ranges.items c.make_edit.new.ranges.items inside.history.log c.make_edit.new.history.log stays.laid_stay stays.ranges_stay stays.log_stays)) c.self.invariant
+    subst IsSound (sym (same_document inside.laid c.make_change.new.laid inside.cursor inside.anchor inside.ranges.items c.make_change.new.ranges.items inside.history.log c.reserve.new.self.log stays.laid_stay stays.ranges_stay c.reserve.ensures.same)) c.self.invariant
 
 pub invariant_of-self-2 : goal.invariant_of-self-2
 invariant_of-self-2 c =
     let inside = c.self.inside in
-    let splice = c.args.edit.splice in
-    let moment = as_nanos c.args.now in
     let document = document_of inside.laid inside.cursor inside.anchor inside.ranges.items inside.history.log in
-    let fits = subst (λ (s : DocumentState). Fits s.text splice) (sym c.self.view_is) c.requires.fits in
-    sound_left (edited document splice c.args.typed moment) c.make_edit.new.laid.text c.make_edit.new.laid.layout c.in_ok-ahead.ahead c.make_edit.new.ranges.items c.make_edit.new.history.log (sound_edited document splice c.args.typed moment c.self.invariant fits)
-    (ap (λ (l : LaidOut). l.text) c.in_ok-ahead.ensures.laid) c.in_ok-ahead.ensures.cursor c.in_ok-ahead.ensures.ranges c.in_ok-ahead.ensures.log
+    subst IsSound (sym (left (goal.at.invariant_of-self-2 c).After-put))
+    (sound_edited document c.args.edit.splice c.args.typed (as_nanos c.args.now) c.self.invariant (subst (λ (s : DocumentState). Fits s.text c.args.edit.splice) (sym c.self.view_is) c.requires.fits))
 
 pub returns-clause-ok : goal.returns-clause-ok
 returns-clause-ok c =
-    let inside = c.self.inside in
-    let splice = c.args.edit.splice in
-    let moment = as_nanos c.args.now in
-    let left = c.in_ok-ahead.ensures in
-    edited_is inside.laid c.make_edit.new.laid inside.cursor c.in_ok-ahead.ahead inside.anchor inside.ranges.items c.make_edit.new.ranges.items inside.history.log c.make_edit.new.history.log splice c.args.typed moment left.laid left.cursor left.ranges left.log
-    ∙ ap (λ (s : DocumentState). edited s splice c.args.typed moment) c.self.view_is
+    left (goal.at.returns-clause-ok c).After-put ∙ ap (λ (s : DocumentState). edited s c.args.edit.splice c.args.typed (as_nanos c.args.now)) c.self.view_is

@@ -1,13 +1,6 @@
 use Rattle.std.proofs.Common.{◌∙◌, List, Option, ap, sym, subst}
-use Rattle.std.specs.Option.{IfSome}
-use Rattle.textarea_text.specs.Text.{lines}
-use Rattle.textarea_text.specs.Place.{IsPlace, Place}
-use Rattle.textarea_data.specs.declared.range.AtomicRange.{AtomicRange}
+use Rattle.textarea_document.specs.Prelude.{IfSome, lines, IsPlace, Place, AtomicRange, moved_out, AreValid, anchor_out, holding, unless_empty, DocumentState, document_of}
 use Rattle.textarea_data.specs.declared.range.AtomicCursorBias.TheVariants.{Forward}
-use Rattle.textarea_ranges.specs.Held.{moved_out}
-use Rattle.textarea_ranges.specs.Valid.{AreValid}
-use Rattle.textarea_document.specs.Ranges.{anchor_out, holding, unless_empty}
-use Rattle.textarea_document.specs.State.{DocumentState, document_of}
 use Rattle.textarea_document.proofs.Ranges.{anchor_place}
 use Rattle.textarea_document.proofs.document.Document.hold.Goals as goal
 

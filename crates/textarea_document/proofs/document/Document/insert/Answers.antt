@@ -1,13 +1,5 @@
 use Rattle.std.proofs.Common.{◌≡◌, ◌≤◌, ◌∙◌, ◌∷◌, ℕ, Global, List, String, [], ap, arith, false, refl, subst, sym, true}
-use Rattle.std.specs.Duration.{as_nanos}
-use Rattle.textarea_util.specs.Limit.{size_limit}
-use Rattle.textarea_text.specs.Text.{Symbol, text_of}
-use Rattle.textarea_text.specs.Place.{Place, end}
-use Rattle.textarea_text.specs.Size.{size_of}
-use Rattle.textarea_text.specs.Splice.{Splice}
-use Rattle.textarea_document.specs.State.{DocumentState}
-use Rattle.textarea_document.specs.Edits.{insertion, insertion_place, is_filled, symbols_inserted}
-use Rattle.textarea_document.specs.Outcomes.{edited}
+use Rattle.textarea_document.specs.Prelude.{as_nanos, size_limit, Symbol, text_of, Place, end, size_of, Splice, DocumentState, insertion, insertion_place, is_filled, symbols_inserted, edited}
 use Rattle.textarea_document.proofs.Inserts.{filled_length}
 use Rattle.textarea_document.proofs.Parts.{well_formed}
 use Rattle.textarea_document.proofs.document.Document.insert.Goals as goal

@@ -1,8 +1,5 @@
 use Rattle.std.proofs.Common.{sym, subst, All}
-use Rattle.textarea_text.specs.Text.{lines}
-use Rattle.textarea_ranges.specs.Held.{IsInside}
-use Rattle.textarea_ranges.specs.Valid.{AreValid}
-use Rattle.textarea_document.specs.State.{DocumentState}
+use Rattle.textarea_document.specs.Prelude.{lines, IsInside, AreValid, DocumentState}
 use Rattle.textarea_document.proofs.document.Document.insertion_place.Goals as goal
 
 valid : (c : goal.After-move_out) → AreValid (lines c.self.inside.laid.text) c.as_slice.result.now

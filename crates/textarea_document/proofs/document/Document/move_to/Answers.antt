@@ -1,7 +1,5 @@
 use Rattle.std.proofs.Common.{◌∙◌, ap}
-use Rattle.textarea_history.specs.Log.{Log}
-use Rattle.textarea_document.specs.State.{DocumentState, document_of}
-use Rattle.textarea_document.specs.Outcomes.{moved}
+use Rattle.textarea_document.specs.Prelude.{Log, DocumentState, document_of, moved}
 use Rattle.textarea_document.proofs.document.Document.move_to.Goals as goal
 
 pub returns : goal.returns

@@ -1,8 +1,5 @@
 use Rattle.std.proofs.Common.{◌∙◌, ap, subst, sym}
-use Rattle.textarea_lines.specs.Layout.{at_width}
-use Rattle.textarea_document.specs.Rows.{with_inner_width}
-use Rattle.textarea_document.specs.Sound.{IsSound}
-use Rattle.textarea_document.specs.State.{DocumentState}
+use Rattle.textarea_document.specs.Prelude.{at_width, with_inner_width, IsSound, DocumentState}
 use Rattle.textarea_document.proofs.Sounds.{resound, settings_put}
 use Rattle.textarea_document.proofs.document.Document.put_width.Goals as goal
 

@@ -1,9 +1,5 @@
 use Rattle.std.proofs.Common.{◌≡◌, ◌∙◌, ap, sym, subst}
-use Rattle.std.specs.Option.{IfSome}
-use Rattle.textarea_text.specs.Text.{lines}
-use Rattle.textarea_ranges.specs.Held.{hit}
-use Rattle.textarea_ranges.specs.Valid.{AreValid}
-use Rattle.textarea_document.specs.State.{DocumentState}
+use Rattle.textarea_document.specs.Prelude.{IfSome, lines, hit, AreValid, DocumentState}
 use Rattle.textarea_document.proofs.Ranges.{IsHeld, hit_before_start, hit_behind_end, held_ordered, held_start, held_end, hit_is_held}
 use Rattle.textarea_document.proofs.document.Document.range_at_cursor.Goals as goal
 

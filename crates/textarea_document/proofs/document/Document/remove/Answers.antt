@@ -1,10 +1,6 @@
 use Rattle.std.proofs.Common.{◌≤◌, ◌∙◌, List, ap, arith, false, subst, sym}
-use Rattle.std.specs.Duration.{as_nanos}
 use Rattle.std.proofs.lemmas.Result.{on_ok_weaker}
-use Rattle.textarea_text.specs.Text.{Symbol}
-use Rattle.textarea_text.specs.Place.{Place, index_of}
-use Rattle.textarea_document.specs.Edits.{part_removed, removal}
-use Rattle.textarea_document.specs.Outcomes.{edited}
+use Rattle.textarea_document.specs.Prelude.{as_nanos, Symbol, Place, index_of, part_removed, removal, edited}
 use Rattle.textarea_document.proofs.document.Document.remove.Goals as goal
 
 pub between-requires-clause-ordered : goal.between-requires-clause-ordered
@@ -13,12 +9,6 @@ between-requires-clause-ordered c =
     let wide = c.widen.result in
     let ordered : index_of text wide.0 ≤ index_of text wide.1 = omega (arith, c.widen.ensures.ordered) in
     subst (λ (t : List Symbol). index_of t wide.0 ≤ index_of t wide.1) (sym c.lines.ensures.value) ordered
-
-pub remove_whole-requires-clause-ordered : goal.remove_whole-requires-clause-ordered
-remove_whole-requires-clause-ordered c = c.widen.ensures.ordered
-
-pub remove_whole-requires-clause-whole : goal.remove_whole-requires-clause-whole
-remove_whole-requires-clause-whole c = c.widen.ensures.whole
 
 pub returns-clause-ok : goal.returns-clause-ok
 unfolding part_removed

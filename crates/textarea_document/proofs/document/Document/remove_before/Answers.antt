@@ -1,11 +1,6 @@
-use Rattle.std.proofs.Common.{◌≡◌, ◌∙◌, ℕ, Bool, None, Option, Some, ap, false, not, refl, subst, sym, true≢false}
-use Rattle.std.specs.Duration.{as_nanos}
-use Rattle.std.specs.Option.{IfSome}
-use Rattle.std.specs.Result.{IfOk}
+use Rattle.std.proofs.Common.{◌≡◌, ◌∙◌, ℕ, Bool, None, Option, ap, not, subst, sym}
 use Rattle.std.proofs.lemmas.Result.{on_ok_weaker}
-use Rattle.textarea_data.specs.declared.range.AtomicRange.{AtomicRange}
-use Rattle.textarea_document.specs.Edits.{hit_before, is_at_start, range_removed_or, removed_before, symbol_removed_before}
-use Rattle.textarea_document.specs.State.{DocumentState}
+use Rattle.textarea_document.specs.Prelude.{as_nanos, IfOk, AtomicRange, hit_before, is_at_start, range_removed_or, removed_before, symbol_removed_before, DocumentState}
 use Rattle.textarea_document.proofs.document.Document.remove_before.Goals as goal
 
 -- where no range is hit nothing changes
@@ -29,27 +24,3 @@ returns-in-None-clause-ok c =
     ∙ ap (λ (o : Option AtomicRange). range_removed_or o document now (symbol_removed_before document c.args.typed now))
     (sym (sym c.in_ok-remove_hit.ensures.removed ∙ c.in-None.is)))
     c.remove_symbol_before.ensures.ok
-
-pub returns-in_err-remove_hit-clause-nothing : goal.returns-in_err-remove_hit-clause-nothing
-returns-in_err-remove_hit-clause-nothing c = λ start. absurd (true≢false (sym (c.in_err-remove_hit.ensures.start refl start)))
-
-pub remove_symbol_before-requires : goal.remove_symbol_before-requires
-remove_symbol_before-requires c =
-    let document = c.args.self.now in
-    let removed = c.in_ok-remove_hit.ensures.removed in
-    record { none_hit = ap hit_before (stays document c.remove_hit.new.self c.in_ok-remove_hit.field-0 (as_nanos c.args.now) c.in_ok-remove_hit.ensures.ok removed c.in-None.is) ∙ sym removed ∙ c.in-None.is }
-
-pub returns-in-Some-clause-removed : goal.returns-in-Some-clause-removed
-returns-in-Some-clause-removed c =
-    let document = c.args.self.now in
-    sym (ap not (subst (λ (o : Option AtomicRange). IfSome o (λ _. is_at_start document ≡ false)) c.in-Some.is (c.in_ok-remove_hit.ensures.before refl)))
-
-pub returns-in-Some-clause-ok : goal.returns-in-Some-clause-ok
-unfolding removed_before
-returns-in-Some-clause-ok c =
-    let document = c.args.self.now in
-    let now = as_nanos c.args.now in
-    let is : hit_before document ≡ Some c.in-Some.field-0 = sym c.in_ok-remove_hit.ensures.removed ∙ c.in-Some.is in
-    c.in_ok-remove_hit.ensures.ok
-    ∙ ap (λ (o : Option AtomicRange). range_removed_or o document now document) is
-    ∙ ap (λ (o : Option AtomicRange). range_removed_or o document now (symbol_removed_before document c.args.typed now)) (sym is)

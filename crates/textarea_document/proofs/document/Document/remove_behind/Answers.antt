@@ -1,10 +1,6 @@
 use Rattle.std.proofs.Common.{◌≡◌, ◌∙◌, Bool, Option, ap, not, subst, sym}
-use Rattle.std.specs.Duration.{as_nanos}
-use Rattle.std.specs.Result.{IfOk}
 use Rattle.std.proofs.lemmas.Result.{on_ok_weaker}
-use Rattle.textarea_data.specs.declared.range.AtomicRange.{AtomicRange}
-use Rattle.textarea_document.specs.Edits.{is_at_end, range_removed_or, removed_behind, symbol_removed_behind}
-use Rattle.textarea_document.specs.State.{DocumentState}
+use Rattle.textarea_document.specs.Prelude.{as_nanos, IfOk, AtomicRange, is_at_end, range_removed_or, removed_behind, symbol_removed_behind, DocumentState}
 use Rattle.textarea_document.proofs.document.Document.remove_behind.Goals as goal
 
 -- where no range is hit nothing changes

@@ -1,12 +1,6 @@
 use Rattle.std.proofs.Common.{◌≡◌, ◌≢◌, ◌∙◌, ◌==◌, ◌-◌, ◌+◌, ◌<◌, ◌∷◌, ℕ, [], ap, cond, sym, subst, arith, false, length}
-use Rattle.std.specs.Duration.{as_nanos}
 use Rattle.std.proofs.lemmas.Bool.Decides.{nat_tests}
-use Rattle.textarea_text.specs.Text.{Break, lines}
-use Rattle.textarea_text.specs.Place.{Place, line_end}
-use Rattle.textarea_text.specs.Splice.{Fits, Splice}
-use Rattle.textarea_document.specs.Edits.{break_removal}
-use Rattle.textarea_document.specs.Outcomes.{edited, unanchored}
-use Rattle.textarea_document.specs.Ranges.{CutsNone}
+use Rattle.textarea_document.specs.Prelude.{as_nanos, Break, lines, Place, line_end, Fits, Splice, break_removal, edited, unanchored, CutsNone}
 use Rattle.textarea_document.proofs.Behinds.{break_removal_fits}
 use Rattle.textarea_document.proofs.Ranges.{whole_break}
 use Rattle.textarea_document.proofs.document.Document.remove_break.Goals as goal

@@ -1,11 +1,5 @@
 use Rattle.std.proofs.Common.{◌≡◌, ◌∙◌, ◌∷◌, [], ap, sym, subst}
-use Rattle.std.specs.Duration.{as_nanos}
-use Rattle.textarea_text.specs.Text.{symbol_in}
-use Rattle.textarea_text.specs.Place.{IsPlace}
-use Rattle.textarea_text.specs.Splice.{Splice}
-use Rattle.textarea_ranges.specs.Held.{TakesWhole}
-use Rattle.textarea_document.specs.Outcomes.{edited}
-use Rattle.textarea_document.specs.Ranges.{CutsNone}
+use Rattle.textarea_document.specs.Prelude.{as_nanos, symbol_in, IsPlace, Splice, TakesWhole, edited, CutsNone}
 use Rattle.textarea_document.proofs.Behinds.{behind_cursor, removal_at_cursor, symbol_removed_behind_is}
 use Rattle.textarea_document.proofs.Ranges.{whole_behind}
 use Rattle.textarea_document.proofs.document.Document.remove_symbol_behind.Goals as goal

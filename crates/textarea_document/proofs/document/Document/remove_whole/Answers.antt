@@ -1,13 +1,6 @@
 use Rattle.std.proofs.Common.{◌≡◌, ◌∙◌, sym, ap, subst, arith, List, false}
-use Rattle.std.specs.Duration.{as_nanos}
-use Rattle.std.specs.Result.{OnOk}
 use Rattle.std.proofs.lemmas.Result.{on_ok_weaker}
-use Rattle.textarea_text.specs.Text.{Symbol}
-use Rattle.textarea_text.specs.Splice.{Fits, Splice}
-use Rattle.textarea_ranges.specs.Held.{TakesWhole}
-use Rattle.textarea_document.specs.Edits.{removal}
-use Rattle.textarea_document.specs.Outcomes.{edited}
-use Rattle.textarea_document.specs.Ranges.{CutsNone}
+use Rattle.textarea_document.specs.Prelude.{as_nanos, OnOk, Symbol, Fits, Splice, TakesWhole, removal, edited, CutsNone}
 use Rattle.textarea_document.proofs.Parts.{part_ends, part_some, removal_fits, some_pieces, well_formed}
 use Rattle.textarea_document.proofs.document.Document.remove_whole.Goals as goal
 

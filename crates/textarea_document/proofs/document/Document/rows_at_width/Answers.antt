@@ -1,8 +1,5 @@
 use Rattle.std.proofs.Common.{◌≡◌, ℕ, subst, true}
-use Rattle.std.specs.Result.{IfOk, IsOk}
-use Rattle.textarea_lines.specs.Layout.{is_cut_at}
-use Rattle.textarea_document.specs.State.{DocumentState}
-use Rattle.textarea_document.specs.Rows.{HasRowsAt, laid_out_of}
+use Rattle.textarea_document.specs.Prelude.{IfOk, IsOk, is_cut_at, DocumentState, HasRowsAt, laid_out_of}
 use Rattle.textarea_document.proofs.document.Document.rows_at_width.Goals as goal
 
 pub returns-clause-rows : goal.returns-clause-rows

@@ -1,9 +1,6 @@
 use Rattle.std.proofs.Common.{◌≡◌, ◌∙◌, ap, subst, true}
-use Rattle.std.specs.Result.{IsOk}
 use Rattle.std.proofs.lemmas.Result.{on_ok_weaker}
-use Rattle.textarea_lines.specs.Layout.{stays_cut}
-use Rattle.textarea_document.specs.State.{DocumentState}
-use Rattle.textarea_document.specs.Rows.{laid_out_of, with_layout_settings}
+use Rattle.textarea_document.specs.Prelude.{IsOk, stays_cut, DocumentState, laid_out_of, with_layout_settings}
 use Rattle.textarea_document.proofs.Sounds.{settings_put, sound_viewed}
 use Rattle.textarea_document.proofs.document.Document.set_layout_settings.Goals as goal
 

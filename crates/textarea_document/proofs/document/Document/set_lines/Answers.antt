@@ -1,10 +1,6 @@
 use Rattle.std.proofs.Common.{◌∙◌, ℕ, List, ap, refl, subst, sym}
-use Rattle.textarea_text.specs.Text.{lines_of, text_of}
-use Rattle.textarea_text.specs.Place.{IsPlaceOf, Place}
+use Rattle.textarea_document.specs.Prelude.{lines_of, text_of, IsPlaceOf, Place, clip, DocumentState, fresh_document, IsSound}
 use Rattle.textarea_text.proofs.Befores.{text_place}
-use Rattle.textarea_text.specs.Part.{clip}
-use Rattle.textarea_document.specs.State.{DocumentState, fresh_document}
-use Rattle.textarea_document.specs.Sound.{IsSound}
 use Rattle.textarea_document.proofs.Sounds.{fresh_is, same_document, sound_laid}
 use Rattle.textarea_document.proofs.document.Document.set_lines.Goals as goal
 

@@ -1,10 +1,5 @@
 use Rattle.std.proofs.Common.{◌∙◌, List, ap, false}
-use Rattle.std.specs.Duration.{as_nanos}
-use Rattle.textarea_text.specs.Text.{Symbol, joined, text_of}
-use Rattle.textarea_text.specs.Place.{Place}
-use Rattle.textarea_text.specs.Part.{part}
-use Rattle.textarea_document.specs.Edits.{part_removed, removal}
-use Rattle.textarea_document.specs.Outcomes.{edited}
+use Rattle.textarea_document.specs.Prelude.{as_nanos, Symbol, joined, text_of, Place, part, part_removed, removal, edited}
 use Rattle.textarea_document.proofs.document.Document.take.Goals as goal
 
 pub returns-clause-taken_symbols : goal.returns-clause-taken_symbols

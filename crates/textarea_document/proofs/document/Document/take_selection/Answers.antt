@@ -1,6 +1,5 @@
 use Rattle.std.proofs.Common.{◌∙◌, ap}
-use Rattle.textarea_text.specs.Place.{Place}
-use Rattle.textarea_document.specs.Edits.{taken_symbols}
+use Rattle.textarea_document.specs.Prelude.{Place, taken_symbols}
 use Rattle.textarea_document.proofs.document.Document.take_selection.Goals as goal
 
 pub returns-clause-taken : goal.returns-clause-taken

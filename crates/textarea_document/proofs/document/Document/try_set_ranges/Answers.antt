@@ -1,8 +1,5 @@
-use Rattle.std.proofs.Common.{ℕ, List, refl, subst}
-use Rattle.std.specs.Result.{MatchResult}
-use Rattle.textarea_text.specs.Text.{lines, lines_of}
-use Rattle.textarea_ranges.specs.Rejected.{AreAccepted, AreRefused}
-use Rattle.textarea_ranges.specs.Valid.{AreValid}
+use Rattle.std.proofs.Common.{ℕ, List, subst}
+use Rattle.textarea_document.specs.Prelude.{MatchResult, lines, lines_of, AreAccepted, AreRefused, AreValid}
 use Rattle.textarea_ranges.proofs.RejectedLemmas.{valid_from_in_order}
 use Rattle.textarea_document.proofs.document.Document.try_set_ranges.Goals as goal
 
@@ -15,6 +12,3 @@ pub returns-in-Err-clause-judged : goal.returns-in-Err-clause-judged
 returns-in-Err-clause-judged c =
     subst (λ (rows : List (List ℕ)). AreRefused rows c.args.ranges.items c.in-Err.error.rejected.items) c.lines.ensures.lines
     (subst (λ outcome. MatchResult outcome (λ held. AreAccepted (lines_of c.lines.result.now) c.args.ranges.items held.items) (λ error. AreRefused (lines_of c.lines.result.now) c.args.ranges.items error.rejected.items)) c.in-Err.is c.in_ok-held.ensures)
-
-pub returns-in-Err-clause-refused : goal.returns-in-Err-clause-refused
-returns-in-Err-clause-refused c = refl

@@ -1,8 +1,5 @@
 use Rattle.std.proofs.Common.{◌∙◌, ap, subst}
-use Rattle.textarea_lines.specs.Layout.{LaidOut, at_width, laid_out_with}
-use Rattle.textarea_lines.specs.View.{IsViewOf}
-use Rattle.textarea_document.specs.Rows.{laid_out_of}
-use Rattle.textarea_document.specs.State.{DocumentState}
+use Rattle.textarea_document.specs.Prelude.{LaidOut, at_width, laid_out_with, IsViewOf, laid_out_of, DocumentState}
 use Rattle.textarea_document.proofs.Sounds.{laid_out_seen}
 use Rattle.textarea_document.proofs.document.Document.view_with.Goals as goal
 

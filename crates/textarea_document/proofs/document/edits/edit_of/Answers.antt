@@ -17,6 +17,3 @@ returns-clause-splice c =
     ∙ ap (λ (s : List Symbol). record { place = c.args.start; symbols = s; inserts = false })
     (text_is c.args.pieces.items c.pop.new.self.items c.pop.result c.unwrap-text.result (omega (arith, c.len.ensures, c.if-len-gt1.false)) c.pop.ensures.items c.unwrap-text.ensures)
     ∙ ap (λ b. record { place = c.args.start; symbols = text_of c.args.pieces.items; inserts = b }) (sym c.if-inserts-2.false)
-
-pub returns-clause-end : goal.returns-clause-end
-returns-clause-end c = c.between-else-inserts-2.ensures.end

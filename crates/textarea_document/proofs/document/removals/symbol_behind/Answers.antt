@@ -1,7 +1,6 @@
 use Rattle.std.proofs.Common.{◌≡◌, ◌+◌, ◌∷◌, ◌∙◌, ap, drop, length, subst, sym, arith, get_or, []}
-use Rattle.std.specs.Str.{chars}
 use Rattle.std.proofs.lemmas.List.{length-map}
-use Rattle.textarea_text.specs.Text.{characters_of, lines_of}
+use Rattle.textarea_document.specs.Prelude.{chars, characters_of, lines_of}
 use Rattle.textarea_text.proofs.StringRows.{line_at, row_within}
 use Rattle.textarea_text.proofs.PlaceLemmas.{is_at_end}
 use Rattle.textarea_document.proofs.Behinds.{break_is_behind, character_is_behind, column_in_string}

@@ -1,8 +1,5 @@
 use Rattle.std.proofs.Common.{List, [], ◌∷◌, ◌++◌, ap, ◌∙◌}
-use Rattle.std.specs.Option.{option_map}
-use Rattle.textarea_view.specs.declared.look.CustomHighlight.{CustomHighlight}
-use Rattle.textarea_drawing.specs.State.{DrawingState}
-use Rattle.textarea_view.specs.Placed.{cell_of_position}
+use Rattle.textarea_drawing.specs.Prelude.{option_map, CustomHighlight, DrawingState, cell_of_position}
 use Rattle.textarea_drawing.proofs.drawing.Drawing.add_highlight.Goals as goal
 
 pub returns-clause-ok : goal.returns-clause-ok

@@ -1,9 +1,6 @@
 use Rattle.std.proofs.Common.{ap, arith, subst, sym, ◌<◌, ◌^◌}
-use Rattle.textarea_util.specs.Limit.{size_limit}
-use Rattle.textarea_document.specs.State.{DocumentState}
-use Rattle.textarea_lines.specs.declared.settings.LayoutSettings.{LayoutSettings}
+use Rattle.textarea_drawing.specs.Prelude.{size_limit, DocumentState, LayoutSettings, weight}
 use Rattle.textarea_text.proofs.Sizes.{size_of_text}
-use Rattle.textarea_text.specs.Size.{weight}
 use Rattle.textarea_drawing.proofs.drawing.caret.caret_has_room.Goals as goal
 
 pub returns : goal.returns

@@ -1,6 +1,5 @@
 use Rattle.std.proofs.Common.{subst, sym}
-use Rattle.textarea_document.specs.State.{DocumentState}
-use Rattle.textarea_text.specs.Place.{IsPlace, Place}
+use Rattle.textarea_drawing.specs.Prelude.{DocumentState, IsPlace, Place}
 use Rattle.textarea_drawing.proofs.drawing.caret.caret_leads_back.Goals as goal
 
 pub returns : goal.returns

@@ -1,15 +1,11 @@
 use Rattle.std.proofs.Common.{ap, subst}
-use Rattle.textarea_drawing.specs.Frame.{Parts, frame_of}
-use Rattle.textarea_view.specs.Frame.{FrameState}
-use Rattle.textarea_drawing.specs.State.{DrawingState}
-use Rattle.textarea_view.specs.FrameDrawn.{IsFrameDrawn}
-use Rattle.textarea_view.specs.Viewport.{ViewportState}
+use Rattle.textarea_drawing.specs.Prelude.{parts_of, Parts, frame_of, FrameState, DrawingState, IsFrameDrawn, ViewportState}
 use Rattle.textarea_view.proofs.Layers.{if_ok}
 use Rattle.textarea_drawing.proofs.drawing.render.draw_at_width.Goals as goal
 
 pub returns-clause-ok : goal.returns-clause-ok
 returns-clause-ok c =
-    let parts : Parts = record { document = c.args.document.now; pattern = c.args.search.now; surround = c.args.surround.now; drawing = c.args.drawing.now } in
+    let parts : Parts = parts_of c.args.document.now c.args.search.now c.args.surround.now c.args.drawing.now in
     if_ok c.draw_frame.result c.draw_frame.ensures.ok (λ placing h. record {
       rows = c.view_with.result;
       rows_are = c.view_with.ensures;

@@ -1,3 +1,4 @@
+use Rattle.std.proofs.lemmas.Grind.{common_steps}
 use Rattle.std.proofs.Common.{refl, inl, arith}
 use Rattle.std.proofs.lemmas.Str.{IsCharBoundary-start, IsCharBoundary-end}
 use Rattle.textarea_highlight.proofs.CutLemmas.{cut_more, pass_more, room_left, cut_at_start, column_at_start, edge_at}
@@ -25,9 +26,7 @@ pub cut_to-requires-clause-from_boundary : goal.cut_to-requires-clause-from_boun
 cut_to-requires-clause-from_boundary c = c.loop-border.invariant.boundary
 
 pub cut_to-requires-clause-room : goal.cut_to-requires-clause-room
-cut_to-requires-clause-room c =
-    let i = c.loop-border.border-index in
-    room_left _ _ _ _ c.loop-border.invariant.room (c.loop-border.invariant.splits.ahead i _ (omega arith) c.loop-border-test.true) (c.requires.placed i _ c.loop-border-test.true).0 c.requires.room
+cut_to-requires-clause-room c = grind (arith, common_steps, room_left)
 
 pub loop-border-preserved : goal.loop-border-preserved
 loop-border-preserved c =

@@ -1,3 +1,4 @@
+use Rattle.std.proofs.lemmas.Grind.{common_steps}
 use Rattle.std.proofs.Common.{sym, ◌∙◌, arith}
 use Rattle.textarea_highlight.proofs.DisplayLemmas.{kept_at_zero, changed_at_zero, kept_at_some, changed_at_some, text_of_kept}
 use Rattle.textarea_highlight.proofs.highlight.display.show_tabs.Goals as goal
@@ -26,9 +27,7 @@ returns-in_ok-expand_tabs-clause-borrowed c = (
 )
 
 pub returns-else-has_tab-clause-text : goal.returns-else-has_tab-clause-text
-returns-else-has_tab-clause-text c =
-    text_of_kept c.args.tab_len c.args.column c.args.piece.now c.utf8.piece
-    (kept_at_some c.args.tab_len c.args.column c.args.piece.now c.utf8.piece (omega arith) (sym c.has_tab.ensures ∙ c.if-has_tab.false))
+returns-else-has_tab-clause-text c = grind (arith, common_steps, text_of_kept, kept_at_some)
 
 pub returns-else-has_tab-clause-borrowed : goal.returns-else-has_tab-clause-borrowed
 returns-else-has_tab-clause-borrowed c = (

@@ -1,6 +1,5 @@
 use Rattle.std.proofs.Common.{◌∙◌, Some, ap, sym, ℕ}
-use Rattle.textarea_text.specs.Text.{joined}
-use Rattle.textarea_history.specs.Edit.{grows_of, pieces_in, symbols_in}
+use Rattle.textarea_history.specs.Prelude.{joined, grows_of, pieces_in, symbols_in}
 use Rattle.textarea_text.proofs.Copies.{lines_copied}
 use Rattle.std.proofs.lemmas.List.Elements.{length_all_zip}
 use Rattle.textarea_history.proofs.edit.ContentClone.clone.Goals as goal

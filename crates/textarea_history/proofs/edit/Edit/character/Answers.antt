@@ -1,10 +1,6 @@
 use Rattle.std.proofs.Common.{◌∙◌, ◌≤◌, sym, ap, arith, subst}
-use Rattle.std.specs.Option.{IfSome}
-use Rattle.std.specs.Str.{chars}
 use Rattle.std.proofs.lemmas.List.{length-map}
-use Rattle.textarea_text.specs.Text.{characters, characters_of, lines_of}
-use Rattle.textarea_history.specs.Edit.{Stored}
-use Rattle.textarea_history.specs.Run.{character_of}
+use Rattle.textarea_history.specs.Prelude.{IfSome, chars, characters, characters_of, lines_of, Stored, character_of}
 use Rattle.textarea_history.proofs.Runs.{only_reversed, only_pieces, symbols_as, pieces_as}
 use Rattle.textarea_history.proofs.edit.Edit.character.Goals as goal
 

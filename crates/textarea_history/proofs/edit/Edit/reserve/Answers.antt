@@ -1,6 +1,5 @@
 use Rattle.std.proofs.Common.{◌≡◌, ◌∙◌, ◌∷◌, [], ◌++◌, sym, ap, subst, encode_utf8}
-use Rattle.textarea_text.specs.Text.{characters_of}
-use Rattle.textarea_history.specs.Edit.{IsWellFormed}
+use Rattle.textarea_history.specs.Prelude.{characters_of, IsWellFormed}
 use Rattle.textarea_history.proofs.Runs.{characters_of-first, kept_again, splice_again}
 use Rattle.textarea_history.proofs.edit.Edit.reserve.Goals as goal
 

@@ -1,7 +1,6 @@
 use Rattle.std.proofs.Common.{subst, sym}
 use Rattle.textarea_text.proofs.Copies.{lines_copied}
-use Rattle.textarea_history.specs.Edit.{IsCopyOfKind}
-use Rattle.textarea_history.specs.declared.edit.EditKind.TheVariants.{InsertChunk, DeleteChunk}
+use Rattle.textarea_history.specs.Prelude.{IsCopyOfKind, InsertChunk, DeleteChunk}
 use Rattle.textarea_history.proofs.edit.EditKindClone.clone.Goals as goal
 
 pub returns-in_ok-clone-in-InsertChunk : goal.returns-in_ok-clone-in-InsertChunk

@@ -1,6 +1,5 @@
 use Rattle.std.proofs.Common.{◌∙◌, ◌-◌, ◌<◌, arith, sym, ap, subst}
-use Rattle.std.specs.Duration.{as_nanos}
-use Rattle.textarea_history.specs.Log.{Kept}
+use Rattle.textarea_history.specs.Prelude.{as_nanos, Kept}
 use Rattle.textarea_history.proofs.Stores.{Joining, joining, room_to_grow, store_joined, log_joined, from_character, formed_at}
 use Rattle.textarea_history.proofs.history.History.join.Goals as goal
 

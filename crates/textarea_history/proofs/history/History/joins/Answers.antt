@@ -1,7 +1,6 @@
 use Rattle.std.proofs.Common.{◌≡◌, ◌∙◌, ◌-◌, Some, sym, ap, arith, true, nat_lt}
-use Rattle.std.specs.Duration.{as_nanos}
 use Rattle.std.proofs.lemmas.Bool.Decides.{nat_tests}
-use Rattle.textarea_history.specs.Log.{Kept, pause}
+use Rattle.textarea_history.specs.Prelude.{as_nanos, Kept, pause}
 use Rattle.textarea_history.proofs.Stores.{joins_is, typed_is}
 use Rattle.textarea_history.proofs.history.History.joins.Goals as goal
 

@@ -1,12 +1,7 @@
 use Rattle.std.proofs.Common.{◌≡◌, ◌∙◌, ◌-◌, ◌≤◌, ◌<◌, ℕ, List, None, length, drop, sym, subst, ap, arith, take, map, min, is_some}
-use Rattle.std.specs.List.{All}
 use Rattle.std.proofs.lemmas.List.{length-take-le, length-drop}
 use Rattle.std.proofs.lemmas.List.Elements.{All-drop, All-same, All-take}
-use Rattle.textarea_history.specs.Edit.{Stored, IsWellFormed}
-use Rattle.std.specs.VecDeque.{deque_capacity, deque_len}
-use Rattle.std.specs.Duration.{as_nanos}
-use Rattle.textarea_history.specs.Log.{Kept}
-use Rattle.textarea_history.specs.Store.{IsStore, splice_in}
+use Rattle.textarea_history.specs.Prelude.{All, Stored, IsWellFormed, Kept, IsStore, splice_in, deque_capacity, deque_len, as_nanos}
 use Rattle.textarea_history.proofs.Stores.{free_from_room, log_at_same, place_made_full, place_made_rest}
 use Rattle.textarea_history.proofs.history.History.make_place.Goals as goal
 use Rattle.textarea_history.proofs.history.History.make_place.Goals.{then-len-self+then-self-gt0, else-len-self, else-len-self-via-then-len-self+else-self-gt0, else-len-self-via-else-len-self}

@@ -1,6 +1,5 @@
 use Rattle.std.proofs.Common.{ap, is_some}
-use Rattle.std.specs.Duration.{as_nanos}
-use Rattle.textarea_history.specs.Log.{Kept}
+use Rattle.textarea_history.specs.Prelude.{as_nanos, Kept}
 use Rattle.textarea_history.proofs.Stores.{bounded_log}
 use Rattle.textarea_history.proofs.history.History.max_items.Goals as goal
 

@@ -1,6 +1,5 @@
 use Rattle.std.proofs.Common.{◌<◌, ap, is_some, arith, length}
-use Rattle.std.specs.Duration.{as_nanos}
-use Rattle.textarea_history.specs.Log.{Kept}
+use Rattle.textarea_history.specs.Prelude.{as_nanos, Kept}
 use Rattle.textarea_history.proofs.Stores.{next_at}
 use Rattle.textarea_history.proofs.history.History.next.Goals as goal
 

@@ -1,8 +1,6 @@
 use Rattle.std.proofs.Common.{◌∙◌, ◌-◌, sym, ap, arith, is_some, map, length}
 use Rattle.std.proofs.lemmas.Result.{on_ok_weaker}
-use Rattle.std.specs.Duration.{as_nanos}
-use Rattle.textarea_history.specs.Log.{Kept}
-use Rattle.textarea_history.specs.Store.{log_at, splice_in}
+use Rattle.textarea_history.specs.Prelude.{as_nanos, Kept, log_at, splice_in}
 use Rattle.textarea_history.proofs.Stores.{formed_at, newest_grows, room_ready, run_some, splices_same, store_ready, store_same}
 use Rattle.textarea_history.proofs.history.History.reserve.Goals as goal
 

@@ -1,6 +1,5 @@
 use Rattle.std.proofs.Common.{ap, is_some}
-use Rattle.std.specs.Duration.{as_nanos}
-use Rattle.textarea_history.specs.Log.{Kept}
+use Rattle.textarea_history.specs.Prelude.{as_nanos, Kept}
 use Rattle.textarea_history.proofs.Stores.{newest_within, stepped_back}
 use Rattle.textarea_history.proofs.history.History.step_back.Goals as goal
 

@@ -1,10 +1,6 @@
 use Rattle.std.proofs.Common.{◌≡◌, ◌∙◌, List, Option, Some, ap, sym, option_map, rules}
 use Rattle.std.specs.Prelude.{String}
-use Rattle.textarea_text.specs.Text.{text_of, Symbol}
-use Rattle.textarea_text.specs.Place.{Place}
-use Rattle.textarea_text.specs.Splice.{Splice, applied, inverse, place_after, place_before}
-use Rattle.textarea_history.specs.Change.{Makes}
-use Rattle.textarea_history.specs.Log.{Log, Undoes, logged_of, newest, taken_back, undone_by}
+use Rattle.textarea_history.specs.Prelude.{text_of, Symbol, Place, Splice, applied, inverse, place_after, place_before, Makes, Log, Undoes, logged_of, newest, taken_back, undone_by}
 use Rattle.textarea_history.proofs.history.History.undo.Goals as goal
 
 -- the newest edit is taken back where its inverse made the lines, the log is the one after it, and the cursor stands

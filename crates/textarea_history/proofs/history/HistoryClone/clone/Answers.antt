@@ -1,8 +1,5 @@
 use Rattle.std.proofs.Common.{◌∙◌, ap, is_some, List}
-use Rattle.std.specs.Duration.{as_nanos}
-use Rattle.textarea_text.specs.Splice.{Splice}
-use Rattle.textarea_history.specs.Log.{Kept}
-use Rattle.textarea_history.specs.Store.{log_at}
+use Rattle.textarea_history.specs.Prelude.{as_nanos, Splice, Kept, log_at}
 use Rattle.textarea_history.proofs.Copies.{splices_copied, store_copied}
 use Rattle.textarea_history.proofs.history.HistoryClone.clone.Goals as goal
 

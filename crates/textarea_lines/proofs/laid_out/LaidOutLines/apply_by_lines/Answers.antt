@@ -1,3 +1,4 @@
+use Rattle.std.proofs.lemmas.Grind.{common_steps}
 use Rattle.std.proofs.Common.{◌+◌, ◌∙◌, ap, sym, arith, length}
 use Rattle.std.proofs.lemmas.Result.{on_ok_weaker}
 use Rattle.textarea_text.specs.Size.{weight}
@@ -12,12 +13,7 @@ replace-requires-clause-within c =
     omega (arith, c.in_ok-replacement.ensures.within, ap (λ (s : LaidOut). length (lines s.text)) c.self.view_is, count_held c.self.inside.lines.items c.self.invariant.held.stored.some, ap length c.as_slice.ensures.value)
 
 pub replace-requires-clause-size : goal.replace-requires-clause-size
-replace-requires-clause-size c =
-    c.requires.size
-    ∙ ap (λ (s : LaidOut). weight s.text + 1) (sym (made c.args.self.now c.self.inside.lines.items c.as_slice.result.now c.in_ok-replacement.replacement c.args.change c.self.invariant.held.stored.some (ap (λ (s : LaidOut). s.text) c.self.view_is) c.as_slice.ensures.value c.in_ok-replacement.ensures))
+replace-requires-clause-size c = grind (arith, common_steps, made)
 
 pub returns-clause-ok : goal.returns-clause-ok
-returns-clause-ok c =
-    on_ok_weaker c.replace.result
-    (λ e. e ∙ made c.args.self.now c.self.inside.lines.items c.as_slice.result.now c.in_ok-replacement.replacement c.args.change c.self.invariant.held.stored.some (ap (λ (s : LaidOut). s.text) c.self.view_is) c.as_slice.ensures.value c.in_ok-replacement.ensures)
-    c.replace.ensures.ok
+returns-clause-ok c = grind (arith, common_steps, on_ok_weaker, made)

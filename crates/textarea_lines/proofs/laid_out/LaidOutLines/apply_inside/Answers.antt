@@ -1,57 +1,53 @@
-use Rattle.std.proofs.Common.{◌∙◌, ap, arith, refl, sym}
+use Rattle.std.proofs.Common.{◌∙◌, ap, arith, sym}
 use Rattle.textarea_text.specs.Offset.{offset_at}
+use Rattle.textarea_text.specs.Place.{Place}
 use Rattle.textarea_text.specs.Text.{lines}
 use Rattle.textarea_lines.specs.Layout.{LaidOut}
 use Rattle.textarea_lines.specs.Wrappings.{is_wrapped}
 use Rattle.textarea_lines.proofs.Founds.{found_at}
 use Rattle.textarea_lines.proofs.Stores.{lines_held}
-use Rattle.textarea_lines.proofs.WholeLines.{Inside, holds_inside, layout_inside, whole_kept}
+use Rattle.textarea_lines.proofs.WholeLines.{Inside, can_cut, holds_inside, layout_inside}
 use Rattle.textarea_lines.proofs.laid_out.LaidOutLines.apply_inside.Goals as goal
-use Rattle.textarea_lines.proofs.laid_out.LaidOutLines.apply_inside.Goals.{In_ok-change_line}
+use Rattle.textarea_lines.proofs.laid_out.LaidOutLines.apply_inside.Goals.{After-as_slice-lines}
 
-steps : (c : In_ok-change_line) → Inside c.self.inside.settings c.self.inside.lines.items c.change_line.new.lines.items c.change_line.new.lines.items c.self.inside.size c.args.size c.self.inside.map c.args.change c.args.change.place.0
+steps : (c : After-as_slice-lines) → Inside c.self.inside.settings c.self.inside.lines.items c.apply_inside.new.lines.items c.as_slice-lines.result.now c.self.inside.size c.args.size c.self.inside.map c.args.change c.start-row.result.0
 steps c = record {
   holds = c.self.invariant.held;
   whole = ap (λ (s : LaidOut). is_wrapped s.layout.settings) c.self.view_is ∙ c.requires.whole;
   none = c.requires.inside;
   fits = rw (← c.self.view_is) at c.requires.fits;
-  now_some = omega (arith, c.in_ok-change_line.ensures.len, c.self.invariant.held.stored.some);
-  now_is = c.in_ok-change_line.ensures.text;
-  lent_is = refl;
-  row_is = refl;
+  now_some = omega (arith, c.in_ok-apply_inside.ensures.len, c.self.invariant.held.stored.some, c.self.inside.lines.ok.0, c.apply_inside.new.lines.ok.0);
+  now_is = c.in_ok-apply_inside.ensures.ok;
+  lent_is = c.as_slice-lines.ensures.value;
+  row_is = ap (λ (p : Place). p.0) c.start-row.ensures;
   after_is = rw (← c.self.view_is) at c.requires.size;
   limit = c.requires.limit;
 }
 
-pub change_line-requires-clause-small : goal.change_line-requires-clause-small
-change_line-requires-clause-small c = omega (arith, c.self.invariant.held.stored.size_is, c.self.invariant.held.stored.limit)
-
-pub change_line-requires-clause-whole : goal.change_line-requires-clause-whole
-change_line-requires-clause-whole c =
-    whole_kept _ _ _ _ c.self.invariant.held (ap (λ (s : LaidOut). is_wrapped s.layout.settings) c.self.view_is ∙ c.requires.whole)
-
-pub change_line-requires-clause-fits : goal.change_line-requires-clause-fits
-change_line-requires-clause-fits c = rw (← c.self.view_is) at c.requires.fits
-
-pub change_line-requires-clause-offset : goal.change_line-requires-clause-offset
-change_line-requires-clause-offset c =
+pub apply_inside-requires : goal.apply_inside-requires
+apply_inside-requires c =
     let place = c.args.change.place in
-    c.offset_of-offset.ensures
-    ∙ ap (offset_at (lines c.args.self.now.text)) c.start-row.ensures
-    ∙ ap (λ (l : LaidOut). offset_at (lines l.text) place) (sym c.self.view_is)
-    ∙ ap (λ rows. offset_at rows place) (lines_held c.self.inside.lines.items c.self.invariant.held.stored.some)
+    record {
+      inside = c.requires.inside;
+      nonempty = omega (arith, c.self.invariant.held.stored.some, c.self.inside.lines.ok.0);
+      fits = rw (← c.self.view_is) at c.requires.fits;
+      offset = c.offset_of-offset.ensures
+          ∙ ap (offset_at (lines c.args.self.now.text)) c.start-row.ensures
+          ∙ ap (λ (l : LaidOut). offset_at (lines l.text) place) (sym c.self.view_is)
+          ∙ ap (λ rows. offset_at rows place) (lines_held c.self.inside.lines.items c.self.invariant.held.stored.some);
+    }
 
-pub change_line-requires-clause-limit : goal.change_line-requires-clause-limit
-change_line-requires-clause-limit c = omega (arith, rw (← c.self.view_is) at c.requires.size, c.requires.limit)
+pub put_whole_line-requires-clause-whole : goal.put_whole_line-requires-clause-whole
+put_whole_line-requires-clause-whole c = can_cut _ _ _ _ _ _ _ _ _ (steps (goal.at.put_whole_line-requires-clause-whole c).After-as_slice-lines)
 
 pub invariant_of-self-2 : goal.invariant_of-self-2
 invariant_of-self-2 c = record {
-  held = holds_inside _ _ _ _ _ _ _ _ _ _ _ (steps (goal.at.invariant_of-self-2 c).In_ok-change_line) c.in_ok-change_line.ensures.line c.in_ok-change_line.ensures.wrapping;
+  held = holds_inside _ _ _ _ _ _ _ _ _ _ _ (steps (goal.at.invariant_of-self-2 c).After-as_slice-lines) c.put_whole_line.ensures.rows c.put_whole_line.ensures.wrapping;
   measured = tt;
   kept = rw c.let_go.ensures tt;
-  place = found_at c.change_line.new.lines.items c.new-self-inside.result c.start-row.result c.args.change.place c.offset_of-offset.result c.new-self-inside.ensures c.start-row.ensures c.in_ok-change_line.ensures.start c.in_ok-change_line.ensures.offset;
+  place = found_at c.apply_inside.new.lines.items c.new-self-inside.result c.start-row.result c.args.change.place c.offset_of-offset.result c.new-self-inside.ensures c.start-row.ensures c.in_ok-apply_inside.ensures.start c.in_ok-apply_inside.ensures.offset;
 }
 
 pub returns-clause-ok : goal.returns-clause-ok
 returns-clause-ok c =
-    rw (← c.self.view_is) (layout_inside _ _ _ _ _ _ _ _ _ _ _ _ (steps (goal.at.returns-clause-ok c).In_ok-change_line) c.in_ok-change_line.ensures.line c.in_ok-change_line.ensures.counted)
+    rw (← c.self.view_is) (layout_inside _ _ _ _ _ _ _ _ _ _ _ _ (steps (goal.at.returns-clause-ok c).After-as_slice-lines) c.put_whole_line.ensures.rows c.put_whole_line.ensures.counted)

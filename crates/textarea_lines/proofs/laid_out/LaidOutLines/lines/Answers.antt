@@ -1,3 +1,4 @@
+use Rattle.std.proofs.lemmas.Grind.{common_steps}
 use Rattle.std.proofs.Common.{◌∙◌, sym, ap, arith, length, subst}
 use Rattle.textarea_text.specs.Size.{size_of}
 use Rattle.textarea_text.specs.Text.{lines, lines_of, text_of}
@@ -10,10 +11,7 @@ pub returns-clause-value : goal.returns-clause-value
 returns-clause-value c = ap text_of c.as_slice.ensures.value ∙ ap (λ (s : LaidOut). s.text) c.self.view_is
 
 pub returns-clause-lines : goal.returns-clause-lines
-returns-clause-lines c =
-    ap lines_of c.as_slice.ensures.value
-    ∙ sym (lines_held c.self.inside.lines.items c.self.invariant.held.stored.some)
-    ∙ ap (λ (s : LaidOut). lines s.text) c.self.view_is
+returns-clause-lines c = grind (arith, common_steps, lines_held c.self.inside.lines.items c.self.invariant.held.stored.some)
 
 pub returns-clause-some : goal.returns-clause-some
 returns-clause-some c = omega (arith, ap length c.as_slice.ensures.value, c.self.invariant.held.stored.some)

@@ -1,4 +1,5 @@
-use Rattle.std.proofs.Common.{◌≡◌, ◌∙◌, ℕ, List, ap, refl, subst, sym}
+use Rattle.std.proofs.lemmas.Grind.{common_steps}
+use Rattle.std.proofs.Common.{arith, ◌≡◌, ◌∙◌, ℕ, List, ap, refl, subst, sym}
 use Rattle.std.specs.Result.{IfOk}
 use Rattle.textarea_text.specs.Text.{lines, lines_of}
 use Rattle.textarea_screen_map.specs.declared.layout.Wrapping.{Wrapping}
@@ -20,19 +21,12 @@ invariant_of-self-in-Ok c =
     record {
       held = c.self.invariant.held;
       measured = c.self.invariant.measured;
-      kept = rw c.keep.ensures.kept (next_cut inside.settings inside.lines.items inside.count inside.map.rows _ c.args.wrapping c.in-Ok.cut c.self.invariant.held.stored.some refl c.in-Ok.ensures);
+      kept = next_cut inside.settings inside.lines.items inside.count inside.map.rows _ c.args.wrapping c.in-Ok.cut c.self.invariant.held.stored.some refl c.in-Ok.ensures;
       place = c.self.invariant.place;
     }
 
 pub returns-in-Err-clause-rows : goal.returns-in-Err-clause-rows
-returns-in-Err-clause-rows c =
-    let items = c.self.inside.lines.items in
-    let same : lines_of c.as_slice.result.now ≡ lines c.args.self.now.text =
-    ap lines_of c.as_slice.ensures.value ∙ sym (lines_held items c.self.invariant.held.stored.some) ∙ ap (λ (l : LaidOut). lines l.text) c.self.view_is in
-    subst (λ (t : List (List ℕ)). IfOk c.rows_in.result (IsRowCount c.args.wrapping t)) same c.rows_in.ensures.rows
+returns-in-Err-clause-rows c = grind (arith, common_steps, lines_held)
 
 pub returns-in-Ok-clause-rows : goal.returns-in-Ok-clause-rows
-returns-in-Ok-clause-rows c =
-    let cut = c.in-Ok.cut in
-    let whole = subst (λ (l : LaidOut). IsWholeCut l c.args.wrapping cut) c.self.view_is c.in-Ok.ensures in
-    (cut.map.rows, subst (λ (w : Wrapping). AreRowsOf w (lines c.args.self.now.text) cut.map.rows) whole.wrapping whole.rows, c.keep.ensures.rows)
+returns-in-Ok-clause-rows c = grind (arith, common_steps)

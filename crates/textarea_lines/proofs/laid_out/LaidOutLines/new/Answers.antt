@@ -1,3 +1,4 @@
+use Rattle.std.proofs.lemmas.Grind.{common_steps}
 use Rattle.std.proofs.Common.{◌≡◌, ◌∙◌, ap, arith}
 use Rattle.std.proofs.lemmas.Bool.{eqb-true}
 use Rattle.std.proofs.lemmas.Result.{IfOk-weaker}
@@ -15,7 +16,4 @@ same_text c = elim c.if-is_empty.branch [
 ]
 
 pub returns : goal.returns
-returns c =
-    IfOk-weaker c.lay_out.result _ _
-    (λ laid e. e ∙ ap (λ n. laid_out_anew c.args.settings n (text_of c.if-is_empty.lines.items)) c.new-2.ensures ∙ ap (laid_out_anew c.args.settings 0) (same_text c))
-    c.lay_out.ensures
+returns c = grind (arith, common_steps, IfOk-weaker, same_text c)

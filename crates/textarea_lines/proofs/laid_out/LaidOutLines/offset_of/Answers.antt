@@ -1,3 +1,4 @@
+use Rattle.std.proofs.lemmas.Grind.{common_steps}
 use Rattle.std.proofs.Common.{◌≡◌, ◌≤◌, ◌∙◌, ap, arith, length, refl, subst, sym}
 use Rattle.std.specs.Str.{chars}
 use Rattle.textarea_text.specs.Offset.{offset_at}
@@ -21,9 +22,7 @@ column c =
 
 -- the lines that are kept are those of the text
 same : (c : After-as_str-line) → offset_at (lines_of c.self.inside.lines.items) c.args.place ≡ offset_at (lines c.args.self.now.text) c.args.place
-same c =
-    ap (λ rows. offset_at rows c.args.place) (sym (lines_held c.self.inside.lines.items c.self.invariant.held.stored.some))
-    ∙ ap (λ (l : LaidOut). offset_at (lines l.text) c.args.place) c.self.view_is
+same c = grind (arith, common_steps, lines_held c.self.inside.lines.items c.self.invariant.held.stored.some)
 
 pub index-requires : goal.index-requires
 index-requires c =
@@ -31,15 +30,10 @@ index-requires c =
     omega (arith, row_within c.self.inside.lines.items c.args.place here, c.self.inside.lines.ok.0)
 
 pub byte_offset_from-requires-clause-known : goal.byte_offset_from-requires-clause-known
-byte_offset_from-requires-clause-known c =
-    let found = c.self.inside.found in
-    omega (arith, column_within c.self.inside.lines.items (found.row, found.col) c.index.result.now c.self.invariant.place.place (rw c.if-self-place.true c.index.ensures), ap (λ t. length (chars t)) c.as_str-line.ensures.value)
+byte_offset_from-requires-clause-known c = grind (arith, common_steps, column_within)
 
 pub byte_offset_from-requires-clause-offset : goal.byte_offset_from-requires-clause-offset
-byte_offset_from-requires-clause-offset c =
-    let found = c.self.inside.found in
-    c.self.invariant.place.offset
-    ∙ sym (offset_read c.self.inside.lines.items (found.row, found.col) c.index.result.now c.as_str-line.result.now _ c.self.invariant.place.place (rw c.if-self-place.true c.index.ensures) c.as_str-line.ensures.value refl)
+byte_offset_from-requires-clause-offset c = grind (arith, common_steps, offset_read)
 
 pub byte_offset_from-requires-clause-column : goal.byte_offset_from-requires-clause-column
 byte_offset_from-requires-clause-column c = column (goal.at.byte_offset_from-requires-clause-column c).After-as_str-line

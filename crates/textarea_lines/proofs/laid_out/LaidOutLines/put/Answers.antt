@@ -31,7 +31,7 @@ held c =
           let cut = subst (λ (o : Option CutAnew). IsCutWhereOther laid settings o) w.in-Some.is c.requires in
           subst (λ (v : Inside). HoldsAll v settings laid) (sym w.self-inside-is)
           (record {
-            rows = rw (w.put_in.ensures.map, w.put_in.ensures.count) (holds_cut inside.settings settings items inside.size inside.count inside.map laid w.in-Some.cut before cut);
+            rows = holds_cut inside.settings settings items inside.size inside.count inside.map laid w.in-Some.cut before cut;
             measured = c.self.invariant.measured;
             kept = rw w.let_go.ensures tt;
             place = c.self.invariant.place;

@@ -1,4 +1,5 @@
-use Rattle.std.proofs.Common.{◌∙◌, ap, subst, sym}
+use Rattle.std.proofs.lemmas.Grind.{common_steps}
+use Rattle.std.proofs.Common.{arith, ◌∙◌, ap, subst, sym}
 use Rattle.textarea_lines.specs.Layout.{LaidOut, at_width, laid_out_with}
 use Rattle.textarea_lines.specs.View.{IsCutWhereOther, IsPrepared, PreparedView}
 use Rattle.textarea_lines.proofs.laid_out.LaidOutLines.put_width.Goals as goal
@@ -11,8 +12,4 @@ put-requires c =
     subst (λ (l : LaidOut). IsCutWhereOther laid (at_width l inside.inner_width) inside.cut) (sym c.put.view_is) ready.cut
 
 pub returns : goal.returns
-returns c =
-    let laid = c.args.self.now in
-    c.put-2.ensures
-    ∙ ap (λ (l : LaidOut). laid_out_with laid (at_width l c.prepared.inside.inner_width)) c.put.view_is
-    ∙ ap (λ (p : PreparedView). laid_out_with laid (at_width laid p.inner_width)) c.prepared.view_is
+returns c = grind (arith, common_steps)

@@ -1,4 +1,5 @@
-use Rattle.std.proofs.Common.{◌≡◌, ◌∙◌, ap, subst, sym}
+use Rattle.std.proofs.lemmas.Grind.{common_steps}
+use Rattle.std.proofs.Common.{arith, ◌≡◌, ◌∙◌, ap, subst, sym}
 use Rattle.textarea_lines.specs.Layout.{at_width, laid_out_with}
 use Rattle.textarea_screen_map.specs.Lent.{LentRows}
 use Rattle.textarea_lines.specs.View.{IsPrepared, IsViewOf, PreparedView}
@@ -26,9 +27,7 @@ held c =
     (holds_at inside.settings inside.lines.items inside.size inside.count inside.map laid width cut (record { rows = c.self.invariant.held; is = c.self.view_is }) ready.cut)
 
 pub new-requires : goal.new-requires
-new-requires c =
-    let inside = c.self.inside in
-    is_lent _ inside.lines.items c.as_slice.result.now inside.size _ c.match-prepared.map.now _ (held c) c.as_slice.ensures.value
+new-requires c = grind (arith, common_steps, is_lent, held c)
 
 pub returns : goal.returns
 returns c =

@@ -7,10 +7,10 @@ use Rattle.textarea_lines.proofs.laid_out.LaidOutLinesClone.clone.Goals as goal
 pub invariant_of-result : goal.invariant_of-result
 invariant_of-result c =
     let inside = c.self.inside in
-    let copies = c.in_ok-lines.lines.items in
-    let same = lines_copied inside.lines.items copies c.in_ok-lines.ensures.cases.0 in
+    let copies = c.in_ok-clone.field-0.items in
+    let same = lines_copied inside.lines.items copies c.in_ok-clone.ensures.cases.0 in
     record {
-      held = holds_copied inside.settings inside.lines.items copies inside.size inside.map c.in_ok-cut.cut.map c.self.invariant.held same (c.in_ok-cut.ensures.rows, c.in_ok-cut.ensures.wrapping);
+      held = holds_copied inside.settings inside.lines.items copies inside.size inside.map c.in_ok-clone-2.field-0 c.self.invariant.held same c.in_ok-clone-2.ensures.cases;
       measured = rw same c.self.invariant.measured;
       kept = tt;
       place = found_copied inside.lines.items copies inside.found _ same c.new.ensures c.self.invariant.place;
@@ -19,7 +19,7 @@ invariant_of-result c =
 pub returns : goal.returns
 returns c =
     let inside = c.self.inside in
-    let copies = c.in_ok-lines.lines.items in
+    let copies = c.in_ok-clone.field-0.items in
     record {
-      cases = seen_copied inside.settings inside.lines.items copies inside.count c.in_ok-cut.cut.count inside.map.rows c.in_ok-cut.cut.map.rows (lines_copied inside.lines.items copies c.in_ok-lines.ensures.cases.0) c.in_ok-cut.ensures.count c.in_ok-cut.ensures.rows ∙ c.self.view_is;
+      cases = seen_copied inside.settings inside.lines.items copies inside.count c.in_ok-clone-3.field-0 inside.map.rows c.in_ok-clone-2.field-0.rows (lines_copied inside.lines.items copies c.in_ok-clone.ensures.cases.0) c.in_ok-clone-3.ensures.cases c.in_ok-clone-2.ensures.cases.0 ∙ c.self.view_is;
     }

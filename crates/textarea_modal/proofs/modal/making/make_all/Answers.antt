@@ -1,22 +1,22 @@
 use Rattle.std.proofs.Common.{◌≡◌, ◌<◌, ℕ, List, length, get_or, map, subst, sym}
 use Rattle.std.proofs.lemmas.List.{get_or-map, length-map}
-use Rattle.textarea_data.specs.declared.cursor.CursorMove.TheVariants.{Forward}
 use Rattle.textarea_modal.specs.Calls.{call_of}
-use Rattle.textarea_modal.specs.declared.calls.KeyCall.{KeyCall}
-use Rattle.textarea_modal.specs.declared.calls.KeyCall.TheVariants.{Move}
+use Rattle.textarea_modal.specs.declared.step.KeyCall.{KeyCall}
+use Rattle.textarea_modal.specs.declared.step.KeyCall.TheVariants.{Edit}
+use Rattle.textarea_calls.specs.declared.kind.Edit.TheVariants.{InsertTab}
 use Rattle.textarea_modal.proofs.Runs.{draws_nothing, made_more, on_err, refused_here}
 use Rattle.textarea_modal.proofs.modal.making.make_all.Goals as goal
 
 -- the call at an index
 abbrev at : List KeyCall → ℕ → KeyCall
-at calls index = get_or calls index (Move Forward)
+at calls index = get_or calls index (Edit InsertTab)
 
 within : (calls : List KeyCall) (index : ℕ) → index < length calls → index < length (map call_of calls)
 within calls index h = subst (λ (n : ℕ). index < n) (sym (length-map calls call_of)) h
 
 is_call : (calls : List KeyCall) (index : ℕ) → index < length calls → call_of (at calls index) ≡ get_or (map call_of calls) index (call_of (at calls index))
 is_call calls index h =
-    sym (get_or-map call_of calls index (Move Forward) (call_of (at calls index)) h)
+    sym (get_or-map call_of calls index (Edit InsertTab) (call_of (at calls index)) h)
 
 pub returns-in_err-make-clause-err : goal.returns-in_err-make-clause-err
 returns-in_err-make-clause-err c =

@@ -1,4 +1,5 @@
-use Rattle.std.proofs.Common.{List, ◌∷◌, ◌++◌, refl}
+use Rattle.std.proofs.lemmas.Grind.{common_steps}
+use Rattle.std.proofs.Common.{arith, List, ◌∷◌, ◌++◌, refl}
 use Rattle.std.proofs.lemmas.Bool.{cond-false}
 use Rattle.std.proofs.lemmas.Result.{on_ok_weaker, on_err_weaker}
 use Rattle.textarea_screen.specs.Block.{ShownBlock, shown_block}
@@ -13,9 +14,7 @@ use Rattle.textarea_paint.proofs.paint.block.draw_block.Goals as goal
 
 pub returns-then-is_empty-clause-ok : goal.returns-then-is_empty-clause-ok
 unfolding block_cell
-returns-then-is_empty-clause-ok c =
-    Changes-none c.args.buffer.now (block_cell (shown_block c.args.block.now) c.args.area)
-    (λ x y cell. cond-false (contains c.args.area x y) _ _ (c.is_empty.ensures.cells c.if-is_empty.true x y))
+returns-then-is_empty-clause-ok c = grind (arith, common_steps, Changes-none, cond-false)
 
 abbrev base : ShownBlock → Change
 base block x y cell = styled block.style cell

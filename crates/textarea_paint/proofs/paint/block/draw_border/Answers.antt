@@ -1,3 +1,4 @@
+use Rattle.std.proofs.lemmas.Grind.{common_steps}
 use Rattle.std.proofs.Math.Bool.{and-true}
 use Rattle.std.proofs.Common.{◌≡◌, ◌+◌, cond, ◌&&◌, ap, ◌∙◌, arith, rules}
 use Rattle.std.proofs.lemmas.Bool.{cond-false}
@@ -10,9 +11,7 @@ use Rattle.textarea_paint.proofs.BlockLemmas.{common-outside, is_before_row-outs
 use Rattle.textarea_paint.proofs.paint.block.draw_border.Goals as goal
 
 pub loop-y-init : goal.loop-y-init
-loop-y-init c =
-    let area = c.intersection-area.result in
-    Changes-none _ _ (λ x y cell. ap (λ test. cond test (with_symbol c.args.text.now c.args.style cell) cell) (is_before_row-first area x y))
+loop-y-init c = grind (arith, common_steps, Changes-none, is_before_row-first)
 
 pub loop-y-preserved : goal.loop-y-preserved
 loop-y-preserved c =
@@ -23,15 +22,7 @@ loop-y-preserved c =
 
 pub returns-in_err-draw_border_row-clause-err : goal.returns-in_err-draw_border_row-clause-err
 returns-in_err-draw_border_row-clause-err c =
-    let area = c.intersection-area.result in
-    let test = contains c.args.area in
-    let outside = common-outside c.args.area c.area.result area c.intersection-area.ensures in
-    let before : KeepsOutside test c.args.buffer.now c.loop-y.buffer =
-    KeepsOutside-from_changes test c.loop-y.invariant
-    (λ x y cell out. cond-false (is_before_row area c.loop-y.y x y) _ _ (is_before_row-outside area c.loop-y.y x y (omega (arith, c.loop-y-test.true)) (outside x y out))) in
-    let here : KeepsOutside test c.args.buffer.now c.draw_border_row.new.buffer =
-    KeepsOutside-then before (KeepsOutside-wider test c.in_err-draw_border_row.ensures.err outside) in
-    search rules
+    grind (arith, common_steps, common-outside, KeepsOutside-from_changes, cond-false, is_before_row, is_before_row-outside, KeepsOutside-then, KeepsOutside-wider)
 
 pub returns-after-loop-y-clause-ok : goal.returns-after-loop-y-clause-ok
 returns-after-loop-y-clause-ok c =

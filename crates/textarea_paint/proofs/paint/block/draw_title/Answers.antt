@@ -1,3 +1,4 @@
+use Rattle.std.proofs.lemmas.Grind.{common_steps}
 use Rattle.std.proofs.Common.{◌≡◌, ◌+◌, ◌-◌, sym, ap, ap₂, ◌∙◌, arith}
 use Rattle.std.specs.Option.{option_map}
 use Rattle.std.proofs.lemmas.Result.{on_ok_weaker, on_err_weaker}
@@ -17,13 +18,7 @@ use Rattle.textarea_paint.proofs.paint.block.draw_title.Goals as goal
 cells_are : (c : goal.After-draw_left) →
     (let cells : RowCells = record { x = c.args.area.x + c.side_width-left.result; y = c.args.area.y; width = c.saturating_sub-in-Some.result } in cells)
     ≡ title_cells c.args.block.now.borders c.args.area
-cells_are c =
-    let borders = c.args.block.now.borders in
-    let left : c.side_width-left.result ≡ inset_of (has_border borders left_side) 0 =
-    c.side_width-left.ensures ∙ ap (λ b. inset_of b 0) c.contains.ensures in
-    let right : c.side_width-right.result ≡ inset_of (has_border borders right_side) 0 =
-    c.side_width-right.ensures ∙ ap (λ b. inset_of b 0) c.contains-2.ensures in
-    title_cells-are borders c.args.area _ _ (omega (arith, left)) (c.saturating_sub-in-Some.ensures ∙ ap₂ (λ s r. s - r) (c.saturating_sub.ensures ∙ ap (λ n. c.args.area.width - n) left) right)
+cells_are c = grind (arith, common_steps, title_cells-are)
 
 pub returns-in-Some-clause-ok : goal.returns-in-Some-clause-ok
 returns-in-Some-clause-ok c =

@@ -1,3 +1,4 @@
+use Rattle.std.proofs.lemmas.Grind.{common_steps}
 use Rattle.std.proofs.Common.{◌+◌, cond, eqb, ap, ◌∙◌, arith, rules}
 use Rattle.std.proofs.lemmas.Bool.{cond-false}
 use Rattle.textarea_screen.specs.Buffer.{KeepsOutside}
@@ -34,11 +35,4 @@ returns-clause-drawn c =
 
 pub returns-in_err-put-clause-err : goal.returns-in_err-put-clause-err
 returns-in_err-put-clause-err c =
-    let test = is_between c.args.y c.args.x c.args.end in
-    let kept : KeepsOutside test c.args.buffer.now c.loop-column.buffer =
-    KeepsOutside-from_changes test c.loop-column.invariant.drawn
-    (λ column row cell outside.
-    cond-false (is_between c.args.y c.max-column.result c.loop-column.column column row) _ _
-    (between_narrower c.args.y c.args.x c.args.end c.max-column.result c.loop-column.column column row (omega arith) (omega arith) outside)) in
-    let here : KeepsOutside test c.args.buffer.now c.put.new.self = KeepsOutside-then kept (KeepsOutside-same test c.in_err-put.ensures.err) in
-    search rules
+    grind (arith, common_steps, KeepsOutside-from_changes, cond-false, between_narrower, KeepsOutside-then, KeepsOutside-same)

@@ -1,12 +1,11 @@
+use Rattle.std.proofs.lemmas.Grind.{common_steps}
 use Rattle.std.proofs.Common.{◌^◌, ◌<◌, length, arith, rules}
 use Rattle.textarea_paint.specs.Columns.{columns_of}
 use Rattle.textarea_paint.proofs.ColumnLemmas.{columns-le}
 use Rattle.textarea_paint.proofs.paint.columns.cluster_columns.Goals as goal
 
 pub sum_of_columns-requires : goal.sum_of_columns-requires
-sum_of_columns-requires c =
-    let size : length c.args.cluster.now < 2 ^ 63 = search rules in
-    omega (arith, columns-le c.args.cluster.now c.utf8.cluster)
+sum_of_columns-requires c = grind (arith, common_steps, columns-le c.args.cluster.now c.utf8.cluster)
 
 pub returns-then-has_control : goal.returns-then-has_control
 unfolding columns_of

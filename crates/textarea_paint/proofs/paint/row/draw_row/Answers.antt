@@ -1,3 +1,4 @@
+use Rattle.std.proofs.lemmas.Grind.{common_steps}
 use Rattle.std.proofs.Common.{refl, sym, ap, ◌∙◌, arith}
 use Rattle.std.proofs.lemmas.Result.{on_ok_weaker, on_err_weaker}
 use Rattle.textarea_screen.specs.Rect.{contains}
@@ -30,18 +31,14 @@ returns-in-Left-clause-ok c =
 
 pub returns-in-Left-clause-err : goal.returns-in-Left-clause-err
 returns-in-Left-clause-err c =
-    on_err_weaker c.draw_left.result
-    (kept_outside c.args.rows c.area.result c.intersection-seen.result c.args.y c.intersection-seen.ensures (sym c.contains.ensures ∙ c.if-not-contains.false))
-    c.draw_left.ensures.err
+    grind (arith, common_steps, on_err_weaker c.draw_left.result (kept_outside c.args.rows c.area.result c.intersection-seen.result c.args.y c.intersection-seen.ensures (sym c.contains.ensures ∙ c.if-not-contains.false)) c.draw_left.ensures.err, kept_outside c.args.rows c.area.result c.intersection-seen.result c.args.y c.intersection-seen.ensures (sym c.contains.ensures ∙ c.if-not-contains.false))
 
 pub returns-in-Left-clause-unseen : goal.returns-in-Left-clause-unseen
 returns-in-Left-clause-unseen c none =
     absurd (not_none c.args.rows c.area.result c.intersection-seen.result c.args.y c.intersection-seen.ensures (sym c.contains.ensures ∙ c.if-not-contains.false) c.args.buffer.now c.area.ensures none)
 
 pub draw_fitting-requires-clause-within : goal.draw_fitting-requires-clause-within
-draw_fitting-requires-clause-within c =
-    let rows = c.args.rows in
-    omega (arith, c.row_start-start.ensures, row_start-within rows.alignment rows.area.width (row_clusters rows.style (shown_line c.args.line.now)))
+draw_fitting-requires-clause-within c = grind (arith, common_steps, row_start-within)
 
 pub returns-in_default-clause-ok : goal.returns-in_default-clause-ok
 returns-in_default-clause-ok c =
@@ -56,9 +53,7 @@ returns-in_default-clause-ok c =
 
 pub returns-in_default-clause-err : goal.returns-in_default-clause-err
 returns-in_default-clause-err c =
-    on_err_weaker c.draw_fitting.result
-    (kept_outside c.args.rows c.area.result c.intersection-seen.result c.args.y c.intersection-seen.ensures (sym c.contains.ensures ∙ c.if-not-contains.false))
-    c.draw_fitting.ensures.err
+    grind (arith, common_steps, on_err_weaker c.draw_fitting.result (kept_outside c.args.rows c.area.result c.intersection-seen.result c.args.y c.intersection-seen.ensures (sym c.contains.ensures ∙ c.if-not-contains.false)) c.draw_fitting.ensures.err, kept_outside c.args.rows c.area.result c.intersection-seen.result c.args.y c.intersection-seen.ensures (sym c.contains.ensures ∙ c.if-not-contains.false))
 
 pub returns-in_default-clause-unseen : goal.returns-in_default-clause-unseen
 returns-in_default-clause-unseen c none =

@@ -1,3 +1,4 @@
+use Rattle.std.proofs.lemmas.Grind.{common_steps}
 use Rattle.std.proofs.Common.{◌-◌, sym, ap, subst, ◌∙◌, arith}
 use Rattle.textarea_screen.specs.Text.{shown_line}
 use Rattle.textarea_paint.specs.Clusters.{row_clusters}
@@ -8,8 +9,7 @@ use Rattle.textarea_paint.proofs.paint.row.fitting_columns.Goals as goal
 
 pub loop-cluster-init : goal.loop-cluster-init
 loop-cluster-init c =
-    measuring_start c.args.width (row_clusters c.args.style (shown_line c.args.line.now)) _
-    (ap clusters_left c.into_iter-cluster-iterator.ensures.into_iter_gives ∙ c.new-cluster-items.ensures)
+    grind (arith, common_steps, measuring_start c.args.width (row_clusters c.args.style (shown_line c.args.line.now)) _ (ap clusters_left c.into_iter-cluster-iterator.ensures.into_iter_gives ∙ c.new-cluster-items.ensures))
 
 pub loop-cluster-preserved-then-columns-from : goal.loop-cluster-preserved-then-columns-from
 loop-cluster-preserved-then-columns-from c =

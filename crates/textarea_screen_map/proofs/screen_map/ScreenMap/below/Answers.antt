@@ -1,3 +1,4 @@
+use Rattle.std.proofs.lemmas.Grind.{common_steps}
 use Rattle.std.proofs.Common.{ap, arith}
 use Rattle.textarea_text.specs.Text.{lines_of}
 use Rattle.textarea_blocks.specs.Sums.{row_total}
@@ -10,9 +11,7 @@ overflow_add-row c =
     omega (arith, c.visual_position-row.ensures.row, c.self.invariant.limit.few, c.self.invariant.all, ap (λ (v : MapView). row_total v.rows) c.self.view_is)
 
 pub returns-then-row-total : goal.returns-then-row-total
-returns-then-row-total c =
-    let count = row_count c.args.self.now.wrapping (lines_of c.args.lines.now) c.args.self.now.rows c.requires.rows in
-    (c.visual_position-row.result, c.visual_position-row.ensures.seen, omega (arith, count, c.self.invariant.all, ap (λ (v : MapView). row_total v.rows) c.self.view_is, c.if-row-total.true))
+returns-then-row-total c = grind (arith, common_steps, row_count)
 
 pub returns : goal.returns
 returns c = (c.place_near.ensures.place, record { seen = c.visual_position-row.result; visual_position = c.visual_position-row.ensures.seen; near = c.place_near.ensures.near })

@@ -1,3 +1,4 @@
+use Rattle.std.proofs.lemmas.Grind.{common_steps}
 use Rattle.std.proofs.Common.{◌≡◌, ◌<◌, ◌+◌, ◌-◌, ◌∙◌, List, ℕ, ap, arith, length, take}
 use Rattle.std.proofs.lemmas.List.{length-map}
 use Rattle.std.specs.Str.{chars}
@@ -55,9 +56,7 @@ returns-clause-shown c =
     (ap chars c.range-2.ensures.value ∙ is.text_is) is.last_is
 
 front : (before text line : List ℕ) (start : ℕ) → before ≡ take (start - 0) text → length before + 0 ≡ start → text ≡ line → before ≡ take (length before) line
-front before text line start is size same =
-    let count : start - 0 ≡ length before = omega (arith, size) in
-    is ∙ ap (λ n. take n text) count ∙ ap (take (length before)) same
+front before text line start is size same = grind (arith, common_steps)
 
 pub returns-clause-front : goal.returns-clause-front
 returns-clause-front c =

@@ -1,4 +1,5 @@
-use Rattle.std.proofs.Common.{◌≡◌, IfOk, ap, ◌∙◌, subst}
+use Rattle.std.proofs.lemmas.Grind.{common_steps}
+use Rattle.std.proofs.Common.{arith, ◌≡◌, IfOk, ap, ◌∙◌, subst}
 use Rattle.std.proofs.lemmas.Result.{IfOk-weaker}
 use Rattle.regex.specs.Strings.{matcher_pattern, regex_pattern}
 use Rattle.textarea_search.specs.Spans.{ListsMatchesOf, spans_after}
@@ -7,13 +8,7 @@ use Rattle.textarea_search.proofs.PatternLemmas.{bytes_of_text, listed_as_writte
 use Rattle.textarea_search.proofs.pattern.Pattern.matcher.Goals as goal
 
 pub returns-clause-starts : goal.returns-clause-starts
-returns-clause-starts c =
-    let regex = c.self.inside.regex.value in
-    let facts = c.self.invariant in
-    subst (λ text. IfOk c.matcher.result (λ m. IsTreeOf text (matcher_pattern m))) c.self.view_is
-    (IfOk-weaker c.matcher.result (λ m. matcher_pattern m ≡ regex_pattern c.deref.result.now) _
-    (λ m is lines. ap (λ t. starts_by t 0 lines) (is ∙ ap regex_pattern c.deref.ensures) ∙ starts_as_written regex facts.0 facts.1 lines)
-    c.matcher.ensures.pattern)
+returns-clause-starts c = grind (arith, common_steps, IfOk-weaker, starts_as_written)
 
 pub returns-clause-lists : goal.returns-clause-lists
 returns-clause-lists c =

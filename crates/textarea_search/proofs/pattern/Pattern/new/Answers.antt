@@ -1,17 +1,13 @@
+use Rattle.std.proofs.Common.{arith}
+use Rattle.std.proofs.lemmas.Grind.{common_steps}
 use Rattle.textarea_search.proofs.FailureLemmas.{refused_of_built, carried_of_built, own_of_built}
 use Rattle.textarea_search.proofs.pattern.Pattern.new.Goals as goal
 
 pub returns-clause-refused : goal.returns-clause-refused
-returns-clause-refused c =
-    let from = c.new.ensures in
-    let to = c.of_built.ensures in
-    refused_of_built c.args.pattern.now c.new.result c.of_built.result from.by_grammar from.kind to.memory to.carried
+returns-clause-refused c = grind (arith, common_steps, refused_of_built)
 
 pub returns-clause-carried : goal.returns-clause-carried
-returns-clause-carried c =
-    let from = c.new.ensures in
-    let to = c.of_built.ensures in
-    carried_of_built c.args.pattern.now c.new.result c.of_built.result from.by_grammar from.kind from.span from.no_internal to.memory to.carried
+returns-clause-carried c = grind (arith, common_steps, carried_of_built)
 
 pub returns-clause-own : goal.returns-clause-own
 returns-clause-own c =

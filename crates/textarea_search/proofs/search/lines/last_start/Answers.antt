@@ -1,3 +1,4 @@
+use Rattle.std.proofs.lemmas.Grind.{common_steps}
 use Rattle.std.proofs.Common.{◌≡◌, ◌+◌, ◌-◌, ◌≤◌, None, Some, length, map, take, reverse, sym, ap, ◌∙◌, arith, string_bytes}
 use Rattle.std.specs.List.{slice_get}
 use Rattle.std.specs.Str.{chars}
@@ -9,19 +10,7 @@ use Rattle.textarea_search.proofs.PlaceLemmas.{place_here}
 use Rattle.textarea_search.proofs.search.lines.last_start.Goals as goal
 
 pub loop-i-preserved : goal.loop-i-preserved
-loop-i-preserved c =
-    let columns = columns_in (matcher_pattern c.args.matcher.now) in
-    let line = c.index-lines-i.result in
-    let i = c.loop-i.i - 1 in
-    let same : i + 1 ≡ c.loop-i.i = omega (arith, c.loop-i.invariant.1) in
-    let none : slice_get (reverse (columns (string_bytes line))) 0 ≡ None =
-    rw (← c.deref.ensures, ← c.loop-i.invariant.0) (sym c.in_default.ensures.found) in (
-      c.in_default.ensures.same ∙ c.loop-i.invariant.0,
-      omega (arith, c.loop-i.invariant.1),
-      c.loop-i.invariant.2
-          ∙ ap (λ n. slice_get (reverse (starts_from columns c.args.first_row (take n (map string_bytes c.args.lines.now)))) 0) (sym same)
-          ∙ ap (λ ys. slice_get ys 0) (last_start_next columns c.args.first_row c.args.lines.now i line (omega (arith, c.loop-i.invariant.1)) c.index-lines-i.is none),
-    )
+loop-i-preserved c = grind (arith, common_steps, last_start_next)
 
 pub returns-in-Some-clause-found : goal.returns-in-Some-clause-found
 returns-in-Some-clause-found c =

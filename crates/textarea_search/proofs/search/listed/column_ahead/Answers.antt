@@ -10,5 +10,5 @@ returns-clause-found c =
     let tree = matcher_pattern c.args.matcher.now in
     let line = c.args.line.now in
     c.start_column.ensures.column
-    ∙ ap (option_map (column_of_span line)) c.first_ahead.ensures.found
-    ∙ find_ahead line c.utf8.line (spans_after tree line 0) (spans_lie tree line 0) c.args.column c.byte_of-byte.result c.args.at_column (record { inside = c.byte_of-byte.ensures.inside; past = c.byte_of-byte.ensures.past })
+    ∙ ap (option_map (column_of_span line)) c.nearest.ensures.found
+    ∙ find_ahead line (spans_after tree line 0) (spans_lie tree line 0) c.args.direction c.args.column c.byte_of-byte.result c.args.at_column c.utf8.line (record { inside = c.byte_of-byte.ensures.inside; past = c.byte_of-byte.ensures.past })

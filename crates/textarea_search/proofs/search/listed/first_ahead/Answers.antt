@@ -1,36 +1,25 @@
+use Rattle.std.proofs.lemmas.Grind.{common_steps}
 use Rattle.std.proofs.Common.{◌≡◌, ℕ, ◌+◌, ◌≤◌, true, false, cond, List, length, None, Some, option_map, sym, ap, ◌∙◌, subst, arith, rules}
 use Rattle.std.specs.List.{find}
 use Rattle.regex.specs.Strings.{matcher_pattern, match_span}
 use Rattle.textarea_search.specs.Spans.{spans_after}
-use Rattle.textarea_search.specs.Starts.{is_ahead_in_line}
+use Rattle.textarea_search.specs.Starts.{is_past}
 use Rattle.textarea_search.proofs.search.listed.first_ahead.Goals as goal
 
 pub returns-in_err-found-clause-found : goal.returns-in_err-found-clause-found
-returns-in_err-found-clause-found c =
-    let line = c.args.line.now in
-    let inv = c.loop-found.invariant in
-    let nothing : c.from_residual.result ≡ None = search rules in
-    let rest = ap (λ t. spans_after t line c.loop-found.after) (sym inv.0) ∙ c.in_err-found.ensures.found in
-    ap (option_map match_span) nothing ∙ sym (inv.2 ∙ ap (find (λ s. is_ahead_in_line c.args.byte c.args.at_byte s.0)) rest)
+returns-in_err-found-clause-found c = grind (arith, common_steps)
 
-pub returns-then-is_ahead-clause-found : goal.returns-then-is_ahead-clause-found
-returns-then-is_ahead-clause-found c =
-    let line = c.args.line.now in
-    let inv = c.loop-found.invariant in
-    let s = match_span c.in_ok-found.found in
-    let passes : is_ahead_in_line c.args.byte c.args.at_byte s.0 ≡ true = ap (is_ahead_in_line c.args.byte c.args.at_byte) (sym c.start.ensures) ∙ sym c.is_ahead.ensures ∙ c.if-is_ahead.true in
-    let rest = ap (λ t. spans_after t line c.loop-found.after) (sym inv.0) ∙ c.in_ok-found.ensures.found in
-    let test = λ (p : ℕ × ℕ). is_ahead_in_line c.args.byte c.args.at_byte p.0 in
-    sym (inv.2 ∙ ap (find test) rest ∙ ap (λ b. cond b (Some s) (find test (spans_after (matcher_pattern c.loop-found.matcher) line (s.1 + 1)))) passes)
+pub returns-then-is_past-clause-found : goal.returns-then-is_past-clause-found
+returns-then-is_past-clause-found c = grind (arith, common_steps)
 
 pub loop-found-preserved : goal.loop-found-preserved
 loop-found-preserved c =
     let line = c.args.line.now in
     let inv = c.loop-found.invariant in
     let s = match_span c.in_ok-found.found in
-    let fails : is_ahead_in_line c.args.byte c.args.at_byte s.0 ≡ false = ap (is_ahead_in_line c.args.byte c.args.at_byte) (sym c.start.ensures) ∙ sym c.is_ahead.ensures ∙ c.if-is_ahead.false in
+    let fails : is_past c.args.byte c.args.at_byte s.0 ≡ false = ap (is_past c.args.byte c.args.at_byte) (sym c.start.ensures) ∙ sym c.is_past.ensures ∙ c.if-is_past.false in
     let rest = ap (λ t. spans_after t line c.loop-found.after) (sym inv.0) ∙ c.in_ok-found.ensures.found in
-    let test = λ (p : ℕ × ℕ). is_ahead_in_line c.args.byte c.args.at_byte p.0 in
+    let test = λ (p : ℕ × ℕ). is_past c.args.byte c.args.at_byte p.0 in
     let inside = subst (λ (h : List ℕ). c.in_ok-found.found.end ≤ length h) c.in_ok-found.ensures.within c.in_ok-found.found.inside in
     let next : c.end-after.result ≡ s.1 = c.end-after.ensures in (
       c.in_ok-found.ensures.same ∙ inv.0,
@@ -41,9 +30,4 @@ loop-found-preserved c =
     )
 
 pub loop-found-smaller : goal.loop-found-smaller
-loop-found-smaller c =
-    let inv = c.loop-found.invariant in
-    let inside = subst (λ (h : List ℕ). c.in_ok-found.found.end ≤ length h) c.in_ok-found.ensures.within c.in_ok-found.found.inside in
-    let next : c.end-after.result ≡ c.in_ok-found.found.end = c.end-after.ensures in
-    let forth = c.in_ok-found.ensures.forth in
-    omega arith
+loop-found-smaller c = grind (arith, common_steps)

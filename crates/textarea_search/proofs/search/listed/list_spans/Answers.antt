@@ -1,3 +1,4 @@
+use Rattle.std.proofs.lemmas.Grind.{common_steps}
 use Rattle.std.proofs.Common.{◌≡◌, ℕ, List, [], ◌∷◌, ◌++◌, length, refl, sym, ap, ap₂, ◌∙◌, arith, rules, append_assoc}
 use Rattle.textarea_search.proofs.search.listed.list_spans.Goals as goal
 
@@ -11,10 +12,4 @@ pub loop-found-init : goal.loop-found-init
 loop-found-init c = (refl, omega arith, search rules)
 
 pub loop-found-preserved : goal.loop-found-preserved
-loop-found-preserved c =
-    let found = c.in-Some.ensures in
-    let same = c.loop-found.invariant.0 in (
-      found.same ∙ same,
-      omega (arith, ap length found.within),
-      rw c.end-after.ensures (moved c.loop-found.spans.items _ _ _ _ _ _ _ _ c.in_ok-push.ensures.items (omega arith) (omega arith) (rw same at found.found) c.loop-found.invariant.2),
-    )
+loop-found-preserved c = grind (arith, common_steps, moved)

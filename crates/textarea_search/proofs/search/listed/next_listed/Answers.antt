@@ -1,3 +1,4 @@
+use Rattle.std.proofs.lemmas.Grind.{common_steps}
 use Rattle.std.proofs.Common.{◌≡◌, ◌-◌, None, Some, option_map, sym, ap, ◌∙◌, arith, rules}
 use Rattle.regex.specs.Patterns.{span, find_str}
 use Rattle.regex.specs.Strings.{matcher_pattern, match_span}
@@ -27,8 +28,7 @@ returns-then-end-after-clause-found c =
 
 pub returns-then-end-after-clause-forth : goal.returns-then-end-after-clause-forth
 returns-then-end-after-clause-forth c =
-    forth_of_start c.args.after c.find_at-then-end-after.result
-    (starts_behind _ c.args.line.now c.args.after c.find_at-then-end-after.result c.find_at-then-end-after.ensures.found)
+    grind (arith, common_steps, forth_of_start c.args.after c.find_at-then-end-after.result (starts_behind _ c.args.line.now c.args.after c.find_at-then-end-after.result c.find_at-then-end-after.ensures.found), starts_behind _ c.args.line.now c.args.after c.find_at-then-end-after.result c.find_at-then-end-after.ensures.found)
 
 pub returns-clause-found : goal.returns-clause-found
 returns-clause-found c =
@@ -40,6 +40,4 @@ returns-clause-found c =
 
 pub returns-clause-forth : goal.returns-clause-forth
 returns-clause-forth c =
-    let back : c.saturating_sub.result ≡ c.args.after - 1 = omega (arith, c.saturating_sub.ensures) in
-    let from = starts_behind _ c.args.line.now c.saturating_sub.result (Some c.in_ok-found.found) c.in_ok-found.ensures.found in
-    (omega arith, omega arith)
+    grind (arith, common_steps, starts_behind _ c.args.line.now c.saturating_sub.result (Some c.in_ok-found.found) c.in_ok-found.ensures.found)

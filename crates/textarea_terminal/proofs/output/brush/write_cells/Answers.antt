@@ -23,10 +23,10 @@ loop-place-init c =
 
 pub loop-place-preserved : goal.loop-place-preserved
 loop-place-preserved c = (
-  Wrote-then (Reaches c.args.start c.in_ok-brush.brush c.args.columns (c.loop-place.place + 1) (map shown_cell c.args.old.now) (map shown_cell c.args.new.now))
-      c.loop-place.invariant.0 (rw c.loop-place.invariant.1 at c.in_ok-brush.ensures)
+  Wrote-then (Reaches c.args.start c.write_change.new.brush c.args.columns (c.loop-place.place + 1) (map shown_cell c.args.old.now) (map shown_cell c.args.new.now))
+      c.loop-place.invariant.0 (rw c.loop-place.invariant.1 at c.in_ok-write_change.ensures)
       (λ xs ys reaches change.
-      Reaches-step c.args.start c.loop-place.brush c.in_ok-brush.brush c.args.columns c.loop-place.place c.args.old.now c.args.new.now c.index-old-place.result
+      Reaches-step c.args.start c.loop-place.brush c.write_change.new.brush c.args.columns c.loop-place.place c.args.old.now c.args.new.now c.index-old-place.result
       c.index-new-place.result xs ys c.index-old-place.is c.index-new-place.is c.requires.length (omega arith) c.requires.old_whole c.requires.new_whole change reaches),
   omega (arith, c.next-spot.ensures.place, c.loop-place.invariant.1),
   c.next-spot.ensures.is,

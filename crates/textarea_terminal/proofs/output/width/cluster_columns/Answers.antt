@@ -1,4 +1,4 @@
-use Rattle.std.proofs.Common.{rules, sym, ap, ◌∙◌}
+use Rattle.std.proofs.Common.{sym, ap, ◌∙◌}
 use Rattle.textarea_terminal.specs.PaintCells.{cluster_columns}
 use Rattle.textarea_terminal.proofs.ScreenPlain.{cluster_columns-plain}
 use Rattle.textarea_terminal.proofs.output.width.cluster_columns.Goals as goal
@@ -7,11 +7,3 @@ pub returns-then-is_plain : goal.returns-then-is_plain
 returns-then-is_plain c =
     let plain = c.is_plain.ensures c.if-is_plain.true in
     record { value = sym (ap cluster_columns (sym c.as_bytes.ensures.value) ∙ cluster_columns-plain c.as_bytes.result.now plain.0 plain.1) }
-
-pub returns-then-is_cluster : goal.returns-then-is_cluster
-unfolding cluster_columns
-returns-then-is_cluster c = search rules
-
-pub returns-else-is_cluster : goal.returns-else-is_cluster
-unfolding cluster_columns
-returns-else-is_cluster c = search rules

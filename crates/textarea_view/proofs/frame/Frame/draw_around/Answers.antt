@@ -1,9 +1,6 @@
-use Rattle.textarea_screen.specs.Block.{shown_block}
+use Rattle.textarea_view.specs.Prelude.{shown_block, ShownBlock, Changes, block_change}
 use Rattle.textarea_view.proofs.Layers.{around_outside, either}
 use Rattle.std.proofs.Common.{Option, OnOk, subst}
-use Rattle.textarea_screen.specs.Block.{ShownBlock}
-use Rattle.textarea_screen.specs.Buffer.{Changes}
-use Rattle.textarea_view.specs.Cells.{block_change}
 use Rattle.textarea_view.proofs.frame.Frame.draw_around.Goals as goal
 
 pub returns-in-Some-clause-outside : goal.returns-in-Some-clause-outside

@@ -1,10 +1,5 @@
 use Rattle.std.proofs.Common.{◌≡◌, ◌-◌, ℕ, Bool, true, false, None, Some, if◌then◌else◌, ap, refl, sym, subst, ◌∙◌}
-use Rattle.textarea_blocks.specs.Sums.{row_total}
-use Rattle.textarea_screen.specs.Rect.{contains}
-use Rattle.textarea_view.specs.declared.frame.Frame.TheInside.{Inside}
-use Rattle.textarea_view.specs.Frame.{FrameState}
-use Rattle.textarea_view.specs.Hit.{IsHitBy, IsHitInRows, IsHitWith}
-use Rattle.textarea_view.specs.Caret.{hit_row}
+use Rattle.textarea_view.specs.Prelude.{row_total, contains, Inside, FrameState, IsHitBy, IsHitInRows, IsHitWith, hit_row}
 use Rattle.textarea_view.proofs.frame.Frame.hit.Goals as goal
 
 inside_of : (b : Bool) (n m : ℕ) → (if b then Some n else None) ≡ Some m → b ≡ true

@@ -1,9 +1,6 @@
 use Rattle.std.proofs.Common.{◌∷◌, List, length, get_or, map, ap, ◌∙◌, arith}
 use Rattle.std.proofs.lemmas.List.{take_all}
-use Rattle.textarea_screen.specs.Text.{ShownLine, ShownSpan, shown_content, shown_span}
-use Rattle.textarea_screen.specs.declared.screen.style.Style.{Style}
-use Rattle.textarea_screen.specs.declared.screen.text.Span.{Span}
-use Rattle.textarea_view.specs.Placeholder.{blank, lent_span}
+use Rattle.textarea_view.specs.Prelude.{ShownLine, ShownSpan, shown_content, shown_span, Style, Span, blank, lent_span}
 use Rattle.textarea_view.proofs.Placeholder.{lent_from, lent_more}
 use Rattle.textarea_view.proofs.scene.placeholder.behind_blank.Goals as goal
 

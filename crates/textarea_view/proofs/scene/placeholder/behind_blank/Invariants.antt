@@ -1,6 +1,5 @@
 use Rattle.std.proofs.Common.{◌≡◌, ◌∷◌, map, take}
-use Rattle.textarea_screen.specs.Text.{shown_span}
-use Rattle.textarea_view.specs.Placeholder.{blank, lent_span}
+use Rattle.textarea_view.specs.Prelude.{shown_span, blank, lent_span}
 use Rattle.textarea_view.proofs.scene.placeholder.behind_blank.Given as goal
 
 abbrev pub invariant-loop-span : goal.invariant-loop-span

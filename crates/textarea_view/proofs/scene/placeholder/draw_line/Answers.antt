@@ -1,10 +1,6 @@
 use Rattle.std.proofs.Common.{sym, subst}
 use Rattle.std.proofs.lemmas.Result.{on_ok_weaker}
-use Rattle.textarea_highlight.specs.declared.highlight.highlighter.CursorCellRender.{CursorCellRender}
-use Rattle.textarea_paint.specs.Row.{row_cell}
-use Rattle.textarea_screen.specs.Buffer.{Changes}
-use Rattle.textarea_screen.specs.Text.{shown_line}
-use Rattle.textarea_view.specs.Placeholder.{behind_cursor}
+use Rattle.textarea_view.specs.Prelude.{CursorCellRender, row_cell, Changes, shown_line, behind_cursor}
 use Rattle.textarea_view.proofs.Placeholder.{drawn_behind}
 use Rattle.textarea_view.proofs.scene.placeholder.draw_line.Goals as goal
 

@@ -1,24 +1,11 @@
-use Rattle.std.proofs.Common.{◌≡◌, ℕ, ◌<◌, ◌+◌, min, true, false, List, Result, Ok, Err, length, map, take, get_or, sym, ap, subst, ◌∙◌, arith}
-use Rattle.std.specs.Result.{OnErr}
+use Rattle.std.proofs.Common.{◌≡◌, ℕ, ◌<◌, ◌+◌, min, true, false, List, length, map, take, get_or, sym, ap, subst, ◌∙◌, arith}
 use Rattle.std.proofs.lemmas.List.{get_or-map, length-map, take_min}
 use Rattle.std.proofs.lemmas.List.Elements.{All-get_or}
-use Rattle.textarea_paint.specs.Clusters.{AreInline, row_clusters}
-use Rattle.textarea_paint.specs.Row.{row_cell}
-use Rattle.textarea_paint.specs.declared.paint.row.RowArea.{RowArea}
-use Rattle.textarea_highlight.specs.declared.highlight.highlighter.CursorCellRender.{CursorCellRender}
-use Rattle.textarea_screen.specs.Buffer.{area_of, Changes, KeepsOutside}
-use Rattle.textarea_screen.specs.Rect.{is_in_row}
-use Rattle.textarea_screen.specs.Text.{ShownLine, shown_line}
-use Rattle.textarea_view.specs.SceneDrawn.{lines_change, rows_above_end}
-use Rattle.textarea_view.specs.Placeholder.{behind_cursor, cell_of_line, in_style, placeholder_lines}
+use Rattle.textarea_view.specs.Prelude.{AreInline, row_clusters, row_cell, RowArea, CursorCellRender, area_of, Changes, KeepsOutside, is_in_row, ShownLine, shown_line, lines_change, rows_above_end, behind_cursor, cell_of_line, in_style, placeholder_lines}
 use Rattle.textarea_view.proofs.Drawing.{lines_failed}
 use Rattle.textarea_view.proofs.Placeholder.{cell_of_line-hidden, length-placeholder_lines, line_at, lines_more}
+use Rattle.textarea_view.proofs.Layers.{also_on_err}
 use Rattle.textarea_view.proofs.scene.placeholder.draw_placeholder.Goals as goal
-
--- what holds holds on an error too
-also_on_err : {T E : Type 0} {Fact : Type 0} (r : Result T E) → Fact → OnErr r Fact
-also_on_err (Ok x) fact = tt
-also_on_err (Err e) fact = fact
 
 pub loop-i-preserved : goal.loop-i-preserved
 loop-i-preserved c =

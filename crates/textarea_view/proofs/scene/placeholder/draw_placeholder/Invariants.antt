@@ -1,8 +1,5 @@
 use Rattle.std.proofs.Common.{map, take}
-use Rattle.textarea_screen.specs.Buffer.{Changes}
-use Rattle.textarea_screen.specs.Text.{shown_line}
-use Rattle.textarea_view.specs.SceneDrawn.{lines_change}
-use Rattle.textarea_view.specs.Placeholder.{in_style, placeholder_lines}
+use Rattle.textarea_view.specs.Prelude.{Changes, shown_line, lines_change, in_style, placeholder_lines}
 use Rattle.textarea_view.proofs.scene.placeholder.draw_placeholder.Given as goal
 
 abbrev pub invariant-loop-i : goal.invariant-loop-i

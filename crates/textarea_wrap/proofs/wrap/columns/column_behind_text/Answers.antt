@@ -1,3 +1,4 @@
+use Rattle.std.proofs.lemmas.Grind.{common_steps}
 use Rattle.std.proofs.Common.{sym, ap, ◌∙◌, arith}
 use Rattle.std.proofs.lemmas.List.{nil_from_length}
 use Rattle.std.proofs.lemmas.Str.{chars-nil, chars_past_char, IsUtf8-past_char}
@@ -21,6 +22,4 @@ loop-c-preserved c =
     }
 
 pub returns-clause-value : goal.returns-clause-value
-returns-clause-value c =
-    let none = nil_from_length (chars_rest c.loop-c.c-iterator) c.in-None.ensures.steps.0.0 in
-    sym (ap (end_column c.args.tab_len c.loop-c.end) (ap chars none ∙ chars-nil)) ∙ c.loop-c.invariant.left
+returns-clause-value c = grind (arith, common_steps, nil_from_length (chars_rest c.loop-c.c-iterator) c.in-None.ensures.steps.0.0, chars-nil)

@@ -1,3 +1,4 @@
+use Rattle.std.proofs.lemmas.Grind.{common_steps}
 use Rattle.std.proofs.Common.{◌≡◌, sym, ap, ◌∙◌, arith, refl}
 use Rattle.std.proofs.lemmas.Bool.{false≢true}
 use Rattle.std.proofs.lemmas.List.{nil_from_length}
@@ -33,8 +34,4 @@ loop-c-preserved c =
     }
 
 pub returns : goal.returns
-returns c =
-    let none = nil_from_length (chars_rest c.loop-c.c-iterator) c.in-None.ensures.steps.0.0 in
-    let whole = sym (ap (end_column c.args.tab_len c.loop-c.column) (ap chars none ∙ chars-nil)) ∙ c.loop-c.invariant.left in
-    let within = c.loop-c.invariant.within in
-    (λ _. omega arith, λ _. refl)
+returns c = grind (arith, common_steps, nil_from_length (chars_rest c.loop-c.c-iterator) c.in-None.ensures.steps.0.0, chars-nil)

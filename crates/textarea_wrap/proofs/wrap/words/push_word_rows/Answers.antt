@@ -1,3 +1,4 @@
+use Rattle.std.proofs.lemmas.Grind.{common_steps}
 use Rattle.std.proofs.Common.{◌≡◌, ℕ, List, [], map, ap, arith, drop, Bor}
 use Rattle.std.proofs.lemmas.List.{drop_all}
 use Rattle.textarea_wrap.proofs.WordLemmas.{IsWordWalk-start, IsWordWalk-end_open, IsWordWalk-later, units_at, length-units_at}
@@ -15,14 +16,10 @@ place_unit-requires-clause-some c =
     (rw (units_at c.args.units.now c.loop-i.i c.loop-i-test.true) at c.loop-i.invariant.walk).some.0
 
 pub place_unit-requires-clause-short : goal.place_unit-requires-clause-short
-place_unit-requires-clause-short c =
-    let len = length-units_at c.args.units.now c.loop-i.i c.loop-i-test.true in
-    omega (arith, c.loop-i.invariant.bytes, c.requires.short)
+place_unit-requires-clause-short c = grind (arith, common_steps, length-units_at c.args.units.now c.loop-i.i c.loop-i-test.true)
 
 pub place_unit-requires-clause-narrow : goal.place_unit-requires-clause-narrow
-place_unit-requires-clause-narrow c =
-    let len = length-units_at c.args.units.now c.loop-i.i c.loop-i-test.true in
-    omega (arith, c.loop-i.invariant.narrow, c.requires.short)
+place_unit-requires-clause-narrow c = grind (arith, common_steps, length-units_at c.args.units.now c.loop-i.i c.loop-i-test.true)
 
 pub loop-i-preserved : goal.loop-i-preserved
 loop-i-preserved c =

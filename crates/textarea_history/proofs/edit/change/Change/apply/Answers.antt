@@ -1,8 +1,5 @@
 use Rattle.std.proofs.Common.{◌∙◌, ap, sym, arith, subst, length}
-use Rattle.std.specs.Str.{chars}
-use Rattle.textarea_text.specs.Text.{lines_of}
-use Rattle.textarea_text.specs.Offset.{offset_at}
-use Rattle.textarea_text.specs.Place.{IsPlaceOf}
+use Rattle.textarea_history.specs.Prelude.{chars, lines_of, offset_at, IsPlaceOf}
 use Rattle.textarea_text.proofs.StringRows.{row_within, rows_place}
 use Rattle.textarea_text.proofs.Insides.{column_within, offset_read}
 use Rattle.textarea_history.proofs.edit.change.Change.apply.Goals as goal

@@ -1,6 +1,5 @@
 use Rattle.std.proofs.Common.{sym, arith, subst}
-use Rattle.textarea_text.specs.Text.{lines_of}
-use Rattle.textarea_text.specs.Place.{IsPlaceOf}
+use Rattle.textarea_history.specs.Prelude.{lines_of, IsPlaceOf}
 use Rattle.textarea_text.proofs.StringRows.{rows_place}
 use Rattle.textarea_history.proofs.edit.change.Change.insert_inside.Goals as goal
 

@@ -1,8 +1,6 @@
 use Rattle.std.proofs.Common.{◌++◌, sym, subst}
-use Rattle.std.specs.Str.{chars}
 use Rattle.std.proofs.lemmas.Result.{IfOk-weaker}
-use Rattle.textarea_text.specs.Text.{characters, following, lines_of}
-use Rattle.textarea_text.specs.Place.{IsPlaceOf}
+use Rattle.textarea_history.specs.Prelude.{chars, characters, following, lines_of, IsPlaceOf}
 use Rattle.textarea_text.proofs.StringRows.{rows_place}
 use Rattle.textarea_history.proofs.Changes.{inserted_by}
 use Rattle.textarea_history.proofs.edit.change.Change.prepare_insertion.Goals as goal

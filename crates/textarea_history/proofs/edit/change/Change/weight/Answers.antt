@@ -1,7 +1,6 @@
 use Rattle.std.proofs.Common.{ap, arith, sym, ◌∙◌}
-use Rattle.textarea_text.specs.Size.{weight}
+use Rattle.textarea_history.specs.Prelude.{weight, symbols_in}
 use Rattle.textarea_text.proofs.Sizes.{weight_of_line}
-use Rattle.textarea_history.specs.Edit.{symbols_in}
 use Rattle.textarea_history.proofs.Changes.{symbols_of_change}
 use Rattle.textarea_history.proofs.Weights.{typed_weight}
 use Rattle.textarea_history.proofs.edit.change.Change.weight.Goals as goal

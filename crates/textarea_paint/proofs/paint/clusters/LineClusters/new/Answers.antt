@@ -1,3 +1,4 @@
+use Rattle.std.proofs.lemmas.Grind.{common_steps}
 use Rattle.std.proofs.Common.{refl, ◌∙◌, arith}
 use Rattle.std.proofs.lemmas.List.{nil_from_length}
 use Rattle.unicode_segmentation.specs.Iter.{graphemes_left}
@@ -5,6 +6,4 @@ use Rattle.textarea_paint.proofs.ClusterLemmas.{clusters_left-new}
 use Rattle.textarea_paint.proofs.paint.clusters.LineClusters.new.Goals as goal
 
 pub returns : goal.returns
-returns c =
-    clusters_left-new _ c.args.style c.args.line.now (nil_from_length (graphemes_left c.graphemes.result) (omega (arith, c.graphemes.ensures.len))) refl
-    (c.iter.ensures.rest ∙ c.deref.ensures.value) c.patch-base.ensures
+returns c = grind (arith, common_steps, clusters_left-new, nil_from_length)

@@ -1,10 +1,6 @@
 use Rattle.std.proofs.Common.{◌-◌, sym, ap, ◌∙◌}
 use Rattle.std.proofs.lemmas.Result.{on_ok_weaker}
-use Rattle.textarea_highlight.specs.Highlights.{with_base, with_cursor_line}
-use Rattle.textarea_screen_map.specs.Rows.{VisualRow}
-use Rattle.textarea_screen_map.specs.Shown.{shown_row}
-use Rattle.textarea_view.specs.Rows.{holds}
-use Rattle.textarea_view.specs.Scene.{SceneState}
+use Rattle.textarea_view.specs.Prelude.{with_base, with_cursor_line, VisualRow, shown_row, holds, SceneState}
 use Rattle.textarea_view.proofs.Told.{cursor_here, cursor_near}
 use Rattle.textarea_view.proofs.scene.frame.Frame.add_cursor.Goals as goal
 

@@ -1,7 +1,6 @@
 use Rattle.std.proofs.Common.{sym, ap, ◌∙◌, arith}
 use Rattle.std.proofs.lemmas.List.Sums.{fold_more}
-use Rattle.textarea_screen_map.specs.Shown.{shown_row}
-use Rattle.textarea_view.specs.Rows.{with_custom, with_part}
+use Rattle.textarea_view.specs.Prelude.{shown_row, with_custom, with_part}
 use Rattle.textarea_view.proofs.scene.frame.Frame.add_customs.Goals as goal
 
 pub loop-own-preserved : goal.loop-own-preserved

@@ -1,7 +1,6 @@
 use Rattle.std.proofs.Common.{◌≡◌, take}
 use Rattle.std.specs.List.{fold}
-use Rattle.textarea_screen_map.specs.Shown.{shown_row}
-use Rattle.textarea_view.specs.Rows.{with_custom}
+use Rattle.textarea_view.specs.Prelude.{shown_row, with_custom}
 use Rattle.textarea_view.proofs.scene.frame.Frame.add_customs.Given as goal
 
 abbrev pub invariant-loop-own : goal.invariant-loop-own

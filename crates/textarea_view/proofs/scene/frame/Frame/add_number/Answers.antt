@@ -2,10 +2,7 @@ use Rattle.std.proofs.Common.{length, sym, ap, ◌∙◌}
 use Rattle.std.specs.Fmt.{decimal}
 use Rattle.std.proofs.lemmas.List.{length-map}
 use Rattle.std.proofs.lemmas.Result.{on_ok_weaker}
-use Rattle.textarea_highlight.specs.Highlights.{with_number}
-use Rattle.textarea_screen_map.specs.Shown.{shown_row}
-use Rattle.textarea_text.specs.Text.{characters_of}
-use Rattle.textarea_view.specs.Scene.{SceneState}
+use Rattle.textarea_view.specs.Prelude.{with_number, shown_row, characters_of, SceneState}
 use Rattle.textarea_view.proofs.Told.{numbered_first}
 use Rattle.textarea_view.proofs.scene.frame.Frame.add_number.Goals as goal
 

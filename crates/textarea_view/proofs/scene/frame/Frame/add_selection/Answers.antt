@@ -1,10 +1,6 @@
 use Rattle.std.proofs.Common.{◌≡◌, ◌&&◌, nat_lt, sym, ap, ◌∙◌}
-use Rattle.std.specs.Option.{option_map}
 use Rattle.std.proofs.lemmas.Result.{on_ok_weaker}
-use Rattle.textarea_highlight.specs.Highlights.{with_segment}
-use Rattle.textarea_screen_map.specs.Shown.{shown_row}
-use Rattle.textarea_view.specs.Rows.{byte_range}
-use Rattle.textarea_view.specs.Scene.{SceneState}
+use Rattle.textarea_view.specs.Prelude.{option_map, with_segment, shown_row, byte_range, SceneState}
 use Rattle.textarea_view.proofs.Told.{selected_part}
 use Rattle.textarea_view.proofs.scene.frame.Frame.add_selection.Goals as goal
 use Rattle.textarea_view.proofs.scene.frame.Frame.add_selection.Goals.{then-shown, else-shown}

@@ -1,9 +1,6 @@
 use Rattle.std.proofs.Common.{◌≡◌, ◌<◌, ◌==◌, length, sym, subst, arith}
-use Rattle.textarea_blocks.specs.Sums.{row_total}
-use Rattle.textarea_screen_map.specs.Rows.{row_at, visual_rows}
+use Rattle.textarea_view.specs.Prelude.{row_total, row_at, visual_rows, holds, SceneState}
 use Rattle.textarea_screen_map.proofs.VisualRows.{row_count}
-use Rattle.textarea_view.specs.Rows.{holds}
-use Rattle.textarea_view.specs.Scene.{SceneState}
 use Rattle.textarea_view.proofs.Holds.{holds_where_seen}
 use Rattle.textarea_view.proofs.scene.frame.Frame.is_cursor_row.Goals as goal
 

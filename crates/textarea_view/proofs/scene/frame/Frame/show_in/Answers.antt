@@ -1,8 +1,5 @@
 use Rattle.std.proofs.Common.{subst}
-use Rattle.std.specs.Result.{OnOk}
-use Rattle.textarea_highlight.specs.Highlights.{Highlights}
-use Rattle.textarea_highlight.specs.Row.{ShowsRow}
-use Rattle.textarea_screen.specs.Text.{shown_line}
+use Rattle.textarea_view.specs.Prelude.{OnOk, Highlights, ShowsRow, shown_line}
 use Rattle.textarea_view.proofs.scene.frame.Frame.show_in.Goals as goal
 
 pub returns-clause-shown : goal.returns-clause-shown

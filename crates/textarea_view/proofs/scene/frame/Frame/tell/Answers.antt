@@ -1,8 +1,6 @@
 use Rattle.std.proofs.Common.{ap, ◌∙◌}
 use Rattle.std.proofs.lemmas.Result.{on_ok_weaker}
-use Rattle.textarea_highlight.specs.Highlights.{Highlights}
-use Rattle.textarea_screen_map.specs.Shown.{shown_row}
-use Rattle.textarea_view.specs.Rows.{numbered, with_cursor, with_customs, with_found, with_selected}
+use Rattle.textarea_view.specs.Prelude.{shown_row, numbered, with_cursor, with_customs, with_found, with_selected}
 use Rattle.textarea_view.proofs.Drawing.{told}
 use Rattle.textarea_view.proofs.scene.frame.Frame.tell.Goals as goal
 
@@ -11,6 +9,7 @@ returns c =
     let scene = c.args.self.now in
     let row = shown_row c.args.shown in
     let before = c.in_ok-add_cursor.ensures.ok ∙ ap (with_cursor scene row) (c.in_ok-add_number.ensures.ok ∙ ap (numbered scene row) c.begin.ensures) in
-    on_ok_weaker c.add_ranges.result
-    (λ ranges. ranges ∙ ap (λ (h : Highlights). with_customs scene row (with_selected scene row (with_found scene row h))) before ∙ told scene c.args.row row c.requires.shown)
-    c.add_ranges.ensures
+    let ranges = c.in_ok-add_selection.ensures.ok ∙ ap (with_selected scene row) (c.in_ok-add_matches.ensures.ok ∙ ap (with_found scene row) before) in
+    on_ok_weaker c.add_customs.result
+    (λ customs. customs ∙ ap (with_customs scene row) ranges ∙ told scene c.args.row row c.requires.shown)
+    c.add_customs.ensures.ok

@@ -1,6 +1,5 @@
 use Rattle.std.proofs.Common.{◌<◌, ℕ, List, Option, Some, length, ap, sym, subst, ◌∙◌, string_bytes}
-use Rattle.textarea_text.specs.Text.{lines_of}
-use Rattle.textarea_view.specs.Rows.{AreMatchesOf, FoundIn, matches_in}
+use Rattle.textarea_view.specs.Prelude.{lines_of, AreMatchesOf, FoundIn, matches_in}
 use Rattle.textarea_view.proofs.Found.{found_in, none_without}
 use Rattle.textarea_view.proofs.scene.matches.FoundMatches.turn_to.Goals as goal
 

@@ -1,0 +1,116 @@
+-- Edits of texts: which fit, and which are well formed.
+use Rattle.std.proofs.Common.{true, false, Bool, min, cond, Some, ◌≡◌, ◌≢◌, ◌+◌, ◌-◌, ◌≤◌, ◌<◌, List, [], ◌∷◌, String, length, take, drop, sym, ap, ◌∙◌, subst, arith, refl, ℕ}
+use Rattle.std.specs.Option.{IfSome}
+use Rattle.std.proofs.lemmas.Bool.Decides.{nat_tests}
+use Rattle.std.proofs.lemmas.List.{length-map}
+use Rattle.textarea_text.specs.Text.{Symbol, Character, characters, characters_of, joined, lines_of, text_of}
+use Rattle.textarea_text.specs.Place.{Place, IsPlace, IsPlaceOf, IsSymbolBefore, StandsAt, end, index_of}
+use Rattle.textarea_text.specs.Splice.{Fits, Splice, applied, inverse}
+use Rattle.textarea_text.proofs.TextPlaces.{index_within, takes_back}
+use Rattle.textarea_text.proofs.Splices.{lines-joined}
+use Rattle.textarea_history.specs.Change.{FitsLines}
+use Rattle.textarea_history.specs.Edit.{IsCopyOfKind, Stored, IsWellFormed, end_of_kind, inserts_of, pieces_of, splice_of, symbols_of}
+use Rattle.textarea_history.specs.declared.edit.EditKind.{EditKind}
+use Rattle.textarea_history.specs.declared.edit.EditKind.TheVariants.{InsertChar, DeleteChar, InsertNewline, DeleteNewline, InsertStr, DeleteStr, InsertChunk, DeleteChunk}
+use Rattle.textarea_text.specs.Part.{part}
+use Rattle.textarea_document.proofs.Parts.{part_ends, part_stands}
+use Rattle.memory_cases.specs.Ready.{IsReady}
+
+-- symbols that end elsewhere than they begin are some
+pub some_symbols : (place : Place) (symbols : List Symbol) → end place symbols ≢ place → 0 < length symbols
+some_symbols place [] apart = absurd (apart refl)
+some_symbols place (symbol ∷ symbols) apart = omega arith
+
+-- ---- a copy of a kind
+
+pub record IsAlike (kind copy : EditKind) : Type 0 where
+  pub symbols : symbols_of copy ≡ symbols_of kind
+  pub inserts : inserts_of copy ≡ inserts_of kind
+  pub pieces : pieces_of copy ≡ pieces_of kind
+
+alike : (kind copy : EditKind) → IsCopyOfKind kind copy → IsAlike kind copy
+alike (InsertChar c) (InsertChar d) e = record { symbols = ap (λ x. Character x ∷ []) e; inserts = refl; pieces = refl }
+alike (DeleteChar c) (DeleteChar d) e = record { symbols = ap (λ x. Character x ∷ []) e; inserts = refl; pieces = refl }
+alike InsertNewline InsertNewline e = record { symbols = refl; inserts = refl; pieces = refl }
+alike DeleteNewline DeleteNewline e = record { symbols = refl; inserts = refl; pieces = refl }
+alike (InsertStr s) (InsertStr t) e = record { symbols = ap characters e; inserts = refl; pieces = refl }
+alike (DeleteStr s) (DeleteStr t) e = record { symbols = ap characters e; inserts = refl; pieces = refl }
+alike (InsertChunk p) (InsertChunk q) e = record { symbols = ap joined e; inserts = refl; pieces = ap Some (sym (length-map q.items characters_of) ∙ ap length e ∙ length-map p.items characters_of) }
+alike (DeleteChunk p) (DeleteChunk q) e = record { symbols = ap joined e; inserts = refl; pieces = ap Some (sym (length-map q.items characters_of) ∙ ap length e ∙ length-map p.items characters_of) }
+alike kind copy h = absurd h
+
+-- the copy has the same splice, ends where it does, and has as many pieces
+pub copy_splice : (kind copy : EditKind) (before after : Place) → IsCopyOfKind kind copy → splice_of copy before after ≡ splice_of kind before after
+copy_splice kind copy before after h =
+    let same = alike kind copy h in
+    ap (λ (b : Bool). record { place = cond b before after; symbols = symbols_of copy; inserts = b }) same.inserts
+    ∙ ap (λ (s : List Symbol). record { place = cond (inserts_of kind) before after; symbols = s; inserts = inserts_of kind }) same.symbols
+
+pub copy_end : (kind copy : EditKind) (before after : Place) → IsCopyOfKind kind copy → end_of_kind copy before after ≡ end_of_kind kind before after
+copy_end kind copy before after h = ap (λ (b : Bool). cond b after before) (alike kind copy h).inserts
+
+-- an edit of the copy is well formed where the kind says what is well formed
+pub copy_well_formed : (kind copy : EditKind) (before after : Place) (edit : Stored) → IsCopyOfKind kind copy → 0 < length (symbols_of kind) → IfSome (pieces_of kind) (λ n. 2 ≤ n) → end_of_kind kind before after ≡ end (splice_of kind before after).place (symbols_of kind) → edit.splice ≡ splice_of copy before after → edit.end ≡ end_of_kind copy before after → edit.pieces ≡ pieces_of copy → IsWellFormed edit
+copy_well_formed kind copy before after edit h some pieces ends splice_is end_is pieces_is =
+    let is = splice_is ∙ copy_splice kind copy before after h in
+    record {
+      some = subst (λ (s : Splice). 0 < length s.symbols) (sym is) some;
+      pieces = subst (λ o. IfSome o (λ n. 2 ≤ n)) (sym (pieces_is ∙ (alike kind copy h).pieces)) pieces;
+      ends = end_is ∙ copy_end kind copy before after h ∙ ends ∙ ap (λ (s : Splice). end s.place s.symbols) (sym is);
+    }
+
+-- ---- edits that are ready
+
+record Holds (text symbols : List Symbol) (before after : Place) (inserts : Bool) : Type 0 where
+  ends : cond inserts after before ≡ end (cond inserts before after) symbols
+  fits : Fits text (record { place = cond inserts before after; symbols = symbols; inserts = inserts })
+
+ready : (text : List Symbol) (kind : EditKind) (before after : Place) (inserts : Bool) → inserts_of kind ≡ inserts → IfSome (pieces_of kind) (λ n. 2 ≤ n) → Holds text (symbols_of kind) before after inserts → IsReady text kind before after
+ready text kind before after inserts is pieces holds =
+    let held = subst (Holds text (symbols_of kind) before after) (sym is) holds in
+    record { pieces = pieces; ends = held.ends; fits = held.fits }
+
+pub ready_inserted : (text : List Symbol) (kind : EditKind) (before after : Place) → inserts_of kind ≡ true → IfSome (pieces_of kind) (λ n. 2 ≤ n) → IsPlace text before → after ≡ end before (symbols_of kind) → 0 < length (symbols_of kind) → IsReady text kind before after
+ready_inserted text kind before after is pieces there ends some =
+    ready text kind before after true is pieces (record { ends = ends; fits = record { some = some; is_place = there; allowed = tt } })
+
+pub ready_removed : (text : List Symbol) (kind : EditKind) (before after : Place) → inserts_of kind ≡ false → IfSome (pieces_of kind) (λ n. 2 ≤ n) → IsPlace text after → before ≡ end after (symbols_of kind) → 0 < length (symbols_of kind) → StandsAt text after (symbols_of kind) → IsReady text kind before after
+ready_removed text kind before after is pieces there ends some stands =
+    ready text kind before after false is pieces (record { ends = ends; fits = record { some = some; is_place = there; allowed = stands } })
+
+-- a removal of the symbol before a place
+pub ready_before : (text : List Symbol) (kind : EditKind) (before start : Place) (symbol : Symbol) → inserts_of kind ≡ false → symbols_of kind ≡ symbol ∷ [] → IfSome (pieces_of kind) (λ n. 2 ≤ n) → IsSymbolBefore text before start symbol → IsReady text kind before start
+ready_before text kind before start symbol is symbols_are pieces known =
+    ready_removed text kind before start is pieces known.is_place
+    (known.ends ∙ ap (end start) (sym symbols_are))
+    (subst (λ (s : List Symbol). 0 < length s) (sym symbols_are) (omega arith))
+    (subst (StandsAt text start) (sym symbols_are) known.stands)
+
+-- a removal of what is between two places
+pub ready_between : (text : List Symbol) (kind : EditKind) (before after : Place) → inserts_of kind ≡ false → symbols_of kind ≡ part text after before → IfSome (pieces_of kind) (λ n. 2 ≤ n) → IsPlace text after → IsPlace text before → index_of text after ≤ index_of text before → before ≢ after → IsReady text kind before after
+ready_between text kind before after is symbols_are pieces from to ordered apart =
+    let ends = part_ends text after before from to ordered in
+    ready_removed text kind before after is pieces from
+    (ends ∙ ap (end after) (sym symbols_are))
+    (subst (λ (s : List Symbol). 0 < length s) (sym symbols_are) (some_symbols after (part text after before) (λ e. apart (ends ∙ e))))
+    (subst (StandsAt text after) (sym symbols_are) (part_stands text after before to ordered))
+
+-- a place ahead comes no sooner
+pub ordered_ahead : (text : List Symbol) (from to : Place) (count : ℕ) → IsPlace text from → index_of text to ≡ min (index_of text from + count) (length text) → index_of text from ≤ index_of text to
+ordered_ahead text from to count h e = subst (λ n. index_of text from ≤ n) (sym e) (le_min (index_of text from) (index_of text from + count) (length text) (omega arith) (index_within text from h))
+  where
+    le_min : (i a b : ℕ) → i ≤ a → i ≤ b → i ≤ min a b
+    le_min i a b left right = grind (arith, nat_tests)
+
+-- the inverse fits what an edit made of a copy of the text
+pub back_fits : (text copy new : List Symbol) (splice wanted : Splice) → Fits text wanted → splice ≡ wanted → copy ≡ text → new ≡ applied copy splice → Fits new (inverse splice)
+back_fits text copy new splice wanted fits is copied made =
+    let fits_copy = subst (Fits copy) (sym is) (subst (λ (t : List Symbol). Fits t wanted) (sym copied) fits) in
+    subst (λ (t : List Symbol). Fits t (inverse splice)) (sym made) (takes_back copy splice fits_copy).fits
+
+-- what fits the text of some lines fits these lines
+pub fits_lines : {Z : Type 0} (strings : List (String Z)) (splice : Splice) → 0 < length strings → Fits (text_of strings) splice → FitsLines strings splice
+fits_lines strings splice some h = record {
+  is_place = subst (λ (rows : List (List ℕ)). IsPlaceOf rows splice.place) (lines-joined (lines_of strings) (omega (arith, some, length-map strings characters_of))) h.is_place;
+  fits = h;
+}

@@ -1,0 +1,186 @@
+//! Calls on lines and on a history of their edits, made one after another, and judged.
+mod calls;
+mod kinds;
+mod plans;
+mod recorded;
+
+use crate::history::calls::{Call, Place, call_of};
+use crate::history::kinds::pieces_in;
+use crate::history::recorded::{BothWays, Recorded};
+use std::alloc::{AllocError, Global};
+use textarea_cases::end::{Difference, End, Stop, same};
+use textarea_cases::expand::timed;
+
+/// How many edits are remembered at first.
+const MAXIMUM: usize = 50;
+
+/// More undos than a row that is judged has edits.
+const MOST: usize = 200;
+
+/// What a call answered.
+#[derive(Drop)]
+enum Answer {
+    Lines,
+    Cursor(Option<Place>),
+    BothWays(BothWays),
+}
+
+/// Makes the calls of a row on one empty line. Where they are judged, each is made beside a copy of what is there.
+pub fn make_row(alloc: Global, row: &str, is_judged: bool) -> End {
+    let mut made = 0;
+    let stop = make_lines(alloc, row, is_judged, &mut made).err();
+    End { made, stop }
+}
+
+fn make_lines(alloc: Global, row: &str, is_judged: bool, made: &mut usize) -> Result<(), Stop> {
+    let mut recorded = Recorded::new(pieces_in(alloc, "")?, MAXIMUM);
+    for line in row.lines() {
+        make_line(alloc, &mut recorded, line, is_judged, made)?;
+    }
+    Ok(())
+}
+
+// Makes the calls of a line, so many times.
+fn make_line(
+    alloc: Global,
+    recorded: &mut Recorded,
+    line: &str,
+    is_judged: bool,
+    made: &mut usize,
+) -> Result<(), Stop> {
+    let (times, calls) = timed(line);
+    for _ in 0..times {
+        for call in calls.split("; ") {
+            make_written(alloc, recorded, call, is_judged)?;
+            *made = made.saturating_add(1);
+        }
+    }
+    Ok(())
+}
+
+// Makes a call as it is written.
+fn make_written(
+    alloc: Global,
+    recorded: &mut Recorded,
+    line: &str,
+    is_judged: bool,
+) -> Result<(), Stop> {
+    let (words, wanted) = match line.split_once(" => ") {
+        Some((words, wanted)) => (words, Some(wanted)),
+        None => (line, None),
+    };
+    let Some(call) = call_of(words) else {
+        return Err(Stop::Wrong(Difference::Script));
+    };
+    let answer = if is_judged {
+        judge_call(alloc, recorded, call)?
+    } else {
+        make_granted(alloc, recorded, call)?
+    };
+    match wanted {
+        Some(wanted) => {
+            let found = printed(alloc, recorded, &answer)?;
+            same(found.as_str() == wanted, Difference::Answer)
+        }
+        None => Ok(()),
+    }
+}
+
+// Makes a call to which no memory may be refused.
+fn make_granted(alloc: Global, recorded: &mut Recorded, call: Call<'_>) -> Result<Answer, Stop> {
+    match make(alloc, recorded, call) {
+        Ok(answer) => Ok(answer),
+        Err(_) => Err(Stop::Wrong(Difference::Memory)),
+    }
+}
+
+// Makes a call. One that is refused has to leave everything like the copy.
+fn judge_call(alloc: Global, recorded: &mut Recorded, call: Call<'_>) -> Result<Answer, Stop> {
+    let mut copy = recorded.copy()?;
+    match make(alloc, recorded, call) {
+        Ok(answer) => Ok(answer),
+        Err(_) => {
+            compare(recorded, &mut copy)?;
+            Err(Stop::Refused)
+        }
+    }
+}
+
+fn make(alloc: Global, recorded: &mut Recorded, call: Call<'_>) -> Result<Answer, AllocError> {
+    match call {
+        Call::Lines(text) => {
+            *recorded = Recorded::new(pieces_in(alloc, text)?, MAXIMUM);
+            Ok(Answer::Lines)
+        }
+        Call::Maximum(maximum) => {
+            recorded.restart(maximum);
+            Ok(Answer::Lines)
+        }
+        Call::BreakRun => {
+            recorded.break_run();
+            Ok(Answer::Lines)
+        }
+        Call::Edit(edit, typed) => {
+            recorded.edit(edit, typed)?;
+            Ok(Answer::Lines)
+        }
+        Call::BothWays(place, text) => Ok(Answer::BothWays(recorded.both_ways(place, text)?)),
+        Call::Undo => Ok(Answer::Cursor(recorded.undo()?)),
+        Call::Redo => Ok(Answer::Cursor(recorded.redo()?)),
+    }
+}
+
+// The answer as rows have it.
+fn printed(alloc: Global, recorded: &Recorded, answer: &Answer) -> Result<String, AllocError> {
+    match answer {
+        Answer::Lines => joined(alloc, recorded.lines()),
+        Answer::Cursor(None) => String::from_str(alloc, "none"),
+        Answer::Cursor(Some((row, column))) => {
+            let lines = joined(alloc, recorded.lines())?;
+            format!(in alloc; "{row} {column} {lines}")
+        }
+        Answer::BothWays(ways) => {
+            let there = joined(alloc, ways.there.as_slice())?;
+            let back = joined(alloc, ways.back.as_slice())?;
+            format!(in alloc; "{there}, {back}")
+        }
+    }
+}
+
+fn joined(alloc: Global, lines: &[String]) -> Result<String, AllocError> {
+    let mut text = String::new(alloc);
+    for (row, line) in lines.iter().enumerate() {
+        if row != 0 {
+            text.push('|')?;
+        }
+        text.push_str(line.as_str())?;
+    }
+    Ok(text)
+}
+
+// The lines have to be the same, and so after each further undo, and then after each redo.
+fn compare(recorded: &mut Recorded, copy: &mut Recorded) -> Result<(), Stop> {
+    same(recorded.lines() == copy.lines(), Difference::Lines)?;
+    compare_edits(recorded, copy, Difference::Undo)?;
+    compare_edits(recorded, copy, Difference::Redo)
+}
+
+fn compare_edits(
+    recorded: &mut Recorded,
+    copy: &mut Recorded,
+    way: Difference,
+) -> Result<(), Stop> {
+    for _ in 0..MOST {
+        let cursor = go(recorded, way)?;
+        same(cursor == go(copy, way)?, way)?;
+        same(recorded.lines() == copy.lines(), way)?;
+    }
+    Ok(())
+}
+
+fn go(recorded: &mut Recorded, way: Difference) -> Result<Option<Place>, AllocError> {
+    match way {
+        Difference::Undo => recorded.undo(),
+        _ => recorded.redo(),
+    }
+}

@@ -1,0 +1,337 @@
+//! The calls of a row, made one after another, and judged.
+ghost use Rattle.std.specs.Prelude.{All};
+ghost use Rattle.textarea_calls.specs.Made.{CanBeMade};
+
+use crate::keys::{Made, judge_keys};
+use crate::script::run_unseen;
+use crate::step::{Step, make};
+use crate::words::{script_of, step_of};
+use std::alloc::{AllocError, Global};
+use textarea_calls::commands::{Command, calls, read};
+use textarea_calls::{Answer, Call};
+use textarea_cases::compare::{are_alike_outside, compare, compare_shown};
+use textarea_cases::end::{Difference, End, Stop, same};
+use textarea_cases::expand::expanded;
+use textarea_cases::words::Lent;
+use textarea_run::RunEnd;
+use textarea_run::run::run;
+use tui_textarea::{Buffer, Rect, TextArea};
+
+/// The area of the buffer that the calls of a row draw into.
+const WHOLE: Rect = Rect {
+    x: 0,
+    y: 0,
+    width: 40,
+    height: 12,
+};
+
+// What the calls draw into, what the same calls of clones draw into, and how many calls were made.
+#[derive(Drop)]
+struct Judge {
+    buffer: Buffer,
+    other: Buffer,
+    made: usize,
+}
+
+impl Judge {
+    fn new(alloc: Global) -> Result<Judge, AllocError> {
+        Ok(Judge {
+            buffer: Buffer::empty(alloc, WHOLE)?,
+            other: Buffer::empty(alloc, WHOLE)?,
+            made: 0,
+        })
+    }
+
+    fn count(&mut self, calls: usize) {
+        self.made = self.made.saturating_add(calls);
+    }
+
+    // The two buffers must have the same cells outside of an area.
+    fn compare_cells(&self, area: Rect) -> Result<(), Stop> {
+        let are_alike = are_alike_outside(&self.buffer, &self.other, area);
+        same(are_alike, Difference::Cells)
+    }
+}
+
+/// Makes the calls of a row, up to the one that is refused, if one is.
+pub fn judge_row(alloc: Global, row: &str) -> End {
+    match Judge::new(alloc) {
+        Ok(mut judge) => {
+            let stop = judge_lines(alloc, row, &mut judge).err();
+            let made = judge.made;
+            drop(judge);
+            End { made, stop }
+        }
+        Err(_) => End {
+            made: 0,
+            stop: Some(Stop::Memory),
+        },
+    }
+}
+
+fn judge_lines(alloc: Global, row: &str, judge: &mut Judge) -> Result<(), Stop> {
+    let lent = Lent::new(alloc)?;
+    let judged = judge_expanded(alloc, row, &lent, judge);
+    drop(lent);
+    judged
+}
+
+fn judge_expanded(alloc: Global, row: &str, lent: &Lent, judge: &mut Judge) -> Result<(), Stop> {
+    let row = expanded(alloc, row)?;
+    judge_text(alloc, row.as_str(), lent, judge)
+}
+
+fn judge_text(alloc: Global, row: &str, lent: &Lent, judge: &mut Judge) -> Result<(), Stop> {
+    let mut area = TextArea::try_default(alloc)?;
+    let judged = judge_all(&mut area, row, lent, judge);
+    drop(area);
+    judged
+}
+
+fn judge_all(
+    area: &mut TextArea<'_>,
+    row: &str,
+    lent: &Lent,
+    judge: &mut Judge,
+) -> Result<(), Stop> {
+    // The calls of a run stand behind its word, up to the row's end.
+    let (lines, run) = row.split_once("run\n").unwrap_or((row, ""));
+    for line in lines.lines() {
+        judge_line(area, line, lent, judge)?;
+    }
+    if run.is_empty() {
+        return Ok(());
+    }
+    judge_run(area, run, judge)
+}
+
+fn judge_line(
+    area: &mut TextArea<'_>,
+    line: &str,
+    lent: &Lent,
+    judge: &mut Judge,
+) -> Result<(), Stop> {
+    if let Some(script) = script_of(line) {
+        return make_script(area, script, judge);
+    }
+    if let Some(words) = line.strip_prefix("keys ") {
+        return judge_all_keys(*area.lines()[0].allocator(), words, judge);
+    }
+    match step_of(line, lent) {
+        Some(step) => judge_step(area, step, judge),
+        None => judge_script(area, line, judge),
+    }
+}
+
+fn judge_all_keys(alloc: Global, words: &str, judge: &mut Judge) -> Result<(), Stop> {
+    let mut made = Made::default();
+    let judged = judge_keys(alloc, words, &mut made);
+    judge.count(made.calls);
+    judged
+}
+
+// Makes the calls of a script, and draws nowhere.
+fn make_script(area: &mut TextArea<'_>, script: &str, judge: &mut Judge) -> Result<(), Stop> {
+    let end = run_unseen(area, script)?;
+    judge.count(end.answers.len());
+    match end.refused {
+        Some(_) => Err(Stop::Memory),
+        None => Ok(()),
+    }
+}
+
+fn judge_script(area: &mut TextArea<'_>, script: &str, judge: &mut Judge) -> Result<(), Stop> {
+    let alloc = *area.lines()[0].allocator();
+    let commands = read(alloc, script.as_bytes())?;
+    judge_commands(area, commands.as_slice(), judge)
+}
+
+// Makes the calls that the commands lend, each behind a clone.
+fn judge_commands(
+    area: &mut TextArea<'_>,
+    commands: &[Command],
+    judge: &mut Judge,
+) -> Result<(), Stop> {
+    for command in commands {
+        judge_step(area, Step::Call(command.call()), judge)?;
+    }
+    Ok(())
+}
+
+// Makes a step behind a clone.
+fn judge_step(area: &mut TextArea<'_>, step: Step<'_>, judge: &mut Judge) -> Result<(), Stop> {
+    let mut other = area.clone()?;
+    let judged = judge_beside(area, &mut other, step, judge);
+    drop(other);
+    judged
+}
+
+// Makes a step. Where memory isn't refused to it, the clone has to answer the same and to be alike then.
+fn judge_beside(
+    area: &mut TextArea<'_>,
+    other: &mut TextArea<'_>,
+    step: Step<'_>,
+    judge: &mut Judge,
+) -> Result<(), Stop> {
+    match make(area, step, &mut judge.buffer) {
+        Err(_) => judge_refused(area, other, step, judge),
+        Ok(Answer::PatternRefused) => judge_pattern(area, other, step, judge),
+        Ok(answer) => {
+            let judged = judge_answer(&answer, other, step, judge);
+            drop(answer);
+            judged?;
+            judge.compare_cells(Rect::default())?;
+            compare_shown(area, other)
+        }
+    }
+}
+
+// A pattern was rejected: for want of memory if a clone takes it, and else because it has no reading. Nothing has changed.
+fn judge_pattern(
+    area: &mut TextArea<'_>,
+    other: &mut TextArea<'_>,
+    step: Step<'_>,
+    judge: &mut Judge,
+) -> Result<(), Stop> {
+    if is_rejected(other, step, judge)? {
+        judge.count(1);
+        return compare_shown(area, other);
+    }
+    judge_refused(area, other, step, judge)
+}
+
+// Whether a clone rejects the pattern too.
+fn is_rejected(
+    other: &TextArea<'_>,
+    step: Step<'_>,
+    judge: &mut Judge,
+) -> Result<bool, AllocError> {
+    let mut clone = other.clone()?;
+    let answer = make(&mut clone, step, &mut judge.other);
+    drop(clone);
+    Ok(answer? == Answer::PatternRefused)
+}
+
+// Makes a step. The error that `regex` may have of its own for want of memory is a refusal too.
+fn make_or_refuse(
+    area: &mut TextArea<'_>,
+    step: Step<'_>,
+    buffer: &mut Buffer,
+) -> Result<Answer, AllocError> {
+    match make(area, step, buffer)? {
+        Answer::PatternRefused => Err(AllocError),
+        answer => Ok(answer),
+    }
+}
+
+// The clone has to answer so. A refusal that it meets is none of the step that is judged.
+fn judge_answer(
+    answer: &Answer,
+    other: &mut TextArea<'_>,
+    step: Step<'_>,
+    judge: &mut Judge,
+) -> Result<(), Stop> {
+    let wanted = make_or_refuse(other, step, &mut judge.other)?;
+    let is_answered_so = *answer == wanted;
+    drop(wanted);
+    same(is_answered_so, Difference::Answer)?;
+    judge.count(1);
+    Ok(())
+}
+
+// A step was refused: the text area has to be like the clone or, in an insertion over a selection, like the clone after the
+// removal of what is selected; and the cells outside of the area that the step draws into, as they were.
+fn judge_refused(
+    area: &mut TextArea<'_>,
+    other: &mut TextArea<'_>,
+    step: Step<'_>,
+    judge: &Judge,
+) -> Result<(), Stop> {
+    if step.inserts() && holds_selected(other) && !area.is_selecting() {
+        other.delete_char()?;
+    }
+    compare(area, other)?;
+    judge.compare_cells(drawn_area(step))?;
+    Err(Stop::Refused)
+}
+
+fn holds_selected(area: &TextArea<'_>) -> bool {
+    match area.selection_range() {
+        Some((start, end)) => start != end,
+        None => false,
+    }
+}
+
+// The area that a step draws into.
+fn drawn_area(step: Step<'_>) -> Rect {
+    match step {
+        Step::Call(Call::Render(area)) => area,
+        _ => Rect::default(),
+    }
+}
+
+// Makes the calls of a script by one run. Where it is refused, the answers have to be those of the calls before the refused
+// one, and the text area what a refusal of that one leaves of a clone that made these; the first reservation, whose refusal
+// stands for that of the first call, is met so too. A pattern that `regex` refused for want of memory has changed nothing.
+fn judge_run(area: &mut TextArea<'_>, script: &str, judge: &mut Judge) -> Result<(), Stop> {
+    let alloc = *area.lines()[0].allocator();
+    let commands = read(alloc, script.as_bytes())?;
+    judge_run_commands(area, commands.as_slice(), judge)
+}
+
+// Makes the calls that the commands lend by one run.
+fn judge_run_commands(
+    area: &mut TextArea<'_>,
+    commands: &[Command],
+    judge: &mut Judge,
+) -> Result<(), Stop> {
+    let alloc = *area.lines()[0].allocator();
+    let calls = calls(alloc, commands)?;
+    judge_calls(area, calls.as_slice(), judge)
+}
+
+fn judge_calls(area: &mut TextArea<'_>, calls: &[Call<'_>], judge: &mut Judge) -> Result<(), Stop>
+    requires { All CanBeMade calls.now }
+{
+    let mut other = area.clone()?;
+    let judged = judge_run_beside(area, &mut other, calls, judge);
+    drop(other);
+    judged
+}
+
+fn judge_run_beside(
+    area: &mut TextArea<'_>,
+    other: &mut TextArea<'_>,
+    calls: &[Call<'_>],
+    judge: &mut Judge,
+) -> Result<(), Stop>
+    requires { All CanBeMade calls.now }
+{
+    let end = run(area, calls, &mut judge.buffer);
+    let judged = judge_end(area, other, calls, &end, judge);
+    drop(end);
+    judged
+}
+
+fn judge_end(
+    area: &mut TextArea<'_>,
+    other: &mut TextArea<'_>,
+    calls: &[Call<'_>],
+    end: &RunEnd,
+    judge: &mut Judge,
+) -> Result<(), Stop> {
+    let answered = end.answers.as_slice();
+    let is_counted = answered.len() == end.refused.unwrap_or(calls.len());
+    same(is_counted, Difference::Index)?;
+    for (call, answer) in calls.iter().zip(answered) {
+        if *answer == Answer::PatternRefused {
+            judge.count(1);
+        } else {
+            judge_answer(answer, other, Step::Call(*call), judge)?;
+        }
+    }
+    match calls.get(answered.len()) {
+        Some(call) => judge_refused(area, other, Step::Call(*call), judge),
+        None => compare_shown(area, other),
+    }
+}

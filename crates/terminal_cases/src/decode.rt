@@ -1,0 +1,84 @@
+//! Bytes, and their events.
+
+use std::alloc::{AllocError, Global};
+use textarea_terminal::input::{Decoder, Event};
+
+fn digit(byte: u8) -> Option<u8> {
+    match byte {
+        b'0'..=b'9' => Some(byte - b'0'),
+        b'a'..=b'f' => Some(byte - b'a' + 10),
+        _ => None,
+    }
+}
+
+fn byte_of(high: u8, low: u8) -> Option<u8> {
+    digit(high)?.checked_mul(16)?.checked_add(digit(low)?)
+}
+
+/// The bytes of a text of hexadecimal digits, two for each, or none where it is something else.
+fn bytes_of_hex(alloc: Global, text: &str) -> Result<Option<Vec<u8>>, AllocError> {
+    let mut bytes = Vec::new(alloc);
+    for pair in text.as_bytes().chunks(2) {
+        let [high, low] = pair else {
+            return Ok(None);
+        };
+        match byte_of(*high, *low) {
+            Some(byte) => bytes.push(byte)?,
+            None => return Ok(None),
+        }
+    }
+    Ok(Some(bytes))
+}
+
+/// The events of bytes where nothing comes after them.
+pub fn events_at_once(alloc: Global, bytes: &[u8]) -> Result<Vec<Event>, AllocError> {
+    let mut decoder = Decoder::new(alloc);
+    let mut events = Vec::new(alloc);
+    decoder.feed(bytes, &mut events)?;
+    decoder.idle(&mut events)?;
+    Ok(events)
+}
+
+/// The events of pieces of bytes where nothing comes after them, or nothing where they can't be read. A call to which memory is
+/// refused is made once more, and counted.
+pub fn events_in_order(
+    alloc: Global,
+    hex: &str,
+    refused: &mut usize,
+) -> Result<Option<Vec<Event>>, AllocError> {
+    let mut decoder = Decoder::new(alloc);
+    let mut events = Vec::new(alloc);
+    for piece in hex.split(' ') {
+        match bytes_of_hex(alloc, piece)? {
+            Some(bytes) => feed(&mut decoder, bytes.as_slice(), &mut events, refused)?,
+            None => return Ok(None),
+        }
+    }
+    idle(&mut decoder, &mut events, refused)?;
+    Ok(Some(events))
+}
+
+fn feed(
+    decoder: &mut Decoder,
+    bytes: &[u8],
+    events: &mut Vec<Event>,
+    refused: &mut usize,
+) -> Result<(), AllocError> {
+    if decoder.feed(bytes, events).is_err() {
+        *refused = refused.saturating_add(1);
+        decoder.feed(bytes, events)?;
+    }
+    Ok(())
+}
+
+fn idle(
+    decoder: &mut Decoder,
+    events: &mut Vec<Event>,
+    refused: &mut usize,
+) -> Result<(), AllocError> {
+    if decoder.idle(events).is_err() {
+        *refused = refused.saturating_add(1);
+        decoder.idle(events)?;
+    }
+    Ok(())
+}

@@ -1,0 +1,180 @@
+//! A buffer and a painter, and the commands on them.
+//!
+//! `size W H` makes a buffer and a painter of so many columns and rows; `cell X Y FG BG MODIFIER SYMBOL` sets a cell of the buffer,
+//! with the bits of its modifiers and the rest of the line as its text; `paint X Y` paints the buffer with the caret in that cell,
+//! and `paint` without one; `reset` and `resize W H` are the painter's. A colour is 0 for the terminal's own, 1 to 16 for one with a
+//! name, 256 and more for one of 256 by its number, and 16777216 and more for red, green and blue in 8 bits each.
+//!
+//! For each paint a line `frame N` is printed, and then N bytes and a line feed.
+
+use std::alloc::{AllocError, Global};
+use textarea_screen::screen::{Buffer, Color, Modifier, Position, Rect, Style};
+use textarea_terminal::output::Painter;
+
+/// A buffer and a painter.
+#[derive(Drop)]
+pub struct Painting {
+    buffer: Buffer,
+    painter: Painter,
+}
+
+impl Painting {
+    /// A painter of no cells.
+    pub fn new(alloc: Global) -> Result<Painting, AllocError> {
+        let area = Rect::new(0, 0, 0, 0);
+        Ok(Painting {
+            buffer: Buffer::empty(alloc, area)?,
+            painter: Painter::new(alloc, area)?,
+        })
+    }
+
+    /// Serves one line, and adds what it prints. Returns whether it is a command. A call of the painter to which memory is refused
+    /// is made once more, and counted.
+    pub fn serve(
+        &mut self,
+        alloc: Global,
+        line: &str,
+        printed: &mut Vec<u8>,
+        refused: &mut usize,
+    ) -> Result<bool, AllocError> {
+        let (word, rest) = line.split_once(' ').unwrap_or((line, ""));
+        match word {
+            "size" => self.size(alloc, rest),
+            "cell" => self.cell(rest),
+            "paint" => self.paint(alloc, rest, printed, refused),
+            "resize" => self.resize(alloc, rest, refused),
+            "reset" => {
+                self.painter.reset();
+                Ok(true)
+            }
+            _ => Ok(false),
+        }
+    }
+
+    fn size(&mut self, alloc: Global, rest: &str) -> Result<bool, AllocError> {
+        let Some((width, height)) = pair(rest) else {
+            return Ok(false);
+        };
+        let area = Rect::new(0, 0, width, height);
+        self.buffer = Buffer::empty(alloc, area)?;
+        self.painter = Painter::new(alloc, area)?;
+        Ok(true)
+    }
+
+    fn resize(
+        &mut self,
+        alloc: Global,
+        rest: &str,
+        refused: &mut usize,
+    ) -> Result<bool, AllocError> {
+        let Some((width, height)) = pair(rest) else {
+            return Ok(false);
+        };
+        let area = Rect::new(0, 0, width, height);
+        self.buffer = Buffer::empty(alloc, area)?;
+        if self.painter.resize(area).is_err() {
+            *refused = refused.saturating_add(1);
+            self.painter.resize(area)?;
+        }
+        Ok(true)
+    }
+
+    fn cell(&mut self, rest: &str) -> Result<bool, AllocError> {
+        let Some((position, rest)) = place(rest) else {
+            return Ok(false);
+        };
+        let Some((style, symbol)) = style(rest) else {
+            return Ok(false);
+        };
+        self.buffer.put(position.x, position.y, symbol, style)?;
+        Ok(true)
+    }
+
+    fn paint(
+        &mut self,
+        alloc: Global,
+        rest: &str,
+        printed: &mut Vec<u8>,
+        refused: &mut usize,
+    ) -> Result<bool, AllocError> {
+        let caret = match pair(rest) {
+            Some((x, y)) => Some(Position { x, y }),
+            None => None,
+        };
+        let mut frame = Vec::new(alloc);
+        if self.painter.paint(&self.buffer, caret, &mut frame).is_err() {
+            *refused = refused.saturating_add(1);
+            self.painter.paint(&self.buffer, caret, &mut frame)?;
+        }
+        let count = frame.len();
+        let head = format!(in alloc; "frame {count}\n")?;
+        printed.extend_from_slice(head.as_bytes())?;
+        printed.extend_from_slice(frame.as_slice())?;
+        printed.extend_from_slice(b"\n")?;
+        Ok(true)
+    }
+}
+
+/// Two numbers.
+fn pair(text: &str) -> Option<(u16, u16)> {
+    let (first, second) = text.split_once(' ')?;
+    let first = first.parse::<u16>().ok()?;
+    let second = second.parse::<u16>().ok()?;
+    Some((first, second))
+}
+
+/// A position, and what comes after it.
+fn place(text: &str) -> Option<(Position, &str)> {
+    let (x, rest) = text.split_once(' ')?;
+    let (y, rest) = rest.split_once(' ')?;
+    let x = x.parse::<u16>().ok()?;
+    let y = y.parse::<u16>().ok()?;
+    Some((Position { x, y }, rest))
+}
+
+/// The style that sets colours and modifiers, and what comes after them.
+fn style(text: &str) -> Option<(Style, &str)> {
+    let (fg, rest) = text.split_once(' ')?;
+    let (bg, rest) = rest.split_once(' ')?;
+    let (bits, symbol) = rest.split_once(' ')?;
+    let bits = bits.parse::<u16>().ok()?;
+    let style = Style {
+        fg: Some(color(fg.parse::<u32>().ok()?)),
+        bg: Some(color(bg.parse::<u32>().ok()?)),
+        add_modifier: Modifier(bits),
+        sub_modifier: Modifier(!bits),
+    };
+    Some((style, symbol))
+}
+
+/// The colour of a number.
+fn color(number: u32) -> Color {
+    let low = (number & 255) as u8;
+    if number >= 16_777_216 {
+        let red = (number / 65_536 % 256) as u8;
+        let green = (number / 256 % 256) as u8;
+        return Color::Rgb(red, green, low);
+    }
+    if number >= 256 {
+        return Color::Indexed(low);
+    }
+    match number {
+        1 => Color::Black,
+        2 => Color::Red,
+        3 => Color::Green,
+        4 => Color::Yellow,
+        5 => Color::Blue,
+        6 => Color::Magenta,
+        7 => Color::Cyan,
+        8 => Color::Gray,
+        9 => Color::DarkGray,
+        10 => Color::LightRed,
+        11 => Color::LightGreen,
+        12 => Color::LightYellow,
+        13 => Color::LightBlue,
+        14 => Color::LightMagenta,
+        15 => Color::LightCyan,
+        16 => Color::White,
+        _ => Color::Reset,
+    }
+}

@@ -1,0 +1,99 @@
+//! Lines, and what they print.
+
+use crate::decode::events_in_order;
+use crate::painting::Painting;
+use crate::random::first_differing;
+use crate::text::push_events;
+use std::alloc::{AllocError, Global};
+
+/// What the lines so far print, and the painter of their frames.
+#[derive(Drop)]
+pub struct Session {
+    painting: Painting,
+    printed: Vec<u8>,
+    refused: usize,
+    is_right: bool,
+}
+
+impl Session {
+    /// A session of no lines.
+    pub fn new(alloc: Global) -> Result<Session, AllocError> {
+        Ok(Session {
+            painting: Painting::new(alloc)?,
+            printed: Vec::new(alloc),
+            refused: 0,
+            is_right: true,
+        })
+    }
+
+    /// What the lines print.
+    pub fn printed(&self) -> &[u8] {
+        self.printed.as_slice()
+    }
+
+    /// To how many calls of the decoder and the painter memory was refused.
+    pub fn refused(&self) -> usize {
+        self.refused
+    }
+
+    /// Whether the events of random strings are the same in any pieces.
+    pub fn is_right(&self) -> bool {
+        self.is_right
+    }
+
+    /// Serves one line. Returns whether it could be read.
+    pub fn serve(&mut self, alloc: Global, line: &str) -> Result<bool, AllocError> {
+        if line.starts_with("# ") {
+            return self.print(line);
+        }
+        // A cell's text may be a tab.
+        if line.starts_with("cell ") {
+            return self.serve_command(alloc, line);
+        }
+        match line.split_once('\t') {
+            Some((name, hex)) => self.serve_case(alloc, name, hex),
+            None => self.serve_command(alloc, line),
+        }
+    }
+
+    fn serve_case(&mut self, alloc: Global, name: &str, hex: &str) -> Result<bool, AllocError> {
+        match events_in_order(alloc, hex, &mut self.refused)? {
+            Some(events) => {
+                let mut text = String::from_str(alloc, name)?;
+                push_events(&mut text, events.as_slice())?;
+                self.print(text.as_str())
+            }
+            None => Ok(false),
+        }
+    }
+
+    fn serve_command(&mut self, alloc: Global, line: &str) -> Result<bool, AllocError> {
+        match line.split_once(' ') {
+            Some(("random", count)) => self.serve_random(alloc, count),
+            _ => {
+                let (painting, printed) = (&mut self.painting, &mut self.printed);
+                painting.serve(alloc, line, printed, &mut self.refused)
+            }
+        }
+    }
+
+    fn serve_random(&mut self, alloc: Global, count: &str) -> Result<bool, AllocError> {
+        let Ok(count) = count.parse::<u32>() else {
+            return Ok(false);
+        };
+        match first_differing(alloc, count)? {
+            None => self.print("random strings; the same in any pieces"),
+            Some(number) => {
+                self.is_right = false;
+                let told = format!(in alloc; "random string {number} differs in pieces")?;
+                self.print(told.as_str())
+            }
+        }
+    }
+
+    fn print(&mut self, line: &str) -> Result<bool, AllocError> {
+        self.printed.extend_from_slice(line.as_bytes())?;
+        self.printed.extend_from_slice(b"\n")?;
+        Ok(true)
+    }
+}

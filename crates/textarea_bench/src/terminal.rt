@@ -1,0 +1,269 @@
+//! Decodes bytes as they come from a terminal, and paints frames, and answers with how many events or bytes that were.
+//!
+//! A job has four parts with one space between them. With the word `decode` before them they are what the bytes are (`letters`,
+//! `accents`, `keys`, `mouse` or `paste`), how many there are at least, in pieces of how many they are fed, and how often all of them are.
+//! With the word `paint` they are which frames follow each other (see `Frames`), their columns, their rows, and how many follow a
+//! first one.
+use std::alloc::{AllocError, Global};
+use textarea_screen::screen::{Buffer, Color, Modifier, Position, Rect, Style};
+use textarea_terminal::input::Decoder;
+use textarea_terminal::output::Painter;
+
+/// What is decoded.
+#[derive(Clone, Copy, Debug)]
+pub enum Sent {
+    Letters,
+    Accents,
+    Keys,
+    Mouse,
+    Paste,
+}
+
+/// Which frames follow each other.
+#[derive(Clone, Copy, Debug)]
+pub enum Frames {
+    /// The same.
+    Same,
+    /// Those of which one row is another, by turns.
+    Line,
+    /// Those of which each cell is another, by turns.
+    Whole,
+    /// The same, with a reset before each.
+    Reset,
+    /// No frame is painted: the cells of two are compared.
+    Compared,
+}
+
+/// What is done, on how many bytes or cells, and how often.
+#[derive(Clone, Copy, Debug)]
+pub enum Job {
+    Decode {
+        sent: Sent,
+        bytes: usize,
+        piece: usize,
+        times: usize,
+    },
+    Paint {
+        frames: Frames,
+        columns: u16,
+        rows: u16,
+        times: usize,
+    },
+}
+
+impl Job {
+    /// Reads the parts of a job.
+    pub fn parse(line: &str) -> Option<Job> {
+        let (topic, parts) = line.split_once(' ')?;
+        let (word, parts) = parts.split_once(' ')?;
+        let (first, parts) = parts.split_once(' ')?;
+        let (second, times) = parts.split_once(' ')?;
+        let times = times.parse().ok()?;
+        match topic {
+            "decode" => Some(Job::Decode {
+                sent: sent_of(word)?,
+                bytes: first.parse().ok()?,
+                piece: second.parse().ok()?,
+                times,
+            }),
+            "paint" => Some(Job::Paint {
+                frames: frames_of(word)?,
+                columns: first.parse().ok()?,
+                rows: second.parse().ok()?,
+                times,
+            }),
+            _ => None,
+        }
+    }
+
+    /// Does the job, and answers with the number of events or bytes.
+    pub fn run(&self, alloc: Global) -> Result<usize, AllocError> {
+        match *self {
+            Job::Decode {
+                sent,
+                bytes,
+                piece,
+                times,
+            } => decode(
+                alloc,
+                bytes_of(alloc, sent, bytes)?.as_slice(),
+                piece,
+                times,
+            ),
+            Job::Paint {
+                frames,
+                columns,
+                rows,
+                times,
+            } => paint(alloc, frames, Rect::new(0, 0, columns, rows), times),
+        }
+    }
+}
+
+fn sent_of(word: &str) -> Option<Sent> {
+    match word {
+        "letters" => Some(Sent::Letters),
+        "accents" => Some(Sent::Accents),
+        "keys" => Some(Sent::Keys),
+        "mouse" => Some(Sent::Mouse),
+        "paste" => Some(Sent::Paste),
+        _ => None,
+    }
+}
+
+fn frames_of(word: &str) -> Option<Frames> {
+    match word {
+        "same" => Some(Frames::Same),
+        "line" => Some(Frames::Line),
+        "whole" => Some(Frames::Whole),
+        "reset" => Some(Frames::Reset),
+        "compared" => Some(Frames::Compared),
+        _ => None,
+    }
+}
+
+/// So many bytes at least.
+fn bytes_of(alloc: Global, sent: Sent, count: usize) -> Result<Vec<u8>, AllocError> {
+    let (begin, part, end) = match sent {
+        Sent::Letters => ("", "The quick brown fox jumps over the lazy dog. ", ""),
+        Sent::Accents => (
+            "",
+            "Fu\u{df}g\u{e4}nger \u{fc}berqueren die \u{6f22}\u{5b57} ",
+            "",
+        ),
+        Sent::Keys => (
+            "",
+            "\u{1b}[A\u{1b}[B\u{1b}[1;5C\u{1b}[3~\u{1b}OD\u{1b}[15;2~",
+            "",
+        ),
+        Sent::Mouse => (
+            "",
+            "\u{1b}[<0;10;12M\u{1b}[<32;110;42M\u{1b}[<0;110;42m",
+            "",
+        ),
+        Sent::Paste => (
+            "\u{1b}[200~",
+            "The quick brown fox jumps over the lazy dog.\n",
+            "\u{1b}[201~",
+        ),
+    };
+    let mut bytes = Vec::new(alloc);
+    bytes.extend_from_slice(begin.as_bytes())?;
+    for _ in 0..count / part.len() + 1 {
+        bytes.extend_from_slice(part.as_bytes())?;
+    }
+    bytes.extend_from_slice(end.as_bytes())?;
+    Ok(bytes)
+}
+
+/// The number of events of the bytes, in pieces, so many times one after another.
+fn decode(alloc: Global, bytes: &[u8], piece: usize, times: usize) -> Result<usize, AllocError> {
+    let mut decoder = Decoder::new(alloc);
+    let mut events = Vec::new(alloc);
+    let mut count = 0usize;
+    for _ in 0..times {
+        for part in bytes.chunks(piece.max(1)) {
+            decoder.feed(part, &mut events)?;
+            count = count.wrapping_add(events.len());
+            events.clear();
+        }
+    }
+    Ok(count)
+}
+
+/// The style of a cell, of which there are nine in a row of words.
+fn style_at(x: u16, turn: u16) -> Style {
+    let fg = match (x / 9 + turn % 2) % 4 {
+        0 => Color::Reset,
+        1 => Color::Blue,
+        2 => Color::Indexed(208),
+        _ => Color::Rgb(200, 10, 150),
+    };
+    Style {
+        fg: Some(fg),
+        bg: Some(Color::Reset),
+        add_modifier: Modifier((x / 9) & 1),
+        sub_modifier: Modifier(0),
+    }
+}
+
+const LETTERS: &str = "abcdefghijklmnopqrstuvwxyz";
+
+/// The letter of a cell, another one at each turn.
+fn letter(x: u16, y: u16, turn: u16) -> &'static str {
+    let at = usize::from((x % 8 + y % 8 + turn % 2) % 26);
+    LETTERS.get(at..at + 1).unwrap_or("a")
+}
+
+fn put_row(buffer: &mut Buffer, columns: u16, y: u16, turn: u16) -> Result<(), AllocError> {
+    for x in 0..columns {
+        buffer.put(x, y, letter(x, y, turn), style_at(x, turn))?;
+    }
+    Ok(())
+}
+
+/// A frame of letters.
+fn frame_of(alloc: Global, area: Rect, turn: u16) -> Result<Buffer, AllocError> {
+    let mut buffer = Buffer::empty(alloc, area)?;
+    for y in 0..area.height {
+        put_row(&mut buffer, area.width, y, turn)?;
+    }
+    Ok(buffer)
+}
+
+/// The other frame: the first one, or with one row or all rows other ones.
+fn other_frame(alloc: Global, area: Rect, frames: Frames) -> Result<Buffer, AllocError> {
+    match frames {
+        Frames::Same | Frames::Compared => frame_of(alloc, area, 0),
+        Frames::Line => {
+            let mut buffer = frame_of(alloc, area, 0)?;
+            put_row(&mut buffer, area.width, area.height / 2, 1)?;
+            Ok(buffer)
+        }
+        Frames::Whole | Frames::Reset => frame_of(alloc, area, 1),
+    }
+}
+
+/// Whether a cell is the same in both frames.
+fn is_same_at(a: &Buffer, b: &Buffer, x: u16, y: u16) -> bool {
+    match (a.cell(x, y), b.cell(x, y)) {
+        (Some(a), Some(b)) => {
+            a.symbol() == b.symbol() && a.fg == b.fg && a.bg == b.bg && a.modifier == b.modifier
+        }
+        _ => false,
+    }
+}
+
+/// The number of cells that are the same in both frames.
+fn same_cells(a: &Buffer, b: &Buffer, area: Rect) -> usize {
+    let mut count = 0usize;
+    for y in 0..area.height {
+        for x in 0..area.width {
+            count = count.wrapping_add(usize::from(is_same_at(a, b, x, y)));
+        }
+    }
+    count
+}
+
+/// Paints the frames by turns, and answers with the number of bytes, or of cells that are the same.
+fn paint(alloc: Global, frames: Frames, area: Rect, times: usize) -> Result<usize, AllocError> {
+    let first = frame_of(alloc, area, 0)?;
+    let other = other_frame(alloc, area, frames)?;
+    let mut painter = Painter::new(alloc, area)?;
+    let mut out = Vec::new(alloc);
+    let mut count = 0usize;
+    for time in 0..times.saturating_add(1) {
+        let frame = if time % 2 == 0 { &first } else { &other };
+        match frames {
+            Frames::Compared => count = count.wrapping_add(same_cells(&first, &other, area)),
+            Frames::Reset => painter.reset(),
+            _ => {}
+        }
+        if !matches!(frames, Frames::Compared) {
+            painter.paint(frame, Some(Position { x: 0, y: 0 }), &mut out)?;
+            count = count.wrapping_add(out.len());
+            out.clear();
+        }
+    }
+    Ok(count)
+}

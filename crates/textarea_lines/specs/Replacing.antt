@@ -1,0 +1,27 @@
+-- What has to be ready before lines give place to others, and what is ready then.
+use Rattle.std.specs.Prelude.{◌≡◌, ℕ, ◌+◌, ◌^◌, ◌<◌, ◌≤◌, List, String, length, vec_len}
+use Rattle.std.specs.declared.alloc.Global.{Global}
+use Rattle.textarea_text.specs.Text.{lines_of}
+use Rattle.textarea_text.specs.declared.rows.Replacement.{Replacement}
+use Rattle.textarea_screen_map.specs.Layout.{AreRowsOf}
+use Rattle.textarea_screen_map.specs.Map.{MapView}
+use Rattle.textarea_screen_map.specs.Prepared.{IsReady, rows_with}
+use Rattle.textarea_screen_map.specs.declared.screen_map.PreparedRows.{PreparedRows}
+use Rattle.textarea_lines.specs.declared.settings.LayoutSettings.{LayoutSettings}
+use Rattle.textarea_lines.specs.Layout.{after_replacement, count_after, layout_of, lines_after}
+use Rattle.textarea_lines.specs.Wrappings.{wrapping_for}
+
+-- the map has right rows of the lines, cut as the settings say, and the replacement is of some of them
+pub record CanReplace (settings : LayoutSettings) (lines : List (String Global)) (map : MapView) (replacement : Replacement) : Type 0 where
+  pub rows : AreRowsOf map.wrapping (lines_of lines) map.rows
+  pub wrapping : map.wrapping ≡ wrapping_for settings (length lines)
+  pub within : replacement.row + replacement.count ≤ length lines
+  pub few : length lines + vec_len replacement.lines < 2 ^ 63
+
+-- the map has room for these rows, with which it has right rows of the lines after the replacement, and the count is the one then
+pub record AreReadyRows (settings : LayoutSettings) (lines : List (String Global)) (map : MapView) (replacement : Replacement) (count after : ℕ) (prepared : PreparedRows) : Type 0 where
+  pub ready : IsReady map prepared
+  pub wrapping : prepared.wrapping ≡ wrapping_for settings (count_after (length lines) replacement)
+  pub rows : AreRowsOf prepared.wrapping (lines_after lines replacement) (rows_with map.rows prepared)
+  pub layout : layout_of settings after (rows_with map.rows prepared)
+      ≡ after_replacement (layout_of settings count map.rows) (length lines) replacement.row replacement.count (vec_len replacement.lines)

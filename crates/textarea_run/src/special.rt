@@ -1,0 +1,98 @@
+// Calls whose answers have forms of their own: about atomic ranges, a search's pattern, what is measured, hit and yanked.
+ghost use Rattle.std.specs.Prelude.{◌≡◌, IfOk, OnErr, OnOk};
+ghost use Rattle.textarea_calls.specs.Kinds.{call_of_special};
+ghost use Rattle.tui_textarea.specs.Calls.{ranges_answer, rejected_ranges, with_ranges_if};
+ghost use Rattle.tui_textarea.specs.Outcomes.{behind_pattern, IsAnswer, IsBehind, IsPatternAnswer, Refused};
+ghost use Rattle.tui_textarea.specs.Patterns.{IsNewPattern, IsToldAs};
+ghost use Rattle.tui_textarea.specs.Said.{said};
+
+use crate::memory::allocator;
+use std::alloc::{AllocError, Global};
+use textarea_calls::Answer;
+use textarea_calls::kind::Special;
+use textarea_data::range::AtomicRange;
+use textarea_search::search::SearchError;
+use tui_textarea::TextArea;
+
+// Makes the call, and answers in its form.
+pub fn answer_specially(area: &mut TextArea<'_>, call: Special<'_>) -> Result<Answer, AllocError>
+    ensures answer { IfOk result (λ answer. IsAnswer area.old (call_of_special call.entry) (said answer)) }
+    ensures ok { IfOk result
+        (λ answer. IsBehind area.old (call_of_special call.entry) (said answer) area.new) }
+    ensures err { OnErr result (Refused area.old (call_of_special call.entry) area.new) }
+{
+    match call {
+        Special::YankText => area.yank_text().map(Answer::Text),
+        Special::TrySetAtomicRanges(ranges) => copy_and_set_ranges(area, ranges),
+        Special::NormalizeCursorAroundAtomicRanges(bias) => {
+            Ok(Answer::Flag(area.normalize_cursor_around_atomic_ranges(bias)))
+        }
+        Special::AtomicRangeAtCursor(direction) => {
+            Ok(Answer::Range(area.atomic_range_at_cursor(direction)))
+        }
+        Special::DeleteAtomicRangeAtCursor(direction) => area
+            .delete_atomic_range_at_cursor(direction)
+            .map(Answer::Range),
+        Special::SetSearchPattern(pattern) => set_search_pattern(area, pattern),
+        Special::Measure(width) => area.measure(width).map(Answer::Measured),
+        Special::CursorAtPosition(position) => area.cursor_at_position(position).map(Answer::Place),
+    }
+}
+
+// Sets a copy of the ranges, or names the rejected ones.
+fn copy_and_set_ranges(
+    area: &mut TextArea<'_>,
+    ranges: &[AtomicRange],
+) -> Result<Answer, AllocError>
+    ensures answer { IfOk result
+        (λ answer. said answer ≡ ranges_answer (rejected_ranges area.old ranges.now)) }
+    ensures ok { OnOk result
+        (area.new ≡ with_ranges_if (rejected_ranges area.old ranges.now) area.old ranges.now) }
+    ensures err { OnErr result (area.new ≡ area.old) }
+{
+    let copies = copy_ranges(allocator(area), ranges)?;
+    set_ranges(area, copies)
+}
+
+// A copy of the ranges.
+fn copy_ranges(alloc: Global, ranges: &[AtomicRange]) -> Result<Vec<AtomicRange>, AllocError>
+    ensures { IfOk result (λ copies. copies.items ≡ ranges.now) }
+{
+    ranges.to_vec(alloc)
+}
+
+// Sets the ranges, or names the rejected ones.
+fn set_ranges(area: &mut TextArea<'_>, ranges: Vec<AtomicRange>) -> Result<Answer, AllocError>
+    ensures answer { IfOk result
+        (λ answer. said answer ≡ ranges_answer (rejected_ranges area.old ranges.items)) }
+    ensures ok { OnOk result
+        (area.new ≡ with_ranges_if (rejected_ranges area.old ranges.items) area.old ranges.items) }
+    ensures err { OnErr result (area.new ≡ area.old) }
+{
+    match area.try_set_atomic_ranges(ranges)? {
+        Ok(()) => Ok(Answer::Done),
+        Err(error) => Ok(Answer::Rejected(error.rejected)),
+    }
+}
+
+// Sets the pattern that is searched for, or answers that it is refused.
+fn set_search_pattern(area: &mut TextArea<'_>, pattern: &str) -> Result<Answer, AllocError>
+    ensures answer { IfOk result (λ answer. IsPatternAnswer area.old pattern.now (said answer)) }
+    ensures ok { IfOk result
+        (λ answer. area.new ≡ behind_pattern area.old pattern.now (said answer)) }
+    ensures err { OnErr result (area.new ≡ area.old) }
+    ensures may { OnErr result (IsNewPattern area.old pattern.now) }
+{
+    pattern_answer(area.set_search_pattern(pattern))
+}
+
+// How it is told that a pattern was set: done, refused with an error of `regex`, or out of memory.
+fn pattern_answer(outcome: Result<(), SearchError>) -> Result<Answer, AllocError>
+    ensures { IsToldAs outcome result }
+{
+    match outcome {
+        Ok(()) => Ok(Answer::Done),
+        Err(SearchError::Pattern(_)) => Ok(Answer::PatternRefused),
+        Err(SearchError::Memory(error)) => Err(error),
+    }
+}

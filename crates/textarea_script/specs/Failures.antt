@@ -1,0 +1,18 @@
+-- The exit statuses of outcomes.
+use Rattle.std.specs.Prelude.{ℕ, Result, Ok, Err}
+use Rattle.textarea_script.specs.declared.streams.Failure.{Failure}
+use Rattle.textarea_script.specs.declared.streams.Failure.TheVariants.{Stream, Line, NotRead, Memory}
+
+-- 0 where all was printed, 1 where a stream failed, 2 where something isn't read, and 3 out of memory
+abbrev pub status_of : {T : Type 0} → Result T Failure → ℕ
+status_of (Ok done) = 0
+status_of (Err Stream) = 1
+status_of (Err (Line number)) = 2
+status_of (Err NotRead) = 2
+status_of (Err Memory) = 3
+
+-- something isn't read
+abbrev pub IsUnread : Failure → Type 0
+IsUnread (Line number) = Unit {0}
+IsUnread NotRead = Unit {0}
+IsUnread failure = ⊥

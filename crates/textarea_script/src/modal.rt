@@ -1,0 +1,155 @@
+//! Sessions of the modal editor: a text, each of whose characters is an input.
+ghost use Rattle.std.specs.Prelude.{[], ◌≡◌, ◌≤◌, ◌<◌, ◌≢◌, IfErr, IfOk, IfSome, IsUtf8, OnOk, string_bytes};
+ghost use Rattle.std.specs.Io.{StartsWith};
+ghost use Rattle.textarea_script.specs.Failures.{IsUnread};
+ghost use Rattle.textarea_script.specs.declared.streams.TheConstants.{DONE, NOT_READ, OUT_OF_MEMORY, STREAM_FAILED};
+ghost use Rattle.tui_textarea.specs.State.{new_state};
+ghost use Rattle.textarea_script.specs.Session.{IsNoText, IsPrinted, IsWritten, input_of, inputs_of};
+
+mod head;
+
+use crate::modal::head::head;
+use crate::streams::{Failure, read_whole, status, write_whole};
+use std::alloc::{AllocError, Global};
+use std::io::{Read, Write};
+use std::str::from_utf8;
+use std::string::ToString;
+use textarea_data::input::{Input, Key};
+pub use textarea_modal::{Modal, ModalEnd, ModalStop, Mode, Op};
+use textarea_run::printing::Report;
+use tui_textarea::TextArea;
+
+/// Reads a text, takes its characters as inputs for a modal editor and an empty text area, and prints to `output` the mode, how many
+/// inputs were used, why that was all, and the text area at the end. The result is the exit status: `DONE`, `STREAM_FAILED`,
+/// `NOT_READ` or `OUT_OF_MEMORY`.
+///
+/// Where the text isn't UTF-8 or memory is refused, `output` gets nothing, and one line says so on `errors`; else `errors` gets
+/// nothing. That `errors` fails changes no status. Where `output` fails, what it took is a beginning of the text. Memory that is
+/// refused inside a read or a write counts as a failure of that.
+pub fn serve<R: Read, W: Write, E: Write>(
+    alloc: Global,
+    reader: &mut R,
+    output: &mut W,
+    errors: &mut E,
+) -> u8
+    ensures status { result ≤ OUT_OF_MEMORY }
+    ensures silent { STREAM_FAILED < result → output.new ≡ output.old }
+    ensures quiet { result ≤ STREAM_FAILED → errors.new ≡ errors.old }
+    ensures done { result ≡ DONE →
+        IfSome (R.remaining reader.old) (IsWritten (W.contents output.old) (W.contents output.new)) }
+    ensures not_read { result ≡ NOT_READ → IfSome (R.remaining reader.old) IsNoText }
+{
+    status(run_session(alloc, reader, output), errors)
+}
+
+// Nothing is written before all memory was taken.
+fn run_session<R: Read, W: Write>(
+    alloc: Global,
+    reader: &mut R,
+    output: &mut W,
+) -> Result<(), Failure>
+    ensures done { OnOk result (IfSome (R.remaining reader.old)
+        (IsWritten (W.contents output.old) (W.contents output.new))) }
+    ensures not_read { IfErr result (λ failure. IsUnread failure →
+        IfSome (R.remaining reader.old) IsNoText) }
+    ensures silent { IfErr result (λ failure. failure ≢ Failure.Stream → output.new ≡ output.old) }
+{
+    let bytes = read_whole(alloc, reader)?;
+    let printed = printed_of(alloc, bytes.as_slice())?;
+    write_whole(output, printed.as_str())
+}
+
+// What is printed of the session of these bytes, which may be no text.
+fn printed_of(alloc: Global, bytes: &[u8]) -> Result<String, Failure>
+    ensures text { OnOk result (IsUtf8 bytes.now) }
+    ensures printed { IfOk result
+        (λ printed. IsPrinted (new_state []) (inputs_of bytes.now) (string_bytes printed)) }
+    ensures not_read { IfErr result (λ failure. IsUnread failure → IsNoText bytes.now) }
+{
+    let Ok(text) = from_utf8(bytes) else {
+        return Err(Failure::NotRead);
+    };
+    Ok(printed_of_text(alloc, text)?)
+}
+
+// What is printed of the session of a text.
+fn printed_of_text(alloc: Global, text: &str) -> Result<String, AllocError>
+    ensures { IfOk result
+        (λ printed. IsPrinted (new_state []) (inputs_of text.now) (string_bytes printed)) }
+{
+    let inputs = inputs_of(alloc, text)?;
+    printed_of_inputs(alloc, inputs.as_slice())
+}
+
+// What is printed of the inputs' run on an empty text area.
+fn printed_of_inputs(alloc: Global, inputs: &[Input]) -> Result<String, AllocError>
+    ensures { IfOk result
+        (λ printed. IsPrinted (new_state []) inputs.now (string_bytes printed)) }
+{
+    let mut area = TextArea::try_default(alloc)?;
+    let printed = printed_behind(alloc, &mut area, inputs);
+    drop(area);
+    printed
+}
+
+// What is printed of the inputs' run on a text area.
+fn printed_behind(
+    alloc: Global,
+    area: &mut TextArea<'_>,
+    inputs: &[Input],
+) -> Result<String, AllocError>
+    ensures { IfOk result (λ printed. IsPrinted area.old inputs.now (string_bytes printed)) }
+{
+    let mut modal = Modal::new();
+    let end = modal.run(area, inputs);
+    if end.stop == ModalStop::Memory {
+        return Err(AllocError);
+    }
+    let head = head(alloc, modal.mode(), end)?;
+    with_report(alloc, head, area)
+}
+
+// A text, and behind it what is printed of a text area.
+fn with_report(alloc: Global, head: String, area: &TextArea<'_>) -> Result<String, AllocError>
+    ensures { IfOk result (λ text. StartsWith (string_bytes text) (string_bytes head)) }
+{
+    let report = report_of(alloc, area)?;
+    let mut text = head;
+    text.push_str(report.as_str())?;
+    Ok(text)
+}
+
+// What is printed of a text area.
+fn report_of(alloc: Global, area: &TextArea<'_>) -> Result<String, AllocError> {
+    let report = Report {
+        answers: &[],
+        area,
+        screen: None,
+    };
+    report.to_string(alloc)
+}
+
+// The inputs that a text stands for, one for each character.
+fn inputs_of(alloc: Global, text: &str) -> Result<Vec<Input>, AllocError>
+    ensures { IfOk result (λ inputs. inputs.items ≡ inputs_of text.now) }
+{
+    text.chars().map(input_of).collect(alloc)
+}
+
+// The input that a character stands for.
+fn input_of(character: char) -> Input
+    ensures { result ≡ input_of character }
+{
+    let key = match character {
+        '\u{1b}' => Key::Esc,
+        '\n' => Key::Enter,
+        '\t' => Key::Tab,
+        _ => Key::Char(character),
+    };
+    Input {
+        key,
+        ctrl: false,
+        alt: false,
+        shift: false,
+    }
+}

@@ -1,0 +1,152 @@
+//! Scripts: calls on a text area, a command a line.
+ghost use Rattle.std.specs.Prelude.{◌≡◌, ◌≤◌, ◌<◌, ◌≢◌, All, IfErr};
+ghost use Rattle.textarea_calls.specs.Made.{CanBeMade};
+ghost use Rattle.textarea_script.specs.declared.streams.TheConstants.{OUT_OF_MEMORY, STREAM_FAILED};
+
+use crate::streams::{Failure, read_whole, status, write_whole};
+use std::alloc::Global;
+use std::io::{Read, Write};
+use std::string::ToString;
+use textarea_calls::commands;
+use textarea_calls::commands::Command;
+pub use textarea_calls::{Answer, Call};
+use textarea_run::printing::{Report, Screen};
+pub use textarea_run::run::{RunEnd, run};
+use textarea_screen::screen::{Buffer, Rect};
+use tui_textarea::TextArea;
+
+/// The columns of the buffer that is drawn into.
+pub const COLUMNS: u16 = 80;
+
+/// The rows of the buffer that is drawn into.
+pub const ROWS: u16 = 24;
+
+/// Reads a script, runs its calls on an empty text area and a buffer of `COLUMNS` by `ROWS` cells, and
+/// prints to `output` the answers, the text area at the end and, if anything was drawn, the cells of
+/// the area that was drawn last. The result is the exit status: `DONE`, `STREAM_FAILED`,
+/// `NOT_READ` or `OUT_OF_MEMORY`.
+///
+/// Where a line isn't read or memory is refused, `output` gets nothing, and one line says so on
+/// `errors`; else `errors` gets nothing. That `errors` fails changes no status. Where `output` fails,
+/// what it took is a beginning of the text. Memory that is refused inside a read or a write counts
+/// as a failure of that.
+pub fn serve<R: Read, W: Write, E: Write>(
+    alloc: Global,
+    reader: &mut R,
+    output: &mut W,
+    errors: &mut E,
+) -> u8
+    ensures status { result ≤ OUT_OF_MEMORY }
+    ensures silent { STREAM_FAILED < result → output.new ≡ output.old }
+    ensures quiet { result ≤ STREAM_FAILED → errors.new ≡ errors.old }
+{
+    status(run_script(alloc, reader, output), errors)
+}
+
+// Nothing is written before all memory was taken.
+fn run_script<R: Read, W: Write>(
+    alloc: Global,
+    reader: &mut R,
+    output: &mut W,
+) -> Result<(), Failure>
+    ensures { IfErr result (λ failure. failure ≢ Failure.Stream → output.new ≡ output.old) }
+{
+    let commands = read_script(alloc, reader)?;
+    let text = printed_of(alloc, commands)?;
+    write_whole(output, text.as_str())
+}
+
+// The commands of a script, which itself is let go.
+fn read_script<R: Read>(alloc: Global, reader: &mut R) -> Result<Vec<Command>, Failure> {
+    let script = read_whole(alloc, reader)?;
+    Ok(commands::read(alloc, script.as_slice())?)
+}
+
+// What is printed of a script of these commands.
+fn printed_of(alloc: Global, commands: Vec<Command>) -> Result<String, Failure> {
+    let mut area = TextArea::try_default(alloc)?;
+    let printed = printed_behind(alloc, &mut area, commands);
+    drop(area);
+    printed
+}
+
+// What is printed of a run of the commands' calls.
+fn printed_behind(
+    alloc: Global,
+    area: &mut TextArea<'_>,
+    commands: Vec<Command>,
+) -> Result<String, Failure> {
+    let mut buffer = Buffer::empty(alloc, Rect::new(0, 0, COLUMNS, ROWS))?;
+    let ran = run_commands(alloc, area, commands, &mut buffer)?;
+    printed_end(alloc, area, &buffer, &ran)
+}
+
+// What a run leaves beside the text area: the calls' answers, and the area that was drawn last, if one was.
+#[derive(Drop)]
+struct Ran {
+    answers: Vec<Answer>,
+    drawn: Option<Rect>,
+}
+
+// What is printed of a run that left this.
+fn printed_end(
+    alloc: Global,
+    area: &TextArea<'_>,
+    buffer: &Buffer,
+    ran: &Ran,
+) -> Result<String, Failure> {
+    let screen = ran.drawn.map(|area| Screen { buffer, area });
+    let report = Report {
+        answers: ran.answers.as_slice(),
+        area,
+        screen,
+    };
+    Ok(report.to_string(alloc)?)
+}
+
+// Makes the calls of the commands, which are let go before anything is printed.
+fn run_commands(
+    alloc: Global,
+    area: &mut TextArea<'_>,
+    commands: Vec<Command>,
+    buffer: &mut Buffer,
+) -> Result<Ran, Failure> {
+    run_lent(alloc, area, commands.as_slice(), buffer)
+}
+
+// Makes the calls that the commands lend.
+fn run_lent(
+    alloc: Global,
+    area: &mut TextArea<'_>,
+    commands: &[Command],
+    buffer: &mut Buffer,
+) -> Result<Ran, Failure> {
+    let calls = commands::calls(alloc, commands)?;
+    run_calls(area, calls.as_slice(), buffer)
+}
+
+// Makes the calls.
+fn run_calls(
+    area: &mut TextArea<'_>,
+    calls: &[Call<'_>],
+    buffer: &mut Buffer,
+) -> Result<Ran, Failure>
+    requires { All CanBeMade calls.now }
+{
+    let end = run(area, calls, buffer);
+    if end.refused.is_some() {
+        return Err(Failure::Memory);
+    }
+    Ok(Ran {
+        answers: end.answers,
+        drawn: last_drawn(calls),
+    })
+}
+
+// The area that the last of the calls that draw drew into, if one of them does.
+fn last_drawn(calls: &[Call<'_>]) -> Option<Rect> {
+    calls.iter().rev().find_map(|call| match call {
+        Call::Render(area) => Some(*area),
+        _ => None,
+    })
+}

@@ -1,0 +1,99 @@
+//! What scripts and sessions share: exit statuses, why there is none to print, and streams that are read and written whole.
+ghost use Rattle.std.specs.Prelude.{◌≡◌, ◌≤◌, ◌<◌, ◌≢◌, IfErr, IfOk, IfSome, OnOk};
+ghost use Rattle.std.specs.Io.KnownBytes.{Appends};
+ghost use Rattle.textarea_script.specs.Failures.{status_of};
+
+use std::alloc::{AllocError, Global};
+use std::io::{Read, Write};
+use textarea_calls::commands::ReadError;
+
+/// What was read was run, and its end was printed.
+pub const DONE: u8 = 0;
+
+/// The input can't be read, or the end can't be printed.
+pub const STREAM_FAILED: u8 = 1;
+
+/// A line of a script is no command or isn't UTF-8; the input of a session isn't UTF-8; or the words aren't understood.
+pub const NOT_READ: u8 = 2;
+
+/// Out of memory.
+pub const OUT_OF_MEMORY: u8 = 3;
+
+/// Why nothing is printed, or not all.
+#[derive(Drop)]
+pub enum Failure {
+    /// A stream failed.
+    Stream,
+    /// The line of this number is no command, or isn't UTF-8.
+    Line(usize),
+    /// The input isn't UTF-8, or the words aren't understood.
+    NotRead,
+    /// Out of memory.
+    Memory,
+}
+
+impl From<AllocError> for Failure {
+    ghost use Rattle.textarea_script.specs.declared.streams.Failure.{Failure};
+
+    ghost from_gives = { λ _ failure. failure ≡ Failure.Memory };
+
+    fn from(_refused: AllocError) -> Failure {
+        Failure::Memory
+    }
+}
+
+impl From<ReadError> for Failure {
+    fn from(error: ReadError) -> Failure {
+        match error {
+            ReadError::Line(number) => Failure::Line(number),
+            ReadError::Memory => Failure::Memory,
+        }
+    }
+}
+
+/// The exit status of an outcome, which says on `errors` in one line why something isn't read or that memory was refused.
+pub fn status<E: Write>(outcome: Result<(), Failure>, errors: &mut E) -> u8
+    ensures status { result ≡ status_of outcome }
+    ensures quiet { result ≤ STREAM_FAILED → errors.new ≡ errors.old }
+{
+    match outcome {
+        Ok(()) => DONE,
+        Err(Failure::Stream) => STREAM_FAILED,
+        Err(Failure::Line(number)) => {
+            let _ = writeln!(errors, "line {number}: not read");
+            NOT_READ
+        }
+        Err(Failure::NotRead) => {
+            let _ = writeln!(errors, "not read");
+            NOT_READ
+        }
+        Err(Failure::Memory) => {
+            let _ = writeln!(errors, "no memory");
+            OUT_OF_MEMORY
+        }
+    }
+}
+
+/// All bytes of a reader.
+pub fn read_whole<R: Read>(alloc: Global, reader: &mut R) -> Result<Vec<u8>, Failure>
+    ensures bytes { IfOk result
+        (λ bytes. IfSome (R.remaining reader.old) (λ all. bytes.items ≡ all)) }
+    ensures fails { IfErr result (λ failure. failure ≡ Failure.Stream) }
+{
+    let mut bytes = Vec::new(alloc);
+    if reader.read_to_end(&mut bytes).is_err() {
+        return Err(Failure::Stream);
+    }
+    Ok(bytes)
+}
+
+/// Writes the whole text. Where that fails, what was written is a beginning of it.
+pub fn write_whole<W: Write>(output: &mut W, text: &str) -> Result<(), Failure>
+    ensures done { OnOk result (Appends (W.contents output.old) (W.contents output.new) text.now) }
+    ensures fails { IfErr result (λ failure. failure ≡ Failure.Stream) }
+{
+    if output.write_all(text.as_bytes()).is_err() || output.flush().is_err() {
+        return Err(Failure::Stream);
+    }
+    Ok(())
+}

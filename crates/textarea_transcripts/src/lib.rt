@@ -1,4 +1,0 @@
-//! Transcripts: calls and what they answer, and the text area on the way.
-#![tactic(auto)]
-
-pub mod transcript;
