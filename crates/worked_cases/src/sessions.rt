@@ -3,7 +3,7 @@ use std::alloc::Global;
 use std::str::from_utf8;
 use textarea_cases::lines::keys_and_rest;
 use textarea_cases::stop::{Stop, compare};
-use textarea_script::{modal, script};
+use textarea_script::{modal, script, streams};
 
 /// Runs a session, of which this must be printed and nothing else.
 pub fn check(alloc: Global, case: &str) -> Result<(), Stop> {
@@ -38,7 +38,7 @@ fn check_unread_line(alloc: Global, line: &str) -> Result<(), Stop> {
     let mut output = Vec::new(alloc);
     let mut errors = Vec::new(alloc);
     let status = script::serve(alloc, &mut line.as_bytes(), &mut output, &mut errors);
-    if status == script::NOT_READ
+    if status == streams::NOT_READ
         && output.is_empty()
         && errors.as_slice() == b"line 1: not read\n".as_slice()
     {
@@ -57,7 +57,7 @@ fn check_end(
     wanted: &str,
 ) -> Result<(), Stop> {
     let printed = from_utf8(output).unwrap_or("no UTF-8");
-    if status == script::DONE && errors.is_empty() {
+    if status == streams::DONE && errors.is_empty() {
         return compare(String::from_str(alloc, printed)?, wanted);
     }
     compare(format!(in alloc; "status {status}\n{printed}")?, wanted)
