@@ -51,6 +51,7 @@ fn rows_after(
         AreRowsOf wrapping (lines_after lines.now replacement.now) (all_rows rows.blocks)) }
     ensures ticks { IfOk result (λ rows. ticks_of (all_rows rows.blocks)
         ≡ ticks_behind count.old (count_after (length lines.now) replacement.now)) }
+    ensures never_less { count.old ≤ count.new }
 {
     let mut rows = RowBlocks::new(alloc);
     push_lines(alloc, &mut rows, &lines[..replacement.row], wrapping, count)?;
@@ -81,6 +82,7 @@ fn prepare_rows(
     ensures same_wrapping { map.new.wrapping ≡ map.old.wrapping }
     ensures ready { IfOk result
         (AreReadyRows settings lines.now map.new replacement.now count.old count.new) }
+    ensures never_less { count.old ≤ count.new }
 {
     let new = replacement.lines.as_slice();
     let before = map.wrapping();

@@ -17,7 +17,7 @@ use textarea_text::given::copy_pieces;
 use tui_textarea::TextArea;
 
 /// Sets a text or a setting that may run out of memory.
-pub fn change(area: &mut TextArea<'_>, call: Change<'_>) -> Result<(), AllocError>
+pub(crate) fn change(area: &mut TextArea<'_>, call: Change<'_>) -> Result<(), AllocError>
     requires { CanBeMade (call_of_change call) }
     ensures answer { OnOk result (IsAnswer area.old (call_of_change call.entry) Done) }
     ensures ok { OnOk result (IsBehind area.old (call_of_change call.entry) Done area.new) }
@@ -98,7 +98,7 @@ pub fn set(area: &mut TextArea<'_>, call: Setting)
 }
 
 /// Sets how the text looks, or what is around it.
-pub fn set_appearance(area: &mut TextArea<'_>, call: Appearance)
+pub(crate) fn set_appearance(area: &mut TextArea<'_>, call: Appearance)
     ensures answer { IsAnswer area.old (call_of_appearance call) Done }
     ensures ok { IsBehind area.old (call_of_appearance call) Done area.new }
 {
