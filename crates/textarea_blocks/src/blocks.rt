@@ -2,7 +2,7 @@
 //! rows take the place of others by a move of those that stand behind them in one block, or of whole blocks; of all that lies
 //! behind, only those two numbers of each block change, and where changes of one block follow one another, not even these are
 //! touched.
-ghost use Rattle.std.specs.Prelude.{◌≡◌, ◌+◌, ◌≤◌, ◌++◌, ◌∷◌, ℕ, List, [], length, OnOk};
+ghost use Rattle.std.specs.Prelude.{◌≡◌, ◌+◌, ◌≤◌, ◌++◌, ◌∷◌, [], length, OnOk};
 ghost use Rattle.textarea_blocks.specs.Blocks.{all_rows};
 ghost use Rattle.textarea_blocks.specs.Sums.{row_total};
 
@@ -26,7 +26,7 @@ pub struct RowBlocks {
 }
 
 impl Model for RowBlocks {
-    ghost use Rattle.std.specs.Prelude.{◌-◌, map, min, vec_len, vec_capacity};
+    ghost use Rattle.std.specs.Prelude.{◌-◌, min, vec_len, vec_capacity};
     ghost use Rattle.textarea_blocks.specs.Blocks.{BlocksView, rows_of_each, spare_of_each};
     ghost use Rattle.textarea_blocks.specs.Numbered.{AreNumbered};
 

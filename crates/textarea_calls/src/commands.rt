@@ -1,5 +1,5 @@
 // Reading a script: each line is a command, and stands for one call.
-ghost use Rattle.std.specs.Prelude.{◌≡◌, ◌+◌, All, IfOk, IfErr, IfSome, length, map, option_and_then, option_copied, option_map, string_bytes, true, vec_len};
+ghost use Rattle.std.specs.Prelude.{◌≡◌, ◌+◌, All, IfOk, IfErr, IfSome, map, option_and_then, option_copied, option_map, string_bytes, true, vec_len};
 ghost use Rattle.textarea_data.specs.declared.cursor.CursorMove.TheVariants as move;
 ghost use Rattle.textarea_calls.specs.Arguments.{IsReadAs, two_short_numbers};
 ghost use Rattle.textarea_calls.specs.Made.{CanBeMade};

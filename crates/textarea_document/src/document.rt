@@ -8,7 +8,7 @@ mod rows;
 mod selection;
 
 ghost use Rattle.std.specs.Prelude.{◌≡◌, ◌<◌, ◌≤◌, ◌+◌, ◌↔◌, length, OnOk, OnErr, IsOk, IfOk, IfSome, None, IsTrue, is_some, [], vec_len};
-ghost use Rattle.textarea_document.specs.Prelude.{as_nanos, size_limit, lines, lines_of, text_of, IsPlace, Place, size_of, Fits, place_after, IsWellFormed, empty_log, newest, next, recorded, clip, new_document, fresh_document, edited, moved, redone, run_ended, undone, applied_to, moved_ranges, AreValid, CutsNone};
+ghost use Rattle.textarea_document.specs.Prelude.{as_nanos, size_limit, lines, lines_of, text_of, IsPlace, size_of, Fits, place_after, IsWellFormed, empty_log, newest, next, clip, new_document, fresh_document, edited, moved, redone, run_ended, undone, applied_to, moved_ranges, AreValid, CutsNone};
 
 use std::alloc::{AllocError, Global};
 use std::marker::Model;

@@ -1,6 +1,6 @@
 -- The width of the map settles how lines are cut, in one mode and with the same tab stops.
 use Rattle.std.proofs.lemmas.Grind.{common_steps}
-use Rattle.std.proofs.Common.{arith, ◌≡◌, ◌≢◌, ℕ, ◌==◌, ◌&&◌, ◌||◌, Bool, true, false, cond, not, Option, None, Some, ap, ap₂, refl, sym, ◌∙◌}
+use Rattle.std.proofs.Common.{arith, ◌≡◌, ◌≢◌, ℕ, ◌==◌, ◌&&◌, ◌||◌, Bool, true, false, cond, not, Option, None, Some, ap, refl, ◌∙◌}
 use Rattle.std.proofs.lemmas.Bool.{and_parts, eqb-true}
 use Rattle.textarea_wrap.specs.Layout.{columns_for_rows, line_number_columns}
 use Rattle.textarea_wrap.specs.declared.wrap.WrapMode.{WrapMode}

@@ -1,6 +1,6 @@
 -- How many visual rows lines have in all at a width: as they are cut, as they were measured last, and anew.
 use Rattle.std.proofs.lemmas.Grind.{common_steps}
-use Rattle.std.proofs.Common.{arith, ◌≡◌, ◌∙◌, ℕ, true, List, length, String, Option, Some, ap, subst, sym}
+use Rattle.std.proofs.Common.{arith, ◌≡◌, ◌∙◌, ℕ, true, List, length, String, Option, Some}
 use Rattle.std.specs.Option.{IfSome}
 use Rattle.textarea_text.specs.Text.{lines, lines_of}
 use Rattle.textarea_screen_map.specs.declared.layout.Wrapping.{Wrapping}

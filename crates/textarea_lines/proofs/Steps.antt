@@ -1,6 +1,6 @@
 -- From a place of a text as it is laid out one place, or none, is found one visual row up or down.
 use Rattle.std.proofs.lemmas.Grind.{common_steps}
-use Rattle.std.proofs.Common.{◌≡◌, ℕ, List, Option, None, Some, MatchOption, String, length, ap, refl, arith, subst}
+use Rattle.std.proofs.Common.{◌≡◌, ℕ, List, Option, None, Some, MatchOption, String, ap, refl, arith}
 use Rattle.std.specs.Option.{IfSome}
 use Rattle.textarea_text.specs.Place.{Place, IsPlaceOf}
 use Rattle.textarea_text.specs.Text.{lines, lines_of}
@@ -12,7 +12,7 @@ use Rattle.textarea_screen_map.specs.Seen.{IsAbove, IsBelow, IsInFirstRow, IsInL
 use Rattle.textarea_lines.specs.declared.settings.LayoutSettings.{LayoutSettings}
 use Rattle.textarea_lines.specs.Stored.{HoldsRows}
 use Rattle.textarea_lines.specs.Rows.{IsLaidOutAs, OfRows}
-use Rattle.textarea_lines.specs.Layout.{LaidOut, wrapping_of}
+use Rattle.textarea_lines.specs.Layout.{LaidOut}
 use Rattle.textarea_lines.proofs.Stores.{in_text, laid_out_as, seen, tab_len_of}
 
 -- ---- steps, and places from which there is none, in rows at some tab stops

@@ -1,6 +1,6 @@
 -- Lines that aren't wrapped, and an edit inside one of them.
 use Rattle.std.proofs.lemmas.Grind.{common_steps}
-use Rattle.std.proofs.Common.{◌≡◌, ℕ, zero, suc, ◌+◌, ◌-◌, ◌<◌, ◌≤◌, Bool, true, false, cond, List, [], ◌∷◌, ◌++◌, length, take, drop, get_or, encode_utf8_all, sym, ap, refl, ◌∙◌, arith, subst, String, Result, Ok, Err, is_ok}
+use Rattle.std.proofs.Common.{◌≡◌, ℕ, zero, suc, ◌+◌, ◌-◌, ◌<◌, ◌≤◌, Bool, true, false, cond, List, [], ◌∷◌, ◌++◌, length, take, drop, get_or, encode_utf8_all, sym, ap, refl, ◌∙◌, arith, String, Result, Ok, Err, is_ok}
 use Rattle.std.specs.Result.{IsOk}
 use Rattle.std.proofs.lemmas.List.{get_or-append_right, length-map, length-take-le}
 use Rattle.textarea_util.specs.Limit.{size_limit}

@@ -1,7 +1,7 @@
 -- Printable ASCII: before another such character, and at a text's end, each one is a cluster by itself, and what stands behind it is
 -- cut as if it began the text.
 use Rattle.std.proofs.lemmas.Grind.{common_steps}
-use Rattle.std.proofs.Common.{◌≡◌, ℕ, ◌<◌, Bool, true, false, cond, not, ◌&&◌, ◌||◌, ◌==◌, leb, ltb, unwrap_or, List, [], ◌∷◌, ◌++◌, map, take, drop, Option, None, Some, IsSome, IfSome, IsCharBoundary, refl, sym, ap, ap₂, ◌∙◌, arith}
+use Rattle.std.proofs.Common.{◌≡◌, ℕ, ◌<◌, Bool, true, false, cond, not, ◌&&◌, ◌||◌, ◌==◌, leb, ltb, List, [], ◌∷◌, ◌++◌, map, take, drop, Option, None, Some, IsSome, IfSome, IsCharBoundary, refl, sym, ap, ap₂, ◌∙◌, arith}
 use Rattle.std.proofs.lemmas.Bool.{cond-true}
 use Rattle.std.proofs.lemmas.Bool.Decides.{nat_tests}
 use Rattle.std.proofs.lemmas.Str.{IsUtf8-drop, chars_past_char, encode_ascii}
@@ -16,7 +16,7 @@ use Rattle.ucd_table.proofs.TrieCheck.{all_below, all_below-at}
 use Rattle.unicode_segmentation.specs.Emoji.{is_extended_pictographic}
 use Rattle.unicode_segmentation.specs.GraphemeClusterBreak.{grapheme_cluster_break, grapheme_cluster_break_number}
 use Rattle.unicode_segmentation.specs.IndicConjunctBreak.{indic_conjunct_break, indic_conjunct_break_number}
-use Rattle.unicode_segmentation.specs.Grapheme.{graphemes, is_grapheme_break, break_by_pair, ends_in_linker, ends_in_pictograph, ends_in_half_flag, is_consonant, is_extend, is_regional, is_zwj}
+use Rattle.unicode_segmentation.specs.Grapheme.{graphemes, is_grapheme_break, ends_in_linker, ends_in_pictograph, ends_in_half_flag, is_extend, is_regional}
 use Rattle.unicode_segmentation.specs.Segments.{prepend, cut, segments}
 use Rattle.unicode_segmentation.proofs.Computing.{unicode_segmentation}
 use Rattle.unicode_segmentation.proofs.GraphemeLemmas.{is_grapheme_break-others}

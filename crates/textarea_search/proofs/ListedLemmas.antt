@@ -11,7 +11,6 @@ use Rattle.std.proofs.lemmas.List.Elements.{All-nil, All-cons, All-weaker}
 use Rattle.std.proofs.lemmas.List.Folds.{find-append}
 use Rattle.std.proofs.lemmas.Option.{none-some, same_Some}
 use Rattle.regex_hir.specs.Re.{Re}
-use Rattle.regex_hir.specs.Text.{is_boundary}
 use Rattle.regex_hir.specs.Find.{Match, find_str}
 use Rattle.regex_hir.proofs.AttemptLemmas.{cond_some}
 use Rattle.regex_hir.proofs.FindLemmas.{IsFirst-of_first_between}

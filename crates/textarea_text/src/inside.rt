@@ -1,5 +1,5 @@
 //! Changes inside one line, in place.
-ghost use Rattle.std.specs.Prelude.{◌≡◌, ◌+◌, ◌^◌, ◌<◌, ◌≤◌, [], length, take, encode_utf8_all, string_bytes, string_capacity, string_len, vec_len, OnOk, OnErr};
+ghost use Rattle.std.specs.Prelude.{◌≡◌, ◌+◌, ◌^◌, ◌<◌, ◌≤◌, [], string_bytes, string_capacity, string_len, vec_len, OnOk, OnErr};
 ghost use Rattle.std.specs.Str.{chars};
 ghost use Rattle.textarea_text.specs.Text.{characters, lines_of, text_of};
 ghost use Rattle.textarea_text.specs.Offset.{offset_at};

@@ -1,5 +1,5 @@
 //! Parts of a text, cut out of its lines.
-ghost use Rattle.std.specs.Prelude.{◌≡◌, ◌+◌, ◌≤◌, ◌++◌, ◌∷◌, length, take, drop, vec_len, string_bytes, IfOk, OnOk, []};
+ghost use Rattle.std.specs.Prelude.{◌≡◌, ◌+◌, ◌≤◌, ◌++◌, ◌∷◌, length, take, drop, vec_len, IfOk, OnOk, []};
 ghost use Rattle.std.specs.Str.{chars};
 ghost use Rattle.textarea_text.specs.Text.{lines_of, text_of};
 ghost use Rattle.textarea_text.specs.Place.{IsPlaceOf, index_of};

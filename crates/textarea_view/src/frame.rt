@@ -1,6 +1,6 @@
 //! What one frame is drawn from, and the cells that it makes.
 ghost use Rattle.std.specs.Prelude.{◌≡◌, ℕ, IfOk, IsTrue, List, OnOk};
-ghost use Rattle.textarea_view.specs.Prelude.{AreLinesOf, block_change, frame_change, inside_change, lines_shown, placeholder_change, rows_change, IsFrameDrawn, shows_placeholder, FillsArea, HasPlaces, Changes, KeepsOutside, area_of, contains, ShownLine};
+ghost use Rattle.textarea_view.specs.Prelude.{AreLinesOf, block_change, inside_change, lines_shown, placeholder_change, rows_change, IsFrameDrawn, shows_placeholder, FillsArea, HasPlaces, Changes, KeepsOutside, area_of, contains, ShownLine};
 
 use crate::placing::{Placing, row_area};
 use crate::scene::Scene;

@@ -1,10 +1,10 @@
 -- A greedy cutting has the fewest rows, since a stretch that begins later is never wider.
 use Rattle.std.proofs.lemmas.Grind.{common_steps}
-use Rattle.std.proofs.Common.{◌≡◌, ℕ, ◌<◌, ◌≤◌, ◌⊎◌, inl, inr, List, [], ◌∷◌, ◌++◌, length, refl, sym, ap, subst, ◌∙◌, ⊎_elim, append_assoc, append-nil, length-append, arith}
+use Rattle.std.proofs.Common.{◌≡◌, ℕ, ◌<◌, ◌≤◌, ◌⊎◌, inl, inr, List, [], ◌∷◌, ◌++◌, length, refl, sym, ap, ◌∙◌, ⊎_elim, append_assoc, append-nil, length-append, arith}
 use Rattle.std.proofs.lemmas.List.{length-map}
 use Rattle.std.specs.List.{concat}
 use Rattle.textarea_wrap.specs.Columns.{stretch_width}
-use Rattle.textarea_wrap.specs.Cutting.{Stretch, pieces_of, HasNoRoomForNext, IsGlyphRow, AreGlyphRows, IsGlyphCutting, AreFittingRows, HasFewestGlyphRows}
+use Rattle.textarea_wrap.specs.Cutting.{Stretch, pieces_of, IsGlyphRow, AreGlyphRows, IsGlyphCutting, AreFittingRows, HasFewestGlyphRows}
 use Rattle.textarea_wrap.proofs.ColumnLemmas.{stretch_width-front, stretch_width-back}
 
 -- ---- two cuttings of one list

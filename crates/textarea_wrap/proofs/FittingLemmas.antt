@@ -10,7 +10,7 @@ use Rattle.std.specs.Str.{IsUtf8, chars}
 use Rattle.unicode_segmentation.specs.Grapheme.{graphemes, is_grapheme_break}
 use Rattle.unicode_segmentation.proofs.SegmentsLemmas.{concat-segments}
 use Rattle.unicode_width.proofs.Rules.{width_or_zero-le}
-use Rattle.textarea_wrap.specs.Columns.{plain_width, next_stop, column_after, end_column, stretch_width}
+use Rattle.textarea_wrap.specs.Columns.{plain_width, column_after, end_column, stretch_width}
 use Rattle.textarea_wrap.specs.Cutting.{Stretch, Block, shared, split, pieces_of, units_of, rows_of, begins_with_content, AreGlyphRows, IsGlyphCutting, HangsOver, IsBlock, AreBlocks, IsWordCutting}
 use Rattle.textarea_wrap.specs.Fitting.{full_width, IsFittingCluster, AreFittingClusters, HasFittingClusters}
 use Rattle.textarea_wrap.specs.Units.{is_blank}

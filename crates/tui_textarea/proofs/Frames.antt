@@ -6,7 +6,7 @@ use Rattle.textarea_data.specs.declared.cursor.CursorMove.{CursorMove}
 use Rattle.textarea_document.specs.Edits.{is_filled}
 use Rattle.textarea_document.specs.Rows.{HasRowsAt, laid_out_of, with_inner_width}
 use Rattle.textarea_document.specs.State.{DocumentState}
-use Rattle.textarea_drawing.specs.Frame.{Parts, frame_of}
+use Rattle.tui_textarea.specs.DrawnFrame.{Parts, frame_of}
 use Rattle.textarea_view.specs.Frame.{has_lines, shows_placeholder}
 use Rattle.textarea_lines.specs.Layout.{LaidOut, Layout, at_width, laid_out_with, wrapping_at, wrapping_of}
 use Rattle.textarea_screen_map.specs.Lent.{LentRows}

@@ -7,7 +7,7 @@ use Rattle.textarea_data.specs.declared.cursor.CursorMove.TheVariants as move
 use Rattle.textarea_document.specs.Rows.{IsAboveCursor, IsBelowCursor}
 use Rattle.textarea_document.specs.State.{DocumentState}
 use Rattle.textarea_document.specs.Target.{VisualTargets, is_visual, target}
-use Rattle.textarea_drawing.specs.Hit.{IsInside}
+use Rattle.tui_textarea.specs.Hit.{IsInside}
 use Rattle.textarea_view.specs.Viewport.{ViewportState}
 use Rattle.tui_textarea.specs.Moves.{IsTarget}
 use Rattle.tui_textarea.specs.State.{State}

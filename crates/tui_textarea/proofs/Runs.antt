@@ -5,9 +5,9 @@ use Rattle.textarea_calls.specs.declared.action.Action.{Action}
 use Rattle.textarea_data.specs.declared.cursor.CursorMove.{CursorMove}
 use Rattle.std.specs.Option.{option_map}
 use Rattle.textarea_view.specs.Cells.{AreLinesOf, frame_change}
-use Rattle.textarea_drawing.specs.Frame.{Parts, frame_of}
-use Rattle.textarea_drawing.specs.Rendered as rendered
-use Rattle.textarea_drawing.specs.Rendered.{IsDrawn}
+use Rattle.tui_textarea.specs.DrawnFrame.{Parts, frame_of}
+use Rattle.tui_textarea.specs.Rendered as rendered
+use Rattle.tui_textarea.specs.Rendered.{IsDrawn}
 use Rattle.textarea_screen.specs.Buffer.{cell_at}
 use Rattle.textarea_screen.specs.declared.screen.buffer.Buffer.{Buffer}
 use Rattle.textarea_screen.specs.declared.screen.rect.Rect.{Rect}

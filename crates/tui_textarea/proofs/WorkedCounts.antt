@@ -5,7 +5,7 @@ use Rattle.textarea_data.specs.declared.cursor.CursorMove.TheVariants.{Bottom, E
 use Rattle.textarea_document.specs.Cuts.{CutsNothing}
 use Rattle.textarea_document.specs.Rows.{laid_out_of, with_inner_width}
 use Rattle.textarea_document.specs.State.{DocumentState}
-use Rattle.textarea_drawing.specs.State.{DrawingState}
+use Rattle.tui_textarea.specs.DrawingState.{DrawingState}
 use Rattle.textarea_lines.specs.Cuts.{map_width}
 use Rattle.textarea_lines.specs.Layout.{Layout}
 use Rattle.textarea_screen.specs.declared.screen.rect.Rect.{Rect}

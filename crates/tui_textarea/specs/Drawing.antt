@@ -1,9 +1,9 @@
 -- What is drawn of a text area, and what drawing and scrolling make of its state.
 use Rattle.std.specs.Prelude.{◌≡◌, ℕ, [], ◌∷◌, ◌++◌}
 use Rattle.textarea_data.specs.declared.scroll.Scrolling.{Scrolling}
-use Rattle.textarea_drawing.specs.Frame.{Parts}
-use Rattle.textarea_drawing.specs.Rendered as drawing
-use Rattle.textarea_drawing.specs.State.{DrawingState, with_viewport}
+use Rattle.tui_textarea.specs.DrawnFrame.{Parts}
+use Rattle.tui_textarea.specs.Rendered as drawing
+use Rattle.tui_textarea.specs.DrawingState.{DrawingState, with_viewport}
 use Rattle.textarea_view.specs.declared.look.Look.{Look}
 use Rattle.textarea_screen.specs.declared.screen.rect.Rect.{Rect}
 use Rattle.textarea_screen.specs.declared.screen.style.Style.{Style}

@@ -11,7 +11,7 @@ use Rattle.textarea_ranges.specs.Held.{moved_out}
 use Rattle.textarea_document.specs.Outcomes.{moved}
 use Rattle.textarea_document.specs.State.{DocumentState}
 use Rattle.textarea_document.specs.Rows.{IsAboveCursor, IsBelowCursor}
-use Rattle.textarea_drawing.specs.Hit.{IsInside}
+use Rattle.tui_textarea.specs.Hit.{IsInside}
 use Rattle.textarea_document.specs.Target.{VisualTargets, target}
 use Rattle.tui_textarea.specs.Drawing.{viewport_scrolled}
 use Rattle.tui_textarea.specs.State.{State, with_document}

@@ -2,8 +2,8 @@
 -- them. A pattern may be refused: that is an answer, and the state stays. Where a move, a scroll or an input leads, what is measured or
 -- hit, and what is drawn, is said by the text area.
 use Rattle.std.specs.Prelude.{◌≡◌, ℕ, List}
-use Rattle.textarea_drawing.specs.Hit.{IsHit}
-use Rattle.textarea_drawing.specs.Rendered.{IsDrawn}
+use Rattle.tui_textarea.specs.Hit.{IsHit}
+use Rattle.tui_textarea.specs.Rendered.{IsDrawn}
 use Rattle.textarea_screen.specs.Buffer.{KeepsOutside}
 use Rattle.textarea_screen.specs.Rect.{contains}
 use Rattle.textarea_screen.specs.declared.screen.buffer.Buffer.{Buffer}

@@ -7,7 +7,7 @@ use Rattle.textarea_document.specs.State.{DocumentState, new_document}
 use Rattle.textarea_wrap.specs.declared.wrap.WrapMode.TheVariants as mode
 use Rattle.textarea_lines.specs.declared.settings.LayoutSettings.{LayoutSettings}
 use Rattle.textarea_view.specs.State.{SurroundState, new_surround}
-use Rattle.textarea_drawing.specs.State.{DrawingState, for_other_lines, new_drawing}
+use Rattle.tui_textarea.specs.DrawingState.{DrawingState, for_other_lines, new_drawing}
 use Rattle.tui_textarea.specs.declared.textarea.settings.Settings.{Settings}
 
 -- a text area as its callers see it: the document; what was yanked last; the settings; the moment that was handed in last,

@@ -1,45 +1,30 @@
 //! Laws of text areas and their visual rows, each the contract of a function that does nothing.
-ghost use Rattle.std.specs.Prelude.{◌≡◌, ◌<◌, ◌^◌, ℕ, Bool, List, [], true, false, length};
+ghost use Rattle.std.specs.Prelude.{◌≡◌, ◌<◌, ◌^◌, ℕ, Bool, [], true, false, length};
 ghost use Rattle.textarea_util.specs.Limit.{size_limit};
 ghost use Rattle.textarea_data.specs.declared.cursor.CursorMove.{CursorMove};
 ghost use Rattle.textarea_data.specs.declared.scroll.Scrolling.{Scrolling};
-ghost use Rattle.textarea_document.specs.Goes.{GoesUncut};
-ghost use Rattle.textarea_document.specs.Cuts.{CutsAll, CutsBySettings, CutsByWidth, SplicedBy};
 ghost use Rattle.textarea_document.specs.Rows.{laid_out_of};
 ghost use Rattle.textarea_document.specs.Sound.{IsSound};
-ghost use Rattle.textarea_document.specs.Splices.{break_splices, hit_splices, selected_splices};
-ghost use Rattle.textarea_document.specs.State.{fresh_document};
-ghost use Rattle.textarea_drawing.specs.Back.{IsHitBack};
-ghost use Rattle.textarea_drawing.specs.Frame.{frame_of};
+ghost use Rattle.tui_textarea.specs.CaretBack.{IsHitBack};
+ghost use Rattle.tui_textarea.specs.DrawnFrame.{frame_of};
 ghost use Rattle.textarea_view.specs.Frame.{shows_placeholder};
-ghost use Rattle.textarea_drawing.specs.Shown.{IsCaretShown};
+ghost use Rattle.tui_textarea.specs.CaretShown.{IsCaretShown};
 ghost use Rattle.textarea_calls.specs.declared.action.Action.{Action};
-ghost use Rattle.textarea_lines.specs.declared.settings.LayoutSettings.{LayoutSettings};
 ghost use Rattle.textarea_screen_map.specs.Lent.{LentRows};
 ghost use Rattle.textarea_lines.specs.View.{IsViewOf};
 ghost use Rattle.textarea_blocks.specs.Sums.{row_total};
-ghost use Rattle.textarea_data.specs.declared.range.AtomicDeleteDirection.{AtomicDeleteDirection};
 ghost use Rattle.textarea_screen.specs.declared.screen.rect.Rect.{Rect};
 ghost use Rattle.textarea_view.specs.Measure.{saturated, width_inside};
 ghost use Rattle.textarea_view.specs.declared.surround.measure.TextAreaMeasure.{TextAreaMeasure};
-ghost use Rattle.textarea_text.specs.Place.{Place};
 ghost use Rattle.textarea_text.specs.Size.{weight};
-ghost use Rattle.textarea_text.specs.Text.{Symbol};
 ghost use Rattle.tui_textarea.specs.Drawing.{IsRendered, parts_of};
-ghost use Rattle.tui_textarea.specs.Edits.{str_inserted};
 ghost use Rattle.tui_textarea.specs.Frames.{IsLaidOutFor};
 ghost use Rattle.tui_textarea.specs.Measure.{IsMeasured, IsMeasuredAround};
-ghost use Rattle.tui_textarea.specs.Goes.{GoesByAct};
 ghost use Rattle.tui_textarea.specs.Input.{IsActed};
-ghost use Rattle.tui_textarea.specs.Layout.{with_layout};
 ghost use Rattle.tui_textarea.specs.Moves.{IsMovedWith, IsScrolledWith};
-ghost use Rattle.tui_textarea.specs.Ranges.{hit_range_removed};
-ghost use Rattle.tui_textarea.specs.Removals.{break_before_removed, symbols_ahead_removed, text_cleared, unselected_or};
-ghost use Rattle.tui_textarea.specs.Selection.{unselected};
-ghost use Rattle.tui_textarea.specs.Splices.{ahead_splices, clear_splices, selected_splices_or, str_splices};
-ghost use Rattle.tui_textarea.specs.CallSplices.{splices_by};
-ghost use Rattle.tui_textarea.specs.State.{State, with_other_lines};
+ghost use Rattle.tui_textarea.specs.State.{State};
 
+use crate::drawing::laws::{caret_is_hit_back, caret_is_shown, one_place_inside};
 pub use crate::textarea::laws::{
     copy_then_paste, cursor_and_anchor_are_places, edits_fit, is_sound, redo_gives_all_back,
     rows_are_laid_out_anew, undos_give_back,
@@ -47,7 +32,6 @@ pub use crate::textarea::laws::{
 use textarea_document::laws::{
     edits_cut, layouts_cut, one_place_up_and_down, one_row_count, ranges_go_along,
 };
-use textarea_drawing::laws::{caret_is_hit_back, caret_is_shown, one_place_inside};
 use textarea_lines::laws::{cut_as_measured, settings_stay};
 
 /// A move leads from a state to one state, with Shift and without it.
@@ -140,82 +124,6 @@ pub fn frame_cuts_once()
 {
     drawn_at_its_width();
     moves_cut_nothing();
-}
-
-/// What an input cuts: its splices lead from the old text and its rows to the new ones, one after another, and each cuts the lines
-/// that a splice cuts, so that the count grows by just as many. What asks for no edit has no splice, and leaves text, rows and count.
-pub fn inputs_cut()
-    ensures { (old new : State) (action : Action) → IsSound old.document →
-        IsActed old action new →
-        SplicedBy old.document (splices_by old action) new.document }
-{
-    edits_cut();
-}
-
-/// What the calls cut that no input asks for and that edit the text, and what the removal of what is selected cuts, which an
-/// insertion leaves that then runs out of memory: their splices do as those of an input.
-pub fn calls_cut()
-    ensures text { (state : State) (symbols : List Symbol) → IsSound state.document →
-        SplicedBy state.document (str_splices state symbols) (str_inserted state symbols).document }
-    ensures ahead { (state : State) (count : ℕ) → IsSound state.document →
-        SplicedBy state.document
-        (selected_splices_or state.document (ahead_splices state.document count))
-        (unselected_or state (symbols_ahead_removed state count)).document }
-    ensures range { (state : State) (direction : AtomicDeleteDirection) →
-        IsSound state.document →
-        SplicedBy state.document (hit_splices state.document direction)
-        (hit_range_removed state direction).document }
-    ensures selection { (state : State) → IsSound state.document →
-        SplicedBy state.document (selected_splices state.document) (unselected state).document }
-{
-    edits_cut();
-}
-
-/// What else cuts lines. A drawing cuts all lines where it changes the width of the map, and else none; other settings cut all
-/// lines where they cut the text in another way, and else none; and other lines that take the place of the old ones are all cut.
-pub fn layouts_are_cut()
-    ensures drawing { (old new : State) (area : Rect) → IsRendered old area new →
-        CutsByWidth old.document new.document }
-    ensures settings { (state : State) (settings : LayoutSettings) →
-        CutsBySettings state.document settings (with_layout state settings).document }
-    ensures lines { (state : State) (text : List Symbol) (cursor : Place) (maximum : ℕ) →
-        CutsAll state.document
-        (with_other_lines state
-        (fresh_document text state.document.layout.settings state.document.layout.count cursor
-        maximum)).document }
-{
-    layouts_cut();
-}
-
-/// The ranges go with the text over an input: over its splices, which lead from the old text to the new one. Only those of an undo
-/// and a redo may cut a range.
-pub fn ranges_go_behind_inputs()
-    ensures { (old new : State) (action : Action) → IsSound old.document →
-        IsActed old action new →
-        GoesByAct action old.document (splices_by old action) new.document }
-{
-    ranges_go_along();
-}
-
-/// And so they do over the calls that no input asks for and that edit the text, over the removal of what is selected, which an
-/// insertion leaves that then runs out of memory, and over a drawing, which has no splice. None of these splices cuts a range.
-pub fn ranges_go_behind_calls()
-    ensures text { (state : State) (symbols : List Symbol) → IsSound state.document →
-        GoesUncut state.document (str_splices state symbols) (str_inserted state symbols).document }
-    ensures ahead { (state : State) (count : ℕ) → IsSound state.document →
-        GoesUncut state.document
-        (selected_splices_or state.document (ahead_splices state.document count))
-        (unselected_or state (symbols_ahead_removed state count)).document }
-    ensures range { (state : State) (direction : AtomicDeleteDirection) →
-        IsSound state.document →
-        GoesUncut state.document (hit_splices state.document direction)
-        (hit_range_removed state direction).document }
-    ensures selection { (state : State) → IsSound state.document →
-        GoesUncut state.document (selected_splices state.document) (unselected state).document }
-    ensures drawing { (old new : State) (area : Rect) → IsRendered old area new →
-        GoesUncut old.document [] new.document }
-{
-    ranges_go_along();
 }
 
 /// In each state that a drawing leaves, a caret that is shown is hit back, where no character of the cursor's visual row has display

@@ -1,6 +1,7 @@
 //! The text area over one flat text, by groups of calls, and what each call does as definitions and laws.
 #![tactic(auto)]
 
+mod drawing;
 pub mod laws;
 pub mod outcomes;
 pub mod textarea;

@@ -22,16 +22,15 @@ ghost use Rattle.textarea_text.specs.Text.{lines, lines_of, text_of};
 ghost use Rattle.textarea_text.specs.Place.{IsPlace};
 ghost use Rattle.textarea_text.specs.Size.{size_of};
 ghost use Rattle.textarea_document.specs.State.{fresh_document};
-ghost use Rattle.textarea_text.specs.Given.{written};
 ghost use Rattle.textarea_text.specs.Part.{clip};
 ghost use Rattle.tui_textarea.specs.State.{new_state, with_other_lines};
 
+use crate::drawing::Drawing;
 use crate::textarea::settings::Settings;
 use std::alloc::{AllocError, Global};
 use std::marker::Model;
 use std::time::Duration;
 use textarea_document::Document;
-use textarea_drawing::Drawing;
 use textarea_lines::settings::LayoutSettings;
 use textarea_search::search::Search;
 use textarea_view::surround::Surround;

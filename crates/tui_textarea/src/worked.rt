@@ -1,6 +1,6 @@
 //! Worked cases of the count, each the contract of a function that does nothing: what it grows by where lines are cut.
 ghost use Rattle.std.specs.Prelude.{◌≡◌, ◌+◌, Bool, Some};
-ghost use Rattle.textarea_data.specs.declared.cursor.CursorMove.TheVariants.{Bottom, Down, End};
+ghost use Rattle.textarea_data.specs.declared.cursor.CursorMove.TheVariants.{Down};
 ghost use Rattle.textarea_data.specs.declared.scroll.Scrolling.{Scrolling};
 ghost use Rattle.textarea_document.specs.Cuts.{CutsNothing};
 ghost use Rattle.textarea_document.specs.Rows.{laid_out_of};

@@ -1,5 +1,5 @@
 //! Removals from a document.
-ghost use Rattle.std.specs.Prelude.{◌≡◌, ◌<◌, ◌≤◌, OnOk, OnErr, IsOk, IfOk, IfSome, MatchOption, not, true, false, ◌==◌, ◌++◌, ◌∷◌, ◌+◌, None, [], drop, take, encode_utf8_all, length, vec_len};
+ghost use Rattle.std.specs.Prelude.{◌≡◌, ◌<◌, ◌≤◌, OnOk, OnErr, IsOk, IfOk, IfSome, MatchOption, not, true, false, ◌==◌, ◌++◌, ◌∷◌, ◌+◌, None, [], drop, take, encode_utf8_all, length};
 ghost use Rattle.textarea_document.specs.Prelude.{chars, as_nanos, offset_at, lines_of, symbol_in, text_of, IsPlace, IsPlaceOf, index_of, part, Backward, Forward, TakesWhole, widened, IsSymbolBehind, hit_at_cursor, hit_before, hit_behind, hit_removed, is_at_end, is_at_start, removal, taken_symbols, removed_before, removed_behind, break_removed, part_removed, symbol_removed_before, symbol_removed_behind, edited};
 
 use crate::document::Document;

@@ -1,5 +1,5 @@
 //! What stands on the screen for the pieces of a row.
-ghost use Rattle.std.specs.Prelude.{◌≡◌, ◌+◌, ◌*◌, ◌^◌, ◌<◌, ◌≤◌, ◌↔◌, IsTrue, ◌++◌, map, length, drop, None, IfOk, OnOk, chars, encode_utf8_all, string_bytes};
+ghost use Rattle.std.specs.Prelude.{◌≡◌, ◌+◌, ◌*◌, ◌^◌, ◌<◌, ◌≤◌, ◌↔◌, ◌++◌, map, length, drop, None, IfOk, OnOk, chars, encode_utf8_all, string_bytes};
 ghost use Rattle.std.specs.List.{list_any};
 ghost use Rattle.textarea_screen.specs.Text.{shown_content};
 ghost use Rattle.textarea_highlight.specs.Texts.{bytes_of, IsLent};

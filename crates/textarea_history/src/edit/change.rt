@@ -1,5 +1,5 @@
 //! Changes: edits that are lent with the direction in which they go.
-ghost use Rattle.std.specs.Prelude.{◌≡◌, ◌<◌, ◌≤◌, ◌+◌, ◌++◌, ◌↔◌, length, min, reverse, IsTrue, IsOk, OnOk, OnErr, IfOk, true, false, vec_len};
+ghost use Rattle.std.specs.Prelude.{◌≡◌, ◌<◌, ◌≤◌, ◌+◌, ◌++◌, ◌↔◌, length, min, IsTrue, IsOk, OnOk, OnErr, IfOk, true, false, vec_len};
 ghost use Rattle.textarea_history.specs.Prelude.{chars, characters, following, lines_of, text_of, weight, offset_at, IsPlaceOf, end, Fits, place_after, place_before, IsReplacementFor, breaks_of, IsRemovalInLine, Makes};
 
 use super::{Content, Edit};

@@ -1,5 +1,5 @@
 //! A block: its sides, its corners and its title.
-ghost use Rattle.std.specs.Prelude.{◌≡◌, ◌+◌, ◌<◌, ◌≤◌, ◌&&◌, ℕ, length, IsOk, IfSome, OnOk, OnErr, if◌then◌else◌};
+ghost use Rattle.std.specs.Prelude.{◌≡◌, ◌+◌, ◌<◌, ◌≤◌, ◌&&◌, length, IsOk, IfSome, OnOk, OnErr, if◌then◌else◌};
 ghost use Rattle.textarea_screen.specs.Block.{shown_block};
 ghost use Rattle.textarea_screen.specs.Buffer.{Changes, KeepsOutside};
 ghost use Rattle.textarea_screen.specs.Cell.{with_symbol};

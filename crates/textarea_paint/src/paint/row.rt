@@ -1,5 +1,5 @@
 //! A line drawn in a row of cells.
-ghost use Rattle.std.specs.Prelude.{◌≡◌, ◌+◌, ◌≤◌, ℕ, min, IsOk, OnOk, OnErr};
+ghost use Rattle.std.specs.Prelude.{◌≡◌, ◌+◌, ◌≤◌, min, IsOk, OnOk, OnErr};
 ghost use Rattle.textarea_screen.specs.Buffer.{area_of, Changes, HasNone, KeepsOutside};
 ghost use Rattle.textarea_screen.specs.Rect.{is_in_row};
 ghost use Rattle.textarea_screen.specs.Text.{shown_line};

@@ -1,6 +1,6 @@
 //! What the surround takes of an area, and the height that is measured.
 ghost use Rattle.std.specs.Prelude.{◌≡◌, ◌≤◌, ℕ, IsTrue};
-ghost use Rattle.textarea_view.specs.Prelude.{contains, IsInner, AreBounds, chrome_of, measure_of, rows_shown, saturated, width_inside};
+ghost use Rattle.textarea_view.specs.Prelude.{contains, IsInner, AreBounds, chrome_of, measure_of, rows_shown, width_inside};
 
 use crate::surround::Surround;
 use textarea_screen::screen::Rect;

@@ -1,5 +1,5 @@
 //! The units of a line, between which a word mode may begin a row.
-ghost use Rattle.std.specs.Prelude.{◌≡◌, length, map, IfOk};
+ghost use Rattle.std.specs.Prelude.{◌≡◌, map, IfOk};
 ghost use Rattle.textarea_wrap.specs.Units.{is_blank, line_units};
 
 use std::alloc::{AllocError, Global};

@@ -14,11 +14,9 @@ ghost use Rattle.tui_textarea.specs.Run.{Leads, ShowsSame};
 ghost use Rattle.tui_textarea.specs.Said.{Said};
 ghost use Rattle.tui_textarea.specs.CallSplices.{OfLeft, splices_of};
 
-use crate::laws::{
-    calls_cut, inputs_cut, layouts_are_cut, one_input, one_move, ranges_go_behind_calls,
-    ranges_go_behind_inputs,
-};
-use textarea_drawing::laws::{one_drawing, one_rendering};
+use crate::drawing::laws::{one_drawing, one_rendering};
+use crate::laws::{one_input, one_move};
+use textarea_document::laws::{edits_cut, layouts_cut, ranges_go_along};
 
 /// Calls that answer so lead to one state, whatever the buffers: the answers settle all that a run leaves of a text area.
 pub fn one_end()
@@ -56,9 +54,8 @@ pub fn each_call_cuts()
         IsLeft old call new →
         OfLeft old (λ splices. SplicedBy old.document splices new.document) }
 {
-    inputs_cut();
-    calls_cut();
-    layouts_are_cut();
+    edits_cut();
+    layouts_cut();
 }
 
 /// No call sets the count back, also none that runs out of memory.
@@ -85,8 +82,7 @@ pub fn ranges_go_with_each_call()
         IsLeft old call new →
         OfLeft old (λ splices. GoesUncut old.document splices new.document) }
 {
-    ranges_go_behind_inputs();
-    ranges_go_behind_calls();
+    ranges_go_along();
 }
 
 /// The splices of each call fit the text, one after another, of every state that a text area has; and those of no call but an undo and
@@ -97,6 +93,5 @@ pub fn splices_cut_none()
     ensures cut_none { (state : State) (call : Call) → IsSound state.document →
         ¬ IsUndoOrRedo call → CutNone state.document.ranges (splices_of state call) }
 {
-    ranges_go_behind_inputs();
-    ranges_go_behind_calls();
+    ranges_go_along();
 }

@@ -2,7 +2,6 @@
 ghost use Rattle.std.specs.Prelude.{◌≡◌, ◌<◌, OnOk, OnErr, IsOk, IfOk, IfSome, MatchOption, false, true};
 ghost use Rattle.textarea_text.specs.Place.{IsPlace, index_of, place_of};
 ghost use Rattle.textarea_document.specs.Edits.{is_filled};
-ghost use Rattle.textarea_document.specs.Selection.{is_selected};
 ghost use Rattle.tui_textarea.specs.Removals.{break_before_removed, text_cleared, has_ahead, has_before, has_behind, has_break_before, has_line_before, has_line_behind, has_word_before, has_word_behind, index_ahead, back_to_word_removed, on_to_word_end_removed, line_end_removed, line_head_removed, removes_or, symbol_before_removed, symbol_behind_removed, symbols_ahead_removed, unselected_or, word_before_removed, word_behind_removed, yanked};
 
 use crate::textarea::TextArea;

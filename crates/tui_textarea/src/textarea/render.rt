@@ -1,10 +1,10 @@
 //! Drawing into a buffer, the caret, what a cell of the screen shows, and scrolling.
 ghost use Rattle.std.specs.Prelude.{◌≡◌, IfOk, IfSome, IsOk, OnErr, OnOk};
 ghost use Rattle.std.specs.Option.{option_map};
-ghost use Rattle.textarea_drawing.specs.Back.{IsCursorAtCaret, IsHitBack};
-ghost use Rattle.textarea_drawing.specs.Hit.{IsHit};
-ghost use Rattle.textarea_drawing.specs.Rendered.{IsDrawn};
-ghost use Rattle.textarea_drawing.specs.Shown.{IsCaretShown};
+ghost use Rattle.tui_textarea.specs.CaretBack.{IsCursorAtCaret, IsHitBack};
+ghost use Rattle.tui_textarea.specs.Hit.{IsHit};
+ghost use Rattle.tui_textarea.specs.Rendered.{IsDrawn};
+ghost use Rattle.tui_textarea.specs.CaretShown.{IsCaretShown};
 ghost use Rattle.textarea_view.specs.Placed.{cell_of_position};
 ghost use Rattle.textarea_screen.specs.Buffer.{KeepsOutside};
 ghost use Rattle.textarea_screen.specs.Rect.{contains};

@@ -1,6 +1,5 @@
 use Rattle.std.proofs.lemmas.Grind.{common_steps}
 use Rattle.std.proofs.Common.{◌≡◌, ◌-◌, ◌≤◌, ◌∙◌, ap, arith, length}
-use Rattle.textarea_util.specs.Replaced.{replaced}
 use Rattle.textarea_blocks.specs.Blocks.{BlocksView, all_rows, lines_before, rows_of_each}
 use Rattle.textarea_blocks.specs.Sums.{row_total}
 use Rattle.textarea_blocks.specs.declared.blocks.numbers.Exchanged.{Exchanged}

@@ -1,5 +1,5 @@
 use Rattle.std.proofs.lemmas.Grind.{common_steps}
-use Rattle.std.proofs.Common.{◌≡◌, ◌+◌, ◌<◌, ◌≤◌, ◌∙◌, List, [], ap, arith, drop, get_or, length, set, take, ℕ}
+use Rattle.std.proofs.Common.{◌≡◌, ◌+◌, ◌<◌, ◌≤◌, ◌∙◌, List, [], ap, arith, drop, get_or, length, take, ℕ}
 use Rattle.std.proofs.lemmas.List.{length-drop, length-take-le}
 use Rattle.textarea_wrap.specs.RowsView.{RowsView}
 use Rattle.textarea_blocks.specs.Blocks.{BlocksView, rows_of_each}

@@ -1,8 +1,8 @@
 use Rattle.std.proofs.Common.{◌≡◌, ◌∙◌, Err, Ok, Result, ap, ap₂, subst}
 use Rattle.std.specs.Result.{OnErr, OnOk}
 use Rattle.textarea_document.specs.State.{DocumentState}
-use Rattle.textarea_drawing.specs.Rendered as below
-use Rattle.textarea_drawing.specs.State.{DrawingState}
+use Rattle.tui_textarea.specs.Rendered as below
+use Rattle.tui_textarea.specs.DrawingState.{DrawingState}
 use Rattle.textarea_screen.specs.declared.screen.rect.Rect.{Rect}
 use Rattle.tui_textarea.specs.Drawing.{IsRendered, parts_of}
 use Rattle.tui_textarea.specs.State.{State}
