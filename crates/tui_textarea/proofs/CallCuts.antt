@@ -1,4 +1,5 @@
--- Which lines each call cuts, by what the text area says of its outcomes; and that the count never falls.
+-- The lines that each call wraps, by the laws of the text area; and that the wrap counter never
+-- decreases.
 use Rattle.std.proofs.Common.{◌≡◌, ◌≤◌, ℕ, List, [], ◌∷◌, Option, None, Some, is_some, true, false, ap, refl, subst, sym, ◌∙◌, inl, inr, ⊎_elim}
 use Rattle.textarea_calls.specs.declared.action.Action.{Action}
 use Rattle.textarea_calls.specs.declared.action.Action.TheVariants as action
@@ -41,9 +42,9 @@ use Rattle.tui_textarea.specs.CallSplices.{OfLeft, splices_of, splices_by}
 use Rattle.textarea_calls.specs.declared.call.Call.{Call}
 use Rattle.textarea_calls.specs.declared.call.Call.TheVariants as call
 
--- ---- what the laws of the text area say
+-- ---- the laws of the text area
 
--- of inputs, of other edits, and of what else cuts lines
+-- of inputs, of other edits, and of what else wraps lines
 pub record TheLaws : Type 0 where
   pub inputs : (old new : State) (asked : Action) → IsSound old.document → IsActed old asked new → SplicedBy old.document (splices_by old asked) new.document
   pub text : (state : State) (symbols : List Symbol) → IsSound state.document → SplicedBy state.document (str_splices state symbols) (str_inserted state symbols).document
@@ -54,7 +55,7 @@ pub record TheLaws : Type 0 where
   pub settings : (state : State) (settings : LayoutSettings) → CutsBySettings state.document settings (with_layout state settings).document
   pub lines : (state : State) (text : List Symbol) (cursor : Place) (maximum : ℕ) → CutsAll state.document (with_other_lines state (fresh_document text state.document.layout.settings state.document.layout.count cursor maximum)).document
 
--- ---- calls that cut nothing
+-- ---- calls that wrap nothing
 
 kept : (old new outcome : State) → new ≡ outcome → laid_out_of outcome.document ≡ laid_out_of old.document → SplicedBy old.document [] new.document
 kept old new outcome is same = ap (λ (s : State). laid_out_of s.document) is ∙ same
@@ -73,7 +74,7 @@ pattern_kept state text answer = refl
 
 -- ---- each call
 
--- what a call that runs out of memory leaves, by the splices that it has made
+-- the state after a call that runs out of memory, by the splices that it has made
 abbrev LeftBy : State → State → Type 0
 LeftBy old new = OfLeft old (λ splices. SplicedBy old.document splices new.document)
 
@@ -152,7 +153,7 @@ module _ (laws : TheLaws) where
   refused_cuts old new (call.InputWithoutShortcuts input) h k = act_left old new (asked_without_shortcuts input.now) h k
   refused_cuts old new made h k = stayed old new k
 
--- ---- the count
+-- ---- the wrap counter
 
 pub record Never : Type 0 where
   pub splices : (old new : LaidOut) (splices : List Splice) → AreSpliced old splices new → old.layout.count ≤ new.layout.count

@@ -50,7 +50,7 @@ use textarea_document::laws::{
 use textarea_drawing::laws::{caret_is_hit_back, caret_is_shown, one_place_inside};
 use textarea_lines::laws::{cut_as_measured, settings_stay};
 
-/// A move leads from a state to one state, with Shift and without it.
+/// A move determines the state after it, with or without Shift.
 pub fn one_move()
     ensures { (old first second : State) (shift : Bool) (cursor_move : CursorMove) →
         IsMovedWith old shift cursor_move first → IsMovedWith old shift cursor_move second →
@@ -60,7 +60,7 @@ pub fn one_move()
     one_place_inside();
 }
 
-/// What an input asks for leads from a state to one state.
+/// The action of an input determines the state after it.
 pub fn one_input()
     ensures { (old first second : State) (action : Action) →
         IsActed old action first → IsActed old action second → first ≡ second }
@@ -68,7 +68,7 @@ pub fn one_input()
     one_move();
 }
 
-/// An area of a width, in columns, has one measure.
+/// The measure of an area is determined by the area's width, in columns.
 pub fn one_measure()
     ensures { (state : State) (width : ℕ) (measure other : TextAreaMeasure) →
         IsMeasured state width measure → IsMeasured state width other → measure ≡ other }
@@ -76,9 +76,9 @@ pub fn one_measure()
     one_row_count();
 }
 
-/// What is measured for the width of an area, before a drawing into that area or after it, is what the drawing has, but 65535 at
-/// most: its visual rows, where a column is left inside of the block, or the lines of the placeholder, where these are shown
-/// instead of the rows.
+/// A measure for the width of an area, before or after a drawing into that area, counts what the
+/// drawing shows, up to 65535: its visual rows, if a column is left inside the block, or the
+/// placeholder's lines, if these are shown instead.
 pub fn measured_as_drawn()
     ensures rows { (old new : State) (area : Rect) (measure : TextAreaMeasure) (view : LentRows) →
         IsMeasuredAround old new area.width measure → IsRendered old area new →
@@ -97,8 +97,8 @@ pub fn measured_as_drawn()
     settings_stay();
 }
 
-/// After a drawing the text is laid out for the width of its area, and where it is laid out for the width of an area, a drawing
-/// into that area leaves the document as it is: nothing is cut.
+/// After a drawing the layout has the width of the drawn area. If it has the width of an area
+/// already, a drawing into that area leaves the document unchanged: no line is wrapped.
 pub fn drawn_at_its_width()
     ensures put { (old new : State) (area : Rect) →
         IsRendered old area new → IsLaidOutFor new area.width }
@@ -108,8 +108,8 @@ pub fn drawn_at_its_width()
     settings_stay();
 }
 
-/// A move and a scroll, with Shift or without it, leave the layout of the text, so they cut nothing; and it stays laid out for the
-/// width of an area.
+/// A move or scroll, with or without Shift, leaves the layout unchanged: no line is wrapped, and
+/// the layout's width stays.
 pub fn moves_cut_nothing()
     ensures moved { (old new : State) (shift : Bool) (cursor_move : CursorMove) →
         IsMovedWith old shift cursor_move new → new.document.layout ≡ old.document.layout }
@@ -123,8 +123,8 @@ pub fn moves_cut_nothing()
         IsLaidOutFor old width → IsLaidOutFor new width }
 {}
 
-/// The text is cut once for all drawings at one width: a second drawing into an area as wide leaves the document as it is, also
-/// where a move or a scroll came between.
+/// The text is wrapped once for all drawings at one width: a second drawing into an area of the
+/// same width leaves the document unchanged, even after a move or a scroll between the two.
 pub fn frame_cuts_once()
     ensures again { (old first second : State) (area other : Rect) → other.width ≡ area.width →
         IsRendered old area first → IsRendered first other second →
@@ -142,8 +142,9 @@ pub fn frame_cuts_once()
     moves_cut_nothing();
 }
 
-/// What an input cuts: its splices lead from the old text and its rows to the new ones, one after another, and each cuts the lines
-/// that a splice cuts, so that the count grows by just as many. What asks for no edit has no splice, and leaves text, rows and count.
+/// Which lines an input wraps: its splices lead from the old text and rows to the new ones, one
+/// after another, and each wraps the lines that such a splice wraps and adds their number to the
+/// wrap counter. An input that is no edit has no splice, and leaves text, rows and counter.
 pub fn inputs_cut()
     ensures { (old new : State) (action : Action) → IsSound old.document →
         IsActed old action new →
@@ -152,8 +153,8 @@ pub fn inputs_cut()
     edits_cut();
 }
 
-/// What the calls cut that no input asks for and that edit the text, and what the removal of what is selected cuts, which an
-/// insertion leaves that then runs out of memory: their splices do as those of an input.
+/// The same law for the editing calls that no input asks for, and for the removal of the selected
+/// text, which is all that an insertion has done if it runs out of memory after that.
 pub fn calls_cut()
     ensures text { (state : State) (symbols : List Symbol) → IsSound state.document →
         SplicedBy state.document (str_splices state symbols) (str_inserted state symbols).document }
@@ -171,8 +172,9 @@ pub fn calls_cut()
     edits_cut();
 }
 
-/// What else cuts lines. A drawing cuts all lines where it changes the width of the map, and else none; other settings cut all
-/// lines where they cut the text in another way, and else none; and other lines that take the place of the old ones are all cut.
+/// What else wraps lines. A drawing wraps all lines if it changes the width of the map of visual
+/// rows, and otherwise none; settings wrap all lines if they change the layout, and otherwise none;
+/// and lines that replace the old ones are all wrapped.
 pub fn layouts_are_cut()
     ensures drawing { (old new : State) (area : Rect) → IsRendered old area new →
         CutsByWidth old.document new.document }
@@ -187,8 +189,8 @@ pub fn layouts_are_cut()
     layouts_cut();
 }
 
-/// The ranges go with the text over an input: over its splices, which lead from the old text to the new one. Only those of an undo
-/// and a redo may cut a range.
+/// The atomic ranges move with the text over the splices of an input, which lead from the old text
+/// to the new one. Only the splices of undo and redo may split a range.
 pub fn ranges_go_behind_inputs()
     ensures { (old new : State) (action : Action) → IsSound old.document →
         IsActed old action new →
@@ -197,8 +199,9 @@ pub fn ranges_go_behind_inputs()
     ranges_go_along();
 }
 
-/// And so they do over the calls that no input asks for and that edit the text, over the removal of what is selected, which an
-/// insertion leaves that then runs out of memory, and over a drawing, which has no splice. None of these splices cuts a range.
+/// The same law for the editing calls that no input asks for, for the removal of the selected text,
+/// which is all that an insertion has done if it runs out of memory after that, and for a drawing,
+/// which has no splice. None of these splices splits a range.
 pub fn ranges_go_behind_calls()
     ensures text { (state : State) (symbols : List Symbol) → IsSound state.document →
         GoesUncut state.document (str_splices state symbols) (str_inserted state symbols).document }
@@ -218,9 +221,10 @@ pub fn ranges_go_behind_calls()
     ranges_go_along();
 }
 
-/// In each state that a drawing leaves, a caret that is shown is hit back, where no character of the cursor's visual row has display
-/// width 0: its cell shows the cursor. And with rows at the left the caret is shown where the inner area has room for it. Every text
-/// area is so small, and its tabs are so short, as is asked here.
+/// After every drawing, the position at the caret's cell is the cursor, if the caret is shown and
+/// no character of the cursor's visual row has display width 0. With left alignment the caret is
+/// shown if the inner area has room for it. Every text area satisfies the assumed limits of text
+/// size and tab length.
 pub fn carets_are_kept()
     ensures back { (old new : State) (area : Rect) → IsSound new.document →
         IsRendered old area new → IsHitBack (parts_of new) }

@@ -1,4 +1,5 @@
-//! The text area over one flat text, by groups of calls, and what each call does as definitions and laws.
+//! The text area: a multi-line editor widget for terminals. Also what each call does, as
+//! definitions and laws.
 #![tactic(auto)]
 
 pub mod laws;
@@ -25,7 +26,7 @@ pub use textarea_view::look::CursorRenderMode;
 pub use textarea_view::surround::measure::TextAreaMeasure;
 pub use textarea_wrap::wrap::WrapMode;
 
-/// The spans of a drawn row.
+/// The spans of a visual row, as it is drawn.
 pub mod highlight {
     pub use textarea_highlight::highlight::{CursorCellRender, LineHighlighter};
 }
@@ -34,7 +35,7 @@ pub mod highlight {
 pub mod history {
     pub use textarea_history::history::{Edit, EditKind, History};
 
-    /// What undo and redo give back, whatever was edited.
+    /// What undo and redo restore.
     pub mod laws {
         pub use textarea_history::history::laws::{
             each_edit_fits, redo_gives_back, stays_sound, undos_give_back,
@@ -42,12 +43,12 @@ pub mod history {
     }
 }
 
-/// Layout numbers, and the digits of a number.
+/// The numbers of a layout, and the digits of a number.
 pub mod layout {
     pub use textarea_wrap::layout::{LayoutMetrics, num_digits};
 }
 
-/// The visual rows of all lines, kept line by line.
+/// The visual rows of all lines, cached line by line.
 pub mod screen_map {
     pub use textarea_screen_map::screen_map::{PreparedRows, ScreenMap};
 }
@@ -65,7 +66,7 @@ pub mod word {
     };
 }
 
-/// The rows of one line at a width.
+/// The visual rows of one line at a width.
 pub mod wrap {
     pub use textarea_wrap::wrap::{Rows, WrapCount, WrapMode, line_ranges};
 }

@@ -18,7 +18,7 @@ rendered (Ok x) {view} is area document drawing h = record {
 }
 rendered (Err e) is area document drawing h = h
 
--- a state whose drawn parts are left as they were is left as it was
+-- a state with its old drawn parts is the old one
 left : {T E : Type 0} (r : Result T E) {view old : State} → view ≡ old → (document : DocumentState) (drawing : DrawingState)
     → OnErr r ((document ≡ view.document) × (drawing ≡ view.drawing)) → OnErr r (record view { document = document; drawing = drawing } ≡ old)
 left (Ok x) is document drawing h = h
