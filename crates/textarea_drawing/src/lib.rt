@@ -1,4 +1,4 @@
-//! How a text area is drawn: its look, the part of its rows that is shown, its caret, and what a cell of the screen shows.
+//! The drawing of a text area: its styles, its viewport, its caret, and the hit test.
 #![tactic(auto)]
 
 pub mod drawing;
