@@ -126,8 +126,7 @@ break_at_end text place h stands =
     not_both : (symbols : List Symbol) (c : ℕ) → symbols ≡ Break ∷ [] → symbols ≡ Character c ∷ [] → ⊥
     not_both symbols c e e' = cc
 
--- the removal of the symbol before a position, without a range there backward, removes each range
--- completely or not at all
+-- the removal of the symbol before a position, without a range there backward, splits no range
 pub before_by : (text : List Symbol) (ranges : List AtomicRange) (place from : Place) (symbol : Symbol) → AreValid (lines text) ranges → hit ranges place DeleteBackward ≡ None → IsPlace text from → StandsAt text from (symbol ∷ []) → place ≡ end from (symbol ∷ []) → TakesWhole ranges from place
 before_by text ranges place from (Character c) valid none h stands ends =
     let free = none_hit ranges place DeleteBackward none in
@@ -174,6 +173,5 @@ pub whole_break : (text : List Symbol) (ranges : List AtomicRange) (place : Plac
 whole_break text ranges place valid fits =
     whole_from_ends ranges place (place.0 + 1, 0) (outside_end (lines text) ranges place valid (break_at_end text place fits.is_place fits.allowed)) (outside_start ranges (place.0 + 1, 0) refl)
 
--- copies of ranges are the same ranges
 pub copy_ranges : (ranges copies : List AtomicRange) → AllZip (λ range copy. copy ≡ range) ranges copies → copies ≡ ranges
 copy_ranges ranges copies h = AllZip-map (λ range. range) ranges copies h ∙ map-id ranges

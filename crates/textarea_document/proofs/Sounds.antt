@@ -7,7 +7,6 @@ use Rattle.textarea_history.proofs.LogLaws.{each_fits, newest_back, sound_redone
 use Rattle.textarea_ranges.proofs.Moving.{in_order_moved, valid_moved}
 use Rattle.textarea_document.proofs.Ranges.{valid_none}
 
--- the log of a sound document is sound
 pub logged_sound : (document : DocumentState) → IsSound document → LogIsSound (logged document)
 logged_sound document h = record { undo = h.undo; redo = h.redo; bounded = h.bounded }
 

@@ -32,7 +32,6 @@ hit_behind document = hit_at_cursor document DeleteForward
 abbrev pub cursor_index : DocumentState → ℕ
 cursor_index document = index_of document.text document.cursor
 
--- whether the cursor is at the text's start, or at its end
 abbrev pub is_at_start : DocumentState → Bool
 is_at_start document = cursor_index document == 0
 
@@ -75,7 +74,6 @@ pub data Step : Type 0 where
   RemoveBehind : Step
   RemoveBreak : Step
 
--- the splice of a step
 abbrev pub splice_of : DocumentState → Step → Splice
 splice_of document (Insert symbols) = insertion (insertion_place document) symbols
 splice_of document (Remove from to) = widened_removal document from to
@@ -95,8 +93,7 @@ IsMade document RemoveBehind =
     (hit_behind document ≡ None) × (cursor_index document ≢ length document.text)
 IsMade document RemoveBreak = document.cursor.0 ≢ 0
 
--- the step is made and recorded, as typed or not, at this time. Each definition below is a step or
--- leaves the text
+-- the step is made and recorded, as typed or not. Each definition below does so, or keeps the text
 abbrev pub stepped : DocumentState → Step → Bool → ℕ → DocumentState
 stepped document step typed now = edited document (splice_of document step) typed now
 
@@ -106,7 +103,6 @@ stepped document step typed now = edited document (splice_of document step) type
 abbrev pub character_inserted : DocumentState → ℕ → Bool → ℕ → DocumentState
 character_inserted document c typed now = stepped document (Insert (Character c ∷ [])) typed now
 
--- the line is broken
 abbrev pub break_inserted : DocumentState → ℕ → DocumentState
 break_inserted document now = stepped document (Insert (Break ∷ [])) false now
 
@@ -115,8 +111,7 @@ abbrev pub is_filled : List Symbol → Bool
 is_filled [] = false
 is_filled (symbol ∷ symbols) = true
 
--- nothing is inserted or recorded: the cursor moves to the insertion position, and nothing is
--- selected any more
+-- nothing is inserted or recorded: the cursor moves to the insertion position, nothing selected
 abbrev pub nothing_inserted : DocumentState → DocumentState
 nothing_inserted document = unanchored (record document { cursor = insertion_place document })
 
@@ -167,8 +162,7 @@ unfoldable pub removed_behind : DocumentState → Bool → ℕ → DocumentState
 removed_behind document typed now =
     range_removed_or (hit_behind document) document now (symbol_removed_behind document typed now)
 
--- the symbol is directly after the position, which is not the text's end, and ends at the other
--- position
+-- the symbol is directly after the position, not the text's end, and ends at the other position
 pub record IsSymbolBehind (text : List Symbol) (place to : Place) (symbol : Symbol) : Type 0 where
   pub index : index_of text place ≢ length text
   pub symbol_is : take 1 (drop (index_of text place) text) ≡ symbol ∷ []

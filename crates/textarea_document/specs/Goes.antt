@@ -11,8 +11,7 @@ abbrev pub moved_over : List AtomicRange → List Splice → List AtomicRange
 moved_over ranges [] = ranges
 moved_over ranges (splice ∷ rest) = moved_over (moved_ranges ranges splice) rest
 
--- the splices, one after another, lead from the document's text to the other's, and the ranges move
--- with it
+-- the splices in order lead from the document's text to the other's, and the ranges move with it
 pub record GoesOver (old : DocumentState) (splices : List Splice) (new : DocumentState) : Type 0 where
   pub text : StoodBefore old.text new.text splices
   pub ranges : new.ranges ≡ moved_over old.ranges splices
@@ -30,8 +29,7 @@ GoesUncut old splices new = GoesOver old splices new × CutNone old.ranges splic
 
 -- ---- where a range comes from, and what happens to one
 
--- the range, if there is one, as the splices move it one after another; none if one of them drops
--- it
+-- the range, if there is one, as the splices move it in order; none if one of them drops it
 abbrev pub carried_over : Option AtomicRange → List Splice → Option AtomicRange
 carried_over None splices = None
 carried_over (Some range) [] = Some range

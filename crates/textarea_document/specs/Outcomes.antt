@@ -14,8 +14,7 @@ abbrev pub layout_after : DocumentState → Splice → Layout
 layout_after document splice = after_splice document.layout (length (lines document.text)) splice
 
 -- a splice is applied, and this is the log after it: the cursor is after the inserted text, or
--- where the removed text began, nothing is selected, and the remaining atomic ranges move with the
--- text
+-- where the removed text began, nothing is selected, and the remaining ranges move with the text
 abbrev pub after_change : DocumentState → Splice → Log → DocumentState
 after_change document splice log = record {
   text = applied document.text splice;
@@ -31,8 +30,8 @@ abbrev pub edited : DocumentState → Splice → Bool → ℕ → DocumentState
 edited document splice typed now =
     after_change document splice (recorded document.log splice typed now)
 
--- the newest edit is undone, if there is one: the cursor is after the restored text, or where the
--- removed text began
+-- the newest edit is undone, if any: the cursor is after the restored text, or where text was
+-- removed
 abbrev pub undone_by : Option Splice → DocumentState → DocumentState
 undone_by None document = document
 undone_by (Some splice) document =
@@ -49,7 +48,6 @@ redone_by (Some splice) document = after_change document splice (made_again docu
 abbrev pub redone : DocumentState → DocumentState
 redone document = redone_by (next document.log) document
 
--- a run of typing ends
 abbrev pub run_ended : Log → Log
 run_ended log = record log { run_open = false }
 

@@ -1,5 +1,4 @@
--- The documents after the calls for atomic ranges, and the condition that each edit satisfies for
--- them.
+-- The documents after the calls for atomic ranges, and what each edit satisfies for ranges.
 use Rattle.std.specs.Prelude.{ℕ, Bool, true, false, List, [], All, Option, None, Some, option_map, if◌then◌else◌}
 use Rattle.textarea_text.specs.Text.{lines}
 use Rattle.textarea_text.specs.Place.{Place, end, is_same_place}
@@ -47,7 +46,6 @@ holding document ranges =
 abbrev pub accepted : DocumentState → List AtomicRange → DocumentState
 accepted document ranges = holding document (in_order ranges)
 
--- there are no ranges any more
 abbrev pub ranges_forgotten : DocumentState → DocumentState
 ranges_forgotten document = record document { ranges = [] }
 

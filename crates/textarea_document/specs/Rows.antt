@@ -19,13 +19,11 @@ IsAboveCursor document found = IsFoundAbove (laid_out_of document) document.curs
 unfoldable pub IsBelowCursor : DocumentState → Option Place → Type 0
 IsBelowCursor document found = IsFoundBelow (laid_out_of document) document.cursor found
 
--- the whole text has this number of visual rows in a layout from scratch in an inner area of this
--- width
+-- the text has this number of visual rows, laid out from scratch in an inner area of this width
 unfoldable pub HasRowsAt : DocumentState → ℕ → ℕ → Type 0
 HasRowsAt document inner_width count = IsRowCountAt (laid_out_of document) inner_width count
 
--- the layout settings change: all lines are wrapped again, each once, if that changes how lines
--- wrap; all else stays
+-- the layout settings change: lines are wrapped again if that changes how they wrap; all else stays
 abbrev pub with_layout_settings : DocumentState → LayoutSettings → DocumentState
 with_layout_settings document settings =
     record document { layout = (laid_out_with (laid_out_of document) settings).layout }

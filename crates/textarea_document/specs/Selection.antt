@@ -31,7 +31,6 @@ selection document = selection_by document.anchor document
 abbrev pub is_selected : DocumentState → Bool
 is_selected document = is_before (selection_start document) (selection_end document)
 
--- the selected symbols
 abbrev pub selected : DocumentState → List Symbol
 selected document = part document.text (selection_start document) (selection_end document)
 

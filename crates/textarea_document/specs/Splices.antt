@@ -31,8 +31,7 @@ range_splices_or (Some range) document other =
 abbrev pub hit_splices : DocumentState → AtomicDeleteDirection → List Splice
 hit_splices document direction = range_splices_or (hit_at_cursor document direction) document []
 
--- the removal of the range at the cursor, backward, or else of the symbol before the cursor, if
--- there is one
+-- the removal of the range at the cursor, backward, or else of the symbol before it, if any
 abbrev pub before_splices : DocumentState → List Splice
 before_splices document =
     range_splices_or (hit_before document) document

@@ -56,8 +56,7 @@ abbrev pub word_forward : List (List ℕ) → Place → Place
 word_forward rows place =
     found_or (next_word_start (line_of rows place.0) place.1) place.0 (next_head rows place.0)
 
--- the first position after this one with a word's last character, in its line or in a later one,
--- otherwise the text's end
+-- the first position after this one with a word's last character, or else the text's end
 abbrev pub word_end : List (List ℕ) → Place → Place
 word_end rows place =
     let later = first_word_end rows (next_word_row rows place.0) in
@@ -77,8 +76,8 @@ abbrev pub paragraph_forward : List (List ℕ) → Place → Place
 paragraph_forward rows place =
     clip rows (unwrap_or (next_paragraph_start rows place.0) (last_row rows), place.1)
 
--- the column in the nearest line above where a paragraph begins, or in the first line: none from
--- the first line
+-- the column in the nearest line above where a paragraph begins, or in the first; none from the
+-- first
 abbrev pub paragraph_back : List (List ℕ) → Place → Option Place
 paragraph_back rows place =
     if place.0 == 0 then None
@@ -86,8 +85,7 @@ paragraph_back rows place =
 
 -- ---- all moves
 
--- the targets that depend on visual rows: one row up and one row down, if there is such a row, and
--- inside the viewport
+-- the targets that depend on visual rows: up and down, if there is such a row, and in the viewport
 pub record VisualTargets : Type 0 where
   pub above : Option Place
   pub below : Option Place

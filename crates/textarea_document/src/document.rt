@@ -21,10 +21,10 @@ use textarea_lines::settings::LayoutSettings;
 use textarea_ranges::moved::move_ranges;
 use textarea_text::places::clip;
 
-/// Lines of text with a cursor, the anchor of a selection, atomic ranges, and an undo history.
+/// Lines of text with a cursor, an anchor of a selection, atomic ranges, and an undo history.
 ///
-/// Rows and columns count from 0, columns in characters. A call that runs out of memory leaves the
-/// document unchanged.
+/// Rows and columns count from 0, columns in characters. A call that runs out of memory does
+/// nothing.
 #[derive(Drop)]
 pub struct Document {
     laid: LaidOutLines,
@@ -152,8 +152,7 @@ impl Document {
     }
 
     /// Redoes the edit that was undone last, and returns whether there was one. The cursor is then
-    /// where that edit left it; nothing is selected, and the remaining ranges have moved with the
-    /// text.
+    /// where that edit left it, nothing is selected, and the other ranges have moved with the text.
     pub fn redo(&mut self) -> Result<bool, AllocError>
         ensures redone { IfOk result (λ found. found ≡ is_some (next self.old.log)) }
         ensures ok { OnOk result (self.new ≡ redone self.old) }
@@ -171,8 +170,7 @@ impl Document {
     }
 
     /// Makes an edit that fits the text and splits no range, and records it as typed or not. The
-    /// ranges that it does not remove move with the text. All memory is allocated before the first
-    /// change.
+    /// ranges that it does not remove move with the text. It allocates its memory first.
     pub fn edit(&mut self, edit: Edit, typed: bool, now: Duration) -> Result<(), AllocError>
         requires well_formed { IsWellFormed edit }
         requires fits { Fits self.old.text edit.splice }

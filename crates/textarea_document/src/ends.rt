@@ -44,8 +44,7 @@ pub fn previous_place(lines: &[String], place: (usize, usize)) -> Option<(usize,
     Some(line_end(lines, row - 1))
 }
 
-/// Returns the column where the removal of the word before the column begins: the start of that
-/// word, or 0.
+/// Returns the column where a removal of the word before the column begins: its start, or 0.
 pub fn word_start_before(line: &str, column: usize) -> usize
     ensures value { result ≡ word_start_before (chars line.now) column }
     ensures within { result ≤ length (chars line.now) }

@@ -5,8 +5,7 @@ ghost use Rattle.textarea_document.specs.Prelude.{newest, next, LayoutSettings, 
 use textarea_lines::laws::{settings_cut, splices_cut};
 use textarea_ranges::laws::ranges_go_with_the_text;
 
-/// From a document's cursor at most one position is found one visual row up, and at most one one
-/// visual row down.
+/// From a document's cursor at most one position is one visual row up, and at most one down.
 pub fn one_place_up_and_down()
     ensures above { (document : DocumentState) (found other : Option Place) →
         IsAboveCursor document found → IsAboveCursor document other → found ≡ other }
@@ -25,9 +24,8 @@ pub fn one_row_count()
     textarea_screen_map::laws::one_row_count();
 }
 
-/// Which lines each edit, undo and redo wraps: the lines that its splice touches if it keeps the
-/// width of the map of visual rows, and otherwise all lines. It adds their number to the wrap
-/// counter.
+/// Which lines each edit, undo and redo wraps, and so adds to the wrap counter: the lines that its
+/// splice touches if it keeps the width of the map of visual rows, and otherwise all lines.
 pub fn edits_cut()
     ensures edited { (document : DocumentState) (splice : Splice) (typed : Bool) (now : ℕ) →
         Fits document.text splice →

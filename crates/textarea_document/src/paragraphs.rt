@@ -4,8 +4,7 @@ ghost use Rattle.textarea_document.specs.Prelude.{lines_of, IsPlaceOf, line_of, 
 
 use textarea_text::places::{clip, last_row};
 
-/// Returns the position at the cursor's column in the line where the next paragraph begins, or in
-/// the last line.
+/// Returns the cursor's column in the line where the next paragraph begins, or in the last line.
 pub fn paragraph_forward(lines: &[String], cursor: (usize, usize)) -> (usize, usize)
     requires { IsPlaceOf (lines_of lines.now) cursor }
     ensures value { result ≡ paragraph_forward (lines_of lines.now) cursor }
@@ -65,7 +64,6 @@ fn is_paragraph_start(lines: &[String], row: usize) -> bool
     0 < row && !is_empty_row(lines, row) && is_empty_row(lines, row - 1)
 }
 
-// Returns whether the line has no character.
 fn is_empty_row(lines: &[String], row: usize) -> bool
     requires { row < length lines.now }
     ensures { result ≡ is_empty_line (line_of (lines_of lines.now) row) }

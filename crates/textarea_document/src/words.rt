@@ -7,8 +7,7 @@ use textarea_text::word::{
     find_word_inclusive_end_forward, find_word_start_backward, find_word_start_forward,
 };
 
-/// Returns the start of the next word of the line, otherwise the next line's start, otherwise this
-/// line's end.
+/// Returns the line's next word start, otherwise the next line's start, otherwise this line's end.
 pub fn word_forward(lines: &[String], cursor: (usize, usize)) -> (usize, usize)
     requires { IsPlaceOf (lines_of lines.now) cursor }
     ensures value { result ≡ word_forward (lines_of lines.now) cursor }

@@ -7,8 +7,7 @@ use Rattle.textarea_drawing.proofs.Widths.{frame_at_width}
 abbrev pub with_both : Parts → DocumentState → DrawingState → Parts
 with_both parts document drawing = parts_of document parts.pattern parts.surround drawing
 
--- the steps of a drawing: the inner area, the drawing with the rows at its width, and what is
--- stored
+-- the steps of a drawing: the inner area, the drawing with the rows at its width, and the new state
 pub record IsStepped (old : Parts) (area inner : Rect) (width : ℕ) (a b : Buffer) (placing : Placing) (document : DocumentState) (drawing : DrawingState) : Type 0 where
   pub inner_is : IsInner old.surround.block area inner
   pub width_is : width ≡ inner.width

@@ -20,7 +20,6 @@ pub record Parts : Type 0 where
 abbrev pub parts_of : DocumentState → Option (List ℕ) → SurroundState → DrawingState → Parts
 parts_of document pattern surround drawing = record { document = document; pattern = pattern; surround = surround; drawing = drawing }
 
--- the scene of these parts, with these rows
 abbrev pub scene_of : Parts → LentRows → SceneState
 scene_of parts rows = record {
   rows = rows;
@@ -32,7 +31,6 @@ scene_of parts rows = record {
   line_numbers = parts.document.layout.settings.line_numbers;
 }
 
--- the frame of these parts, with these rows
 abbrev pub frame_of : Parts → LentRows → FrameState
 frame_of parts rows = record {
   scene = scene_of parts rows;

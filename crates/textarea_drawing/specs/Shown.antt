@@ -16,8 +16,7 @@ abbrev pub number_columns : DocumentState → ℕ
 number_columns document = line_number_columns document.layout.settings.line_numbers (length (lines document.text))
 
 -- The inner area is at least two columns wider than the line numbers, the tab length is at least 1,
--- and the width beside the line numbers and one column for the caret fits the grapheme clusters of
--- the lines.
+-- and the width beside the line numbers and one column for the caret fits all grapheme clusters.
 pub record HasWidthForRows (document : DocumentState) (inner_width : ℕ) : Type 0 where
   pub columns : number_columns document + 2 ≤ inner_width
   pub tabs : 1 ≤ document.layout.settings.tab_len

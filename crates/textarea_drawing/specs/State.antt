@@ -27,11 +27,9 @@ new_drawing = record {
   caret = None;
 }
 
--- another look, and all else as before
 abbrev pub with_look : DrawingState → Look → DrawingState
 with_look drawing look = record drawing { look = look }
 
--- another viewport, and all else as before
 abbrev pub with_viewport : DrawingState → ViewportState → DrawingState
 with_viewport drawing viewport = record drawing { viewport = viewport }
 

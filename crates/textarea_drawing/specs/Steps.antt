@@ -9,8 +9,7 @@ use Rattle.textarea_lines.specs.View.{IsViewOf}
 use Rattle.textarea_screen.specs.declared.screen.buffer.Buffer.{Buffer}
 use Rattle.textarea_screen.specs.declared.screen.rect.Rect.{Rect}
 
--- this is drawn by the frame of these parts, with the rows of the text in a layout for an inner
--- area of this width
+-- this is drawn by the frame of these parts, with the text's rows for an inner area of this width
 pub record IsDrawnAt (parts : Parts) (width : ℕ) (area inner : Rect) (old new : Buffer) (placing : Placing) : Type 0 where
   pub rows : LentRows
   pub rows_are : IsViewOf (laid_out_of (with_inner_width parts.document width)) rows

@@ -48,8 +48,7 @@ impl Model for Drawing {
 impl Clone for Drawing {
     ghost is_clone = { λ drawing copy. copy ≡ drawing };
 
-    /// Returns a copy without the cached matches, or an error if memory runs out for the
-    /// highlights.
+    /// Returns a copy without the cached matches, or an error if memory runs out.
     fn clone(&self) -> Result<Drawing, AllocError> {
         Ok(Drawing {
             look: self.look,
@@ -79,14 +78,12 @@ impl Drawing {
         }
     }
 
-    /// Returns the look.
     pub fn look(&self) -> Look
         ensures { result ≡ self.now.look }
     {
         self.look
     }
 
-    /// Sets the look.
     pub fn set_look(&mut self, look: Look)
         ensures { self.new ≡ with_look self.old look }
     {
@@ -103,7 +100,6 @@ impl Drawing {
         Ok(())
     }
 
-    /// Removes all custom highlights.
     pub fn clear_highlights(&mut self)
         ensures { self.new ≡ record self.old { highlights = [] } }
     {
@@ -125,15 +121,14 @@ impl Drawing {
         &self.viewport
     }
 
-    /// Scrolls the viewport.
     pub fn scroll(&mut self, scrolling: Scrolling)
         ensures { self.new ≡ with_viewport self.old (scrolled_by self.old.viewport scrolling) }
     {
         self.viewport.scroll_by(scrolling);
     }
 
-    /// Returns the cell of the caret at the last drawing; `None` if it wasn't shown, and before the
-    /// first drawing.
+    /// Returns the caret's cell at the last drawing; `None` if it wasn't shown or nothing was
+    /// drawn.
     pub fn caret(&self) -> Option<Position>
         ensures { option_map cell_of_position result ≡ self.now.caret }
     {

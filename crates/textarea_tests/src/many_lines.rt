@@ -10,7 +10,6 @@ fn many_lines(rt: HostRuntime) -> Result<(), Fail> {
     Ok(())
 }
 
-/// Returns 70,000 lines.
 pub fn lines_of_x(alloc: Global) -> Result<Vec<String>, AllocError> {
     vec![in alloc; String::from_str(alloc, "x")?; 70_000]
 }

@@ -138,8 +138,7 @@ fn read_from(
     assert_eq!(rt; found, wanted);
 }
 
-/// The bytes that one write of the output takes, the number of such writes, and the number of bytes
-/// of error output.
+/// The bytes of one write of the output, the number of such writes, and the bytes of error output.
 #[derive(Clone, Copy)]
 struct Limits {
     piece: usize,
@@ -147,8 +146,7 @@ struct Limits {
     told: usize,
 }
 
-// Tries writers that fail at each write in turn, and ones that never fail: for the output, then for
-// the error output.
+// Tries writers that fail at each write in turn, and at none: for the output, then for the errors.
 fn write_in_pieces(rt: &(impl Abort + AllocGlobal), words: &[String], row: &Row) {
     let told = usize::MAX;
     for piece in [1, 7, 64] {

@@ -2,7 +2,6 @@
 use std::alloc::{AllocError, Global};
 use std::str::from_utf8;
 
-/// Copies each text into a string.
 pub fn strings(alloc: Global, texts: &[&str]) -> Result<Vec<String>, AllocError> {
     let mut strings = Vec::new(alloc);
     for text in texts {

@@ -5,7 +5,6 @@ use crate::quick_start::is_as_told;
 use std::alloc::{AllocError, Global};
 use tui_textarea::TextArea;
 
-/// A trial.
 #[derive(Clone, Copy)]
 pub enum Trial {
     /// A copy, and then changes of the original.

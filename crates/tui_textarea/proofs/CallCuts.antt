@@ -1,5 +1,4 @@
--- The lines that each call wraps, by the laws of the text area; and that the wrap counter never
--- decreases.
+-- The lines that each call wraps, by the laws of the text area; the wrap counter never decreases.
 use Rattle.std.proofs.Common.{◌≡◌, ◌≤◌, ℕ, List, [], ◌∷◌, Option, None, Some, is_some, true, false, ap, refl, subst, sym, ◌∙◌, inl, inr, ⊎_elim}
 use Rattle.textarea_calls.specs.declared.action.Action.{Action}
 use Rattle.textarea_calls.specs.declared.action.Action.TheVariants as action

@@ -1,5 +1,4 @@
--- How the atomic ranges move with the text over each call, by the laws of the text area, and over a
--- run.
+-- How the atomic ranges move over each call, by the laws of the text area, and over a run.
 use Rattle.std.proofs.Common.{◌≡◌, ◌⊎◌, ℕ, ◌<◌, Bor, List, [], ◌∷◌, ◌++◌, ◌+◌, length, get_or, map, take, Option, None, Some, is_some, ap, refl, subst, sym, ◌∙◌, inl, inr, ⊎_elim}
 use Rattle.std.proofs.lemmas.List.{append-nil, append_assoc, map-append}
 use Rattle.std.specs.Str.{chars}
@@ -91,8 +90,7 @@ set_ranges old new ranges (range ∷ rejected) answer e k =
 abbrev pub LeftUncut : State → State → Type 0
 LeftUncut old new = OfLeft old (λ splices. GoesUncut old.document splices new.document)
 
--- the splices fit the text one after another, and split no range, unless they are those of an undo
--- or redo
+-- the splices fit the text one after another, and only those of an undo or redo may split a range
 abbrev Fitting : State → Type 0 → List Splice → Type 0
 Fitting state Free splices = CanApply state.document.text splices × ((¬ Free) → CutNone state.document.ranges splices)
 

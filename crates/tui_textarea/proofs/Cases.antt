@@ -47,8 +47,7 @@ typed symbols place = record { place = place; symbols = symbols; inserts = true 
 pub bound_case : (recorded (recorded (recorded (empty_log 2) (typed (Character 97 ∷ []) (0, 0)) false 0) (typed (Character 98 ∷ []) (0, 1)) false 0) (typed (Character 99 ∷ []) (0, 2)) false 0).done ≡ typed (Character 98 ∷ []) (0, 1) ∷ typed (Character 99 ∷ []) (0, 2) ∷ []
 bound_case = refl
 
--- a character and a blank typed with coalescing on, 499 ms apart, are one edit; 500 ms apart they
--- are two
+-- a character and a blank typed with coalescing on, 499 ms apart, are one edit; 500 ms apart two
 pub joined_run_case : (recorded (recorded (empty_log 2) (typed (Character 97 ∷ []) (0, 0)) true 0) (typed (Character 32 ∷ []) (0, 1)) true 499_000_000).done ≡ typed (Character 97 ∷ Character 32 ∷ []) (0, 0) ∷ []
 joined_run_case = refl
 

@@ -19,7 +19,6 @@ use Rattle.tui_textarea.specs.Selection.{selection_copied, selection_cancelled}
 not_less : (n : ℕ) → nat_lt n n ≡ false
 not_less n = grind (arith, nat_tests)
 
--- a position is not before itself
 not_before : (place : Place) → is_before place place ≡ false
 not_before place =
     ap (λ b. b || ((place.0 == place.0) && nat_lt place.1 place.1)) (not_less place.0)

@@ -9,7 +9,6 @@ use Rattle.tui_textarea.specs.Input.{IsActed}
 use Rattle.tui_textarea.specs.Moves.{IsMovedWith}
 use Rattle.tui_textarea.specs.State.{State}
 
--- the law of moves
 abbrev pub IsOneMove : Type 0
 IsOneMove = (old first second : State) (shift : Bool) (cursor_move : CursorMove) → IsMovedWith old shift cursor_move first → IsMovedWith old shift cursor_move second → first ≡ second
 

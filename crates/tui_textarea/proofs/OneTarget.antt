@@ -46,7 +46,7 @@ not_visual other not_up not_down not_inside = refl
 nowhere : VisualTargets
 nowhere = record { above = None; below = None; inside = (0, 0) }
 
--- a move that doesn't depend on visual rows goes where the text determines
+-- a move that doesn't depend on visual rows has the target that the text determines
 pub level_target : (state : State) (cursor_move : CursorMove) (found : Option Place) (text : List Symbol) (cursor : Place)
     → (cursor_move ≡ move.Up → ⊥) → (cursor_move ≡ move.Down → ⊥) → (cursor_move ≡ move.InViewport → ⊥)
     → ((visual : VisualTargets) → is_visual cursor_move ≡ false → found ≡ target visual text cursor cursor_move)
@@ -62,7 +62,7 @@ level_target state cursor_move found text cursor not_up not_down not_inside valu
       ∙ ap (λ p. target nowhere state.document.text p cursor_move) cursor_is;
 }
 
--- a move over visual rows goes to the position that is found for it
+-- a move over visual rows has the target that is found for it
 pub up_target : (state : State) (cursor_move : CursorMove) (found : Option Place) → cursor_move ≡ move.Up → IsAboveCursor state.document found → IsTarget state cursor_move found
 up_target state cursor_move found is above = subst (λ (m : CursorMove). IsTarget state m found) (sym is) (record {
   visual = record { above = found; below = None; inside = (0, 0) };

@@ -47,11 +47,9 @@ leads_more old mid new buffer screen shown calls answers index call answer withi
 
 -- ---- one final state
 
--- each move leads to one state
 abbrev pub OneMove : Type 0
 OneMove = (old first second : State) (shift : Bool) (cursor_move : CursorMove) → IsMovedWith old shift cursor_move first → IsMovedWith old shift cursor_move second → first ≡ second
 
--- the action of an input leads to one state
 abbrev pub OneInput : Type 0
 OneInput = (old first second : State) (action : Action) → IsActed old action first → IsActed old action second → first ≡ second
 

@@ -1,5 +1,4 @@
--- The state after an edit is reached by the splices that the definitions list, each the splice of
--- one step.
+-- The state after an edit is reached by the splices in the definitions, each that of one step.
 use Rattle.std.proofs.Common.{◌≡◌, ◌≢◌, ℕ, ◌==◌, ◌<◌, nat_lt, Bool, true, false, cond, if◌then◌else◌, List, [], ◌∷◌, ◌++◌, length, replicate, Option, None, Some, ap, refl, ◌∙◌, arith, eq-eqb}
 use Rattle.textarea_data.specs.declared.cursor.CursorMove.{CursorMove}
 use Rattle.textarea_lines.specs.Layout.{LaidOut}

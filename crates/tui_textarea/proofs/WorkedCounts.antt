@@ -1,5 +1,4 @@
--- What is added to the wrap counter, in worked cases: computed from the states after a drawing, a
--- move and an edit.
+-- What is added to the wrap counter, computed from the states after a drawing, a move and an edit.
 use Rattle.std.proofs.Common.{◌≡◌, ℕ, ◌+◌, Option, None, Some, is_some, ap, refl, subst, sym, ◌∙◌}
 use Rattle.std.specs.Fmt.{digits}
 use Rattle.textarea_data.specs.declared.cursor.CursorMove.TheVariants.{Bottom, End}

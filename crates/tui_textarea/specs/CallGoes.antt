@@ -1,5 +1,4 @@
--- How the atomic ranges move with the text over calls, and from which ranges those after a run
--- come.
+-- How the atomic ranges move with the text over calls, and where those after a run come from.
 use Rattle.std.specs.Prelude.{◌≡◌, ◌⊎◌, List, [], ◌∷◌, ◌++◌, length, map, take}
 use Rattle.textarea_text.specs.Splice.{Splice}
 use Rattle.textarea_document.specs.Goes.{AllStayOrAreDropped, AllStemFrom, GoesOver, GoesUncut}
@@ -47,8 +46,8 @@ GoesByCall old call answer new = GoesUncut old.document (splices_of old call) ne
 
 -- ---- a run
 
--- the call replaces the ranges: it sets them and they are accepted; it clears them; or it sets
--- lines, which have none
+-- the call replaces the ranges: it sets them and they are accepted; or it clears them; or it sets
+-- lines
 abbrev pub GivesRanges : Call → Said → Type 0
 GivesRanges (TrySetAtomicRanges ranges) Done = Unit {0}
 GivesRanges ClearAtomicRanges answer = Unit {0}
@@ -91,8 +90,8 @@ pub record SinceGiven (old : State) (buffer : Buffer) (calls : List Call) (answe
 
 -- What happens to the ranges of the first document over these splices. They move with the text.
 -- Each range of the last document comes from one of them, and covers the same characters, all in
--- one line. Each of them either is in the last document, as the splices move it, or is disturbed by
--- one of the splices.
+-- one line. Each of them is in the last document, as the splices move it, or one of the splices
+-- disturbs it.
 pub record RangesGo (first : DocumentState) (splices : List Splice) (last : DocumentState) : Type 0 where
   pub goes : GoesOver first splices last
   pub stem : AllStemFrom first splices last

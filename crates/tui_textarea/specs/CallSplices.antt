@@ -1,5 +1,4 @@
--- The splices by which each call changes the text: a list for a state and a call, and one for a run
--- of calls.
+-- The splices by which each call changes the text: a list for a state and a call, and for a run.
 use Rattle.std.specs.Prelude.{◌≡◌, ◌⊎◌, List, [], ◌∷◌, ◌++◌}
 use Rattle.std.specs.Str.{chars}
 use Rattle.textarea_text.specs.Splice.{Splice}

@@ -15,11 +15,9 @@ use Rattle.tui_textarea.specs.State.{State}
 abbrev pub parts_of : State → Parts
 parts_of state = record { document = state.document; pattern = state.pattern; surround = state.surround; drawing = state.drawing }
 
--- the state of drawing changes, and all else stays
 abbrev pub with_drawing : State → DrawingState → State
 with_drawing state drawing = record state { drawing = drawing }
 
--- the look changes, and all else stays
 abbrev pub with_look : State → Look → State
 with_look state look = with_drawing state (record state.drawing { look = look })
 
@@ -33,7 +31,6 @@ highlighted state range style priority = with_drawing state (record state.drawin
 abbrev pub unhighlighted : State → State
 unhighlighted state = with_drawing state (record state.drawing { highlights = [] })
 
--- the viewport is scrolled
 abbrev pub viewport_scrolled : State → Scrolling → State
 viewport_scrolled state scrolling =
     with_drawing state (with_viewport state.drawing (scrolled_by state.drawing.viewport scrolling))

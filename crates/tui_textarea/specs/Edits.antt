@@ -17,7 +17,6 @@ breaks_line c = (c == 10) || (c == 13)
 abbrev pub typed_character_inserted : State → ℕ → State
 typed_character_inserted state c = with_document state (character_inserted state.document c state.settings.undo_coalescing state.moment)
 
--- the line is broken there
 abbrev pub line_broken : State → State
 line_broken state = with_document state (break_inserted state.document state.moment)
 
@@ -25,8 +24,8 @@ line_broken state = with_document state (break_inserted state.document state.mom
 abbrev pub char_or_break_inserted : State → ℕ → State
 char_or_break_inserted state c = if breaks_line c then line_broken state else typed_character_inserted state c
 
--- the symbols are inserted there; if there are none, the cursor moves there and nothing is selected
--- any more
+-- the symbols are inserted; without any, the cursor moves to the insertion position, nothing
+-- selected
 abbrev pub symbols_or_none_inserted : State → List Symbol → State
 symbols_or_none_inserted state symbols = with_document state (symbols_inserted state.document symbols state.moment)
 
@@ -35,8 +34,8 @@ symbols_or_none_inserted state symbols = with_document state (symbols_inserted s
 abbrev pub before_insertion : DocumentState → List ℕ
 before_insertion document = take (insertion_place document).1 (slice_index_or (lines document.text) (insertion_place document).0 [])
 
--- the number of spaces from there to the next tab stop: the tab length minus the remainder of the
--- display width before it
+-- the number of spaces to the next tab stop: the tab length minus the remainder of the width before
+-- it
 abbrev pub spaces_to_stop : DocumentState → ℕ → ℕ
 spaces_to_stop document tab_length = tab_length - width_of (before_insertion document) % tab_length
 

@@ -15,7 +15,6 @@ use Rattle.tui_textarea.specs.State.{State}
 use Rattle.tui_textarea.specs.Edits.{str_inserted}
 use Rattle.tui_textarea.specs.Selection.{selection_copied}
 
--- the state after a `copy` and a `paste`
 abbrev pub copied_and_pasted : State → State
 copied_and_pasted state = str_inserted (selection_copied state) (selection_copied state).yank
 

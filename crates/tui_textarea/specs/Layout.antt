@@ -33,11 +33,9 @@ tab_length_set state columns = record state.document.layout.settings { tab_len =
 abbrev pub numbers_set : State → Bool → LayoutSettings
 numbers_set state shown = record state.document.layout.settings { line_numbers = shown }
 
--- lines are wrapped in this mode
 abbrev pub with_wrap_mode : State → WrapMode → State
 with_wrap_mode state mode = with_layout state (mode_set state mode)
 
--- tab stops are this number of columns apart
 abbrev pub with_tab_length : State → ℕ → State
 with_tab_length state columns = with_layout state (tab_length_set state columns)
 
@@ -47,7 +45,6 @@ with_line_numbers state style =
     with_look (with_layout state (numbers_set state true))
     (record state.drawing.look { line_number_style = style })
 
--- line numbers are hidden
 abbrev pub without_line_numbers : State → State
 without_line_numbers state = with_layout state (numbers_set state false)
 
@@ -61,7 +58,6 @@ alignment_set state Left = state.document.layout.settings
 alignment_set state Center = numbers_set state false
 alignment_set state Right = numbers_set state false
 
--- rows have this alignment in the inner area
 abbrev pub with_alignment : State → Alignment → State
 with_alignment state alignment =
     with_look (with_layout state (alignment_set state alignment))

@@ -19,7 +19,6 @@ pub record IsMeasured (state : State) (width : ℕ) (measure : TextAreaMeasure) 
 abbrev pub IsMeasuredAround : State → State → ℕ → TextAreaMeasure → Type 0
 IsMeasuredAround old new width measure = IsMeasured old width measure ⊎ IsMeasured new width measure
 
--- the surround changes, and all else stays
 abbrev pub with_surround : State → SurroundState → State
 with_surround state surround = record state { surround = surround }
 

@@ -22,13 +22,12 @@ abbrev pub anchor_with : Bool → DocumentState → Option Place
 anchor_with true document = Some (unwrap_or document.anchor document.cursor)
 anchor_with false document = None
 
--- the cursor moves to the target, if there is one, with or without Shift; without a target nothing
--- changes
+-- the cursor moves to the target, with or without Shift; without a target nothing changes
 abbrev pub moved_by : State → Bool → Option Place → State
 moved_by state shift None = state
 moved_by state shift (Some place) = with_document state (moved state.document place (anchor_with shift state.document))
 
--- to which end of an atomic range a move goes whose target is strictly inside it
+-- which end of an atomic range replaces the move's target if that is strictly inside it
 abbrev pub bias_of : CursorMove → AtomicCursorBias
 bias_of move.Back = Backward
 bias_of move.Up = Backward
@@ -63,8 +62,7 @@ pub record IsMovedWith (old : State) (shift : Bool) (cursor_move : CursorMove) (
 abbrev pub IsScrolledWith : State → Bool → Scrolling → State → Type 0
 IsScrolledWith old shift scrolling new = IsMovedWith (viewport_scrolled old scrolling) shift move.InViewport new
 
--- the calls that move and scroll use Shift exactly if a selection is open, so an open one stays
--- open, and none begins
+-- the calls that move and scroll use Shift exactly if a selection is open, so none begins or ends
 abbrev pub IsMoved : State → CursorMove → State → Type 0
 IsMoved old cursor_move new = IsMovedWith old (is_some old.document.anchor) cursor_move new
 

@@ -7,11 +7,9 @@ use Rattle.textarea_document.specs.Edits.{hit_at_cursor}
 use Rattle.textarea_document.specs.Ranges.{accepted, normalized, range_removed, ranges_forgotten}
 use Rattle.tui_textarea.specs.State.{State, with_document}
 
--- the ranges are accepted
 abbrev pub ranges_accepted : State → List AtomicRange → State
 ranges_accepted state ranges = with_document state (accepted state.document ranges)
 
--- there are no ranges any more
 abbrev pub ranges_cleared : State → State
 ranges_cleared state = with_document state (ranges_forgotten state.document)
 

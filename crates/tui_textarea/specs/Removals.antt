@@ -29,11 +29,9 @@ symbol_behind_removed state = with_document state (removed_behind state.document
 abbrev pub break_before_removed : State → State
 break_before_removed state = with_document state (break_removed state.document state.moment)
 
--- the characters of the cursor's line
 abbrev pub cursor_line : DocumentState → List ℕ
 cursor_line document = slice_index_or (lines document.text) document.cursor.0 []
 
--- whether the cursor is at its line's end
 abbrev pub is_at_line_end : DocumentState → Bool
 is_at_line_end document = document.cursor.1 == length (cursor_line document)
 
@@ -46,7 +44,7 @@ abbrev pub index_ahead : DocumentState → ℕ → ℕ
 index_ahead document count = min (cursor_index document + count) (length document.text)
 
 -- this number of symbols after the cursor, or all if there are fewer, are removed and yanked, if
--- there are any
+-- any
 abbrev pub symbols_ahead_removed : State → ℕ → State
 symbols_ahead_removed state count =
     if nat_lt (cursor_index state.document) (index_ahead state.document count)
@@ -79,8 +77,7 @@ back_to_word_removed state =
 abbrev pub word_before_removed : State → State
 word_before_removed state = hit_removed_or (hit_before state.document) state (back_to_word_removed state)
 
--- the text from the cursor to the word's end, or to the line's end; at the line's end the symbol
--- after it
+-- the text from the cursor to the word's end, or to the line's end; there the symbol after it
 unfoldable pub on_to_word_end_removed : State → State
 on_to_word_end_removed state =
     if is_at_line_end state.document then symbol_behind_removed state
@@ -103,8 +100,7 @@ has_break_before state = not (state.document.cursor.0 == 0)
 abbrev pub has_ahead : State → ℕ → Bool
 has_ahead state count = nat_lt (cursor_index state.document) (index_ahead state.document count)
 
--- whether there is text after the cursor, in its line or a symbol after that; and the same before
--- it
+-- whether there is text after the cursor, in its line or after that; and the same before it
 abbrev pub has_line_behind : State → Bool
 has_line_behind state = not (is_at_line_end state.document) || has_behind state
 

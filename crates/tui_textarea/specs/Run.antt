@@ -1,5 +1,4 @@
--- A run of calls: the states and buffers after them, one by one, up to the first call that runs out
--- of memory.
+-- A run of calls: the states and buffers after them, up to the first call that runs out of memory.
 use Rattle.std.specs.Prelude.{◌≡◌, ◌<◌, ◌⊎◌, ℕ, List, [], ◌∷◌, length, map, take, slice_get, Option, Some, None}
 use Rattle.textarea_screen.specs.Buffer.{area_of, cell_at}
 use Rattle.textarea_screen.specs.declared.screen.buffer.Buffer.{Buffer}

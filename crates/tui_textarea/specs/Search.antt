@@ -19,8 +19,7 @@ pattern_in (byte ∷ bytes) = Some (byte ∷ bytes)
 abbrev pub with_pattern : State → List ℕ → State
 with_pattern state text = record state { pattern = pattern_in text }
 
--- the positions at which the pattern's matches in a text start, in the order of the text; none
--- without a pattern
+-- the positions at which the pattern's matches in a text start, in order; none without a pattern
 abbrev pub starts_in : Option (List ℕ) → List Symbol → List Place
 starts_in None text = []
 starts_in (Some pattern) text = starts_from (match_columns pattern) 0 (map encode_utf8_all (lines text))
@@ -34,13 +33,11 @@ found_match direction state at_cursor =
 abbrev pub next_match : State → Bool → Option Place
 next_match state at_cursor = found_match Forward state at_cursor
 
--- the last start before the cursor or, if that counts, at it; past the text's beginning its last
--- start
+-- the last start before the cursor or, if that counts, at it; before all starts the last of all
 abbrev pub previous_match : State → Bool → Option Place
 previous_match state at_cursor = found_match Back state at_cursor
 
--- the cursor moves to the found position, if there is one; the anchor stays, and a run of typing
--- ends
+-- the cursor moves to the found position, if any; the anchor stays, and a run of typing ends
 abbrev pub searched : State → Option Place → State
 searched state None = state
 searched state (Some place) = with_document state (moved state.document place state.document.anchor)

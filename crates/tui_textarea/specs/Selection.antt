@@ -10,11 +10,9 @@ use Rattle.tui_textarea.specs.State.{State, with_document}
 abbrev pub unselected : State → State
 unselected state = with_document state (selected_removed state.document state.moment)
 
--- nothing is selected any more, not even an empty selection
 abbrev pub selection_cancelled : State → State
 selection_cancelled state = with_document state (unanchored state.document)
 
--- a selection begins at the cursor
 abbrev pub selection_started : State → State
 selection_started state = with_document state (record state.document { anchor = Some state.document.cursor })
 
@@ -33,7 +31,7 @@ selection_cut state =
     if is_selected state.document then record (unselected state) { yank = taken_symbols state.document (selection_start state.document) (selection_end state.document) }
     else selection_cancelled state
 
--- the state after an insertion that ran out of memory: the old state, or that without the selected
+-- the state after an insertion that ran out of memory: the old one, or that without the selected
 -- text
 abbrev pub IsLeft : State → State → Type 0
 IsLeft old new = (new ≡ old) ⊎ (new ≡ unselected old)

@@ -65,8 +65,8 @@ word_before_splices document =
     (if document.cursor.1 == 0 then break_splices document
     else removal_splices document (in_line document (word_start_before (cursor_line document) document.cursor.1)) document.cursor)
 
--- the range at the cursor, forward, or else from the cursor to the word's end, at the line's end
--- the symbol after it
+-- the range at the cursor, forward, or else up to the word's end, at the line's end the symbol
+-- after it
 abbrev pub word_after_splices : DocumentState → List Splice
 word_after_splices document =
     range_splices_or (hit_behind document) document

@@ -26,8 +26,8 @@ pub record State : Type 0 where
 abbrev pub default_settings : Settings
 default_settings = record { hard_tab_indent = false; undo_coalescing = false }
 
--- the initial layout: one visual row per line, tab stops at each fourth column, no line numbers,
--- and no area drawn yet
+-- the initial layout: one visual row per line, tab stops at each fourth column, no line numbers, no
+-- area
 abbrev pub default_layout : LayoutSettings
 default_layout = record { mode = mode.None; tab_len = 4; line_numbers = false; inner_width = 0 }
 
@@ -36,11 +36,10 @@ default_layout = record { mode = mode.None; tab_len = 4; line_numbers = false; i
 abbrev pub new_state : List Symbol → State
 new_state text = record { document = new_document text default_layout 50; yank = []; settings = default_settings; moment = 0; pattern = None; surround = new_surround; drawing = new_drawing }
 
--- the document changes, and all else stays
 abbrev pub with_document : State → DocumentState → State
 with_document state document = record state { document = document }
 
--- other lines replace the old ones: no custom highlight is left, nothing is scrolled, and all else
+-- other lines replace the old ones: no custom highlight stays, nothing is scrolled, and all else
 -- stays
 abbrev pub with_other_lines : State → DocumentState → State
 with_other_lines state document = record state { document = document; drawing = for_other_lines state.drawing }

@@ -29,7 +29,6 @@ hundred_lines = with_wrap_mode (new_state (lettered 100 8)) mode.Glyph
 abbrev pub nine_lines : WrapMode → Style → State
 nine_lines mode style = with_line_numbers (with_wrap_mode (new_state (lettered 9 7)) mode) style
 
--- `a` is typed
 abbrev pub with_a : State → State
 with_a state = char_inserted state 97
 

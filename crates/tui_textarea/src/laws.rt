@@ -223,8 +223,7 @@ pub fn ranges_go_behind_calls()
 
 /// After every drawing, the position at the caret's cell is the cursor, if the caret is shown and
 /// no character of the cursor's visual row has display width 0. With left alignment the caret is
-/// shown if the inner area has room for it. Every text area satisfies the assumed limits of text
-/// size and tab length.
+/// shown if the inner area has room for it. Every text area satisfies the assumed limits of size.
 pub fn carets_are_kept()
     ensures back { (old new : State) (area : Rect) → IsSound new.document →
         IsRendered old area new → IsHitBack (parts_of new) }

@@ -1,5 +1,4 @@
-//! The text area: a multi-line editor widget for terminals. Also what each call does, as
-//! definitions and laws.
+//! The text area, a multi-line editor widget for terminals, with definitions and laws of its calls.
 #![tactic(auto)]
 
 pub mod laws;

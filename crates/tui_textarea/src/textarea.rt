@@ -38,7 +38,6 @@ use textarea_search::search::Search;
 use textarea_view::surround::Surround;
 use textarea_wrap::wrap::WrapMode;
 
-/// The greatest number of edits that a new text area remembers.
 const DEFAULT_MAX_HISTORIES: usize = 50;
 
 /// The layout of a new text area: one visual row per line, and no area drawn yet.
@@ -54,8 +53,7 @@ const DEFAULT_LAYOUT: LayoutSettings = LayoutSettings {
 /// and viewport.
 ///
 /// Rows and columns count from 0, columns in characters. A call that runs out of memory leaves the
-/// text area unchanged; only an insertion over a selection may have removed the selected text
-/// already.
+/// text area unchanged; only an insertion may have removed the selected text.
 #[derive(Drop)]
 pub struct TextArea<'a> {
     document: Document,
@@ -205,7 +203,6 @@ impl<'a> TextArea<'a> {
         self.document.is_empty()
     }
 
-    // Returns the allocator of all the text area's memory.
     fn allocator(&self) -> Global {
         self.document.allocator()
     }

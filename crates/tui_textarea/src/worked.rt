@@ -1,5 +1,4 @@
-//! Worked cases of the wrap counter, which counts wrapped lines, each the contract of a function
-//! that does nothing.
+//! Worked cases of the number of wrapped lines, each the contract of a function that does nothing.
 ghost use Rattle.std.specs.Prelude.{◌≡◌, ◌+◌, Bool, Some};
 ghost use Rattle.textarea_data.specs.declared.cursor.CursorMove.TheVariants.{Bottom, Down, End};
 ghost use Rattle.textarea_data.specs.declared.scroll.Scrolling.{Scrolling};

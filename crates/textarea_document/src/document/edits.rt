@@ -4,8 +4,7 @@ ghost use Rattle.textarea_document.specs.Prelude.{symbol_in, text_of, inserts_of
 
 use textarea_history::edit::{Edit, EditKind};
 
-// Returns the edit that inserts the fragment between two cursor positions, or removes it from
-// between them.
+// Returns the edit that inserts the fragment between two positions, or removes it from there.
 pub(super) fn edit_of(
     mut pieces: Vec<String>,
     inserts: bool,

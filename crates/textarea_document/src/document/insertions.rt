@@ -1,5 +1,4 @@
-//! Insertions at the cursor of a document, or at the end of the atomic range that strictly contains
-//! it.
+//! Insertions at the cursor, or at the end of the atomic range that strictly contains it.
 ghost use Rattle.std.specs.Prelude.{◌≡◌, ◌<◌, ◌≤◌, true, OnOk, OnErr, IsOk, IfOk, All, []};
 ghost use Rattle.textarea_document.specs.Prelude.{as_nanos, size_limit, text_of, IsPlace, size_of, IsInside, break_inserted, character_inserted, insertion_place, is_filled, nothing_inserted, symbols_inserted};
 
@@ -14,8 +13,7 @@ use textarea_text::places::end_of;
 use textarea_text::rows;
 
 impl Document {
-    /// Returns the insertion position: the cursor, or the end of the atomic range that strictly
-    /// contains it.
+    /// Returns the insertion position: the cursor, or the end of the range strictly containing it.
     pub fn insertion_place(&self) -> (usize, usize)
         ensures value { result ≡ insertion_place self.now }
         ensures place { IsPlace self.now.text result }
@@ -38,8 +36,7 @@ impl Document {
         self.anchor = None;
     }
 
-    /// Inserts the character at the insertion position, as typed or not. A line feed stays a
-    /// character of the line.
+    /// Inserts the character at the insertion position, as typed or not, even if it is a line feed.
     pub fn insert_character(
         &mut self,
         c: char,

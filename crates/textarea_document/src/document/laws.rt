@@ -15,8 +15,7 @@ impl Document {
     }
 
     /// The law of one edit, for every document that remembers edits: after each edit that fits the
-    /// text, an undo and a redo restore the text, both lists of edits, and the cursor where the
-    /// edit left it.
+    /// text, an undo and a redo restore the text, both lists of edits, and the cursor.
     pub fn redo_gives_all_back(&self)
         ensures { (splice : Splice) (typed : Bool) (now : ℕ) →
             Fits self.now.text splice → 0 < self.now.log.maximum →

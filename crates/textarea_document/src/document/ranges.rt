@@ -67,9 +67,9 @@ impl Document {
         self.ranges.clear();
     }
 
-    /// Moves a cursor that is strictly inside an atomic range to its start for Backward, to its end
-    /// for Forward, and returns whether it was inside one. The selection stays, and a run of typing
-    /// continues.
+    /// Moves a cursor strictly inside an atomic range to its start for Backward, to its end for
+    /// Forward, and returns whether it was inside one. The selection stays, and so does a run of
+    /// typing.
     pub fn normalize_cursor(&mut self, bias: AtomicCursorBias) -> bool
         ensures moved { result ≡ is_some (inside self.old.ranges self.old.cursor) }
         ensures new { self.new ≡ normalized self.old bias }

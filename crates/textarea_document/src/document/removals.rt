@@ -211,16 +211,14 @@ impl Document {
     }
 }
 
-// The symbol directly after a position, and where it ends: a character, or `None` for the break
-// between two lines.
+// The symbol after a position, and its end: a character, or `None` for the break between two lines.
 #[derive(Clone, Copy)]
 struct SymbolBehind {
     end: (usize, usize),
     character: Option<char>,
 }
 
-// Returns the symbol after the position, whose byte offset in its line is `offset`; `None` at the
-// end of the text.
+// Returns the symbol after the position, at byte `offset` of its line; `None` at the text's end.
 fn symbol_behind(lines: &[String], place: (usize, usize), offset: usize) -> Option<SymbolBehind>
     requires place { IsPlaceOf (lines_of lines.now) place }
     requires offset { offset ≡ offset_at (lines_of lines.now) place }

@@ -57,8 +57,7 @@ impl Document {
     }
 
     /// Removes the selected text, and returns what was removed as a fragment, with a line break
-    /// between each two of its strings. Returns `None` if no symbol is selected; an empty selection
-    /// stays.
+    /// between each two of its strings. `None` if no symbol is selected; an empty selection stays.
     pub fn take_selection(&mut self, now: Duration) -> Result<Option<Vec<String>>, AllocError>
         ensures found { IfOk result (λ taken. is_some taken ≡ is_selected self.old) }
         ensures taken { IfOk result (λ taken.
@@ -75,7 +74,6 @@ impl Document {
     }
 }
 
-// Returns whether the first position is before the second.
 fn comes_before(first: (usize, usize), second: (usize, usize)) -> bool
     ensures { result ≡ is_before first second }
 {

@@ -37,7 +37,6 @@ impl Drawing {
         frame.hit(document.allocator(), self.viewport, inner, position)
     }
 
-    // Returns the inner area of the last drawing.
     fn last_area(&self, document: &Document) -> Rect
         ensures { IsLastArea document.now self.now result }
     {

@@ -76,7 +76,6 @@ impl Drawing {
         replace(&mut self.kept_matches, KeptMatches::new(alloc))
     }
 
-    // Puts the cached matches back.
     fn put_matches(&mut self, kept: KeptMatches)
         ensures { self.new ≡ self.old }
     {
@@ -84,8 +83,7 @@ impl Drawing {
     }
 }
 
-// Draws the document with its rows at a prepared width, and returns the viewport and caret. Stores
-// nothing.
+// Draws the document with its rows at a prepared width, and returns the viewport and caret.
 fn draw_at_width(
     drawing: &Drawing,
     document: &Document,

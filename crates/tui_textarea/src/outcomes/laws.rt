@@ -20,8 +20,7 @@ use crate::laws::{
 };
 use textarea_drawing::laws::{one_drawing, one_rendering};
 
-/// Calls with these results lead to one state, whatever the buffers: the results determine the text
-/// area that a run leaves.
+/// Calls with these results lead to one state of the text area, whatever the buffers.
 pub fn one_end()
     ensures { (calls : List Call) (answers : List Said) (old first second : State)
         (buffer other shown drawn : Buffer) →

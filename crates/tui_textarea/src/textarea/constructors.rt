@@ -42,7 +42,6 @@ impl<'b> TextArea<'b> {
     }
 }
 
-// Collects the iterator's strings.
 fn collect_lines<I: Iterator<Item = String> + Drop>(
     alloc: Global,
     lines: I,
@@ -60,7 +59,6 @@ fn collect_lines<I: Iterator<Item = String> + Drop>(
     Ok(all)
 }
 
-// Collects copies of the iterator's texts.
 fn copy_lines<'a, I: Iterator<Item = &'a str> + Drop>(
     alloc: Global,
     lines: I,

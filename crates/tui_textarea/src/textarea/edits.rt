@@ -66,8 +66,7 @@ impl TextArea<'_> {
         Ok(true)
     }
 
-    /// Inserts the yanked text at the position that `insert_str` inserts at, and returns whether
-    /// there was any.
+    /// Inserts the yanked text where `insert_str` inserts, and returns whether there was any.
     pub fn paste(&mut self) -> Result<bool, AllocError>
         ensures inserted { IfOk result (λ inserted. inserted ≡ is_filled self.old.yank) }
         ensures ok { OnOk result (self.new ≡ str_inserted self.old self.old.yank) }
@@ -93,9 +92,8 @@ impl TextArea<'_> {
     }
 
     /// Inserts a tab at the cursor, or at the end of the atomic range that strictly contains it,
-    /// and returns whether it inserted something or removed a selection. The tab is a tab character
-    /// with hard tabs, as typed, and otherwise spaces up to the next tab stop. At tab length 0 it
-    /// inserts nothing.
+    /// and returns whether it inserted something or removed a selection. With hard tabs that is a
+    /// tab character, as typed, otherwise spaces up to the next tab stop; at tab length 0 nothing.
     pub fn insert_tab(&mut self) -> Result<bool, AllocError>
         ensures inserted { IfOk result (λ inserted. inserted ≡ inserts_tab self.old) }
         ensures ok { OnOk result (self.new ≡ tab_inserted self.old) }
@@ -167,7 +165,6 @@ impl TextArea<'_> {
     }
 }
 
-// Returns whether a text has a symbol.
 fn has_text(text: &str) -> bool
     ensures { result ≡ is_filled (given (chars text.now)) }
 {

@@ -18,8 +18,7 @@ impl TextArea<'_> {
     /// text changed: true for a character or a line break; the result of the call for any other
     /// edit, undo and redo; false for `copy`, a move, a scroll, and an input that is not in the
     /// table, which changes nothing. With Shift, a move or scroll extends the selection, or begins
-    /// one at the cursor; without Shift it drops the selection. A move without a target changes
-    /// nothing.
+    /// one; without Shift it drops the selection. A move without a target changes nothing.
     pub fn input(&mut self, input: Input) -> Result<bool, AllocError>
         ensures answer { IfOk result (λ changed. changed ≡ acts self.old (asked_by input)) }
         ensures ok { OnOk result (IsActed self.old (asked_by input) self.new) }

@@ -23,8 +23,7 @@ pub fn undos_give_back(area: &TextArea<'_>)
 }
 
 /// The law of one edit, for every text area that remembers edits: after each edit that fits the
-/// text, an undo and a redo restore the text, both lists of edits, and the cursor where the edit
-/// left it.
+/// text, an undo and a redo restore the text, both lists of edits, and the cursor.
 pub fn redo_gives_all_back(area: &TextArea<'_>)
     ensures { (splice : Splice) (typed : Bool) (now : ℕ) →
         Fits area.now.document.text splice → 0 < area.now.document.log.maximum
@@ -52,8 +51,8 @@ pub fn copy_then_paste(area: &TextArea<'_>)
 }
 
 /// In every text area the cursor and the anchor are positions of the text, the ranges are valid for
-/// it and sorted, the done edits can be undone and the undone ones redone, and both lists together
-/// are at most the maximum.
+/// it and sorted, the done edits can be undone and the undone ones redone, and together they are at
+/// most the maximum.
 pub fn is_sound(area: &TextArea<'_>)
     ensures { IsSound area.now.document }
 {
@@ -69,9 +68,8 @@ pub fn cursor_and_anchor_are_places(area: &TextArea<'_>)
 }
 
 /// The law of visual rows, for every text area: there is exactly one correct list of visual rows of
-/// the text, with those that `line_ranges` returns for each line. So what the contracts of
-/// `measure`, `render`, `cursor_at_position` and the moves up and down state of correct rows is
-/// true of these.
+/// the text, with those that `line_ranges` returns for each line. The contracts of `measure`,
+/// `render`, `cursor_at_position` and the moves up and down are about these rows.
 pub fn rows_are_laid_out_anew(area: &TextArea<'_>)
     ensures { HasRowsAnew area.now }
 {

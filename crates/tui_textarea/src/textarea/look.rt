@@ -8,8 +8,7 @@ use textarea_screen::screen::Style;
 use textarea_view::look::{CursorRenderMode, CustomHighlight, Look};
 
 impl TextArea<'_> {
-    /// Sets the style of each cell of the inner area, under all other styles. It is not used where
-    /// a placeholder is shown.
+    /// Sets the style of each cell of the inner area, under all others; a placeholder has its own.
     pub fn set_style(&mut self, style: Style)
         ensures { self.new
             ≡ with_look self.old (record self.old.drawing.look { style = style }) }

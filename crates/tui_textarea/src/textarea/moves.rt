@@ -63,7 +63,7 @@ impl TextArea<'_> {
     }
 }
 
-// Returns to which end of an atomic range a move goes whose target is strictly inside it.
+// Returns which end of an atomic range replaces a target strictly inside it.
 fn bias_of(cursor_move: CursorMove) -> AtomicCursorBias
     ensures { result ≡ bias_of cursor_move }
 {

@@ -68,9 +68,8 @@ impl TextArea<'_> {
         self.document.ranges()
     }
 
-    /// Moves a cursor that is strictly inside an atomic range to its start for Backward, to its end
-    /// for Forward, and returns whether it moved. The selection stays, and a run of typing
-    /// continues.
+    /// Moves a cursor strictly inside an atomic range to its start for Backward, to its end for
+    /// Forward, and returns whether it moved. The selection stays, and a run of typing continues.
     pub fn normalize_cursor_around_atomic_ranges(&mut self, bias: AtomicCursorBias) -> bool
         ensures moved { result
             ≡ is_some (inside self.old.document.ranges self.old.document.cursor) }

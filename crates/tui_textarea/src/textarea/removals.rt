@@ -13,8 +13,8 @@ use textarea_text::places::{ahead, line_end, text_end};
 
 impl TextArea<'_> {
     /// Removes the atomic range that ends at the cursor or strictly contains it, or else the
-    /// character before the cursor, or at column 0 the line break before it. Returns whether
-    /// something was removed.
+    /// character before the cursor, or at column 0 the line break. Returns whether text was
+    /// removed.
     pub fn delete_char(&mut self) -> Result<bool, AllocError>
         ensures removed { IfOk result
             (λ removed. removed ≡ removes_or self.old (has_before self.old)) }
@@ -31,8 +31,8 @@ impl TextArea<'_> {
     }
 
     /// Removes the atomic range that starts at the cursor or strictly contains it, or else the
-    /// character after the cursor, or at a line's end the line break there. Returns whether
-    /// something was removed.
+    /// character after the cursor, or at a line's end the line break. Returns whether text was
+    /// removed.
     pub fn delete_next_char(&mut self) -> Result<bool, AllocError>
         ensures removed { IfOk result
             (λ removed. removed ≡ removes_or self.old (has_behind self.old)) }
@@ -48,7 +48,7 @@ impl TextArea<'_> {
             .remove_behind(self.settings.undo_coalescing, self.moment)
     }
 
-    /// Removes the line break before the cursor's line. Returns whether something was removed.
+    /// Removes the line break before the cursor's line. Returns whether text was removed.
     pub fn delete_newline(&mut self) -> Result<bool, AllocError>
         ensures removed { IfOk result
             (λ removed. removed ≡ removes_or self.old (has_break_before self.old)) }
@@ -64,7 +64,7 @@ impl TextArea<'_> {
     }
 
     /// Removes and yanks the next `count` characters after the cursor, or all if there are fewer;
-    /// each line break counts as one. Returns whether something was removed.
+    /// each line break counts as one. Returns whether text was removed.
     pub fn delete_str(&mut self, count: usize) -> Result<bool, AllocError>
         ensures removed { IfOk result
             (λ removed. removed ≡ removes_or self.old (has_ahead self.old count)) }
@@ -86,7 +86,7 @@ impl TextArea<'_> {
     }
 
     /// Removes and yanks the text from the cursor to its line's end; at the line's end it does what
-    /// `delete_next_char` does. Returns whether something was removed.
+    /// `delete_next_char` does. Returns whether text was removed.
     pub fn delete_line_by_end(&mut self) -> Result<bool, AllocError>
         ensures removed { IfOk result
             (λ removed. removed ≡ removes_or self.old (has_line_behind self.old)) }
@@ -109,7 +109,7 @@ impl TextArea<'_> {
     }
 
     /// Removes and yanks the text from the line's start to the cursor; at the line's start it does
-    /// what `delete_newline` does. Returns whether something was removed.
+    /// what `delete_newline` does. Returns whether text was removed.
     pub fn delete_line_by_head(&mut self) -> Result<bool, AllocError>
         ensures removed { IfOk result
             (λ removed. removed ≡ removes_or self.old (has_line_before self.old)) }
@@ -130,7 +130,7 @@ impl TextArea<'_> {
 
     /// Removes the atomic range that ends at the cursor or strictly contains it. Otherwise removes
     /// and yanks the text from the start of the word before the cursor, or from the line's start,
-    /// to the cursor; at column 0 it does what `delete_newline` does. Returns whether something was
+    /// to the cursor; at column 0 it does what `delete_newline` does. Returns whether text was
     /// removed.
     pub fn delete_word(&mut self) -> Result<bool, AllocError>
         ensures removed { IfOk result
@@ -151,9 +151,8 @@ impl TextArea<'_> {
     }
 
     /// Removes the atomic range that starts at the cursor or strictly contains it. Otherwise
-    /// removes and yanks the text from the cursor to the end of the word there, or to the line's
-    /// end; at the line's end it does what `delete_next_char` does. Returns whether something was
-    /// removed.
+    /// removes and yanks the text from the cursor to the word's end, or to the line's end; at the
+    /// line's end it does what `delete_next_char` does. Returns whether text was removed.
     pub fn delete_next_word(&mut self) -> Result<bool, AllocError>
         ensures removed { IfOk result
             (λ removed. removed ≡ removes_or self.old (has_word_behind self.old)) }
@@ -188,8 +187,7 @@ impl TextArea<'_> {
         Ok(true)
     }
 
-    // Returns where the next `count` symbols end, or all if there are fewer; `None` if there are
-    // none.
+    // Returns where the next `count` symbols end, or all if there are fewer; `None` without any.
     fn place_ahead(&self, count: usize) -> Option<(usize, usize)>
         ensures found { MatchOption result (has_ahead self.now count ≡ false)
             (λ end. has_ahead self.now count ≡ true) }
@@ -209,8 +207,7 @@ impl TextArea<'_> {
         }
     }
 
-    // Removes back to the word's start, or the break before the line, and returns whether something
-    // was removed.
+    // Removes back to the word's start, or the break before the line; returns whether text was.
     #[tactic(auto, unfolding(crate::specs::Removals::back_to_word_removed))]
     fn remove_to_word_start(&mut self) -> Result<bool, AllocError>
         ensures removed { IfOk result (λ removed. removed ≡ has_line_before self.old) }
@@ -227,8 +224,7 @@ impl TextArea<'_> {
         Ok(true)
     }
 
-    // Removes up to the word's end, or the symbol after the line, and returns whether something was
-    // removed.
+    // Removes up to the word's end, or the symbol after the line; returns whether text was.
     #[tactic(auto, unfolding(crate::specs::Removals::on_to_word_end_removed))]
     fn remove_to_word_end(&mut self) -> Result<bool, AllocError>
         ensures removed { IfOk result (λ removed. removed ≡ has_line_behind self.old) }

@@ -56,12 +56,11 @@ impl TextArea<'_> {
     }
 
     /// Returns the position of the text that a cell of the screen shows, in the inner area of the
-    /// last `render`, for the text and the viewport as they are now. A cell below the last visual
-    /// row counts as one in that row, and a cell past a row's end as its greatest cursor column;
-    /// with a placeholder each cell shows the text's start. `None` for a cell outside the inner
-    /// area. Right after a `render` the caret's cell gives the cursor, provided that no character
-    /// of the cursor's visual row has display width 0. Needs memory only in the middle and right
-    /// alignments.
+    /// last `render`, for the present text and viewport. A cell below the last visual row counts as
+    /// one in that row, and a cell past a row's end as its greatest cursor column; with a
+    /// placeholder each cell shows the text's start. `None` for a cell outside the inner area.
+    /// Right after a `render` the caret's cell gives the cursor, provided that no character of the
+    /// cursor's visual row has display width 0. Left alignment needs no memory.
     pub fn cursor_at_position(
         &self,
         position: Position,
@@ -76,8 +75,7 @@ impl TextArea<'_> {
             .hit(&self.document, &self.surround, &self.search, position)
     }
 
-    /// Returns the viewport: the visible visual rows and columns, and the size of the last drawn
-    /// area.
+    /// Returns the viewport: the visible rows and columns, and the size of the last drawn area.
     pub fn viewport(&self) -> &Viewport
         ensures { result.now ≡ self.now.drawing.viewport }
     {

@@ -48,8 +48,7 @@ impl TextArea<'_> {
         self.settings.hard_tab_indent
     }
 
-    /// Returns what a tab at a line's start is: a tab character, or one space for each column of
-    /// the tab length.
+    /// Returns a tab at a line's start: a tab character, or a space for each column of its length.
     pub fn indent(&self) -> &'static str
         ensures { result.now ≡ indent_of self.now }
     {
@@ -78,8 +77,7 @@ impl TextArea<'_> {
         self.settings.undo_coalescing
     }
 
-    /// Forgets all edits, and remembers at most this number from now on, done and undone together;
-    /// at 0 none.
+    /// Forgets all edits, and remembers at most this number from now on, done and undone together.
     pub fn set_max_histories(&mut self, max_histories: usize)
         ensures { self.new
             ≡ with_document self.old (record self.old.document { log = empty_log max_histories }) }

@@ -1,5 +1,4 @@
-//! The surround: a block around the text, a placeholder for an empty text, and the least and
-//! greatest height.
+//! The surround: a block around the text, a placeholder for an empty text, and height limits.
 ghost use Rattle.std.specs.Prelude.{◌≡◌, [], IsOk, None, OnErr, OnOk, Some};
 ghost use Rattle.std.specs.Option.{option_map};
 ghost use Rattle.textarea_screen.specs.Block.{shown_block};
@@ -72,8 +71,7 @@ impl<'b> TextArea<'b> {
         self.surround.placeholder()
     }
 
-    /// Returns the text of the first span of the placeholder's first line, or the empty text if
-    /// there is none.
+    /// Returns the text of the first span of the placeholder's first line; empty if there is none.
     pub fn placeholder_text(&self) -> &str
         ensures { result.now ≡ first_bytes self.now.surround.placeholder.lines }
     {
@@ -89,16 +87,15 @@ impl<'b> TextArea<'b> {
         self.surround.placeholder_style()
     }
 
-    /// Sets the least height of the whole area, in screen rows; 0 counts as 1. Raises a smaller
-    /// greatest height to it.
+    /// Sets the least height of the whole area, in screen rows; 0 counts as 1. The greatest height
+    /// is raised to it if it is less.
     pub fn set_min_rows(&mut self, rows: u16)
         ensures { self.new ≡ with_surround self.old (with_min_rows self.old.surround rows) }
     {
         self.surround.set_min_rows(rows);
     }
 
-    /// Returns the least height of the whole area, in screen rows: at least 1, and at most the
-    /// greatest height.
+    /// Returns the least height of the whole area, in screen rows, from 1 to the greatest height.
     pub fn min_rows(&self) -> u16
         ensures value { result ≡ self.now.surround.min_rows }
         ensures bounds { AreBounds result self.now.surround.max_rows }

@@ -8,7 +8,6 @@ use Rattle.tui_textarea.specs.Drawing.{IsRendered, parts_of}
 use Rattle.tui_textarea.specs.State.{State}
 use Rattle.tui_textarea.proofs.textarea.TextArea.render.Goals as goal
 
--- a state whose drawn parts are rendered is rendered
 rendered : {T E : Type 0} (r : Result T E) {view old : State} → view ≡ old → (area : Rect) (document : DocumentState) (drawing : DrawingState)
     → OnOk r (below.IsRendered (parts_of view) area (parts_of (record view { document = document; drawing = drawing })))
     → OnOk r (IsRendered old area (record view { document = document; drawing = drawing }))
