@@ -60,8 +60,7 @@ abbrev pub IsCarriedTo : AtomicRange → List Splice → DocumentState → Type 
 IsCarriedTo range splices new =
     (carried : AtomicRange) × (carried_over (Some range) splices ≡ Some carried) × Contains new.ranges carried
 
--- each range of the old document is moved to the new one, or one of the splices disturbs it:
--- nothing else drops a range
+-- each range of the old document is moved to the new one, or one of the splices disturbs it
 abbrev pub AllStayOrAreDropped : DocumentState → List Splice → DocumentState → Type 0
 AllStayOrAreDropped old splices new =
     All (λ range. IsCarriedTo range splices new ⊎ IsDroppedBy range splices) old.ranges

@@ -30,8 +30,8 @@ abbrev pub edited : DocumentState → Splice → Bool → ℕ → DocumentState
 edited document splice typed now =
     after_change document splice (recorded document.log splice typed now)
 
--- the newest edit is undone, if any: the cursor is after the restored text, or where text was
--- removed
+-- the newest edit is undone, if any: the cursor is after the restored text, or where it removed
+-- text
 abbrev pub undone_by : Option Splice → DocumentState → DocumentState
 undone_by None document = document
 undone_by (Some splice) document =

@@ -12,8 +12,8 @@ use Rattle.textarea_ranges.specs.Order.{in_order}
 use Rattle.textarea_document.specs.State.{DocumentState}
 use Rattle.textarea_document.specs.Edits.{part_removed}
 
--- a splice splits no range: what it inserts is strictly inside none, and what it removes contains
--- each completely or not at all
+-- a splice splits no range: it inserts strictly inside none, or removes each completely or not at
+-- all
 abbrev pub CutsNoneBy : Bool → List AtomicRange → Place → Place → Type 0
 CutsNoneBy true ranges place to = All (λ range. ¬ IsInside place range) ranges
 CutsNoneBy false ranges place to = TakesWhole ranges place to

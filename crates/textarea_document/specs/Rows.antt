@@ -1,5 +1,4 @@
--- The visual rows of a document: the positions above and below the cursor, the number of rows at a
--- width, and other settings.
+-- The visual rows of a document, the positions above and below the cursor, and other settings.
 use Rattle.std.specs.Prelude.{ℕ, Option}
 use Rattle.textarea_text.specs.Place.{Place}
 use Rattle.textarea_lines.specs.declared.settings.LayoutSettings.{LayoutSettings}

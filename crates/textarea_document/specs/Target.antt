@@ -76,8 +76,7 @@ abbrev pub paragraph_forward : List (List ℕ) → Place → Place
 paragraph_forward rows place =
     clip rows (unwrap_or (next_paragraph_start rows place.0) (last_row rows), place.1)
 
--- the column in the nearest line above where a paragraph begins, or in the first; none from the
--- first
+-- the column in the nearest line above where a paragraph begins, or in the first; none from there
 abbrev pub paragraph_back : List (List ℕ) → Place → Option Place
 paragraph_back rows place =
     if place.0 == 0 then None

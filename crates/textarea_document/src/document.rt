@@ -23,8 +23,7 @@ use textarea_text::places::clip;
 
 /// Lines of text with a cursor, an anchor of a selection, atomic ranges, and an undo history.
 ///
-/// Rows and columns count from 0, columns in characters. A call that runs out of memory does
-/// nothing.
+/// Rows and columns count from 0, columns in characters. Out of memory, a call changes nothing.
 #[derive(Drop)]
 pub struct Document {
     laid: LaidOutLines,

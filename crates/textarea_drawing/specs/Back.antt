@@ -17,8 +17,7 @@ HasWideCursorRow parts = (rows : LentRows) (seen : Place) → IsViewOf (laid_out
     → IsVisualPosition rows.wrapping.tab_len rows.lines rows.rows parts.document.cursor seen
     → HasNoZeroWidth (row_at rows.lines rows.rows seen.0).text
 
--- if the caret is shown, and no character of the cursor's visual row has display width 0, the
--- caret's cell shows the cursor
+-- the caret's cell shows the cursor, if no character of its visual row has display width 0
 abbrev pub IsHitBack : Parts → Type 0
 IsHitBack parts = (x y : ℕ) (found : Option Place) → parts.drawing.caret ≡ Some (x, y)
     → HasWideCursorRow parts → IsHit parts x y found → found ≡ Some parts.document.cursor

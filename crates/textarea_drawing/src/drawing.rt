@@ -127,8 +127,8 @@ impl Drawing {
         self.viewport.scroll_by(scrolling);
     }
 
-    /// Returns the caret's cell at the last drawing; `None` if it wasn't shown or nothing was
-    /// drawn.
+    /// Returns the caret's cell at the last drawing; `None` if it wasn't shown, or without a
+    /// drawing.
     pub fn caret(&self) -> Option<Position>
         ensures { option_map cell_of_position result ≡ self.now.caret }
     {

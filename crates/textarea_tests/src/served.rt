@@ -86,8 +86,7 @@ static ROWS: [Row; 25] = [
     // A carriage return is part of its line.
     ("carriage returns", &[], b"undo\r\nredo\r\n", LINE_1),
     ("a carriage return", &[], b"insert_char a\r\n", LINE_1),
-    // The first line that can't be parsed is reported, be it no command or no text; empty lines
-    // count.
+    // The first line that can't be parsed is reported: no command, or no text; empty lines count.
     (
         "a line behind an empty one",
         &[],

@@ -31,8 +31,7 @@ unselected_lifted (Ok x) made {view} is removed new gone h =
     ∙ ap (λ (s : State). with_document s (made (selected_removed s.document s.moment) s.moment)) is
 unselected_lifted (Err e) made is removed new gone h = h
 
--- the document whose cursor moves to a position, out of a range around it, is that of the moved
--- state
+-- the document whose cursor moves to a position, out of ranges, is that of the moved state
 pub move_lifted : {view state : State} → view ≡ state → (new : DocumentState) (shift : Bool) (cursor_move : CursorMove) (place out : Place)
     (ranges : List AtomicRange) (bias : AtomicCursorBias) (anchor : Option Place)
     → new ≡ moved view.document out anchor → out ≡ moved_out ranges place bias → ranges ≡ view.document.ranges → bias ≡ bias_of cursor_move

@@ -46,8 +46,7 @@ GoesByCall old call answer new = GoesUncut old.document (splices_of old call) ne
 
 -- ---- a run
 
--- the call replaces the ranges: it sets them and they are accepted; or it clears them; or it sets
--- lines
+-- the call replaces the ranges: it sets some that are accepted, or clears them, or sets lines
 abbrev pub GivesRanges : Call → Said → Type 0
 GivesRanges (TrySetAtomicRanges ranges) Done = Unit {0}
 GivesRanges ClearAtomicRanges answer = Unit {0}

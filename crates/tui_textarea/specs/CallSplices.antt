@@ -54,8 +54,8 @@ splices_of state (Input input) = splices_by state (asked_by input.now)
 splices_of state (InputWithoutShortcuts input) = splices_by state (asked_without_shortcuts input.now)
 splices_of state call = call_splices state call
 
--- the fact is true of the splices that a call made before it ran out of memory: none, or the
--- removal of the selected text
+-- the fact is true of the splices of a call that ran out of memory: none, or the selection's
+-- removal
 abbrev pub OfLeft : State → (List Splice → Type 0) → Type 0
 OfLeft state Fact = Fact [] ⊎ Fact (selected_splices state.document)
 

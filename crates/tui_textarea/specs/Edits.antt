@@ -24,8 +24,8 @@ line_broken state = with_document state (break_inserted state.document state.mom
 abbrev pub char_or_break_inserted : State → ℕ → State
 char_or_break_inserted state c = if breaks_line c then line_broken state else typed_character_inserted state c
 
--- the symbols are inserted; without any, the cursor moves to the insertion position, nothing
--- selected
+-- the symbols are inserted; without any, the cursor moves to the insertion position, and nothing is
+-- selected any more
 abbrev pub symbols_or_none_inserted : State → List Symbol → State
 symbols_or_none_inserted state symbols = with_document state (symbols_inserted state.document symbols state.moment)
 
@@ -34,8 +34,7 @@ symbols_or_none_inserted state symbols = with_document state (symbols_inserted s
 abbrev pub before_insertion : DocumentState → List ℕ
 before_insertion document = take (insertion_place document).1 (slice_index_or (lines document.text) (insertion_place document).0 [])
 
--- the number of spaces to the next tab stop: the tab length minus the remainder of the width before
--- it
+-- the spaces to the next tab stop: the tab length minus the width before them modulo the tab length
 abbrev pub spaces_to_stop : DocumentState → ℕ → ℕ
 spaces_to_stop document tab_length = tab_length - width_of (before_insertion document) % tab_length
 

@@ -63,7 +63,7 @@ with_alignment state alignment =
     with_look (with_layout state (alignment_set state alignment))
     (record state.drawing.look { alignment = alignment })
 
--- the bytes of a tab at a line's start: a tab character with hard tabs, otherwise one space for
--- each column of the tab length
+-- the bytes of a tab at a line's start: a tab character with hard tabs, otherwise a space for each
+-- column of the tab length
 abbrev pub indent_of : State → List ℕ
 indent_of state = if state.settings.hard_tab_indent then 9 ∷ [] else replicate (tab_length state.document) 32

@@ -57,8 +57,7 @@ pub record IsMovedWith (old : State) (shift : Bool) (cursor_move : CursorMove) (
   pub target_is : IsTarget old cursor_move found
   pub new_is : new ≡ moved_by old shift (pushed old.document.ranges cursor_move found)
 
--- the state after a scroll, with or without Shift: the viewport is scrolled, and the cursor is at
--- the nearest visible position
+-- the state after a scroll, with or without Shift, with the cursor at the nearest visible position
 abbrev pub IsScrolledWith : State → Bool → Scrolling → State → Type 0
 IsScrolledWith old shift scrolling new = IsMovedWith (viewport_scrolled old scrolling) shift move.InViewport new
 

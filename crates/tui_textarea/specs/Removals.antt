@@ -43,8 +43,7 @@ in_line document column = (document.cursor.0, column)
 abbrev pub index_ahead : DocumentState → ℕ → ℕ
 index_ahead document count = min (cursor_index document + count) (length document.text)
 
--- this number of symbols after the cursor, or all if there are fewer, are removed and yanked, if
--- any
+-- this number of symbols after the cursor, or all if there are fewer, are removed and yanked
 abbrev pub symbols_ahead_removed : State → ℕ → State
 symbols_ahead_removed state count =
     if nat_lt (cursor_index state.document) (index_ahead state.document count)

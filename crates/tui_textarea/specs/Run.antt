@@ -26,8 +26,8 @@ Leads old buffer calls answers new shown = ⊥
 abbrev pub Completes : State → Buffer → List Call → List Answer → State → Buffer → Type 0
 Completes old buffer calls answers new shown = Leads old buffer calls (map said answers) new shown
 
--- the calls before the one of this index were made, and that one ran out of memory in the state and
--- over the buffer after them
+-- the calls before this index were made, and the one at it ran out of memory, in the state and over
+-- the buffer after them
 pub record StopsAt (old : State) (buffer : Buffer) (calls : List Call) (answers : List Answer) (index : ℕ) (new : State) (shown : Buffer) : Type 0 where
   pub call : Call
   pub here : slice_get calls index ≡ Some call
@@ -45,8 +45,8 @@ pub record NeverBegins (old : State) (buffer : Buffer) (calls : List Call) (answ
   pub state : new ≡ old
   pub screen : shown ≡ buffer
 
--- the run of the calls has these results and leaves this state and buffer; it ran out of memory at
--- the index, if there is one
+-- the run of the calls has these results, state and buffer; it ran out of memory at the index, if
+-- any
 abbrev pub Run : State → Buffer → List Call → List Answer → Option ℕ → State → Buffer → Type 0
 Run old buffer calls answers None new shown = Completes old buffer calls answers new shown
 Run old buffer calls answers (Some index) new shown = NeverBegins old buffer calls answers index new shown ⊎ StopsAt old buffer calls answers index new shown

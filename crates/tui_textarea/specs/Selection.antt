@@ -31,7 +31,6 @@ selection_cut state =
     if is_selected state.document then record (unselected state) { yank = taken_symbols state.document (selection_start state.document) (selection_end state.document) }
     else selection_cancelled state
 
--- the state after an insertion that ran out of memory: the old one, or that without the selected
--- text
+-- the state after an insertion that ran out of memory: the old one, or it without the selected text
 abbrev pub IsLeft : State → State → Type 0
 IsLeft old new = (new ≡ old) ⊎ (new ≡ unselected old)

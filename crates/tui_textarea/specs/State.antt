@@ -27,7 +27,7 @@ abbrev pub default_settings : Settings
 default_settings = record { hard_tab_indent = false; undo_coalescing = false }
 
 -- the initial layout: one visual row per line, tab stops at each fourth column, no line numbers, no
--- area
+-- area drawn yet
 abbrev pub default_layout : LayoutSettings
 default_layout = record { mode = mode.None; tab_len = 4; line_numbers = false; inner_width = 0 }
 
@@ -39,8 +39,7 @@ new_state text = record { document = new_document text default_layout 50; yank =
 abbrev pub with_document : State → DocumentState → State
 with_document state document = record state { document = document }
 
--- other lines replace the old ones: no custom highlight stays, nothing is scrolled, and all else
--- stays
+-- other lines replace the old ones: no custom highlight stays, nothing is scrolled; all else stays
 abbrev pub with_other_lines : State → DocumentState → State
 with_other_lines state document = record state { document = document; drawing = for_other_lines state.drawing }
 

@@ -108,8 +108,7 @@ pub fn drawn_at_its_width()
     settings_stay();
 }
 
-/// A move or scroll, with or without Shift, leaves the layout unchanged: no line is wrapped, and
-/// the layout's width stays.
+/// A move or scroll, with or without Shift, leaves the layout and its width: no line is wrapped.
 pub fn moves_cut_nothing()
     ensures moved { (old new : State) (shift : Bool) (cursor_move : CursorMove) →
         IsMovedWith old shift cursor_move new → new.document.layout ≡ old.document.layout }

@@ -68,8 +68,7 @@ pub fn tenth_line_is_cut_alone()
         cut_so_far (newline_inserted ended) ≡ cut_so_far ended + 2 }
 {}
 
-/// After a drawing, a Down, a scroll, a search and a second drawing into the same area leave the
-/// wrap counter and the ticks.
+/// After a drawing, a Down, a scroll, a search and a drawing into the same area wrap no line.
 pub fn frames_cut_nothing()
     ensures { (old drawn down scrolled again : State) (area : Rect) (scrolling : Scrolling)
         (at_cursor : Bool) → IsRendered old area drawn →

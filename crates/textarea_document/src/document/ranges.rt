@@ -68,8 +68,7 @@ impl Document {
     }
 
     /// Moves a cursor strictly inside an atomic range to its start for Backward, to its end for
-    /// Forward, and returns whether it was inside one. The selection stays, and so does a run of
-    /// typing.
+    /// Forward, and returns whether it was inside one. The selection and a run of typing stay.
     pub fn normalize_cursor(&mut self, bias: AtomicCursorBias) -> bool
         ensures moved { result ≡ is_some (inside self.old.ranges self.old.cursor) }
         ensures new { self.new ≡ normalized self.old bias }
@@ -80,8 +79,7 @@ impl Document {
     }
 
     /// Returns the atomic range at the cursor in this direction. Its two ends are positions of the
-    /// text, the first one first. With a range backward the cursor is not at the text's start, with
-    /// one forward not at its end.
+    /// text, the first one first; backward it starts before the cursor, forward it ends after it.
     pub fn range_at_cursor(&self, direction: AtomicDeleteDirection) -> Option<AtomicRange>
         ensures value { result ≡ hit_at_cursor self.now direction }
         ensures start { IfSome result (λ range. IsPlace self.now.text (range_start range)) }

@@ -58,7 +58,7 @@ impl Document {
         Ok(taken)
     }
 
-    // Removes this fragment, which is between two positions of the text; that removes each range
+    // Removes this fragment, which is between two positions of the text. It covers each range
     // completely or not at all.
     fn remove_whole(
         &mut self,

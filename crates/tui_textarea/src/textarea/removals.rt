@@ -13,8 +13,7 @@ use textarea_text::places::{ahead, line_end, text_end};
 
 impl TextArea<'_> {
     /// Removes the atomic range that ends at the cursor or strictly contains it, or else the
-    /// character before the cursor, or at column 0 the line break. Returns whether text was
-    /// removed.
+    /// character before the cursor, or at column 0 the line break. Returns whether it removed text.
     pub fn delete_char(&mut self) -> Result<bool, AllocError>
         ensures removed { IfOk result
             (λ removed. removed ≡ removes_or self.old (has_before self.old)) }
