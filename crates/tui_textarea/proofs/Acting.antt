@@ -1,4 +1,4 @@
--- What inputs come to, by any fact of splices that steps have.
+-- Inputs, by any fact of splices that steps have.
 use Rattle.std.proofs.Common.{◌≡◌, ℕ, List, [], Option, None, Some, ap, is_some, refl, subst, sym, ◌∙◌, inl, inr, ⊎_elim}
 use Rattle.std.specs.Str.{chars}
 use Rattle.textarea_calls.specs.declared.call.Call.{Call}
@@ -32,17 +32,17 @@ use Rattle.tui_textarea.specs.Removals.{break_before_removed, line_end_removed, 
 use Rattle.tui_textarea.specs.State.{State}
 use Rattle.tui_textarea.proofs.Stepping.{Reckoning, after_by, before_by, break_by, char_by, cleared_by, copied_seen, cut_by, line_end_by, line_head_by, moves_seen, newline_by, seen, str_by, tab_by, unselected_by, word_after_by, word_before_by}
 
--- what is known of documents, from one to another, by splices
+-- a relation of two documents and the splices between them
 abbrev pub Fact : Type 1
 Fact = DocumentState → List Splice → DocumentState → Type 0
 
--- the fact of an input, by what it asks for: an undo and a redo have one of their own
+-- the relation for an action: undo and redo have one of their own
 abbrev pub ByAct : Fact → Fact → Action → DocumentState → List Splice → DocumentState → Type 0
 ByAct By Past (action.Edit edit.Undo) old splices new = Past old splices new
 ByAct By Past (action.Edit edit.Redo) old splices new = Past old splices new
 ByAct By Past asked old splices new = By old splices new
 
--- where they have the same fact, each input has it
+-- if both relations are the same, each action has it
 pub by_any_act : (By : Fact) (asked : Action) (old new : DocumentState) (splices : List Splice) → ByAct By By asked old splices new → By old splices new
 by_any_act By (action.Edit edit.Undo) old new splices h = h
 by_any_act By (action.Edit edit.Redo) old new splices h = h
@@ -51,7 +51,7 @@ by_any_act By asked old new splices h = h
 as_outcome : (By : Fact) (old new outcome : State) (splices : List Splice) → new ≡ outcome → By old.document splices outcome.document → By old.document splices new.document
 as_outcome By old new outcome splices is h = subst (λ (s : State). By old.document splices s.document) (sym is) h
 
--- what an undo and a redo come to, where there is an edit to take back or to make again, and where there is none
+-- the relation for undo and redo, with and without an edit to undo or redo
 pub record Past (Own : Fact) : Type 0 where
   pub undos : (document : DocumentState) → IsSound document → Own document (undo_splices document) (undone document)
   pub redos : (document : DocumentState) → IsSound document → Own document (redo_splices document) (redone document)

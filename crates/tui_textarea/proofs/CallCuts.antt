@@ -1,4 +1,4 @@
--- Which lines each call cuts, by what the text area says of its outcomes; and that the count never falls.
+-- The lines that each call wraps, by the laws of the text area; the wrap counter never decreases.
 use Rattle.std.proofs.Common.{◌≡◌, ◌≤◌, ℕ, List, [], ◌∷◌, true, false, ap, refl, subst, sym, ◌∙◌, ⊎_elim}
 use Rattle.textarea_lines.specs.Cuts.{AreSpliced, CutsAllLines, IsSetTo, IsWidened}
 use Rattle.textarea_lines.specs.Layout.{LaidOut}
@@ -30,7 +30,7 @@ use Rattle.tui_textarea.proofs.Acting.{by_any_act, calls_by, calls_left}
 use Rattle.tui_textarea.proofs.Cutting.{RedosCut, StepsCut, UndosCut, past_cut, reckoned}
 use Rattle.tui_textarea.proofs.Frames.{drawn_document}
 
--- ---- what the laws of the document state: of steps, an undo and a redo, and of what else wraps lines again
+-- ---- the laws of the text area
 
 pub record TheLaws : Type 0 where
   pub stepped : StepsCut
@@ -42,7 +42,7 @@ pub record TheLaws : Type 0 where
 
 -- ---- each call
 
--- what a call that runs out of memory leaves, by the splices that it has made
+-- the state after a call that runs out of memory, by the splices that it has made
 abbrev LeftBy : State → State → Type 0
 LeftBy old new = OfLeft old (λ splices. SplicedBy old.document splices new.document)
 
@@ -78,7 +78,7 @@ module _ (laws : TheLaws) where
   pub refused_cuts : (old new : State) (made : Call) → IsSound old.document → IsLeft old made new → LeftBy old new
   refused_cuts old new made h k = calls_left SplicedBy SplicedBy (reckoned laws.stepped) (past_cut laws.undone laws.redone) old new made h k
 
--- ---- the count
+-- ---- the wrap counter
 
 pub record Never : Type 0 where
   pub splices : (old new : LaidOut) (splices : List Splice) → AreSpliced old splices new → old.layout.count ≤ new.layout.count

@@ -1,4 +1,4 @@
--- How the atomic ranges go with the text over each call, by what the text area says of its outcomes; and what becomes of them in a run.
+-- How the atomic ranges move over each call, by the laws of the text area, and over a run.
 use Rattle.std.proofs.Common.{◌≡◌, ◌⊎◌, ℕ, ◌<◌, Bor, List, [], ◌∷◌, ◌++◌, ◌+◌, length, get_or, map, take, ap, refl, subst, sym, ◌∙◌, inl, inr, ⊎_elim}
 use Rattle.std.proofs.lemmas.List.{append-nil, append_assoc, map-append}
 use Rattle.textarea_calls.specs.declared.action.Action.{Action}
@@ -32,14 +32,14 @@ use Rattle.tui_textarea.proofs.Acting.{ByAct, ByCall, calls_by, calls_left}
 use Rattle.tui_textarea.proofs.Going.{RedosGo, StepsGo, UndosGo, drawing_goes, going, past_goes}
 use Rattle.tui_textarea.proofs.Runs.{Leads-append, one_more as one_call_more}
 
--- ---- what the laws of the document state: of steps, an undo and a redo
+-- ---- the laws of the text area
 
 pub record TheLaws : Type 0 where
   pub stepped : StepsGo
   pub undone : UndosGo
   pub redone : RedosGo
 
--- ---- calls that leave text and ranges
+-- ---- calls that leave text and ranges unchanged
 
 kept : (old new outcome : State) → new ≡ outcome → outcome.document.text ≡ old.document.text → outcome.document.ranges ≡ old.document.ranges → GoesUncut old.document [] new.document
 kept old new outcome is text ranges =
@@ -55,11 +55,11 @@ set_ranges old new ranges (range ∷ rejected) answer e k =
 
 -- ---- each call
 
--- what a call that runs out of memory leaves, by the splices that it has made
+-- the state after a call that runs out of memory, by the splices that it has made
 abbrev pub LeftUncut : State → State → Type 0
 LeftUncut old new = OfLeft old (λ splices. GoesUncut old.document splices new.document)
 
--- splices fit the text one after another, and cut no range, unless they undo or redo an edit
+-- the splices fit the text one after another, and only those of an undo or redo may split a range
 abbrev Fitting : State → Type 0 → List Splice → Type 0
 Fitting state Free splices = CanApply state.document.text splices × ((¬ Free) → CutNone state.document.ranges splices)
 
@@ -92,7 +92,7 @@ module _ (laws : TheLaws) where
   pub refused_goes : (old new : State) (made : Call) → IsSound old.document → IsLeft old made new → LeftUncut old new
   refused_goes old new made h k = calls_left GoesUncut GoesOver (going laws.stepped) (past_goes laws.undone laws.redone) old new made h k
 
-  -- ---- the splices of each call, whatever it leaves
+  -- ---- the splices of each call, in any case
 
   act_fits : (state : State) (asked : Action) → IsSound state.document → Fitting state (IsUndoOrRedoAct asked) (splices_by state asked)
   act_fits state (action.Edit edit.Undo) h = ((goes state (state_after state call.Undo) call.Undo Done h refl).text.can, λ no. absurd (no tt))
@@ -127,7 +127,7 @@ act_goes (action.Edit edit.Undo) old new splices h = h
 act_goes (action.Edit edit.Redo) old new splices h = h
 act_goes asked old new splices h = h.0
 
--- a call that gives no ranges anew: they go with the text over its splices
+-- a call that does not replace the ranges: they move with the text over its splices
 goes_of_call : (old new : State) (made : Call) (answer : Said) → ¬ GivesRanges made answer → GoesByCall old made answer new → GoesOver old.document (splices_of old made) new.document
 goes_of_call old new call.Undo answer none h = h
 goes_of_call old new call.Redo answer none h = h
@@ -170,7 +170,7 @@ LeadsBy-append old mid new buffer screen shown (first ∷ calls) (a ∷ answers)
   LeadsBy-append so_far.0 mid new so_far.1 screen shown calls answers so_far.2 made answer so_far.5 makes,
 )
 
--- what is known of a run so far: since when the ranges go with the text, and that they do
+-- the facts of a run so far: since when the ranges move with the text, and that they do
 pub record SoFar (old : State) (buffer : Buffer) (calls : List Call) (answers : List Said) (newest : State) (shown : Buffer) : Type 0 where
   pub since : SinceGiven old buffer calls answers newest shown
   pub goes : GoesOver since.then.document since.splices newest.document
@@ -201,7 +201,7 @@ at_start old buffer sound = record {
   sound = sound;
 }
 
--- a call that gives ranges anew
+-- a call that replaces the ranges
 given_anew : (old mid new : State) (buffer screen shown : Buffer) (calls : List Call) (answers : List Said) (made : Call) (answer : Said) → IsSound new.document → Leads old buffer calls answers mid screen → Makes mid screen made answer new shown → GivesRanges made answer → SoFar old buffer (calls ++ made ∷ []) (answers ++ answer ∷ []) new shown
 given_anew old mid new buffer screen shown calls answers made answer sound led makes gives = record {
   since = record {
@@ -223,7 +223,7 @@ given_anew old mid new buffer screen shown calls answers made answer sound led m
   sound = sound;
 }
 
--- a call over which the ranges go on
+-- a call over which the ranges move
 gone_on : (old mid new : State) (buffer screen shown : Buffer) (calls : List Call) (answers : List Said) (made : Call) (answer : Said) → Makes mid screen made answer new shown → ¬ GivesRanges made answer → GoesOver mid.document (splices_of mid made) new.document → SoFar old buffer calls answers mid screen → SoFar old buffer (calls ++ made ∷ []) (answers ++ answer ∷ []) new shown
 gone_on old mid new buffer screen shown calls answers made answer makes none on h =
     let since = h.since in
@@ -254,14 +254,14 @@ one_more old mid new buffer screen shown calls answers made answer sound led mak
       | inr none ↦ gone_on old mid new buffer screen shown calls answers made answer makes none (goes_of_call mid new made answer none on) h
     ]
 
--- the call at the index, of a run that has come so far
+-- the call at the index, of a run up to there
 pub so_far_next : (old mid new : State) (buffer screen shown : Buffer) (calls : List Call) (answers : List Answer) (index : ℕ) (made : Call) (answer : Answer) → index < length calls → made ≡ get_or calls index made → IsSound new.document → Leads old buffer (take index calls) (map said answers) mid screen → Makes mid screen made (said answer) new shown → GoesByCall mid made (said answer) new → SoFar old buffer (take index calls) (map said answers) mid screen → SoFar old buffer (take (index + 1) calls) (map said (answers ++ answer ∷ [])) new shown
 so_far_next old mid new buffer screen shown calls answers index made answer within is_call sound led makes on h =
     subst (λ (a : List Said). SoFar old buffer (take (index + 1) calls) a new shown) (sym (map-append said answers (answer ∷ [])))
     (subst (λ (done : List Call). SoFar old buffer done (map said answers ++ said answer ∷ []) new shown) (one_call_more calls index made within is_call)
     (one_more old mid new buffer screen shown (take index calls) (map said answers) made (said answer) sound led makes on h))
 
--- ---- what becomes of the ranges
+-- ---- what happens to the ranges
 
 ranges_go : (first last : DocumentState) (splices : List Splice) → IsSound first → GoesOver first splices last → RangesGo first splices last
 ranges_go first last splices sound h = record { goes = h; stem = all_stem first last splices sound h; dropped = all_stay_or_are_dropped first last splices h }
@@ -276,7 +276,7 @@ ranges_left old mid new buffer screen calls answers left left_are on h = record 
       (goes_on h.since.then.document mid.document new.document h.since.splices left h.goes on);
 }
 
--- as many calls as are answered
+-- the number of calls that have results
 counted : (old new : State) (buffer : Buffer) (calls : List Call) (answers : List Answer) (index : ℕ) (left : List Splice) → length answers ≡ index → RangesInRun old buffer (take index calls) (map said answers) left new → RangesOfRun old buffer calls answers new
 counted old new buffer calls answers index left same h =
     (left, subst (λ (n : ℕ). RangesInRun old buffer (take n calls) (map said answers) left new) (sym same) h)
@@ -296,7 +296,7 @@ ranges_at_refused old mid new buffer screen calls answers index same on h =
           (ranges_left old mid new buffer screen (take index calls) (map said answers) (selected_splices mid.document) (inr refl) gone.0 h)
     ]
 
--- where no call is answered
+-- no call has a result
 pub ranges_at_first : (old : State) (buffer : Buffer) (calls : List Call) (answers : List Answer) → IsSound old.document → answers ≡ [] → RangesOfRun old buffer calls answers old
 ranges_at_first old buffer calls answers sound none =
     subst (λ (a : List Answer). RangesOfRun old buffer calls a old) (sym none)

@@ -1,4 +1,4 @@
--- The cell of a caret that is shown leads back to the cursor.
+-- The hit test of the cell of a caret that is shown returns the cursor.
 use Rattle.std.proofs.Common.{◌≡◌, ℕ, zero, suc, ◌-◌, ◌<◌, ◌≤◌, ◌⊎◌, inl, inr, ◌==◌, ◌||◌, ◌&&◌, min, Bool, true, false, not, List, [], ◌∷◌, Option, None, Some, if◌then◌else◌, ap, ap₂, arith, refl, subst, sym, ◌∙◌}
 use Rattle.std.proofs.lemmas.Bool.Decides.{nat_tests}
 use Rattle.tui_textarea.specs.DrawingPrelude.{is_filled, laid_out_of, with_inner_width, IsHitBack, Parts, frame_of, FrameState, has_lines, number_width, shows_placeholder, IsLastArea, IsHitBy, IsHitInRows, IsHitOf, IsHitWith, IsNear, greatest_at, IsPlaced, IsPlacedInRows, IsPlacedWith, LiesAs, Placing, corner_caret, row_view, IsRendered, at_inner_width, drawn_into, LaidOut, at_width, laid_out_with, LentRows, IsViewOf, LayoutSettings, AreRowsOf, row_total, greatest_column, row_at, HasNoZeroWidth, IsPlaceAt, IsVisualPosition, Wrapping, SceneState, contains, Alignment, Left, Center, Right, Rect, IsPlace, Place, Symbol, caret_at, hit_column, hit_row, left_view, at_start, ViewportState, RowView, RowsView}
@@ -6,7 +6,7 @@ use Rattle.tui_textarea.proofs.DrawnRows.{IsViewedOnce, lent_right}
 use Rattle.tui_textarea.proofs.OneHit.{BeginsOnce, lies_once, some_same, wanted_at}
 use Rattle.tui_textarea.proofs.Rects.{last_area_once}
 
--- ---- what the laws of the caret and of the map say
+-- ---- the laws of the caret and of the map of visual rows
 
 abbrev pub HitsRow : Type 0
 HitsRow = (view : RowView) (row column last_row x y : ℕ) → caret_at view row column ≡ Some (x, y) → row ≤ last_row → hit_row view.top_row view.inner_area last_row x y ≡ Some row
@@ -58,7 +58,7 @@ inside_by : (b : Bool) (n row : ℕ) → (if b then Some n else None) ≡ Some r
 inside_by true n row e = refl
 inside_by false n row e = absurd cc
 
--- the cell lies in the inner area, and shows nothing but the cursor's place
+-- the cell is in the inner area, and shows only the cursor
 record LeadsBack (b : Bool) (frame : FrameState) (viewport : ViewportState) (inner : Rect) (x y : ℕ) : Type 0 where
   inside : contains inner x y ≡ true
   only : (place : Place) → IsHitWith b frame viewport inner x y place → place ≡ frame.scene.cursor
@@ -141,7 +141,7 @@ found_back frame viewport inner x y found back h =
     let hit : IsHitBy true frame viewport inner x y found = subst (λ (b : Bool). IsHitBy b frame viewport inner x y found) back.inside h in
     hit.1 ∙ ap Some (back.only hit.0 hit.2)
 
--- the parts once a drawing is made
+-- the parts after a drawing
 abbrev pub made : Parts → Rect → Placing → Parts
 made old inner placing = record (at_inner_width old inner.width) { drawing = drawn_into old.drawing inner placing }
 

@@ -1,4 +1,4 @@
--- The caret is shown where the inner area has room for it.
+-- The caret is shown if the inner area has room for it.
 use Rattle.std.proofs.Common.{◌≡◌, ◌≢◌, ℕ, ◌+◌, ◌-◌, ◌*◌, ◌^◌, ◌<◌, ◌≤◌, ◌==◌, ◌||◌, max, Bool, true, false, List, [], ◌∷◌, None, Some, IsSome, rules, if◌then◌else◌, length, refl, ap, ap₂, arith, subst, sym, ◌∙◌}
 use Rattle.std.proofs.lemmas.Bool.Decides.{nat_tests}
 use Rattle.tui_textarea.specs.DrawingPrelude.{size_limit, laid_out_of, with_inner_width, DocumentState, Parts, frame_of, scene_of, number_width, shows_placeholder, IsPlaced, IsPlacedInRows, IsPlacedWith, Placing, row_view, viewport_at, IsRendered, at_inner_width, HasRoomForCaret, HasWidthForCaret, HasWidthForRows, IsCaretShown, number_columns, at_width, wrapping_of, LentRows, IsViewOf, is_wrapped, wrapping_for, LayoutSettings, AreRowsOf, row_total, size_total, greatest_column, row_at, Wrapping, Alignment, Left, Rect, Place, weight, Symbol, Break, Character, following, joined, lines, on_first, caret_at, left_view, showing_row, showing_row_and_column, ViewportState, RowView, HaveFittingClusters, line_number_columns, RowsView, WrapMode}
@@ -8,7 +8,7 @@ use Rattle.tui_textarea.proofs.Rects.{last_area_once}
 use Rattle.textarea_text.proofs.TextPlaces.{joined-lines}
 use Rattle.textarea_wrap.specs.declared.wrap.WrapMode.TheVariants as wrap
 
--- ---- what the laws of the caret and of the map say
+-- ---- the laws of the caret and of the map of visual rows
 
 abbrev pub IsShown : Type 0
 IsShown = (viewport : ViewportState) (area : Rect) (row column line_number_width : ℕ) → 0 < area.height → 2 * line_number_width < area.width → row < 2 ^ 64 → column + line_number_width < 2 ^ 64 → IsSome (caret_at (left_view (showing_row_and_column viewport area row column line_number_width) area line_number_width) row column)
@@ -39,7 +39,7 @@ pub record Laws : Type 0 where
   pub few_rows : HasFewRows
   pub settings_put : PutsSettings
 
--- ---- how the lines are wrapped
+-- ---- the wrapping of the lines
 
 wraps_beside : (m : WrapMode) (t w n : ℕ) (numbers : Bool) → m ≢ wrap.None → line_number_columns numbers n + 2 ≤ w → wrapping_for (record { mode = m; tab_len = t; line_numbers = numbers; inner_width = w }) n ≡ record { mode = m; width = w - line_number_columns numbers n - 1; tab_len = t }
 wraps_beside m t w n numbers wraps h =
@@ -57,7 +57,7 @@ tab_kept : (b : Bool) (one other : Wrapping) (t : ℕ) → one.tab_len ≡ t →
 tab_kept true one other t h k = h
 tab_kept false one other t h k = k
 
--- ---- how many rows there are
+-- ---- the number of rows
 
 on_first_some : (c : ℕ) (rows : List (List ℕ)) → 0 < length (on_first c rows)
 on_first_some c [] = omega arith
@@ -75,7 +75,7 @@ weight_following (line ∷ rows) some = refl
 weight_of_lines : (text : List Symbol) → weight (following (lines text)) ≡ 1 + weight text
 weight_of_lines text = weight_following (lines text) (lines_some text) ∙ ap (λ t. 1 + weight t) (joined-lines text)
 
--- ---- the widths that the modes want
+-- ---- the widths that the wrap modes need
 
 none_width : (m : WrapMode) (document : DocumentState) (width : ℕ) → HasWidthForCaret m document width → m ≡ wrap.None → 2 * number_columns document < width
 none_width wrap.None document width h e = h

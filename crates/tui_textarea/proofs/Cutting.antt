@@ -1,4 +1,4 @@
--- What each outcome of an edit cuts: what the splices cut by which it is reached.
+-- The lines that an edit wraps are those that its splices wrap.
 use Rattle.std.proofs.Common.{◌≡◌, ℕ, Bool, List, [], ◌∷◌, ◌++◌, Option, None, Some, ap, refl, sym, subst, ◌∙◌}
 use Rattle.textarea_history.specs.Log.{newest, next}
 use Rattle.textarea_lines.specs.Cuts.{AreSpliced}
@@ -14,7 +14,7 @@ use Rattle.textarea_document.specs.State.{DocumentState}
 use Rattle.tui_textarea.proofs.Acting.{Past}
 use Rattle.tui_textarea.proofs.Stepping.{Reckoning, Seen}
 
--- what the law of documents says of a step, an undo and a redo
+-- the law of documents for a step, an undo and a redo
 abbrev pub StepsCut : Type 0
 StepsCut = (document : DocumentState) (step : Step) (typed : Bool) (now : ℕ) → IsSound document → IsMade document step → SplicesBy document (splice_of document step) (stepped document step typed now)
 
@@ -30,7 +30,7 @@ spliced_on : (old between new : LaidOut) (first second : List Splice) → AreSpl
 spliced_on old between new [] second h k = subst (λ (l : LaidOut). AreSpliced l second new) h k
 spliced_on old between new (splice ∷ first) second h k = (h.0, h.1, spliced_on h.0 between new first second h.2 k)
 
--- what the splice of a step, none, and one after another cut
+-- the lines that are wrapped by a step's splice, by none, and by several
 pub reckoned : StepsCut → Reckoning SplicedBy
 reckoned cut = record {
   none = λ old new same. ap (λ (s : Seen). s.0) same;

@@ -1,4 +1,4 @@
--- How the atomic ranges go with the text, over each outcome of an edit.
+-- How the atomic ranges move with the text, over each edit.
 use Rattle.std.proofs.Common.{◌≡◌, ℕ, Bool, List, [], ◌∷◌, Option, None, Some, ap, refl, sym, subst, ◌∙◌}
 use Rattle.textarea_history.specs.Log.{newest, next}
 use Rattle.textarea_screen.specs.declared.screen.rect.Rect.{Rect}
@@ -16,7 +16,7 @@ use Rattle.tui_textarea.proofs.Frames.{drawn_document}
 use Rattle.tui_textarea.proofs.Acting.{Past}
 use Rattle.tui_textarea.proofs.Stepping.{Reckoning, Seen, seen}
 
--- what the law of documents says of a step, an undo and a redo
+-- the law of documents for a step, an undo and a redo
 abbrev pub StepsGo : Type 0
 StepsGo = (document : DocumentState) (step : Step) (typed : Bool) (now : ℕ) → IsSound document → IsMade document step → GoesUncut document (splice_of document step ∷ []) (stepped document step typed now)
 
@@ -29,7 +29,7 @@ RedosGo = (document : DocumentState) (splice : Splice) → IsSound document → 
 still : (old new : DocumentState) → seen new ≡ seen old → GoesUncut old [] new
 still old new same = stays old new (ap (λ (s : Seen). s.0.text) same) (ap (λ (s : Seen). s.1) same)
 
--- a document with the text and the ranges of another goes over the same splices
+-- a document with the text and ranges of another is reached by the same splices
 goes_as : (old new other : DocumentState) (splices : List Splice) → seen other ≡ seen new → GoesUncut old splices new → GoesUncut old splices other
 goes_as old new other splices same h = (
   record {
@@ -56,7 +56,7 @@ redone_goes law document None h is =
     (still document (redone document) (ap seen same)).0
 redone_goes law document (Some splice) h is = law document splice h is
 
--- ---- what leaves text and ranges
+-- ---- what leaves text and ranges unchanged
 
 pub drawing_goes : (old new : State) (area : Rect) → IsRendered old area new → GoesUncut old.document [] new.document
 drawing_goes old new area h =

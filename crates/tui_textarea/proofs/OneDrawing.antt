@@ -1,10 +1,10 @@
--- A drawing makes one cell of each.
+-- A drawing determines each cell.
 use Rattle.std.proofs.Common.{◌≡◌, ℕ, Bool, true, false, List, sym, subst, ap, ◌∙◌}
 use Rattle.tui_textarea.specs.DrawingPrelude.{option_map, laid_out_of, AreLinesOf, AreLinesWith, frame_change, Parts, frame_of, FrameState, shows_placeholder, IsDrawn, LentRows, FillsArea, SceneState, Changes, area_of, cell_at, ShownLine, Buffer, Rect, ViewportState}
 use Rattle.tui_textarea.proofs.DrawnRows.{IsViewedOnce}
 use Rattle.tui_textarea.proofs.Rects.{inner_once}
 
--- an area is filled by one list of lines
+-- the list of lines that fills an area is unique
 abbrev pub FillsOnce : Type 0
 FillsOnce = (scene : SceneState) (top : ℕ) (area buffer : Rect) (lines others : List ShownLine) → FillsArea scene top area buffer lines → FillsArea scene top area buffer others → lines ≡ others
 
@@ -12,7 +12,7 @@ lines_once : (fills_once : FillsOnce) (b : Bool) (frame : FrameState) (viewport 
 lines_once fills_once true frame viewport inner buffer lines others h k = h ∙ sym k
 lines_once fills_once false frame viewport inner buffer lines others h k = fills_once frame.scene viewport.row inner buffer lines others h k
 
--- what these lines make of the cells, drawn into an inner area
+-- the cells after these lines are drawn into an inner area
 abbrev IsMade : Parts → Rect → Buffer → Buffer → Rect → LentRows → Type 0
 IsMade parts area old new inner rows = (lines : List ShownLine)
     × AreLinesOf (frame_of parts rows) parts.drawing.viewport inner (area_of old) lines

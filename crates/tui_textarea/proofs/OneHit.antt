@@ -1,4 +1,4 @@
--- A cell shows one place, or none.
+-- A cell shows at most one position.
 use Rattle.std.proofs.Common.{◌≡◌, ℕ, Bool, true, false, Option, Some, sym, subst, ap, ap₂, ◌∙◌}
 use Rattle.tui_textarea.specs.DrawingPrelude.{is_some, laid_out_of, Parts, frame_of, FrameState, number_width, shows_placeholder, IsHit, IsLastArea, IsHitBy, IsHitInRows, IsHitOf, IsHitWith, IsNear, greatest_at, IsStart, LiesAs, row_area, row_view, LentRows, RowArea, IsRowStart, SceneState, contains, Alignment, Left, Center, Right, Rect, Place, hit_column, ViewportState, RowView}
 use Rattle.tui_textarea.proofs.DrawnRows.{IsPlacedOnce, IsViewedOnce, near_once}
@@ -8,7 +8,7 @@ use Rattle.tui_textarea.proofs.Rects.{last_area_once}
 abbrev pub BeginsOnce : Type 0
 BeginsOnce = (scene : SceneState) (rows : RowArea) (row start other : ℕ) → IsRowStart scene rows row start → IsRowStart scene rows row other → start ≡ other
 
--- ---- a visual row lies in one way
+-- ---- a visual row begins at one column of the area
 
 start_once : (begins_once : BeginsOnce) (alignment : Alignment) (scene : SceneState) (rows : RowArea) (row start other : ℕ) → IsStart alignment scene rows row start → IsStart alignment scene rows row other → start ≡ other
 start_once begins_once Left scene rows row start other h k = h ∙ sym k
@@ -21,7 +21,7 @@ lies_once begins_once scene viewport inner row view other h k =
     ∙ ap (λ (start : ℕ). row_view scene.look.alignment viewport inner start (number_width scene)) (start_once begins_once scene.look.alignment scene (row_area scene.look inner viewport.column) row h.start k.start h.start_is k.start_is)
     ∙ sym k.view_is
 
--- ---- a hit
+-- ---- the hit test
 
 pub some_same : (row other : ℕ) (found : Option ℕ) → found ≡ Some row → found ≡ Some other → other ≡ row
 some_same row other found e f = cc (e, f)
@@ -53,7 +53,7 @@ hit_once viewed_once placed_once begins_once parts x y found other h k =
     (subst (λ (r : LentRows). IsHitOf (frame_of parts r) parts.drawing.viewport h.inner x y other) rows
     (subst (λ (a : Rect). IsHitOf (frame_of parts k.rows) parts.drawing.viewport a x y other) inner k.found_is))
 
--- ---- where there is one
+-- ---- when there is a position
 
 some_by : (b : Bool) (frame : FrameState) (viewport : ViewportState) (inner : Rect) (x y : ℕ) (found : Option Place) → IsHitBy b frame viewport inner x y found → is_some found ≡ b
 some_by false frame viewport inner x y found h = ap is_some h

@@ -1,4 +1,4 @@
--- One place is the nearest that is shown.
+-- The nearest visible position is unique.
 use Rattle.std.proofs.Common.{◌≡◌, ℕ, ◌-◌, Bool, true, false, sym, subst, ap, ap₂, ◌∙◌}
 use Rattle.tui_textarea.specs.DrawingPrelude.{laid_out_of, DocumentState, IsInside, IsReached, greatest_at, LaidOut, LentRows, IsViewOf, row_total, IsVisualPosition, Place, is_same_place, ViewportState, clamped}
 use Rattle.tui_textarea.proofs.DrawnRows.{IsPlacedOnce, IsSeenOnce, IsViewedOnce, near_once, seen_in}
@@ -7,14 +7,14 @@ reached_once : (once : IsPlacedOnce) (b : Bool) (rows : LentRows) (wanted cursor
 reached_once once true rows wanted cursor place other e f = e ∙ sym f
 reached_once once false rows wanted cursor place other h k = near_once once rows wanted place other h k
 
--- the row and the column that the cursor goes to, seen at this place of these rows
+-- the row and column that the cursor moves to, from this visual position in these rows
 abbrev row_to : LentRows → ViewportState → Place → ℕ
 row_to rows viewport seen = clamped viewport.row viewport.height (row_total rows.rows - 1) seen.0
 
 abbrev column_to : LentRows → ViewportState → Place → ℕ
 column_to rows viewport seen = clamped viewport.column viewport.width (greatest_at rows (row_to rows viewport seen)) seen.1
 
--- the place that the cursor goes to in these rows
+-- the position that the cursor moves to in these rows
 abbrev GoesTo : LentRows → ViewportState → Place → Place → Type 0
 GoesTo rows viewport cursor place = (seen : Place) × IsVisualPosition rows.wrapping.tab_len rows.lines rows.rows cursor seen
     × IsReached (is_same_place (row_to rows viewport seen, column_to rows viewport seen) seen) rows (row_to rows viewport seen, column_to rows viewport seen) cursor place

@@ -1,11 +1,11 @@
--- A drawing leaves one state.
+-- A drawing leads to one state.
 use Rattle.std.proofs.Common.{◌≡◌, ℕ, Bool, true, false, Option, sym, subst, ap, ap₂, ◌∙◌}
 use Rattle.tui_textarea.specs.DrawingPrelude.{laid_out_of, with_inner_width, Parts, frame_of, FrameState, number_width, shows_placeholder, IsPlaced, IsPlacedInRows, IsPlacedWith, LiesAs, Placing, viewport_at, IsRendered, at_inner_width, drawn_into, LentRows, IsViewOf, AreRowsOf, SceneState, Rect, Place, caret_at, ViewportState, RowView, WrapMode}
 use Rattle.tui_textarea.proofs.DrawnRows.{IsSeenOnce, IsViewedOnce, lent_right}
 use Rattle.tui_textarea.proofs.OneHit.{BeginsOnce, lies_once}
 use Rattle.tui_textarea.proofs.Rects.{inner_once}
 
--- the rows of a scene are right rows of its lines
+-- the rows of a scene are correct rows of its lines
 abbrev HasRightRows : SceneState → Type 0
 HasRightRows scene = AreRowsOf scene.rows.wrapping scene.rows.lines scene.rows.rows
 
@@ -25,7 +25,7 @@ placed_with_once seen_once begins_once true frame viewport inner placing other r
 placed_with_once seen_once begins_once false frame viewport inner placing other right h k =
     in_rows_once seen_once begins_once frame.scene frame.mode viewport inner placing other right h k
 
--- what is placed in an inner area
+-- a viewport and caret for an inner area
 abbrev IsPlacedAt : Parts → Rect → Placing → Type 0
 IsPlacedAt old inner placing = (rows : LentRows) × IsViewOf (laid_out_of (with_inner_width old.document inner.width)) rows × IsPlaced (frame_of (at_inner_width old inner.width) rows) old.drawing.viewport inner placing
 

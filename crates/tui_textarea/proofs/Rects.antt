@@ -1,10 +1,10 @@
--- A rectangle is settled by its corner and its size, and so is what is said of one.
+-- A rectangle is determined by its corner and size, and so are facts of one.
 use Rattle.std.proofs.Common.{◌≡◌, ℕ, ◌+◌, ◌-◌, ◌≤◌, min, ap, ap₂, sym, subst, ◌∙◌}
 use Rattle.std.proofs.Math.Bridge.{le_prop}
 use Rattle.std.specs.Prelude.{Option}
 use Rattle.tui_textarea.specs.DrawingPrelude.{DocumentState, IsLastArea, DrawingState, ShownBlock, Rect, IsInner}
 
--- with these numbers it is that rectangle, whatever says that its edges are at most 65535
+-- it is the rectangle with these numbers, whatever the proofs that its edges are at most 65535
 abbrev IsThen : Rect → ℕ → ℕ → ℕ → ℕ → Type 0
 IsThen b x y width height = (right : x + width ≤ 65535) (bottom : y + height ≤ 65535) →
     (record { x = x; y = y; width = width; height = height; right = right; bottom = bottom }) ≡ b
@@ -20,12 +20,12 @@ same_rect a b x y width height =
     (subst (λ (n : ℕ). IsThen b b.x b.y n a.height) (sym width)
     (subst (λ (n : ℕ). IsThen b b.x b.y b.width n) (sym height) (is_then b)))) a.right a.bottom
 
--- one area is left inside of a block
+-- the area inside a block is unique
 pub inner_once : (block : Option ShownBlock) (area inner other : Rect) → IsInner block area inner → IsInner block area other → inner ≡ other
 inner_once block area inner other h k =
     same_rect inner other (h.x ∙ sym k.x) (h.y ∙ sym k.y) (h.width ∙ sym k.width) (h.height ∙ sym k.height)
 
--- and one was drawn into last
+-- the last drawn area is unique
 pub last_area_once : (document : DocumentState) (drawing : DrawingState) (inner other : Rect) → IsLastArea document drawing inner → IsLastArea document drawing other → inner ≡ other
 last_area_once document drawing inner other h k =
     let x : inner.x ≡ other.x = h.x ∙ sym k.x in

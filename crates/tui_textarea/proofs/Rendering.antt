@@ -1,13 +1,13 @@
--- What a drawing leaves, put together from its steps.
+-- The state after a drawing, from its steps.
 use Rattle.std.proofs.Common.{◌≡◌, ℕ, ap, sym, subst, ◌∙◌}
 use Rattle.tui_textarea.specs.DrawingPrelude.{parts_of, laid_out_of, with_inner_width, DocumentState, Parts, frame_of, FrameState, Placing, IsDrawn, IsRendered, at_inner_width, drawn_into, DrawingState, IsDrawnAt, IsFrameDrawn, IsViewOf, Buffer, Rect, IsInner}
 use Rattle.tui_textarea.proofs.Widths.{frame_at_width}
 
--- the parts, with another document and another drawing
+-- the parts, with another document and another state of drawing
 abbrev pub with_both : Parts → DocumentState → DrawingState → Parts
 with_both parts document drawing = parts_of document parts.pattern parts.surround drawing
 
--- the steps of a drawing: the inner area, what is drawn with the rows at its width, and what is kept
+-- the steps of a drawing: the inner area, the drawing with the rows at its width, and the new state
 pub record IsStepped (old : Parts) (area inner : Rect) (width : ℕ) (a b : Buffer) (placing : Placing) (document : DocumentState) (drawing : DrawingState) : Type 0 where
   pub inner_is : IsInner old.surround.block area inner
   pub width_is : width ≡ inner.width

@@ -1,4 +1,4 @@
--- A frame at another inner width is told from the same settings.
+-- A frame at another inner width has the same settings.
 use Rattle.std.proofs.Common.{◌≡◌, ℕ, Bool, true, false, cond, not, Option, None, Some, ap, refl, ◌∙◌}
 use Rattle.tui_textarea.specs.DrawingPrelude.{is_filled, laid_out_of, selection, selection_by, DocumentState, Parts, frame_of, scene_of, FrameState, at_inner_width, LaidOut, Layout, at_width, laid_out_anew, stays_cut, LentRows, LayoutSettings, Place}
 
@@ -24,7 +24,7 @@ frame_with parts rows selected settings = record {
   is_empty = not (is_filled parts.document.text);
 }
 
--- the rows of a frame alone are those of the other width
+-- only the rows of a frame depend on the width
 pub frame_at_width : (parts : Parts) (width : ℕ) (rows : LentRows) → frame_of (at_inner_width parts width) rows ≡ frame_of parts rows
 frame_at_width parts width rows =
     let laid = laid_out_of parts.document in

@@ -1,4 +1,4 @@
--- The names that clauses and proofs of this crate cite, passed on from one place. Declares nothing.
+-- The names that clauses and proofs of this crate cite, re-exported together. Declares nothing.
 pub use Rattle.std.specs.Option.{is_some, option_map}
 pub use Rattle.std.specs.Result.{IfOk}
 pub use Rattle.textarea_util.specs.Limit.{size_limit}

@@ -1,13 +1,13 @@
--- How a text area is drawn, and what of it was drawn last.
+-- The styles and viewport of a text area, and what was drawn last.
 use Rattle.std.specs.Prelude.{ℕ, List, [], Option, None}
 use Rattle.textarea_view.specs.Look.{default_look}
 use Rattle.textarea_view.specs.declared.look.CustomHighlight.{CustomHighlight}
 use Rattle.textarea_view.specs.declared.look.Look.{Look}
 use Rattle.textarea_view.specs.Viewport.{ViewportState, initial_viewport}
 
--- how it looks; highlights of the caller's own, in the order in which they were added; the part of the visual rows that is shown;
--- where the inner area of the last drawing began, by column and row, and how high it was, while its width is a part of the layout;
--- and the column and the row of the caret at the last drawing, if it was shown
+-- the look; the custom highlights, in the order in which they were added; the viewport; the corner
+-- of the inner area of the last drawing, by column and row, and its height, while its width is in
+-- the layout settings; and the column and row of the caret at the last drawing, if it was shown
 pub record DrawingState : Type 0 where
   pub look : Look
   pub highlights : List CustomHighlight
@@ -16,7 +16,7 @@ pub record DrawingState : Type 0 where
   pub height : ℕ
   pub caret : Option (ℕ × ℕ)
 
--- before anything is drawn: the first look, no highlight, and an area without a cell
+-- before anything is drawn: the default look, no highlight, and an area without a cell
 abbrev pub new_drawing : DrawingState
 new_drawing = record {
   look = default_look;
@@ -27,14 +27,12 @@ new_drawing = record {
   caret = None;
 }
 
--- another look, and all else as it was
 abbrev pub with_look : DrawingState → Look → DrawingState
 with_look drawing look = record drawing { look = look }
 
--- another part is shown, and all else is as it was
 abbrev pub with_viewport : DrawingState → ViewportState → DrawingState
 with_viewport drawing viewport = record drawing { viewport = viewport }
 
--- as it is for other lines: no highlight, and nothing scrolled; the look, the last area and the caret stay
+-- for other lines: no highlight, and nothing scrolled; the look, the last area and the caret stay
 abbrev pub for_other_lines : DrawingState → DrawingState
 for_other_lines drawing = record drawing { highlights = []; viewport = initial_viewport }

@@ -1,4 +1,4 @@
--- What is drawn, before anything of it is kept.
+-- A drawing, before anything of it is stored.
 use Rattle.std.specs.Prelude.{ℕ}
 use Rattle.textarea_document.specs.Rows.{laid_out_of, with_inner_width}
 use Rattle.tui_textarea.specs.DrawnFrame.{Parts, frame_of}
@@ -9,7 +9,7 @@ use Rattle.textarea_lines.specs.View.{IsViewOf}
 use Rattle.textarea_screen.specs.declared.screen.buffer.Buffer.{Buffer}
 use Rattle.textarea_screen.specs.declared.screen.rect.Rect.{Rect}
 
--- the frame of these parts is drawn so, with the rows of the text as it is laid out in an inner area of this width
+-- this is drawn by the frame of these parts, with the text's rows for an inner area of this width
 pub record IsDrawnAt (parts : Parts) (width : ℕ) (area inner : Rect) (old new : Buffer) (placing : Placing) : Type 0 where
   pub rows : LentRows
   pub rows_are : IsViewOf (laid_out_of (with_inner_width parts.document width)) rows

@@ -1,4 +1,4 @@
--- The parts of a text area that are drawn, and the frame that they make.
+-- The parts of a text area that are drawn, and the frame made of them.
 use Rattle.std.specs.Prelude.{ℕ, not, List, Option}
 use Rattle.textarea_document.specs.Edits.{is_filled}
 use Rattle.textarea_document.specs.Selection.{selection}
@@ -9,8 +9,8 @@ use Rattle.textarea_screen_map.specs.Lent.{LentRows}
 use Rattle.textarea_view.specs.Scene.{SceneState}
 use Rattle.textarea_view.specs.State.{SurroundState}
 
--- the parts of a text area that are drawn: the document, the pattern that is searched for, if there is one, the surround, and how it
--- is drawn
+-- the parts of a text area that are drawn: the document, the search pattern, if there is one, the
+-- surround, and the state of drawing
 pub record Parts : Type 0 where
   pub document : DocumentState
   pub pattern : Option (List ℕ)
@@ -20,7 +20,6 @@ pub record Parts : Type 0 where
 abbrev pub parts_of : DocumentState → Option (List ℕ) → SurroundState → DrawingState → Parts
 parts_of document pattern surround drawing = record { document = document; pattern = pattern; surround = surround; drawing = drawing }
 
--- the scene of these parts, where the lines have these rows
 abbrev pub scene_of : Parts → LentRows → SceneState
 scene_of parts rows = record {
   rows = rows;
@@ -32,7 +31,6 @@ scene_of parts rows = record {
   line_numbers = parts.document.layout.settings.line_numbers;
 }
 
--- the frame of these parts, where the lines have these rows
 abbrev pub frame_of : Parts → LentRows → FrameState
 frame_of parts rows = record {
   scene = scene_of parts rows;

@@ -1,4 +1,4 @@
--- Which place a cell of the screen shows, and which place is the nearest one that is shown.
+-- The position that a cell of the screen shows, and the visible position nearest to the cursor.
 use Rattle.std.specs.Prelude.{◌≡◌, ℕ, ◌-◌, min, Bool, true, false, Option}
 use Rattle.textarea_document.specs.Rows.{laid_out_of}
 use Rattle.textarea_document.specs.State.{DocumentState}
@@ -13,17 +13,17 @@ use Rattle.textarea_screen.specs.declared.screen.rect.Rect.{Rect}
 use Rattle.textarea_text.specs.Place.{Place, is_same_place}
 use Rattle.textarea_view.specs.Viewport.{ViewportState, clamped}
 
--- ---- hits
+-- ---- the hit test
 
--- the inner area of the last drawing: its corner and height as they were then, and the width for which the text is laid out; no area
--- reaches past column 65535 or row 65535
+-- the inner area of the last drawing: its stored corner and height, and the width of the layout; no
+-- area reaches past column 65535 or row 65535
 pub record IsLastArea (document : DocumentState) (drawing : DrawingState) (inner : Rect) : Type 0 where
   pub x : inner.x ≡ drawing.corner.0
   pub y : inner.y ≡ drawing.corner.1
   pub width : inner.width ≡ min document.layout.settings.inner_width (65535 - inner.x)
   pub height : inner.height ≡ min drawing.height (65535 - inner.y)
 
--- what a cell shows of the text as it stands, in the inner area of the last drawing
+-- the position that a cell shows, with the present text, in the inner area of the last drawing
 pub record IsHit (parts : Parts) (x y : ℕ) (found : Option Place) : Type 0 where
   pub inner : Rect
   pub inner_is : IsLastArea parts.document parts.drawing inner
@@ -31,15 +31,15 @@ pub record IsHit (parts : Parts) (x y : ℕ) (found : Option Place) : Type 0 whe
   pub rows_are : IsViewOf (laid_out_of parts.document) rows
   pub found_is : IsHitOf (frame_of parts rows) parts.drawing.viewport inner x y found
 
--- ---- the nearest place that is shown
+-- ---- the nearest visible position
 
--- the cursor's own place where nothing changes, else the place to which the row and the column lead
+-- the cursor itself if nothing changes, otherwise the position at the row and column
 abbrev pub IsReached : Bool → LentRows → Place → Place → Place → Type 0
 IsReached true rows wanted cursor place = place ≡ cursor
 IsReached false rows wanted cursor place = IsNear rows wanted place
 
--- the cursor goes from where it is seen to the nearest visual row that is shown, and in that row to the nearest display column
--- that is shown
+-- the cursor moves from its visual position to the nearest visible visual row, and in that row to
+-- the nearest visible display column
 pub record IsInside (document : DocumentState) (viewport : ViewportState) (place : Place) : Type 0 where
   pub rows : LentRows
   pub rows_are : IsViewOf (laid_out_of document) rows

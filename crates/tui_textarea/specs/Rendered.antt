@@ -1,4 +1,4 @@
--- What a drawing leaves of the parts of a text area, and in a buffer.
+-- The parts of a text area, and the cells of the buffer, after a drawing.
 use Rattle.std.specs.Prelude.{◌≡◌, ℕ, List}
 use Rattle.textarea_document.specs.Rows.{laid_out_of, with_inner_width}
 use Rattle.textarea_view.specs.Cells.{AreLinesOf, frame_change}
@@ -13,11 +13,11 @@ use Rattle.textarea_screen.specs.declared.screen.buffer.Buffer.{Buffer}
 use Rattle.textarea_screen.specs.declared.screen.rect.Rect.{Rect}
 use Rattle.textarea_view.specs.Inner.{IsInner}
 
--- the same parts, the text laid out for an inner area of this many columns
+-- the same parts, with a layout for an inner area of this number of columns
 abbrev pub at_inner_width : Parts → ℕ → Parts
 at_inner_width parts width = record parts { document = with_inner_width parts.document width }
 
--- what is shown is kept, and the inner area that it was drawn into
+-- the viewport, the caret, and the inner area that was drawn into, are stored
 abbrev pub drawn_into : DrawingState → Rect → Placing → DrawingState
 drawn_into drawing inner placing = record drawing {
   viewport = placing.viewport;
@@ -26,8 +26,9 @@ drawn_into drawing inner placing = record drawing {
   caret = placing.caret;
 }
 
--- The parts after a drawing into the area: the text is laid out for the width inside of the block, and cut anew only where that cuts
--- it in another way; the part that is shown follows the cursor; and the inner area and the caret are kept. All else is as it was.
+-- The parts after a drawing into the area: the layout has the width inside the block, and lines are
+-- wrapped again only if that changes how they wrap; the viewport follows the cursor; and the inner
+-- area and the caret are stored. All else is as before.
 pub record IsRendered (old : Parts) (area : Rect) (new : Parts) : Type 0 where
   pub inner : Rect
   pub inner_is : IsInner old.surround.block area inner
@@ -37,8 +38,8 @@ pub record IsRendered (old : Parts) (area : Rect) (new : Parts) : Type 0 where
   pub placing_is : IsPlaced (frame_of (at_inner_width old inner.width) rows) old.drawing.viewport inner placing
   pub new_is : new ≡ record (at_inner_width old inner.width) { drawing = drawn_into old.drawing inner placing }
 
--- Each cell of a buffer into which these parts are drawn, as they are after that, is what their frame makes of the cell that was
--- there: the rows are those of the text as it is laid out, from the first that is shown on.
+-- Each cell of a buffer after these parts are drawn into it comes from their frame and the old
+-- cell: the rows are those of the text's layout, from the first visible one on.
 pub record IsDrawn (parts : Parts) (area : Rect) (old new : Buffer) : Type 0 where
   pub inner : Rect
   pub inner_is : IsInner parts.surround.block area inner

@@ -1,4 +1,4 @@
-//! How a text area is drawn, and what of it was drawn last.
+//! The styles and viewport of a text area, and what was drawn last.
 mod caret;
 mod frame;
 mod hit;
@@ -16,8 +16,8 @@ use textarea_search::search::KeptMatches;
 use textarea_view::Viewport;
 use textarea_view::look::{CustomHighlight, Look};
 
-/// A look, highlights of the caller's own, which part of the visual rows is shown, and where the last drawing was. It keeps the
-/// matches in the lines that were drawn last, of which contracts see nothing.
+/// A look, custom highlights, the viewport, and where the last drawing was. It caches the matches
+/// in the lines that were drawn last; contracts don't see this cache.
 #[derive(Drop)]
 pub struct Drawing {
     look: Look,
@@ -49,7 +49,7 @@ impl Model for Drawing {
 impl Clone for Drawing {
     ghost is_clone = { λ drawing copy. copy ≡ drawing };
 
-    /// The same drawing with no match kept, or an error where there is no memory for its highlights.
+    /// Returns a copy without the cached matches, or an error if memory runs out.
     fn clone(&self) -> Result<Drawing, AllocError> {
         Ok(Drawing {
             look: self.look,
@@ -64,7 +64,7 @@ impl Clone for Drawing {
 }
 
 impl Drawing {
-    /// The first look, no highlight, and nothing drawn yet.
+    /// Returns the initial state: the default look, no highlight, and nothing drawn yet.
     pub fn new(alloc: Global) -> Drawing
         ensures { result ≡ new_drawing }
     {
@@ -79,21 +79,19 @@ impl Drawing {
         }
     }
 
-    /// How it looks.
     pub fn look(&self) -> Look
         ensures { result ≡ self.now.look }
     {
         self.look
     }
 
-    /// Sets how it looks.
     pub fn set_look(&mut self, look: Look)
         ensures { self.new ≡ with_look self.old look }
     {
         self.look = look;
     }
 
-    /// Highlights a part of the text, over what was highlighted before.
+    /// Adds a highlight of a range of the text, over those added before.
     pub fn add_highlight(&mut self, highlight: CustomHighlight) -> Result<(), AllocError>
         ensures ok { OnOk result
             (self.new ≡ record self.old { highlights = self.old.highlights ++ highlight ∷ [] }) }
@@ -103,14 +101,13 @@ impl Drawing {
         Ok(())
     }
 
-    /// Takes all highlights of the caller's own away.
     pub fn clear_highlights(&mut self)
         ensures { self.new ≡ record self.old { highlights = [] } }
     {
         self.highlights.clear();
     }
 
-    /// Gets ready for other lines: no highlight is left, and nothing is scrolled.
+    /// Resets what belongs to the old lines: no highlight is left, and nothing is scrolled.
     pub fn forget_lines(&mut self)
         ensures { self.new ≡ for_other_lines self.old }
     {
@@ -118,21 +115,21 @@ impl Drawing {
         self.viewport = Viewport::default();
     }
 
-    /// Which part of the visual rows is shown, and in how large an area.
+    /// Returns the viewport: the visible visual rows and columns, and the size of their area.
     pub fn viewport(&self) -> &Viewport
         ensures { result.now ≡ self.now.viewport }
     {
         &self.viewport
     }
 
-    /// Shows another part.
     pub fn scroll(&mut self, scrolling: Scrolling)
         ensures { self.new ≡ with_viewport self.old (scrolled_by self.old.viewport scrolling) }
     {
         self.viewport.scroll_by(scrolling);
     }
 
-    /// The cell of the caret at the last drawing; none where it wasn't shown, and before the first drawing.
+    /// Returns the caret's cell at the last drawing; `None` if it wasn't shown, or without a
+    /// drawing.
     pub fn caret(&self) -> Option<Position>
         ensures { option_map cell_of_position result ≡ self.now.caret }
     {

@@ -29,12 +29,10 @@ pub use crate::textarea::laws::{
     copy_then_paste, cursor_and_anchor_are_places, edits_fit, is_sound, redo_gives_all_back,
     rows_are_laid_out_anew, undos_give_back,
 };
-use textarea_document::laws::{
-    edits_cut, layouts_cut, one_place_up_and_down, one_row_count, ranges_go_along,
-};
+use textarea_document::laws::{one_place_up_and_down, one_row_count};
 use textarea_lines::laws::{cut_as_measured, settings_stay};
 
-/// A move leads from a state to one state, with Shift and without it.
+/// A move determines the state after it, with or without Shift.
 pub fn one_move()
     ensures { (old first second : State) (shift : Bool) (cursor_move : CursorMove) →
         IsMovedWith old shift cursor_move first → IsMovedWith old shift cursor_move second →
@@ -44,7 +42,7 @@ pub fn one_move()
     one_place_inside();
 }
 
-/// What an input asks for leads from a state to one state.
+/// The action of an input determines the state after it.
 pub fn one_input()
     ensures { (old first second : State) (action : Action) →
         IsActed old action first → IsActed old action second → first ≡ second }
@@ -52,7 +50,7 @@ pub fn one_input()
     one_move();
 }
 
-/// An area of a width, in columns, has one measure.
+/// The measure of an area is determined by the area's width, in columns.
 pub fn one_measure()
     ensures { (state : State) (width : ℕ) (measure other : TextAreaMeasure) →
         IsMeasured state width measure → IsMeasured state width other → measure ≡ other }
@@ -60,9 +58,9 @@ pub fn one_measure()
     one_row_count();
 }
 
-/// What is measured for the width of an area, before a drawing into that area or after it, is what the drawing has, but 65535 at
-/// most: its visual rows, where a column is left inside of the block, or the lines of the placeholder, where these are shown
-/// instead of the rows.
+/// A measure for the width of an area, before or after a drawing into that area, counts what the
+/// drawing shows, up to 65535: its visual rows, if a column is left inside the block, or the
+/// placeholder's lines, if these are shown instead.
 pub fn measured_as_drawn()
     ensures rows { (old new : State) (area : Rect) (measure : TextAreaMeasure) (view : LentRows) →
         IsMeasuredAround old new area.width measure → IsRendered old area new →
@@ -81,8 +79,8 @@ pub fn measured_as_drawn()
     settings_stay();
 }
 
-/// After a drawing the text is laid out for the width of its area, and where it is laid out for the width of an area, a drawing
-/// into that area leaves the document as it is: nothing is cut.
+/// After a drawing the layout has the width of the drawn area. If it has the width of an area
+/// already, a drawing into that area leaves the document unchanged: no line is wrapped.
 pub fn drawn_at_its_width()
     ensures put { (old new : State) (area : Rect) →
         IsRendered old area new → IsLaidOutFor new area.width }
@@ -92,8 +90,7 @@ pub fn drawn_at_its_width()
     settings_stay();
 }
 
-/// A move and a scroll, with Shift or without it, leave the layout of the text, so they cut nothing; and it stays laid out for the
-/// width of an area.
+/// A move or scroll, with or without Shift, leaves the layout and its width: no line is wrapped.
 pub fn moves_cut_nothing()
     ensures moved { (old new : State) (shift : Bool) (cursor_move : CursorMove) →
         IsMovedWith old shift cursor_move new → new.document.layout ≡ old.document.layout }
@@ -107,8 +104,8 @@ pub fn moves_cut_nothing()
         IsLaidOutFor old width → IsLaidOutFor new width }
 {}
 
-/// The text is cut once for all drawings at one width: a second drawing into an area as wide leaves the document as it is, also
-/// where a move or a scroll came between.
+/// The text is wrapped once for all drawings at one width: a second drawing into an area of the
+/// same width leaves the document unchanged, even after a move or a scroll between the two.
 pub fn frame_cuts_once()
     ensures again { (old first second : State) (area other : Rect) → other.width ≡ area.width →
         IsRendered old area first → IsRendered first other second →
@@ -126,9 +123,9 @@ pub fn frame_cuts_once()
     moves_cut_nothing();
 }
 
-/// In each state that a drawing leaves, a caret that is shown is hit back, where no character of the cursor's visual row has display
-/// width 0: its cell shows the cursor. And with rows at the left the caret is shown where the inner area has room for it. Every text
-/// area is so small, and its tabs are so short, as is asked here.
+/// After every drawing, the position at the caret's cell is the cursor, if the caret is shown and
+/// no character of the cursor's visual row has display width 0. With left alignment the caret is
+/// shown if the inner area has room for it. Every text area satisfies the assumed limits of size.
 pub fn carets_are_kept()
     ensures back { (old new : State) (area : Rect) → IsSound new.document →
         IsRendered old area new → IsHitBack (parts_of new) }

@@ -1,4 +1,4 @@
-//! The text area over one flat text, by groups of calls, and what each call does as definitions and laws.
+//! The text area, a multi-line editor widget for terminals, with definitions and laws of its calls.
 #![tactic(auto)]
 
 mod drawing;
@@ -26,7 +26,7 @@ pub use textarea_view::look::CursorRenderMode;
 pub use textarea_view::surround::measure::TextAreaMeasure;
 pub use textarea_wrap::wrap::WrapMode;
 
-/// The spans of a drawn row.
+/// The spans of a visual row, as it is drawn.
 pub mod highlight {
     pub use textarea_highlight::highlight::{CursorCellRender, LineHighlighter};
 }

@@ -1,11 +1,11 @@
-//! What the laws of the caret say of a drawing that left a document so.
+//! The laws of the caret, for a drawing that left this document.
 ghost use Rattle.std.specs.Prelude.{◌≡◌};
 ghost use Rattle.tui_textarea.specs.DrawingPrelude.{IsHitBack, Parts, IsRendered, IsCaretShown, Rect};
 
 use crate::drawing::laws::{caret_is_hit_back, caret_is_shown};
 use textarea_document::Document;
 
-// A caret that is shown leads back to the document's cursor.
+// The hit test of a caret that is shown returns the document's cursor.
 pub(super) fn caret_leads_back(document: &Document)
     ensures { (old new : Parts) (area : Rect) → new.document ≡ document.now →
         IsRendered old area new → IsHitBack new }
@@ -14,7 +14,7 @@ pub(super) fn caret_leads_back(document: &Document)
     let _ = document.cursor();
 }
 
-// The caret is shown where there is room for it.
+// The caret is shown if there is room for it.
 pub(super) fn caret_has_room(document: &Document)
     ensures { (old new : Parts) (area : Rect) → new.document ≡ document.now →
         IsRendered old area new → IsCaretShown new }

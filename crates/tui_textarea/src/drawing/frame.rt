@@ -11,7 +11,7 @@ use textarea_view::frame::Frame;
 use textarea_view::scene::Scene;
 
 impl Drawing {
-    // The frame of the document's lines with these rows.
+    // Returns the frame of the document's lines with these rows.
     pub(super) fn frame<'f, 's>(
         &'f self,
         document: &'f Document,

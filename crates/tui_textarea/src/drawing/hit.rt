@@ -1,4 +1,4 @@
-//! Which place a cell of the screen shows, and which place is the nearest one that is shown.
+//! The position that a cell of the screen shows, and the visible position nearest to the cursor.
 ghost use Rattle.std.specs.Prelude.{◌≡◌, IfOk, IfSome, IsOk};
 ghost use Rattle.tui_textarea.specs.DrawingPrelude.{parts_of, IsCursorAtCaret, IsHit, IsInside, IsLastArea, Left, IsPlace};
 
@@ -11,10 +11,12 @@ use textarea_search::search::Search;
 use textarea_view::Surround;
 
 impl Drawing {
-    /// The place of the text that a cell of the screen shows, in the inner area of the last drawing: of the text as it stands, in
-    /// the part that is shown now. A cell below the last visual row shows that row, and one behind a row its greatest cursor
-    /// column; with a placeholder each shows the start. None for a cell outside of the inner area. Right after a drawing the
-    /// caret's cell shows the cursor's place, where no character of the cursor's visual row has display width 0.
+    /// Returns the position of the text that a cell of the screen shows, in the inner area of the
+    /// last drawing, with the present text and viewport. A cell below the last visual row counts as
+    /// one in that row, and a cell past a row's end as its greatest cursor column; with a
+    /// placeholder each cell shows the text's start. `None` for a cell outside the inner area.
+    /// Right after a drawing the caret's cell gives the cursor, provided that no character of the
+    /// cursor's visual row has display width 0.
     pub fn hit(
         &self,
         document: &Document,
@@ -35,7 +37,6 @@ impl Drawing {
         frame.hit(document.allocator(), self.viewport, inner, position)
     }
 
-    // The inner area of the last drawing.
     fn last_area(&self, document: &Document) -> Rect
         ensures { IsLastArea document.now self.now result }
     {
@@ -43,8 +44,8 @@ impl Drawing {
         Rect::new(self.corner.x, self.corner.y, width, self.height)
     }
 
-    /// The place nearest to the cursor in the part that is shown: in the nearest visual row that is shown, at the nearest display
-    /// column that is shown; the cursor's own place where it is shown itself.
+    /// Returns the visible position nearest to the cursor: in the nearest visible visual row, at
+    /// the nearest visible display column; the cursor itself if it is visible.
     pub fn place_inside(&self, document: &Document) -> (usize, usize)
         ensures place { IsPlace document.now.text result }
         ensures inside { IsInside document.now self.now.viewport result }

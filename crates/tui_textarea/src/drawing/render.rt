@@ -1,4 +1,4 @@
-//! A drawing into a buffer.
+//! Drawing into a buffer.
 ghost use Rattle.std.specs.Prelude.{◌≡◌, ℕ, IfOk, IsTrue, OnErr, OnOk};
 ghost use Rattle.tui_textarea.specs.DrawingPrelude.{parts_of, laid_out_of, IsHitBack, IsDrawn, IsRendered, drawn_into, IsCaretShown, IsDrawnAt, IsPrepared, KeepsOutside, contains};
 
@@ -15,13 +15,14 @@ use textarea_view::frame::draw_frame;
 use textarea_view::placing::Placing;
 
 impl Drawing {
-    /// Draws the document with its surround and the pattern's matches into the area of a buffer. The text is laid out for the
-    /// width inside of the block: its lines are cut anew, each once, only where that cuts them in another way. The part that
-    /// is shown follows the cursor.
+    /// Draws the document with its surround and the matches of the search pattern into the area of
+    /// a buffer. Its layout gets the width inside the block: if that changes how lines wrap, all
+    /// are wrapped again, each once. The viewport follows the cursor.
     ///
-    /// A cell on which nothing stands keeps its text. A caret that is shown is hit back: its cell shows the cursor's place, where
-    /// no character of the cursor's visual row has display width 0. With rows at the left the caret is shown in every area that
-    /// has room for it. Out of memory, cells of the area may be drawn already.
+    /// A cell that nothing is drawn on keeps its text. If the caret is shown, the hit test of its
+    /// cell returns the cursor, provided that no character of the cursor's visual row has display
+    /// width 0. With left alignment the caret is shown in every area that has room for it. After an
+    /// error, cells of the area may have been drawn.
     pub fn render(
         &mut self,
         document: &mut Document,
@@ -55,7 +56,7 @@ impl Drawing {
         Ok(())
     }
 
-    // Keeps what is shown, and the inner area that it was drawn into.
+    // Stores the viewport, the caret, and the inner area that was drawn into.
     fn put(&mut self, inner: Rect, placing: Placing)
         ensures { self.new ≡ drawn_into self.old inner placing }
     {
@@ -68,14 +69,13 @@ impl Drawing {
         self.caret = placing.caret;
     }
 
-    // The matches that are kept, which are lent for a drawing; none is kept until they are put back.
+    // Takes the cached matches for a drawing, and leaves none until they are put back.
     fn take_matches(&mut self, alloc: Global) -> KeptMatches
         ensures { self.new ≡ self.old }
     {
         replace(&mut self.kept_matches, KeptMatches::new(alloc))
     }
 
-    // Puts them back.
     fn put_matches(&mut self, kept: KeptMatches)
         ensures { self.new ≡ self.old }
     {
@@ -83,7 +83,7 @@ impl Drawing {
     }
 }
 
-// Draws the document with its rows at a width that is prepared, and gives what is shown then. Nothing is kept.
+// Draws the document with its rows at a prepared width, and returns the viewport and caret.
 fn draw_at_width(
     drawing: &Drawing,
     document: &Document,

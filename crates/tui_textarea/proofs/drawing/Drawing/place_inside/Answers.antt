@@ -3,7 +3,7 @@ use Rattle.tui_textarea.specs.DrawingPrelude.{IsVisualPosition, Place, IsInside,
 use Rattle.tui_textarea.proofs.drawing.Drawing.place_inside.Goals as goal
 use Rattle.tui_textarea.proofs.drawing.Drawing.place_inside.Goals.{After-eq}
 
--- the place to which the row and the column lead
+-- the position at the row and column
 inside : (c : After-eq) (place : Place) → IsReached c.eq.result c.view-rows.result (c.clamp_row-row.result, c.clamp_column-column.result) c.args.document.now.cursor place → IsInside c.args.document.now c.args.self.now.viewport place
 inside c place reached =
     let rows = c.view-rows.result in

@@ -8,7 +8,7 @@ use Rattle.tui_textarea.specs.declared.textarea.settings.Settings.{Settings}
 use Rattle.tui_textarea.proofs.Unselected.{none_is}
 use Rattle.tui_textarea.proofs.textarea.TextArea.new.Goals as goal
 
--- a state whose parts are new ones is new
+-- a state with new parts is new
 made_new : (text : List Symbol) (document : DocumentState) (yank : List Symbol) (settings : Settings) (pattern : Option (List ℕ)) (surround : SurroundState) (drawing : DrawingState)
     → document ≡ new_document text default_layout 50 → yank ≡ [] → settings ≡ default_settings → is_some pattern ≡ false → surround ≡ new_surround → drawing ≡ new_drawing
     → record (new_state text) { document = document; yank = yank; settings = settings; pattern = pattern; surround = surround; drawing = drawing } ≡ new_state text

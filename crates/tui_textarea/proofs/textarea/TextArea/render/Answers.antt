@@ -8,7 +8,6 @@ use Rattle.tui_textarea.specs.Drawing.{IsRendered, parts_of}
 use Rattle.tui_textarea.specs.State.{State}
 use Rattle.tui_textarea.proofs.textarea.TextArea.render.Goals as goal
 
--- a state whose drawn parts are rendered is rendered
 rendered : {T E : Type 0} (r : Result T E) {view old : State} → view ≡ old → (area : Rect) (document : DocumentState) (drawing : DrawingState)
     → OnOk r (below.IsRendered (parts_of view) area (parts_of (record view { document = document; drawing = drawing })))
     → OnOk r (IsRendered old area (record view { document = document; drawing = drawing }))
@@ -18,7 +17,7 @@ rendered (Ok x) {view} is area document drawing h = record {
 }
 rendered (Err e) is area document drawing h = h
 
--- a state whose drawn parts are left as they were is left as it was
+-- a state with its old drawn parts is the old one
 left : {T E : Type 0} (r : Result T E) {view old : State} → view ≡ old → (document : DocumentState) (drawing : DrawingState)
     → OnErr r ((document ≡ view.document) × (drawing ≡ view.drawing)) → OnErr r (record view { document = document; drawing = drawing } ≡ old)
 left (Ok x) is document drawing h = h
