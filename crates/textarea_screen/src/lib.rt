@@ -1,5 +1,5 @@
-//! What a terminal shows, as plain data: colours, styles, lines of styled text, rectangles with
-//! borders, and the cells on which text is drawn.
+//! The plain data of a terminal's screen: colours, styles, lines of styled text, rectangles, blocks
+//! with borders, and a buffer of cells.
 #![tactic(auto)]
 
 pub mod laws;

@@ -1,4 +1,5 @@
-//! A pattern to search for, the matches that `regex` lists for a line, and the way from a cursor to the next of them.
+//! A pattern to search for, the matches that `regex` lists for a line, and the search from a cursor
+//! to the next of them.
 mod direction;
 mod keeping_matcher;
 mod kept_matches;
