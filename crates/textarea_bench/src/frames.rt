@@ -1,12 +1,11 @@
 //! Draws frames of a text area and returns the first row of the last one.
 //!
 //! A job has three fields with one space between them: a word, the number of the text's lines, and
-//! the number of frames after the first one. With the words `Word` and `None`, which are wrap
-//! modes, a key is typed into the first line before each of these frames, in turns a hundred
-//! characters and a hundred times Backspace. With the words `plain` and `full` nothing is done
-//! between the frames, lines are wrapped at words, and the end of the text is in view; with `full`
-//! it has line numbers, all of it is selected, and a pattern matches in each row. A frame is 80
-//! columns wide and 24 rows high.
+//! the number of frames after the first one. With the wrap modes `Word` and `None` a key is typed
+//! into the first line before each frame, in turns a hundred characters and a hundred times
+//! Backspace. With `plain` and `full` nothing is done between the frames, lines are wrapped at
+//! words, and the end of the text is in view; with `full` it has line numbers, all of it is
+//! selected, and a pattern matches in each row. A frame is 80 columns wide and 24 rows high.
 use crate::paint::first_row;
 use anyhow::Result;
 use std::alloc::{AllocError, Global};
@@ -47,7 +46,6 @@ pub struct Job {
 }
 
 impl Job {
-    /// Parses the fields of a job.
     pub fn parse(line: &str) -> Option<Job> {
         let (kind, numbers) = line.split_once(' ')?;
         let (lines, frames) = numbers.split_once(' ')?;
@@ -81,7 +79,6 @@ impl Job {
         Ok(first_row(alloc, buffer)?)
     }
 
-    // Returns the lines of the text.
     fn paragraphs(&self, alloc: Global) -> Result<Vec<String>, AllocError> {
         let mut lines = Vec::new(alloc);
         for _ in 0..self.lines {
@@ -124,8 +121,7 @@ impl Job {
         }
     }
 
-    // Types the key before this frame, if there is one: in turns a hundred characters and a hundred
-    // times Backspace.
+    // Types the key before this frame, if any: in turns a hundred characters and Backspaces.
     fn type_key(&self, text_area: &mut TextArea<'_>, frame: usize) -> Result<(), AllocError> {
         match self.kind {
             Kind::Keys(_) if frame / 100 % 2 == 0 => {

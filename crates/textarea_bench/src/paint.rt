@@ -17,7 +17,6 @@ pub struct Job<'a> {
 }
 
 impl<'a> Job<'a> {
-    /// Parses the four fields of a job.
     pub fn parse(line: &'a str) -> Option<Job<'a>> {
         let mut parts = line.splitn(4, ' ');
         let frames = parts.next()?.parse().ok()?;

@@ -52,7 +52,6 @@ pub enum Job {
 }
 
 impl Job {
-    /// Parses the fields of a job.
     pub fn parse(line: &str) -> Option<Job> {
         let (topic, parts) = line.split_once(' ')?;
         let (word, parts) = parts.split_once(' ')?;

@@ -1,5 +1,4 @@
-//! Works on a text again and again. The result is the number of visual rows at the end and the
-//! cursor's column.
+//! Works on a text again and again, and returns its visual rows and the cursor's column.
 //!
 //! A job is a word for the work, the size of the text and the number of times, with one space
 //! between them. In a text of that many lines `text` types into a long wrapped line, in turns a
@@ -81,8 +80,7 @@ impl Line {
     }
 }
 
-/// The work, the size of the text (its lines, or the characters of its one line), and the number of
-/// times.
+/// The work, the size of the text in lines or characters, and the number of times.
 #[derive(Clone, Copy, Debug)]
 pub struct Job {
     work: Work,
@@ -91,7 +89,6 @@ pub struct Job {
 }
 
 impl Job {
-    /// Parses the fields of a job.
     pub fn parse(line: &str) -> Option<Job> {
         let (work, numbers) = line.split_once(' ')?;
         let (size, times) = numbers.split_once(' ')?;
@@ -150,8 +147,7 @@ impl Job {
         answer
     }
 
-    // Sets these lines, or the long one, does the work, and returns the number of visual rows and
-    // the cursor's column.
+    // Sets the text, does the work, and returns the number of visual rows and the cursor's column.
     fn work_on(
         &self,
         alloc: Global,
@@ -238,7 +234,6 @@ fn put_lines(document: &mut Document, lines: Vec<String>, row: usize) -> Result<
     document.set_lines(lines, (row, 0))
 }
 
-// Types a character.
 fn type_character(document: &mut Document, c: char) -> Result<(), AllocError> {
     document.insert_character(c, true, Duration::ZERO)
 }

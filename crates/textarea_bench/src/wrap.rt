@@ -1,8 +1,7 @@
 //! Wraps lines of given sizes and counts their visual rows.
 //!
-//! A job has five fields with one space between them: a mode's name, a number of thousands of
-//! bytes, how often to wrap, a width, and a text, which is repeated until the line has that many
-//! bytes. The tab length is 4.
+//! A job has five fields with one space between them: a mode's name, a number of kilobytes, how
+//! often to wrap, a width, and a text, which is repeated to that size. The tab length is 4.
 ghost use Rattle.std.specs.Prelude.{◌≡◌, ℕ, max, List, length, IfOk};
 ghost use Rattle.textarea_wrap.specs.Wrapped.{IsWrapped};
 
@@ -22,7 +21,6 @@ pub struct Job<'a> {
 }
 
 impl<'a> Job<'a> {
-    /// Parses the five fields of a job.
     pub fn parse(line: &'a str) -> Option<Job<'a>> {
         let mut parts = line.splitn(5, ' ');
         let mode = mode_named(parts.next()?)?;

@@ -18,8 +18,7 @@ use Rattle.textarea_paint.specs.Row.{cells_of_row, first_shown, fitting, placed_
 use Rattle.textarea_paint.specs.declared.paint.row.RowArea.{RowArea}
 use Rattle.textarea_paint.proofs.CellLemmas.{row_change-outside}
 
--- rows that an area and another have in common, of which `seen` is the first, and rows that they
--- don't
+-- rows that an area shares with another, the first of them being `seen`, and rows that it doesn't
 abbrev pub Meets : Rect → Rect → Rect → Type 0
 Meets area other seen = (x y : ℕ) → contains seen x y ≡ (contains area x y && contains other x y)
 

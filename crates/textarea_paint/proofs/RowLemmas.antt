@@ -17,8 +17,7 @@ use Rattle.textarea_paint.proofs.CellLemmas.{contains_right, row_change-cons, ro
 
 -- ---- a row that is partly drawn
 
--- the buffer was `old` and is `now`; once the clusters `ahead` are drawn at the pen, the row is
--- drawn
+-- the buffer was `old` and is `now`; drawing the clusters `ahead` at the pen completes the row
 pub record IsDrawing (cells : RowCells) (left : ℕ) (row : List Placed) (old now : Buffer) (pen : Pen) (ahead : List Cluster) : Type 0 where
   pub column : ℕ
   pub at : IsPenAt cells left column pen

@@ -57,8 +57,7 @@ side_changes borders style area =
     ∷ drawn_where (has_border borders right_side) (on_right area) (encode_utf8 0x2502) style
     ∷ drawn_where (has_border borders bottom_side) (on_bottom area) (encode_utf8 0x2500) style ∷ []
 
--- the corners of two sides that are both drawn, in this order: bottom right, top right, bottom
--- left, top left
+-- the corners of two drawn sides, in this order: bottom right, top right, bottom left, top left
 abbrev pub corner_changes : Borders → Style → Rect → List Change
 corner_changes borders style area =
     drawn_where (has_border borders right_side && has_border borders bottom_side) (on_both (on_right area) (on_bottom area)) (encode_utf8 0x2518) style

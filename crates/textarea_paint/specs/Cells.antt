@@ -20,8 +20,7 @@ pub record Placed : Type 0 where
 abbrev pub placed_at : ℕ → Cluster → Placed
 placed_at start cluster = record { text = cluster.text; style = cluster.style; start = start }
 
--- clusters one after another from the column `start` on: each starts at the sum of the widths
--- before it
+-- clusters one after another from the column `start` on: each starts where the last one ends
 abbrev pub place_from : ℕ → List Cluster → List Placed
 place_from start [] = []
 place_from start (cluster ∷ clusters) = placed_at start cluster ∷ place_from (start + columns_of cluster.text) clusters
@@ -32,8 +31,7 @@ covers column placed = nat_le placed.start column && nat_lt column (placed.start
 
 -- ---- the cells
 
--- whether the cell in column x and row y is in this row, from the column `from` up to the column
--- `to`
+-- whether the cell in column x and row y is in this row, from column `from` up to column `to`
 abbrev pub is_between : ℕ → ℕ → ℕ → ℕ → ℕ → Bool
 is_between row from to x y = (y == row) && (nat_le from x && nat_lt x to)
 
@@ -62,16 +60,14 @@ abbrev pub covered : RowCells → ℕ → ℕ → Option Placed → ShownCell �
 covered cells left column None cell = cell
 covered cells left column (Some placed) cell = with_symbol (symbol_in cells left placed column) placed.style cell
 
--- a cell after a row is drawn: one of these cells gets the cluster that takes its column; any other
--- is unchanged
+-- a cell after a row is drawn: one of these cells gets its column's cluster, if any; others none
 unfoldable pub row_change : RowCells → ℕ → List Placed → Change
 row_change cells left row x y cell =
     if is_in_cells cells x y then covered cells left (left + (x - cells.x)) (find (covers (left + (x - cells.x))) row) cell else cell
 
 -- ---- the pen
 
--- the pen is at the column of the row, which is left of the cells or in one of them; past their
--- end, the pen is at their end
+-- the pen is at the column of the row: left of the cells, in them, or at their end if it is past it
 pub record IsPenAt (cells : RowCells) (left column : ℕ) (pen : Pen) : Type 0 where
   pub hidden : pen.hidden ≡ left - column
   pub x : pen.x ≡ cells.x + min (column - left) cells.width

@@ -25,8 +25,7 @@ content_bytes (Held bytes) = bytes
 abbrev pub span_clusters : Style → ShownSpan → List Cluster
 span_clusters style span = map (in_style (patched style span.style)) (graphemes true (content_bytes span.content))
 
--- the clusters of a line, span after span: the line's style is patched over the given one, and the
--- span's over both
+-- the clusters of a line; its style is under that of each span, and the given one under both
 abbrev pub row_clusters : Style → ShownLine → List Cluster
 row_clusters style line = flat_map (span_clusters (patched style line.style)) line.spans
 

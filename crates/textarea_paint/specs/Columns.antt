@@ -8,7 +8,6 @@ use Rattle.unicode_width.specs.Width.{char_width}
 abbrev pub char_columns : ℕ → ℕ
 char_columns c = unwrap_or (char_width false c) 0
 
--- the columns of a cluster, given by its bytes: the sum of its characters' columns, or 0 if it has
--- a control character
+-- the columns of a cluster's bytes: the sum of its characters', or 0 with a control character
 unfoldable pub columns_of : List ℕ → ℕ
 columns_of text = if list_any is_control (chars text) then 0 else sum_by char_columns (chars text)

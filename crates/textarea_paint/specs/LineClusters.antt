@@ -12,8 +12,7 @@ use Rattle.textarea_paint.specs.declared.paint.clusters.StyledCluster.{StyledClu
 abbrev pub styled_cluster : StyledCluster → Cluster
 styled_cluster cluster = record { text = cluster.text.now; style = cluster.style }
 
--- the clusters left of the current span, first those of the text that is split already, and then
--- those of the following spans
+-- the clusters left of the current span, those already split first, and of the following spans
 unfoldable pub clusters_left : LineClusters → List Cluster
 clusters_left s =
     map (in_style s.style) (graphemes_left s.texts ++ graphemes true s.behind.now) ++ flat_map (span_clusters s.base) (map shown_span (iter_rest s.spans))

@@ -38,16 +38,14 @@ pub record IsLongestFront (room : ℕ) (clusters front : List Cluster) : Type 0 
 abbrev pub is_narrow : ℕ → Cluster → Bool
 is_narrow width cluster = nat_le (columns_of cluster.text) width
 
--- of the clusters that are no wider than the area, the longest prefix whose widths sum to at most
--- the area's
+-- of the clusters no wider than the area, the longest prefix whose widths sum to at most the area's
 abbrev pub fitting : ℕ → List Cluster → List Cluster
 fitting width clusters = front_within width (filter (is_narrow width) clusters)
 
 -- ---- their columns
 
 -- the number of columns between the left edge of an area and the start of a line: 0 at the left,
--- else the number that centers the drawn clusters, both halves rounded down, or aligns them at the
--- right
+-- else that which centers the drawn clusters, both halves rounded down, or aligns them at the right
 abbrev pub row_start : Alignment → ℕ → List Cluster → ℕ
 row_start Left width clusters = 0
 row_start Center width clusters = width / 2 - row_width (fitting width clusters) / 2

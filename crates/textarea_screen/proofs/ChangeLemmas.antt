@@ -1,5 +1,4 @@
--- How changes of a buffer compose. Each lemma uses only the definitions of specs/Buffer.antt, so
--- higher crates may cite it.
+-- How changes of a buffer compose. Higher crates may cite these: they use only specs/Buffer.antt.
 use Rattle.std.proofs.lemmas.Grind.{common_steps}
 use Rattle.std.proofs.Common.{arith, ◌≡◌, ℕ, Bool, true, false, cond, ◌||◌, Option, None, Some, refl, sym, ap, ◌∙◌, ⊎_elim}
 use Rattle.std.specs.Option.{option_map}

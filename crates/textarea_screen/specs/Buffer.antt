@@ -1,6 +1,5 @@
 -- A buffer as contracts see it: its area, and the cell at each position. A call's effect is one of
--- two facts: each new cell is a function of its position and of the old cell, or some cells are
--- unchanged.
+-- two facts: each new cell is a function of its position and old cell, or some cells are unchanged.
 use Rattle.std.specs.Prelude.{◌≡◌, ℕ, ◌+◌, ◌-◌, ◌*◌, Bool, true, false, slice_get, Option, None, if◌then◌else◌}
 use Rattle.std.specs.Option.{option_map}
 use Rattle.textarea_screen.specs.Cell.{ShownCell, shown_cell}

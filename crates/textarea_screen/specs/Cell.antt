@@ -28,8 +28,7 @@ shown_cell cell = record { symbol = cell_text cell.text; fg = cell.fg; bg = cell
 abbrev pub fresh_cell : ShownCell
 fresh_cell = record { symbol = 32 ∷ []; fg = Reset; bg = Reset; modifier = record { 0 = 0 } }
 
--- the cell with a style applied: the style's colours where it has them, then its modifiers added,
--- then those removed
+-- the cell with a style applied: colours that are set, then modifiers added, then removed
 abbrev pub styled : Style → ShownCell → ShownCell
 styled style cell = record cell {
   fg = unwrap_or style.fg cell.fg;

@@ -1,6 +1,5 @@
 -- Styled text as contracts see it. A `String` also has a capacity and an address, which no reader
--- of a text needs. So texts are compared by their bytes, by whether they are borrowed, and by their
--- styles.
+-- needs. So texts are compared by their bytes, by whether they are borrowed, and by their styles.
 use Rattle.std.specs.Prelude.{ℕ, List, map, string_bytes}
 use Rattle.textarea_screen.specs.declared.screen.style.Style.{Style}
 use Rattle.textarea_screen.specs.declared.screen.text.Line.{Line}

@@ -1,5 +1,4 @@
-//! The values of constants and defaults. Each is the contract of a function that does nothing or
-//! only reads them.
+//! The values of constants and defaults, as contracts of functions that at most read them.
 ghost use Rattle.std.specs.Prelude.{◌≡◌, ◌+◌};
 ghost use Rattle.textarea_screen.specs.Block.{top_side, right_side, bottom_side, left_side};
 

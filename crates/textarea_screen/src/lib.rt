@@ -1,5 +1,4 @@
-//! The plain data of a terminal's screen: colours, styles, lines of styled text, rectangles, blocks
-//! with borders, and a buffer of cells.
+//! Plain data of a terminal's screen: colours, styles, styled text, rectangles, blocks, cells.
 #![tactic(auto)]
 
 pub mod laws;

@@ -28,8 +28,7 @@ const ROW_DOWN: Scrolling = Scrolling::Delta { rows: 1, cols: 0 };
 
 const ROW_UP: Scrolling = Scrolling::Delta { rows: -1, cols: 0 };
 
-/// A key, and its action without Shift. With Shift, an action that has a field for it differs in
-/// only that field.
+/// A key, and its action without Shift. With Shift, only the action's field for it differs.
 type Asked = (Key, Action);
 
 const ALONE: [Asked; 14] = [

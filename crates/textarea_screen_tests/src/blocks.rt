@@ -3,8 +3,7 @@
 use std::alloc::{AllocError, Global};
 use textarea_screen::screen::{Block, Borders, Line, Padding, Span, Text};
 
-/// The borders of a block, whether it has a title, and its padding at the left, right, top and
-/// bottom.
+/// The borders of a block, whether it has a title, and its left, right, top and bottom padding.
 pub type Sides = (Borders, bool, (u16, u16, u16, u16));
 
 /// A border at each side.

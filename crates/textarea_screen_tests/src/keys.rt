@@ -94,7 +94,6 @@ static NO_INPUTS: [&str; 5] = [
     r#"{"key":"Esc","ctrl":1,"alt":false,"shift":true}"#,
 ];
 
-/// Checks the forms of these tables.
 pub fn check(rt: &(impl Abort + AllocGlobal)) -> Result<(), Fail> {
     check_forms(rt, &KEYS, &NO_KEYS);
     check_refused::<Input>(rt, &NO_INPUTS);

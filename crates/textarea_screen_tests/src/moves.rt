@@ -69,7 +69,6 @@ static MODES: [(WrapMode, &str); 4] = [
 
 static NO_MODES: [&str; 4] = ["null", "1", r#""Words""#, r#""none""#];
 
-/// Checks the forms of these tables.
 pub fn check(rt: &(impl Abort + AllocGlobal)) {
     check_forms(rt, &MOVES, &NO_MOVES);
     check_forms(rt, &SCROLLS, &NO_SCROLLS);

@@ -23,8 +23,7 @@ enum Drawing {
     /// A text in this row of an area of nine columns and three rows, in a buffer of only three
     /// cells: row 1, from column 2 on.
     Beyond(&'static str, u16),
-    /// A block with a title and all borders over an area, in a buffer of four columns and three
-    /// rows.
+    /// A block with a title and all borders over an area, in a buffer of 4 columns and 3 rows.
     Boxed(&'static str, (u16, u16, u16, u16)),
 }
 

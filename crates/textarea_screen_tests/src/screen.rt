@@ -74,8 +74,7 @@ static BUFFERED: [(u16, u16, bool); 6] = [
     (65533, 10, false),
 ];
 
-/// Returns whether a rectangle has these numbers, and is empty exactly if it has no column or no
-/// row.
+/// Returns whether a rectangle has these numbers, and is empty only without columns or rows.
 fn is_area(area: Rect, (x, y, width, height): Numbers) -> bool {
     (area.x(), area.y()) == (x, y)
         && (area.width(), area.height()) == (width, height)

@@ -1,5 +1,4 @@
-//! The block, placeholder and heights of a text area, as tables of calls and of what the getters
-//! return after them.
+//! Tables of calls for block, placeholder and heights, and of the getters' results after them.
 
 use crate::blocks::{ALL, Sides, TITLED, block, push_line, push_spans};
 use crate::cases::check_each;

@@ -53,8 +53,7 @@ static CARETS: [Caret; 5] = [
     (0, 1, 2, 5, None),
 ];
 
-/// Whether the row begins at an offset, a cell (column, row), and the visual row and column that
-/// the cell shows.
+/// Whether the row begins at an offset, a cell (column, row), and the row and column at that cell.
 type Hit = (bool, u16, u16, Option<(usize, usize)>);
 
 static HITS: [Hit; 7] = [
@@ -67,8 +66,7 @@ static HITS: [Hit; 7] = [
     (true, 15, 8, None),
 ];
 
-/// Returns the viewport after a text is drawn in an area of this size, with the cursor in its first
-/// row.
+/// Returns the viewport of a drawn text in an area of this size, with the cursor in its first row.
 fn drawn(width: u16, height: u16) -> Viewport {
     Viewport::default().showing_row(Rect::new(0, 0, width, height), 0)
 }
@@ -122,8 +120,7 @@ fn rows_and_columns_in_the_viewport(rt: HostRuntime) -> Result<(), Fail> {
     })
 }
 
-/// Returns whether an unwrapped row with a line number of three columns is in view from this column
-/// on and has this caret.
+/// Returns whether an unwrapped row with a line number of three columns has this left and caret.
 fn has_caret((width, height, column, left, caret): Caret) -> bool {
     let area = Rect::new(0, 0, width, height);
     let viewport = Viewport::default().showing_row_and_column(area, 0, column, 3);
@@ -144,8 +141,7 @@ fn carets(rt: HostRuntime) -> Result<(), Fail> {
     check_each(&rt, &CARETS, |_, caret| Ok(has_caret(*caret)))
 }
 
-/// Returns what a cell shows of "hello" at the left of an area of one row, or after an offset of 3
-/// in one of three rows.
+/// Returns the row and column at a cell of "hello", at the left or after an offset of 3.
 fn hit(is_behind_offset: bool, position: Position) -> Option<(usize, usize)> {
     let view = if is_behind_offset {
         RowView::at_offset(drawn(8, 3), Rect::new(10, 5, 8, 3), 3, 0)

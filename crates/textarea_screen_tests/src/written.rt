@@ -39,8 +39,8 @@ where
     }
 }
 
-/// Checks that each value is written in its form, that the form is read as the value, and that none
-/// of the others is read as a value.
+/// Checks that values are written in their forms, that these are read as the values, and that the
+/// others are not read.
 pub fn check_forms<'a, T>(
     rt: &(impl Abort + AllocGlobal),
     forms: &[(T, &'a str)],

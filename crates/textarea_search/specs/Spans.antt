@@ -5,8 +5,7 @@ use Rattle.regex.specs.Search.{matches_after}
 use Rattle.textarea_search.specs.Columns.{column_at}
 use Rattle.textarea_search.specs.Matches.{match_spans}
 
--- the spans of the matches after the one that ended at `after - 1`, or of all matches if `after` is
--- 0
+-- the spans of the matches after the one that ended at `after - 1`, or of all if `after` is 0
 abbrev pub spans_after : Re → List ℕ → ℕ → List (ℕ × ℕ)
 spans_after tree line after = map span (matches_after true tree line after)
 

@@ -63,8 +63,7 @@ abbrev pub found_start : Direction → List (ℕ × ℕ) → ℕ × ℕ → Bool
 found_start direction starts cursor at_cursor =
     find_or_first (is_ahead direction cursor at_cursor) (along direction starts)
 
--- the position is in these lines, the first of which has the given row: its column is at most the
--- line's length
+-- the position is in these lines, whose first has the given row, and at most at the line's end
 abbrev pub IsPlaceFrom : ℕ → List (String Global) → ℕ × ℕ → Type 0
 IsPlaceFrom row lines place =
     (row ≤ place.0) × (place.0 < row + length lines)

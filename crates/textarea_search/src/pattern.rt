@@ -10,8 +10,7 @@ use std::alloc::{AllocError, Global};
 use std::marker::Model;
 use std::rc::Rc;
 
-/// A compiled pattern, shared with its clones, and the allocator of its matchers. Contracts see its
-/// text.
+/// A compiled pattern, shared by clones, and the allocator of its matchers. Contracts see its text.
 #[derive(Drop)]
 pub struct Pattern {
     regex: Rc<Regex>,
@@ -71,8 +70,7 @@ impl Pattern {
         self.alloc
     }
 
-    /// Returns a clone that shares the compiled pattern. It fails only if the owners can't be
-    /// counted any more.
+    /// Returns a clone that shares the compiled pattern. It fails only if the owner count is full.
     pub fn share(&self) -> Result<Pattern, AllocError>
         ensures { IfOk result (λ copy. copy ≡ self.now) }
     {

@@ -28,8 +28,7 @@ abbrev pub cell_of : ℕ → ℕ → ℕ → ℕ → Option ℕ
 cell_of start len first at =
     if nat_le first at && nat_lt (at - first) len then Some (start + (at - first)) else None
 
--- the caret's column: the text begins after the offset and the line number, and is scrolled by the
--- first column
+-- the caret's column: the text begins after offset and line number, scrolled by the first column
 abbrev pub caret_x : RowView → ℕ → Option ℕ
 caret_x view column = cell_of view.inner_area.x view.inner_area.width view.left_column
     (view.offset + column + view.line_number_width)
@@ -42,14 +41,12 @@ caret_y view row = cell_of view.inner_area.y view.inner_area.height view.top_row
 abbrev pub caret_at : RowView → ℕ → ℕ → Option (ℕ × ℕ)
 caret_at view row column = option_and_then (λ x. option_map (λ y. (x, y)) (caret_y view row)) (caret_x view column)
 
--- the visual row that the cell at (x, y) shows, at most the text's last row; none outside of the
--- area
+-- the visual row that the cell at (x, y) shows, at most the text's last; none outside of the area
 abbrev pub hit_row : ℕ → Rect → ℕ → ℕ → ℕ → Option ℕ
 hit_row top_row area last_row x y =
     if contains area x y then Some (min (top_row + (y - area.y)) last_row) else None
 
--- the display column that a cell in column x shows of a row, at most the row's greatest cursor
--- column
+-- the display column that a cell in column x shows, at most the row's greatest cursor column
 abbrev pub hit_column : RowView → ℕ → ℕ → ℕ
 hit_column view greatest_column x =
     min (((x - view.inner_area.x) - view.offset + view.left_column) - view.line_number_width) greatest_column

@@ -25,8 +25,7 @@ block_change (Some block) area x y cell = block_cell block area x y cell
 abbrev pub style_change : Rect → Style → Change
 style_change inner style x y cell = if contains inner x y then styled style cell else cell
 
--- lines that are drawn over the style of the text area, in the rows of the inner area, from the
--- viewport's first column on
+-- lines over the style of the text area, in the inner area, from the viewport's first column on
 abbrev pub rows_change : Look → ViewportState → Rect → List ShownLine → Change
 rows_change look viewport inner lines =
     in_turn (style_change inner look.style

@@ -6,21 +6,18 @@ use Rattle.textarea_view.specs.State.{SurroundState}
 use Rattle.textarea_wrap.specs.Layout.{line_number_columns}
 use Rattle.textarea_wrap.specs.declared.wrap.WrapMode.{WrapMode}
 
--- the scene of the rows, the block and placeholder, the mode of wrapping, and whether the text is
--- empty
+-- the scene of the rows, the block and placeholder, the wrap mode, and whether the text is empty
 pub record FrameState : Type 0 where
   pub scene : SceneState
   pub surround : SurroundState
   pub mode : WrapMode
   pub is_empty : Bool
 
--- whether there is a line
 abbrev pub has_lines : List ShownLine → Bool
 has_lines [] = false
 has_lines (line ∷ lines) = true
 
--- whether the placeholder is drawn instead of the rows: the text is empty, and the placeholder has
--- lines
+-- whether the placeholder is drawn instead of the rows: the text is empty, and it has lines
 abbrev pub shows_placeholder : FrameState → Bool
 shows_placeholder frame = frame.is_empty && has_lines frame.surround.placeholder.lines
 

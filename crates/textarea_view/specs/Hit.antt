@@ -24,8 +24,7 @@ IsNear rows seen place = IsPlaceNear rows.wrapping.tab_len rows.lines rows.rows 
 
 -- ---- hit tests
 
--- the cell is in the inner area: it shows a visual row, the last one if it is below that, and a
--- display column of it
+-- a cell of the inner area shows a visual row, at most the last one, and a display column of it
 pub record IsHitInRows (scene : SceneState) (viewport : ViewportState) (inner : Rect) (x y : ℕ) (place : Place) : Type 0 where
   pub row : ℕ
   pub row_is : hit_row viewport.row inner (row_total scene.rows.rows - 1) x y ≡ Some row

@@ -4,8 +4,7 @@ use Rattle.textarea_screen.specs.Block.{ShownBlock, left_inset, top_inset}
 use Rattle.textarea_screen.specs.declared.screen.rect.Rect.{Rect}
 use Rattle.textarea_view.specs.Measure.{height_inside, width_inside}
 
--- the columns that the block takes at the left of an area of this width, if there is a block; at
--- most all of them
+-- the columns that a block takes at the left of an area of this width, at most all of them
 abbrev pub left_of : Option ShownBlock → ℕ → ℕ
 left_of None width = 0
 left_of (Some block) width = min (left_inset block) width

@@ -15,15 +15,13 @@ default_cursor_style = record empty_style { add_modifier = record { 0 = 64 } }
 abbrev pub default_cursor_line_style : Style
 default_cursor_line_style = record empty_style { add_modifier = record { 0 = 8 } }
 
--- the style of a selection: on light blue
 abbrev pub default_selection_style : Style
 default_selection_style = record empty_style { bg = Some LightBlue }
 
--- the style of matches: on blue
 abbrev pub default_search_style : Style
 default_search_style = record empty_style { bg = Some Blue }
 
--- all else is in no style, at the left, without a mask, and the cursor is drawn in its cell
+-- the styles above, all else in no style, at the left, without a mask, the cursor drawn in its cell
 abbrev pub default_look : Look
 default_look = record {
   style = empty_style;

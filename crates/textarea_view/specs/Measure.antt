@@ -5,12 +5,11 @@ use Rattle.textarea_screen.specs.Text.{ShownLine}
 use Rattle.textarea_view.specs.State.{SurroundState}
 use Rattle.textarea_view.specs.declared.surround.measure.TextAreaMeasure.{TextAreaMeasure}
 
--- the width inside a block, if there is one, of an area of this width; at least 0
+-- the width and height inside a block, if there is one, of an area of this size; at least 0
 abbrev pub width_inside : Option ShownBlock → ℕ → ℕ
 width_inside None width = width
 width_inside (Some block) width = inner_width block width
 
--- the height inside a block, if there is one, of an area of this height; at least 0
 abbrev pub height_inside : Option ShownBlock → ℕ → ℕ
 height_inside None height = height
 height_inside (Some block) height = inner_height block height
@@ -29,8 +28,7 @@ abbrev pub rows_shown : List ShownLine → ℕ → Bool → ℕ
 rows_shown [] rows is_empty = rows
 rows_shown (line ∷ lines) rows is_empty = if is_empty then length (line ∷ lines) else rows
 
--- the least height that is measured: the one that is set, or the chrome and one row if that is
--- greater
+-- the least height measured: the one that is set, or the chrome and one row if that is greater
 abbrev pub least_height : SurroundState → ℕ
 least_height surround = max surround.min_rows (saturated (chrome_of surround.block + 1))
 

@@ -15,11 +15,9 @@ abbrev pub plain_lines : List ℕ → List ShownLine
 plain_lines [] = []
 plain_lines (byte ∷ bytes) = plain_line (byte ∷ bytes) ∷ []
 
--- the placeholder has the lines of this text, and its style is unchanged
 abbrev pub with_placeholder_text : SurroundState → List ℕ → SurroundState
 with_placeholder_text surround bytes = record surround { placeholder = record surround.placeholder { lines = plain_lines bytes } }
 
--- the placeholder has this style, and its lines are unchanged
 abbrev pub with_placeholder_style : SurroundState → Style → SurroundState
 with_placeholder_style surround style = record surround { placeholder = record surround.placeholder { style = style } }
 

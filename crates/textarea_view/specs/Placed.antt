@@ -35,8 +35,7 @@ abbrev pub row_area : Look → Rect → ℕ → RowArea
 row_area look inner left =
     record { area = inner; alignment = look.alignment; left = left; style = empty_style }
 
--- the number of columns between the left edge and the start of the visual row: 0 at the left, else
--- that of the line which shows it
+-- the columns between the left edge and the start of the visual row: 0 at the left, else its line's
 abbrev pub IsStart : Alignment → SceneState → RowArea → ℕ → ℕ → Type 0
 IsStart Left scene rows row start = start ≡ 0
 IsStart Center scene rows row start = IsRowStart scene rows row start
@@ -86,8 +85,7 @@ IsPlacedWith true frame viewport inner placing = placing ≡ placed_at_corner in
 IsPlacedWith false frame viewport inner placing =
     IsPlacedInRows frame.scene frame.mode viewport inner placing
 
--- the viewport and the caret's cell after the frame is drawn into the inner area; `viewport` is
--- that of the last frame
+-- the new viewport and the caret's cell; `viewport` is that of the last frame
 abbrev pub IsPlaced : FrameState → ViewportState → Rect → Placing → Type 0
 IsPlaced frame viewport inner placing =
     IsPlacedWith (shows_placeholder frame) frame viewport inner placing

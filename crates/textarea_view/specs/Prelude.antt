@@ -1,5 +1,4 @@
--- The names that contracts and proofs of this crate use, re-exported from one file. It declares
--- nothing.
+-- The names that contracts and proofs of this crate use, re-exported. It declares nothing.
 pub use Rattle.std.specs.Option.{option_map, option_map_or}
 pub use Rattle.std.specs.Result.{OnErr, OnOk}
 pub use Rattle.textarea_text.specs.Place.{IsPlaceOf, Place}

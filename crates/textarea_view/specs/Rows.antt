@@ -1,5 +1,4 @@
--- The highlights of one visual row, in the order in which its highlighter gets them, as a function
--- of the scene.
+-- The highlights of a visual row as a function of the scene, in the order of their calls.
 use Rattle.std.specs.Prelude.{◌≡◌, ℕ, [], IfSome, ◌+◌, ◌-◌, Bool, ◌&&◌, ◌||◌, ◌==◌, nat_le, nat_lt, List, Option, None, Some, length, take, encode_utf8_all, if◌then◌else◌}
 use Rattle.std.specs.Fmt.{decimal}
 use Rattle.std.specs.List.{fold}
@@ -162,8 +161,7 @@ row_highlights scene row = highlights_of scene (row_at scene.rows.lines scene.ro
 
 -- ---- facts about a scene before its first row is drawn
 
--- the rows are those of the lines; the cursor is in this row; and this is the selection by byte
--- offsets in lines
+-- the rows are those of the lines, the cursor is in this row, and this is the selection by bytes
 pub record IsKnown (scene : SceneState) (cursor_row : ℕ) (selected : Option Range) : Type 0 where
   pub right : AreRowsOf scene.rows.wrapping scene.rows.lines scene.rows.rows
   pub cursor : IsSeenIn scene cursor_row

@@ -21,8 +21,7 @@ AreShown scene row (line ∷ lines) = ShowsRow (row_highlights scene row) line �
 abbrev pub rows_above_end : Rect → Rect → ℕ
 rows_above_end area buffer = min (area.y + area.height) (buffer.y + buffer.height) - area.y
 
--- the lines that an area shows of the visual rows from the top on: one for each row, as many as the
--- area and the buffer have rows for
+-- the lines shown from the top on: one for each visual row, while area and buffer have room
 pub record FillsArea (scene : SceneState) (top : ℕ) (area buffer : Rect) (lines : List ShownLine) : Type 0 where
   pub all : length lines ≡ min (rows_above_end area buffer) (row_total scene.rows.rows - top)
   pub shown : AreShown scene top lines
@@ -32,16 +31,14 @@ abbrev pub lines_change : RowArea → ℕ → List ShownLine → Change
 lines_change rows y [] column row cell = cell
 lines_change rows y (line ∷ lines) column row cell = lines_change rows (y + 1) lines column row (row_cell rows y line column row cell)
 
--- The buffer was `old`, and is `new`: `count` visual rows from the top on are drawn one below the
--- other.
+-- The buffer was `old`, and is `new`: `count` visual rows from the top on are drawn.
 pub record DrawnTo (scene : SceneState) (top : ℕ) (rows : RowArea) (old new : Buffer) (count : ℕ) : Type 0 where
   pub lines : List ShownLine
   pub many : length lines ≡ count
   pub shown : AreShown scene top lines
   pub change : Changes old new (lines_change rows rows.area.y lines)
 
--- the number of columns between the left edge of the area and the start of the line that shows the
--- visual row
+-- the number of columns between the left edge of the area and the start of the visual row's line
 abbrev pub IsRowStart : SceneState → RowArea → ℕ → ℕ → Type 0
 IsRowStart scene rows row start = (line : ShownLine)
     × ShowsRow (row_highlights scene row) line

@@ -10,13 +10,11 @@ abbrev pub scrolled : ℕ → ℤ → ℕ
 scrolled first (pos distance) = saturated (first + distance)
 scrolled first (negsuc before) = first - (before + 1)
 
--- the viewport scrolled by rows and by columns
 abbrev pub scrolled_viewport : ViewportState → ℤ → ℤ → ViewportState
 scrolled_viewport viewport rows columns =
     record viewport { row = scrolled viewport.row rows; column = scrolled viewport.column columns }
 
--- scrolled by a delta, by a page, which is the height, or by half a page, which is half the height
--- rounded down
+-- scrolled by a delta, by a page, which is the height, or by half of one, rounded down
 abbrev pub scrolled_by : ViewportState → Scrolling → ViewportState
 scrolled_by viewport (Delta rows columns) = scrolled_viewport viewport rows columns
 scrolled_by viewport PageDown = record viewport { row = saturated (viewport.row + viewport.height) }

@@ -4,9 +4,8 @@ use Rattle.textarea_screen.specs.declared.screen.rect.Rect.{Rect}
 use Rattle.textarea_view.specs.Viewport.{ViewportState, saturated}
 
 -- The first of `len` rows or columns in view, once `at` must be in view: `at` if it is before the
--- first; the first that makes `at` the last if it is after the last; else the first unchanged. If
--- `len` is 0, nothing is in view, and the result is `at` if that is before the first, else `at +
--- 1`.
+-- first; the first that makes `at` the last if it is after the last; else unchanged. If `len` is 0,
+-- nothing is in view, and the result is `at` if that is before the first, else `at + 1`.
 abbrev pub first_shown : ℕ → ℕ → ℕ → ℕ
 first_shown first len at =
     if nat_lt at first then at
@@ -27,8 +26,7 @@ at_start area = record { row = 0; column = 0; width = area.width; height = area.
 abbrev pub showing_row : ViewportState → Rect → ℕ → ViewportState
 showing_row viewport area row = record (at_start area) { row = first_shown viewport.row area.height row }
 
--- the viewport after unwrapped lines are drawn, with the cursor in this visual row at this display
--- column
+-- the viewport after unwrapped lines are drawn, with the cursor at this visual position
 abbrev pub showing_row_and_column : ViewportState → Rect → ℕ → ℕ → ℕ → ViewportState
 showing_row_and_column viewport area row column line_number_width =
     record (showing_row viewport area row) {

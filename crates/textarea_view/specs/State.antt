@@ -19,11 +19,9 @@ pub record SurroundState : Type 0 where
 abbrev pub AreBounds : ℕ → ℕ → Type 0
 AreBounds min_rows max_rows = (1 ≤ min_rows) × (min_rows ≤ max_rows)
 
--- the initial style of a placeholder: dark gray
 abbrev pub default_placeholder_style : Style
 default_placeholder_style = record empty_style { fg = Some DarkGray }
 
--- the initial state: no block, no placeholder line, and heights from 1 to 65535 rows
 abbrev pub new_surround : SurroundState
 new_surround = record {
   block = None;

@@ -1,8 +1,7 @@
 -- The visual rows and columns of a text that are in view.
 use Rattle.std.specs.Prelude.{ℕ, ◌+◌, ◌-◌, ◌^◌, min, max}
 
--- a viewport as contracts see it: the first visual row and the first column in view, and the size
--- of the area
+-- a viewport as contracts see it: the first visual row and column in view, and the area's size
 pub record ViewportState : Type 0 where
   pub row : ℕ
   pub column : ℕ
@@ -22,7 +21,6 @@ saturated number = min number (2 ^ 64 - 1)
 abbrev pub last_shown : ℕ → ℕ → ℕ
 last_shown first len = max first (saturated (first + len) - 1)
 
--- a row or a column that is clamped to those in view, and then to at most the greatest that there
--- is
+-- a row or a column that is clamped to those in view, and then to at most the greatest one
 abbrev pub clamped : ℕ → ℕ → ℕ → ℕ → ℕ
 clamped first len greatest at = min (min (max at first) (last_shown first len)) greatest

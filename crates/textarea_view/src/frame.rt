@@ -22,7 +22,6 @@ pub struct Frame<'f, 's> {
     pub surround: &'f Surround<'s>,
     /// How lines are wrapped.
     pub mode: WrapMode,
-    /// Whether the text is empty.
     pub is_empty: bool,
 }
 
@@ -128,8 +127,7 @@ fn draw_rows(
 }
 
 /// Draws the frame. `viewport` is that of the last frame; the returned one follows the cursor. The
-/// inner area must be within the area. After out of memory, cells of the area may be changed
-/// already.
+/// inner area must be within the area. After out of memory, cells of the area may be changed.
 pub fn draw_frame(
     frame: &Frame<'_, '_>,
     alloc: Global,

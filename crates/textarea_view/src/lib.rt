@@ -1,5 +1,4 @@
-//! The widget's appearance: styles, block and placeholder, viewport, visual rows to draw, and one
-//! frame of all.
+//! The widget's appearance: styles, block, placeholder, viewport, rows to draw, and whole frames.
 #![tactic(auto)]
 
 pub mod frame;

@@ -18,7 +18,6 @@ impl Default for CursorRenderMode {
 
     ghost is_default = { λ mode. mode ≡ Cell };
 
-    /// Returns `Cell`.
     fn default() -> CursorRenderMode {
         CursorRenderMode::Cell
     }
@@ -27,8 +26,7 @@ impl Default for CursorRenderMode {
 /// The appearance of a text area, without its text and what surrounds it.
 #[derive(Clone, Copy, Debug, PartialEq, Eq)]
 pub struct Look {
-    /// The style of each cell of the inner area, under all others. It is not used with a
-    /// placeholder.
+    /// The style of each cell of the inner area, under all others; not used with a placeholder.
     pub style: Style,
     /// The style of the cell at the cursor.
     pub cursor_style: Style,
@@ -67,9 +65,8 @@ impl Default for Look {
     }
 }
 
-/// A highlight of the caller's own. Its start and its end are a line and a byte offset in that line
-/// each. An offset inside a character counts as the character's first, and one past the line's end
-/// as the end.
+/// A highlight of the caller's own, from one (line, byte offset in it) to another. An offset inside
+/// a character counts as the character's start, one past the line's end as the end.
 #[derive(Clone, Copy, Debug, PartialEq, Eq)]
 pub struct CustomHighlight {
     pub start: (usize, usize),

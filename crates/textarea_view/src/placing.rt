@@ -36,8 +36,7 @@ impl Model for Placing {
 }
 
 impl Frame<'_, '_> {
-    // Returns the viewport and the caret's cell once the frame is drawn into the inner area.
-    // `viewport` is that of the last frame.
+    // Returns the new viewport and the caret's cell. `viewport` is that of the last frame.
     pub(crate) fn placing(
         &self,
         alloc: Global,
@@ -132,8 +131,7 @@ fn number_width(scene: &Scene<'_>) -> usize
     LayoutMetrics::new(0, line_count, scene.line_numbers, WrapMode::None).line_number_width()
 }
 
-// Returns the viewport once the cursor is in view at this visual position (visual row, display
-// column).
+// Returns the viewport once the cursor is in view at this (visual row, display column).
 fn viewport_at(
     mode: WrapMode,
     viewport: Viewport,
@@ -149,8 +147,7 @@ fn viewport_at(
     }
 }
 
-// Returns the viewport and caret with a placeholder: nothing is scrolled, and the caret is in the
-// corner.
+// Returns the viewport and caret with a placeholder: not scrolled, the caret in the corner.
 fn placing_at_corner(inner: Rect) -> Placing
     ensures { result ≡ placed_at_corner inner }
 {

@@ -8,8 +8,7 @@ use textarea_screen::screen::{Position, Rect};
 /// The position of a visual row in the area in which it is drawn.
 ///
 /// A row that begins at the left of the area is scrolled by its first column, and its offset is 0.
-/// A row in the middle or at the right begins at an offset and isn't scrolled: its first column is
-/// 0.
+/// A row in the middle or at the right begins at an offset and isn't scrolled: its column is 0.
 #[derive(Clone, Copy, Debug, PartialEq, Eq)]
 pub struct RowView {
     /// The cells of the text.
@@ -39,8 +38,7 @@ impl RowView {
         }
     }
 
-    /// Returns a row in the middle or at the right of the area, which begins `offset` columns after
-    /// its left edge and isn't scrolled.
+    /// Returns a row that begins `offset` columns after the area's left edge and isn't scrolled.
     pub fn at_offset(
         viewport: Viewport,
         inner_area: Rect,
@@ -72,9 +70,8 @@ impl RowView {
         Some(Position { x, y })
     }
 
-    /// Returns the display column that a cell of the row shows, by the cell's column on the screen:
-    /// 0 in the line number and before the row, and after the row its greatest cursor column. No
-    /// sum overflows.
+    /// Returns the display column at a cell, by the cell's column on the screen: 0 in the line
+    /// number and before the row, and after the row its greatest cursor column. No sum overflows.
     pub fn hit_column(&self, position: Position, greatest_column: usize) -> usize
         ensures { result ≡ hit_column self.now greatest_column position.x }
     {

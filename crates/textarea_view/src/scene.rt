@@ -50,8 +50,7 @@ impl<'a> Model for Scene<'a> {
 }
 
 impl<'a> Scene<'a> {
-    /// Draws the visual rows from `top` on into the rows of the area, as many as the text, the area
-    /// and the buffer have.
+    /// Draws the visual rows from `top` on into the area, while text, area and buffer have rows.
     ///
     /// A cell without a grapheme cluster is unchanged. Matches in `kept` aren't searched for again,
     /// and new ones are added to it. After out of memory, cells of the area may be changed already.

@@ -9,12 +9,11 @@ use std::alloc::{AllocError, Global};
 use std::marker::Model;
 use textarea_screen::screen::{Block, Color, Style, Text};
 
-/// The block around the rows of a text area, the placeholder for an empty text, and the least and
-/// greatest measured height.
+/// The block around a text area's rows, the placeholder for an empty text, and the height limits.
 ///
-/// The placeholder is drawn if the text is empty and the placeholder has lines. The least height is
-/// at least one row and the greatest is no less, both in rows of the whole area. A call that runs
-/// out of memory changes nothing.
+/// The placeholder is drawn if the text is empty and the placeholder has lines. Heights are in rows
+/// of the whole area; the least is at least 1, and the greatest is no less. A call that runs out of
+/// memory changes nothing.
 #[derive(Drop)]
 pub struct Surround<'a> {
     block: Option<Block<'a>>,
@@ -58,8 +57,7 @@ impl<'a> Surround<'a> {
         }
     }
 
-    /// Returns a copy, or an error if there is not enough memory. The owned texts of the title and
-    /// the placeholder are copied.
+    /// Returns a copy. The owned texts of the title and the placeholder are copied.
     pub fn clone(&self) -> Result<Surround<'a>, AllocError>
         ensures { IfOk result (λ surround. surround ≡ self.now) }
     {
@@ -96,8 +94,7 @@ impl<'a> Surround<'a> {
         self.block.as_ref()
     }
 
-    /// Sets the least height, in rows of the whole area; 0 counts as 1. A lower greatest height is
-    /// raised to it.
+    /// Sets the least height in rows of the whole area, at least 1. A lower greatest one is raised.
     pub fn set_min_rows(&mut self, rows: u16)
         ensures { self.new ≡ with_min_rows self.old rows }
     {
@@ -113,8 +110,7 @@ impl<'a> Surround<'a> {
         self.min_rows
     }
 
-    /// Sets the greatest height, in rows of the whole area. A number below the least height counts
-    /// as that.
+    /// Sets the greatest height, in rows of the whole area, at least the least height.
     pub fn set_max_rows(&mut self, rows: u16)
         ensures { self.new ≡ with_max_rows self.old rows }
     {

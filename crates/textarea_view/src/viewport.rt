@@ -1,5 +1,4 @@
-//! The visual rows and columns of a text that are in view. The viewport follows the cursor and can
-//! be scrolled.
+//! The visual rows and columns of a text in view. The viewport follows the cursor or is scrolled.
 ghost use Rattle.std.specs.Prelude.{◌≡◌};
 ghost use Rattle.textarea_view.specs.Prelude.{hit_row, scrolled, scrolled_by, scrolled_viewport, at_start, column_to_show, first_shown, showing_row, showing_row_and_column, clamped, initial_viewport, last_shown};
 
@@ -57,8 +56,7 @@ impl Default for Viewport {
 }
 
 impl Viewport {
-    /// Returns the viewport of an area that shows a text from its first row and column on, as with
-    /// a placeholder.
+    /// Returns the viewport of an area that shows a text from its start on, as with a placeholder.
     pub fn at_start(inner_area: Rect) -> Viewport
         ensures { result ≡ at_start inner_area }
     {
@@ -97,8 +95,7 @@ impl Viewport {
         )
     }
 
-    /// Scrolls down by `rows` and to the right by `cols`, or up and to the left if they are
-    /// negative.
+    /// Scrolls down by `rows` and to the right by `cols`, or back if they are negative.
     pub fn scroll(&mut self, rows: i32, cols: i32)
         ensures { self.new ≡ scrolled_viewport self.old rows cols }
     {
@@ -106,8 +103,7 @@ impl Viewport {
         self.column = scroll_from(self.column, cols);
     }
 
-    /// Scrolls by rows and columns, by a page, which is the height, or by half a page, rounded
-    /// down.
+    /// Scrolls by rows and columns, by a page (the height), or by half a page, rounded down.
     pub fn scroll_by(&mut self, scrolling: Scrolling)
         ensures { self.new ≡ scrolled_by self.old scrolling }
     {
@@ -120,9 +116,8 @@ impl Viewport {
         }
     }
 
-    /// Returns the viewport after wrapped lines are drawn in the area, with the cursor in this
-    /// visual row. The first row changes no more than it must to show that row; the first column is
-    /// 0.
+    /// Returns the viewport after wrapped lines are drawn in the area with the cursor in this
+    /// visual row. The first row changes no more than needed to show it; the first column is 0.
     pub fn showing_row(self, inner_area: Rect, row: usize) -> Viewport
         ensures { result ≡ showing_row self inner_area row }
     {
@@ -156,8 +151,7 @@ impl Viewport {
         clamp(self.row, self.height, last_row, row)
     }
 
-    /// Returns the column in view that is nearest to a display column, but at most the row's
-    /// greatest cursor column.
+    /// Returns the column in view nearest to a display column, at most the greatest cursor column.
     pub fn clamp_column(&self, column: usize, greatest_column: usize) -> usize
         ensures { result ≡ clamped self.now.column self.now.width greatest_column column }
     {
@@ -229,8 +223,7 @@ fn first_shown(first: usize, len: u16, at: usize) -> usize
     }
 }
 
-// Returns the column that must be in view for a cursor at this display column, after a line number
-// of this width.
+// Returns the column that must be in view for a cursor at this column, after a line number.
 fn column_to_show(line_number_width: usize, column: usize) -> usize
     ensures { result ≡ column_to_show line_number_width column }
 {

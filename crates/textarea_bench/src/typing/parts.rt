@@ -1,6 +1,5 @@
-//! Single steps of a line break in the middle of many lines: in the screen map, and among the
-//! lines' headers. Also the move of the following bytes when a character is typed in the middle of
-//! a long line.
+//! Single steps of a line break in the middle of many lines, in the screen map and among the lines'
+//! headers; and the move of the bytes after a character that is typed in a long line.
 ghost use Rattle.std.specs.Prelude.{◌≡◌, ◌+◌, ◌<◌, ◌≤◌, length, vec_len, IfOk, OnOk};
 
 use std::alloc::{AllocError, Global};
@@ -87,8 +86,7 @@ fn texts(alloc: Global, given: &[&str]) -> Result<Vec<String>, AllocError>
     Ok(lines)
 }
 
-/// Moves the headers of the lines as a line break in their middle does, and back, `times` times.
-/// Returns their number.
+/// Moves the lines' headers as a break in their middle does, and back. Returns their number.
 pub fn break_headers(
     alloc: Global,
     lines: &mut Vec<String>,

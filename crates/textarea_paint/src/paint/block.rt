@@ -15,9 +15,8 @@ use super::row::draw_left;
 use std::alloc::AllocError;
 use textarea_screen::screen::{Block, Borders, Buffer, Rect, Style};
 
-/// Draws a block over an area, or nothing if the area has no cell: its style, its borders, its
-/// corners and its title, each over the one before. After out of memory, cells of the area may be
-/// changed already.
+/// Draws a block over an area, if that has a cell: its style, its borders, its corners and its
+/// title, each over the one before. After out of memory, cells of the area may be changed already.
 pub fn draw_block(buffer: &mut Buffer, area: Rect, block: &Block) -> Result<(), AllocError>
     ensures ok { OnOk result
         (Changes buffer.old buffer.new (block_cell (shown_block block.now) area)) }

@@ -152,8 +152,7 @@ fn draw_fitting(
     Ok(())
 }
 
-/// Returns the column after the last of the cells that the buffer may have. Nothing is drawn from
-/// there on.
+/// Returns the column after the last of the cells that the buffer may have, where drawing ends.
 fn seen_end(buffer: &Buffer, cells: RowCells) -> u16
     requires edge { cells.x + cells.width ≤ 65535 }
     ensures { result ≡ min (cells.x + cells.width)

@@ -22,10 +22,8 @@ bitflag_items! {
 }
 
 impl Borders {
-    /// No side.
     pub const NONE: Borders = Borders(0);
 
-    /// All four sides.
     pub const ALL: Borders = Borders(15);
 
     /// Returns the sides that are in either set.
@@ -193,8 +191,7 @@ impl<'a> Default for Block<'a> {
     }
 }
 
-/// Returns the number of rows or columns that a block takes at one side, at most 65535: no area has
-/// more.
+/// Returns the number of rows or columns that a block takes at one side, at most 65535.
 fn inset(is_taken: bool, padding: u16) -> u16
     ensures { result ≡ min (inset_of is_taken padding) 65535 }
 {

@@ -6,8 +6,7 @@ use super::style::Style;
 use arrayvec::ArrayString;
 use std::alloc::{AllocError, Global};
 
-/// The greatest length in bytes of a text that is stored in the cell itself. A longer one takes
-/// memory.
+/// The greatest length in bytes of a text that is stored in the cell itself, without allocation.
 pub const INLINE_BYTES: usize = 24;
 
 /// The text of a cell.
@@ -31,8 +30,7 @@ impl CellText {
         }
     }
 
-    /// Replaces the text. Takes memory if the new text is longer than `INLINE_BYTES`; if there is
-    /// none, the text is unchanged.
+    /// Replaces the text. If a text longer than `INLINE_BYTES` runs out of memory, nothing changes.
     fn replace(&mut self, alloc: Global, text: &str) -> Result<(), AllocError>
         ensures value { OnOk result (cell_text self.new ≡ text.now) }
         ensures inline { length text.now ≤ INLINE_BYTES → IsOk result }
@@ -116,8 +114,7 @@ impl Cell {
         }
     }
 
-    /// Applies a style: sets the colours that the style has, adds its added modifiers, and then
-    /// removes its removed ones. The text is kept.
+    /// Applies a style: sets its colours, adds its modifiers, then removes those that it removes.
     pub fn set_style(&mut self, style: Style)
         ensures { shown_cell self.new ≡ styled style (shown_cell self.old) }
     {
@@ -135,7 +132,6 @@ impl Default for Cell {
 
     ghost is_default = { λ cell. shown_cell cell ≡ fresh_cell };
 
-    /// Returns a fresh cell.
     fn default() -> Cell {
         Cell::fresh()
     }

@@ -17,7 +17,6 @@ pub struct Padding {
 }
 
 impl Padding {
-    /// No free column or row.
     pub const ZERO: Padding = Padding {
         left: 0,
         right: 0,

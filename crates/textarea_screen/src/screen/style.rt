@@ -104,7 +104,6 @@ impl Default for Style {
 
     ghost is_default = { λ style. style ≡ empty_style };
 
-    /// Returns the empty style.
     fn default() -> Style {
         Style::new()
     }

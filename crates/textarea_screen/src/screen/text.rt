@@ -23,8 +23,7 @@ impl<'a> SpanText<'a> {
         }
     }
 
-    /// Returns a copy of the text. A borrowed text is borrowed again, without memory; an owned one
-    /// is copied.
+    /// Returns a copy of the text. It allocates only if the text is owned.
     pub fn clone(&self) -> Result<SpanText<'a>, AllocError>
         ensures value { IfOk result (λ text. shown_content text ≡ shown_content self.now) }
         ensures lent { IsBorrowed self.now → IsOk result }

@@ -8,9 +8,8 @@ use crate::search::state::Search;
 use std::alloc::AllocError;
 use std::marker::Model;
 
-/// Lists the matches of many lines. It takes them from a cache, or finds them with a matcher,
-/// created for the first line that the cache lacks, and stores them. Contracts see the text of the
-/// pattern, if there is one.
+/// Lists the matches of many lines, from a cache or, for a line that the cache lacks, with a
+/// matcher, and then stores them. Contracts see the text of the pattern, if there is one.
 #[derive(Drop)]
 pub struct KeepingMatcher<'a, 'k> {
     search: &'a Search,

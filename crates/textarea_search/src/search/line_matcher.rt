@@ -8,8 +8,7 @@ use regex::Matcher;
 use std::alloc::{AllocError, Global};
 use std::marker::Model;
 
-/// Lists the matches of many lines; its creation takes memory and time once. Contracts see the text
-/// of its pattern.
+/// Lists the matches of many lines; its creation takes memory and time. Contracts see its pattern.
 #[derive(Drop)]
 pub struct LineMatcher<'a> {
     matcher: Matcher<'a>,

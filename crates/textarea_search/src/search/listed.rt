@@ -1,5 +1,4 @@
-//! The matches that `regex` lists for a line, one after another. A matcher keeps its pattern, so
-//! one matcher serves for many lines.
+//! The matches that `regex` lists for a line, one after another. A matcher serves for many lines.
 ghost use Rattle.std.specs.Prelude.{◌≡◌, ◌+◌, ◌≤◌, ◌<◌, [], ◌∷◌, length, take, find, reverse, slice_get, option_map, encode_utf8_all, IsCharBoundary, IsUtf8, IfSome, MatchOption, OnOk};
 ghost use Rattle.std.specs.Str.{chars};
 ghost use Rattle.regex.specs.Strings.{matcher_pattern, match_span, match_haystack};
@@ -12,8 +11,7 @@ use regex::{Match, Matcher};
 use std::alloc::AllocError;
 use textarea_text::rows::{byte_offset, column_count};
 
-/// Returns the first listed match after the one that ended at `after - 1`, or the first of all if
-/// `after` is 0.
+/// Returns the next listed match after one that ended at `after - 1`; for 0 the first of all.
 fn next_listed<'h>(matcher: &mut Matcher<'_>, line: &'h str, after: usize) -> Option<Match<'h>>
     ensures found { let left = spans_after (matcher_pattern matcher.old) line.now in
         MatchOption result (left after ≡ [])
@@ -108,8 +106,7 @@ fn last_behind<'h>(
     }
 }
 
-/// Returns the first listed match in the search's direction from the byte offset or, with
-/// `at_byte`, at it.
+/// Returns the first listed match from `byte` in the search's direction or, with `at_byte`, at it.
 fn nearest<'h>(
     matcher: &mut Matcher<'_>,
     line: &'h str,

@@ -16,8 +16,7 @@ use crate::search::matches::Matches;
 use std::alloc::{AllocError, Global};
 use std::marker::Model;
 
-/// The pattern to search for, if there is one. Contracts see its text. Clones share the compiled
-/// pattern.
+/// The pattern to search for, if any; clones share it. Contracts see its text.
 #[derive(Drop)]
 pub struct Search {
     pattern: Option<Pattern>,
@@ -32,8 +31,7 @@ impl Model for Search {
 }
 
 impl Search {
-    /// Sets the pattern, in the syntax of `regex`. An empty text means no pattern. After an error
-    /// the old pattern is still set.
+    /// Sets the pattern in `regex` syntax, or none for an empty text. An error changes nothing.
     pub fn set_pattern(&mut self, alloc: Global, pattern: &str) -> Result<(), SearchError>
         ensures empty { pattern.now ≡ [] → IsOk result × IsNone self.new }
         ensures set { pattern.now ≢ [] → OnOk result (self.new ≡ Some pattern.now) }
@@ -77,8 +75,7 @@ impl Search {
         }
     }
 
-    /// Returns a matcher that lists the matches of many lines, as `matches` does, or `None` without
-    /// a pattern.
+    /// Returns a matcher that lists lines' matches as `matches` does, or `None` without a pattern.
     pub fn line_matcher(&self) -> Result<Option<LineMatcher<'_>>, AllocError>
         ensures pattern { IfOk result (λ matcher. matcher ≡ self.now) }
         ensures no_pattern { IsNone self.now → IsOk result }
@@ -91,8 +88,7 @@ impl Search {
     }
 
     /// Returns a matcher that lists the matches of many lines, as `matches` does, and stores them
-    /// in `kept` so that none is searched for twice. It stores those of up to `count` successive
-    /// lines.
+    /// in `kept`, for up to `count` successive lines, so that none is searched for twice.
     pub fn keeping_matcher<'a, 'k>(
         &'a self,
         kept: &'k mut KeptMatches,
@@ -108,8 +104,7 @@ impl Search {
     }
 
     /// Returns the position (row, column in characters) of the next match start after the cursor
-    /// or, with `match_cursor`, at it. After the last match the search wraps around to the
-    /// beginning of the text.
+    /// or, with `match_cursor`, at it. After the last match the search wraps around to the first.
     pub fn forward(
         &self,
         lines: &[String],
@@ -123,8 +118,7 @@ impl Search {
     }
 
     /// Returns the position (row, column in characters) of the last match start before the cursor
-    /// or, with `match_cursor`, at it. Before the first match the search wraps around to the end of
-    /// the text.
+    /// or, with `match_cursor`, at it. Before the first match the search wraps around to the last.
     pub fn back(
         &self,
         lines: &[String],

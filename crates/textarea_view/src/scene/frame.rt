@@ -96,8 +96,7 @@ impl<'f, 'a> Frame<'f, 'a> {
         Ok(line)
     }
 
-    // Restarts the highlighter with the visual row of this number, and adds all highlights of the
-    // row.
+    // Restarts the highlighter with the visual row of this number, and adds all its highlights.
     fn tell_row(
         &self,
         highlighter: &mut LineHighlighter<'a>,

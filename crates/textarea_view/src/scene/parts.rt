@@ -24,8 +24,7 @@ pub(super) fn byte_place(lines: &[String], place: (usize, usize)) -> (usize, usi
 }
 
 impl Frame<'_, '_> {
-    // Adds the line number in a line's first row, and as many blanks in its other rows, if there
-    // are line numbers.
+    // Adds the number in a line's first row, and blanks in its other rows, if lines are numbered.
     pub(super) fn add_number(
         &self,
         highlighter: &mut LineHighlighter<'_>,
@@ -46,8 +45,7 @@ impl Frame<'_, '_> {
         highlighter.line_number_placeholder(digits, scene.look.line_number_style)
     }
 
-    // Adds the cursor's cell in the row that has it, and the cursor line's style in all rows of
-    // that line.
+    // Adds the cursor's cell in the cursor's row, and its line's style in all rows of that line.
     pub(super) fn add_cursor(
         &self,
         highlighter: &mut LineHighlighter<'_>,
@@ -164,8 +162,7 @@ fn add_part(
     }
 }
 
-// Returns the row's section of a range, as byte offsets in the row, or `None` if the row's line is
-// not in the range.
+// Returns the row's section of a range, as byte offsets in the row, if its line is in the range.
 fn part_of(shown: RowText<'_>, range: Range) -> Option<(usize, usize)>
     ensures { result ≡ part_of (shown_row shown.entry) range }
 {

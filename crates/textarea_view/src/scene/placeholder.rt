@@ -8,8 +8,7 @@ use textarea_highlight::highlight::CursorCellRender;
 use textarea_paint::paint::row::{RowArea, draw_row};
 use textarea_screen::screen::{Buffer, Line, Span, Style, Text};
 
-/// Draws a placeholder's lines into the rows of the area, one into each, as many as the area and
-/// the buffer have rows for.
+/// Draws a placeholder's lines into the rows of the area, while area and buffer have rows.
 ///
 /// If the cursor's cell is drawn, one blank in the cursor's style is before the first line; that
 /// line is then built of borrowed texts, and else nothing is built. A cell without a grapheme
@@ -51,8 +50,7 @@ fn in_style(rows: RowArea, style: Style) -> RowArea
     }
 }
 
-// Returns how the cursor's cell is drawn before the line of this number: only the first line has
-// it.
+// Returns how the cursor's cell is drawn before this line: only the first line has it.
 fn cell_of_line(cursor_cell: CursorCellRender, line: usize) -> CursorCellRender
     ensures { result ≡ cell_of_line cursor_cell line }
 {

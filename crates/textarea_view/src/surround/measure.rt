@@ -30,8 +30,7 @@ impl<'a> Surround<'a> {
         }
     }
 
-    /// Returns the number of columns inside the block of an area of this width, or all of them
-    /// without a block.
+    /// Returns the number of columns inside the block, if there is one, of an area of this width.
     pub fn inner_width(&self, width: u16) -> u16
         ensures { result ≡ width_inside self.now.block width }
     {
@@ -41,8 +40,7 @@ impl<'a> Surround<'a> {
         }
     }
 
-    /// Returns the number of rows that the block takes of an area of this width and 65535 rows, 0
-    /// without a block.
+    /// Returns how many of 65535 rows of an area of this width the block takes, 0 without a block.
     pub fn chrome(&self, width: u16) -> u16
         ensures { result ≡ chrome_of self.now.block }
     {

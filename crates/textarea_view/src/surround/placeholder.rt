@@ -19,8 +19,7 @@ impl<'a> Surround<'a> {
         Ok(())
     }
 
-    /// Sets the whole placeholder, its lines and its style. A text without lines means that none is
-    /// drawn.
+    /// Sets the placeholder's lines and style. A text without lines means that none is drawn.
     pub fn set_styled_placeholder(&mut self, placeholder: Text<'a>)
         ensures { self.new ≡ record self.old { placeholder = shown_text placeholder.entry } }
     {
@@ -41,8 +40,7 @@ impl<'a> Surround<'a> {
         &self.placeholder
     }
 
-    /// Returns the text of the first span of the placeholder's first line, set by either call, or
-    /// the empty text if there is none.
+    /// Returns the text of the first span of the placeholder's first line, or the empty text.
     pub fn placeholder_text(&self) -> &str
         ensures { result.now ≡ first_bytes self.now.placeholder.lines }
     {

@@ -1,5 +1,4 @@
-//! Laws of the caret, the cursor on the screen. Each is the contract of a function that does
-//! nothing.
+//! Laws of the caret (the cursor on the screen), as contracts of functions that do nothing.
 ghost use Rattle.std.specs.Prelude.{◌≡◌, ◌⊎◌, ◌+◌, ◌*◌, ◌^◌, ◌<◌, ◌≤◌, ℕ, IsSome};
 ghost use Rattle.textarea_view.specs.Prelude.{Rect, caret_at, hit_column, hit_row, left_view, at_start, showing_row, showing_row_and_column, ViewportState, RowView};
 
@@ -15,8 +14,8 @@ pub fn shown_caret_is_hit_back()
         hit_column view greatest x ≡ column }
 {}
 
-/// With unwrapped lines and left alignment, the caret is in view if the area has a row and is wider
-/// than two line numbers.
+/// With unwrapped lines at the left, the caret is in view in an area wider than two line numbers
+/// that has a row.
 pub fn caret_is_shown()
     ensures { (viewport : ViewportState) (area : Rect) (row column line_number_width : ℕ) →
         0 < area.height → 2 * line_number_width < area.width →
