@@ -58,7 +58,7 @@ impl CellText {
 
 /// One cell of a screen: its text, mostly one character, its colours and its modifiers.
 ///
-/// A text of up to `INLINE_BYTES` bytes is stored in the cell itself and takes no memory.
+/// A text of up to `INLINE_BYTES` bytes is stored in the cell itself, without allocation.
 #[derive(Drop)]
 pub struct Cell {
     text: CellText,
