@@ -1,4 +1,4 @@
-// Defaults, conversions, copies, and what is shown by `Debug`.
+// Defaults, conversions, copies, and texts of `Debug`.
 use std::alloc::{AllocError, Global};
 use std::fmt::Debug;
 use std::test::Fail;
