@@ -1,4 +1,4 @@
--- A text has one greedy cutting: of two rows that begin together neither ends before the other.
+-- A text has one greedy wrapping: of two rows that begin together neither ends before the other.
 use Rattle.std.proofs.Common.{◌≡◌, ℕ, ◌≤◌, ◌⊎◌, List, [], ◌∷◌, ◌++◌, map, length, refl, sym, ap, ap₂, subst, ◌∙◌, ⊎_elim, append-nil, length-append, arith}
 use Rattle.std.specs.List.{concat, flat_map}
 use Rattle.textarea_wrap.specs.Columns.{stretch_width}
