@@ -8,7 +8,7 @@ abbrev pub bytes_of : ShownContent → List ℕ
 bytes_of (Lent text) = text
 bytes_of (Held text) = text
 
--- it is lent, and so was not copied
+-- it is borrowed, so it was not copied
 abbrev pub IsLent : ShownContent → Type 0
 IsLent (Lent text) = Unit {0}
 IsLent (Held text) = ⊥
