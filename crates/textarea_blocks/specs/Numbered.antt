@@ -12,7 +12,7 @@ pub record AreTotals (total : List RowsView → ℕ) (blocks : List (List RowsVi
   pub right : (k : ℕ) → k < length blocks → get_or numbers k 0 ≡ total (all_rows (take k blocks))
 
 -- The stored numbers of lines and of visual rows before each block are right. Both totals are at
--- most twice the limit, for removed and new rows exist together for a while and no sum overflows.
+-- most twice the limit, since removed and new rows exist together for a while; no sum overflows.
 pub record AreNumbered (blocks : List (List RowsView)) (lines rows : List ℕ) : Type 0 where
   pub lines_are : AreTotals length blocks lines
   pub rows_are : AreTotals row_total blocks rows

@@ -22,7 +22,7 @@ closed_by (End ∷ marks) = closed_by marks + 1
 StaysAbove : List Mark → ℕ → Type 0
 StaysAbove marks d = (n : ℕ) → count_by is_end (take n marks) ≤ count_by is_start (take n marks) + d
 
--- the marks after the first one, and that one
+-- counting in a prefix: the first mark, and the marks after it
 counted_behind : (test : Mark → Bool) (mark : Mark) (marks : List Mark) (n : ℕ) →
     count_by test (take (suc n) (mark ∷ marks)) ≡ cond (test mark) 1 0 + count_by test (take n marks)
 counted_behind test mark marks n = sum_by-cons (λ m. cond (test m) 1 0) mark (take n marks)

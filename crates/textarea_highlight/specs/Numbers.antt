@@ -5,7 +5,6 @@ use Rattle.textarea_screen.specs.declared.screen.style.Style.{Style}
 use Rattle.textarea_screen.specs.Text.{ShownSpan}
 use Rattle.textarea_screen.specs.Text.ShownContent.{Lent, Held}
 
--- this many spaces
 abbrev pub spaces : ℕ → List ℕ
 spaces count = replicate count 32
 

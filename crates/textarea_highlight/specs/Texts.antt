@@ -3,7 +3,6 @@ use Rattle.std.specs.Prelude.{ℕ, List}
 use Rattle.textarea_screen.specs.Text.{ShownContent}
 use Rattle.textarea_screen.specs.Text.ShownContent.{Lent, Held}
 
--- its bytes
 abbrev pub bytes_of : ShownContent → List ℕ
 bytes_of (Lent text) = text
 bytes_of (Held text) = text

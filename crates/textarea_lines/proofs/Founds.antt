@@ -20,7 +20,6 @@ found_at items found place start offset is same h e =
       offset = e ∙ ap (offset_at (lines_of items)) (sym same);
     })
 
--- the first position
 pub found_first : {Z : Type 0} (items : List (String Z)) (found : Pos) → found ≡ pos (0, 0) 0 → 0 < length items → IsFound items found
 found_first items found is some =
     found_at items found (0, 0) (0, 0) 0 is refl (omega (arith, some, length-map items characters_of), omega arith) refl

@@ -40,9 +40,9 @@ pub record CutsAllLines (old new : LaidOut) : Type 0 where
 abbrev pub touched_rows : Splice → List RowsView → List RowsView
 touched_rows splice rows = take (lines_coming splice) (drop splice.place.0 rows)
 
--- All rows before and after a splice, when `count` is the number before it. The lines above and
--- below those that it touches keep their rows, ticks included. Those that it touches have the next
--- ticks, so all of these are above `count`.
+-- All rows before and after a splice, where `count` is the counter's number before it. The lines
+-- above and below those that it touches keep their rows, ticks included. Those that it touches have
+-- the next ticks, so all of these are above `count`.
 pub record KeepsOtherRows (count : ℕ) (splice : Splice) (before after : List RowsView) : Type 0 where
   pub above : take splice.place.0 after ≡ take splice.place.0 before
   pub below : drop (splice.place.0 + lines_coming splice) after ≡ drop (splice.place.0 + lines_going splice) before

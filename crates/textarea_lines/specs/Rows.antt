@@ -23,8 +23,7 @@ pub record IsLaidOutAs (laid : LaidOut) (rows : List RowsView) : Type 0 where
 abbrev pub OfRows : LaidOut → (List RowsView → Type 0) → Type 0
 OfRows laid Fact = (rows : List RowsView) × IsLaidOutAs laid rows × Fact rows
 
--- where a cursor moves one visual row up from a position of the text; none from the first visual
--- row
+-- where a cursor moves one visual row up from a position; none from the first visual row
 abbrev pub IsFoundAbove : LaidOut → Place → Option Place → Type 0
 IsFoundAbove laid place found = OfRows laid (λ rows. MatchOption found
     (IsInFirstRow laid.layout.settings.tab_len (lines laid.text) rows place)

@@ -92,7 +92,7 @@ fn prepare_rows(
     map.make_room(0, lines.len(), NewRows::Many(rows), after)
 }
 
-// Wraps lines for the replacement, and reserves room for lines and rows, which don't change.
+// Wraps lines for the replacement and reserves room. Lines and rows don't change yet.
 pub(crate) fn make_ready(
     lines: &mut Vec<String>,
     map: &mut ScreenMap,

@@ -7,7 +7,7 @@ use textarea_wrap::layout::LayoutMetrics;
 use textarea_wrap::wrap::WrapMode;
 
 /// How lines are wrapped: the mode, the columns between tab stops, whether lines have line numbers,
-/// and the columns of the inner area with line numbers, of which 0 means no wrapping.
+/// and the columns of the inner area, line numbers included. With 0 columns no line is wrapped.
 #[derive(Clone, Copy, Debug, PartialEq, Eq)]
 pub struct LayoutSettings {
     pub mode: WrapMode,

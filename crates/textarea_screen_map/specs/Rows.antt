@@ -22,7 +22,6 @@ row_between number line range is_last = record {
   is_last = is_last;
 }
 
--- the rows of one line
 abbrev pub rows_of_line : ℕ → List ℕ → List (ℕ × ℕ) → List VisualRow
 rows_of_line number line [] = []
 rows_of_line number line (range ∷ []) = row_between number line range true ∷ []

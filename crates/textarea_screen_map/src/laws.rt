@@ -95,7 +95,7 @@ pub fn one_row_count()
     one_cutting();
 }
 
-/// Lines have at most as many visual rows as bytes and lines together, and the map computes their
+/// Lines have no more visual rows than bytes and lines together, and the map computes their
 /// size from their rows. So for right rows the limit on bytes and lines implies the limit on rows.
 pub fn few_rows()
     ensures size { (wrapping : Wrapping) (lines : List (List ℕ)) (rows : List RowsView) →

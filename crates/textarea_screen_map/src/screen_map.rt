@@ -351,7 +351,6 @@ impl ScreenMap {
         self.total
     }
 
-    // Returns the first visual row of the line.
     fn first_row(&self, line: usize) -> usize
         requires { line < length self.now.rows }
         ensures { result ≡ row_total (take line self.now.rows) }
@@ -359,7 +358,6 @@ impl ScreenMap {
         self.blocks.first_row(line)
     }
 
-    // Returns the line of the visual row, and the row's index in that line.
     fn line_of_row(&self, row: usize) -> (usize, usize)
         requires { row < row_total self.now.rows }
         ensures line { result.0 < length self.now.rows }
@@ -369,7 +367,6 @@ impl ScreenMap {
         self.blocks.line_of_row(row)
     }
 
-    // Returns for each row of the line the byte offsets of its start and its end in the line.
     fn rows_of(&self, line: usize) -> &[(usize, usize)]
         requires { line < length self.now.rows }
         ensures { result.now ≡ ranges_at self.now.rows line }

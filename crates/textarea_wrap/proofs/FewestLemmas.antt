@@ -49,7 +49,7 @@ greedy_ahead t w (row ∷ others) (stretch ∷ greedy) front cut same fit =
     (λ p. let behind = greedy_ahead t w others (stretch ∷ greedy) p.0 cut (sym p.2) fit.1 in omega arith)
     (fronts front (stretch ++ pieces_of greedy) row (pieces_of others) same)
 
--- wrapping at cluster ends has the fewest rows
+-- wrapping at grapheme cluster ends has the fewest rows
 pub HasFewestGlyphRows-cutting : (t w : ℕ) (text : List ℕ) (rows : List (List ℕ)) → IsGlyphCutting t w text rows → HasFewestGlyphRows t w text (length rows)
 HasFewestGlyphRows-cutting t w text rows cutting = λ others whole fit.
     let count = ap length cutting.rows_are ∙ length-map cutting.stretches concat in

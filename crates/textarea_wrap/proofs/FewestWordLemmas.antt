@@ -1,4 +1,4 @@
--- Greedy wrapping at unit ends has the fewest rows, where each whitespace unit is one cluster.
+-- Greedy wrapping at unit ends has the fewest rows, if whitespace units are grapheme clusters.
 use Rattle.std.proofs.lemmas.Grind.{common_steps}
 use Rattle.std.proofs.Common.{◌≡◌, ℕ, ◌<◌, ◌≤◌, ◌⊎◌, inl, inr, true, List, [], ◌∷◌, ◌++◌, length, refl, sym, ap, subst, ◌∙◌, ⊎_elim, append_assoc, append-nil, length-append, arith}
 use Rattle.std.proofs.lemmas.Bool.{cases_lt}

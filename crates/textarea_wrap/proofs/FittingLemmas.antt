@@ -1,4 +1,4 @@
--- If the clusters of a line fit the width, no cursor is in a column past it.
+-- If the grapheme clusters of a line fit the width, no cursor is in a column past it.
 use Rattle.std.proofs.lemmas.Grind.{common_steps}
 use Rattle.std.proofs.Common.{◌≡◌, ◌≢◌, ℕ, zero, suc, ◌+◌, ◌-◌, ◌*◌, ◌^◌, ◌<◌, ◌≤◌, true, false, cond, nat_eq, List, [], ◌∷◌, ◌++◌, map, length, take, drop, get_or, refl, sym, ap, subst, ◌∙◌, ⊎_elim, append-nil, length-append, le_trans, arith}
 use Rattle.std.proofs.lemmas.Bool.Decides.{nat_tests}

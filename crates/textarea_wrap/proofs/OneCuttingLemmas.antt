@@ -9,7 +9,7 @@ use Rattle.textarea_wrap.specs.Wrapped.{AreRowTexts, IsCutting, IsWrapped}
 use Rattle.textarea_wrap.proofs.FewestLemmas.{fronts, not_shorter}
 use Rattle.textarea_wrap.proofs.FewestWordLemmas.{block_reaches, block_some, wide_ends}
 
--- ---- at cluster ends
+-- ---- at grapheme cluster ends
 
 row_ends : (t w : ℕ) (stretch left rest row over : Stretch) → IsGlyphRow t w stretch (left ++ []) → row ≡ stretch ++ over → left ≡ over ++ rest → (stretch_width t row ≤ w) ⊎ (length row ≡ 1) → (row ≡ stretch) × (left ≡ rest)
 row_ends t w stretch left rest row [] greedy row_is left_is fits = (row_is ∙ append-nil stretch, left_is)

@@ -15,8 +15,8 @@ pub fn one_cutting()
 {}
 
 /// A line that isn't empty gets the fewest visual rows possible: in the mode `Glyph` of all splits
-/// at cluster ends into rows that fit or are one cluster, in the word modes of all splits into runs
-/// of units that fit and single units wider than the width, each split into rows as in `Glyph`.
+/// between grapheme clusters into rows that fit or are one cluster, in the word modes of all splits
+/// into runs of units that fit and wider units, each split into rows as in `Glyph`.
 pub fn fewest_rows()
     ensures glyphs { (tab_len width : ℕ) (line : List ℕ) (ranges : List (ℕ × ℕ)) →
         0 < length line → IsWrapped mode.Glyph tab_len width line ranges →
@@ -40,7 +40,7 @@ pub fn never_wider_later()
         stretch_width tab_len front ≤ stretch_width tab_len (front ++ back) }
 {}
 
-/// If a run fits, it also fits without its front. This holds for rows of clusters, and for units,
+/// If a run fits, it also fits without its front. This is true for rows of clusters, and for units,
 /// except that a single whitespace cluster may remain, which is one row anyway.
 pub fn rest_fits()
     ensures clusters { (tab_len width : ℕ) (front back : Stretch) → 0 < length back →

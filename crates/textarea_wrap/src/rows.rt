@@ -59,7 +59,7 @@ impl Clone for Rows {
 
     ghost is_infallible = { λ rows. length rows.ranges ≤ 1 };
 
-    /// Returns the same rows with the same `tick`. A single row needs no memory.
+    /// Returns the same rows with the same `tick`. A single row needs no allocation.
     fn clone(&self) -> Result<Rows, AllocError> {
         Ok(Rows {
             ranges: self.ranges.clone()?,

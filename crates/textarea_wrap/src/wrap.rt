@@ -44,7 +44,7 @@ pub fn is_short(line: &str) -> bool
 /// that fails, adds one to `count`.
 ///
 /// A line of 2^48 bytes or more is an `AllocError`. A shorter line that takes one row, because it
-/// is not wrapped or is no wider than the width, needs no memory and never fails.
+/// is not wrapped or is no wider than the width, needs no allocation and never fails.
 pub fn line_ranges(
     alloc: Global,
     line: &str,

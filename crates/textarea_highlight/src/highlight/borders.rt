@@ -26,7 +26,6 @@ pub struct Border {
 
 const END_RANK: u8 = 0;
 
-/// The rank of a match's highlight.
 const MATCH_RANK: u8 = 20;
 
 /// Adds the start and the end of a highlight between two byte offsets, each clipped to the row and

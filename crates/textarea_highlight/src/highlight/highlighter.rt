@@ -47,8 +47,8 @@ const SELECTION_RANK: u8 = 10;
 /// A row of text with its highlights, which `into_spans` splits into styled spans.
 ///
 /// Offsets are in bytes of the row. Each is clipped to the row and, inside a character, rounded
-/// down to its start. A highlight that is then empty is dropped. Where highlights overlap, the last
-/// start is shown, and an end restores the style before the newest open start.
+/// down to its start. A highlight that is then empty is dropped. Where highlights overlap, the one
+/// that starts last is shown, and an end restores the style before the newest open start.
 #[derive(Drop)]
 pub struct LineHighlighter<'a> {
     alloc: Global,

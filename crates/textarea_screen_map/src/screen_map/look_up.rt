@@ -1,6 +1,6 @@
-//! Look-ups of a screen map: the visual position of a position, the position for a visual position,
-//! and where a cursor moves up and down. They allocate nothing, and borrow the lines that the map
-//! was made for. A tab reaches to the next tab stop, and takes one column without tab stops.
+//! Look-ups of a screen map: from a position to its visual position and back, and where a cursor
+//! moves up and down. They allocate nothing, and borrow the lines that the map was made for. A tab
+//! reaches to the next tab stop, and takes one column without tab stops.
 ghost use Rattle.std.specs.Prelude.{◌≡◌, ◌+◌, ◌<◌, ◌≤◌, length, min, take, MatchOption};
 ghost use Rattle.textarea_util.specs.Limit.{size_limit};
 ghost use Rattle.textarea_text.specs.Text.{lines_of};

@@ -12,7 +12,7 @@ pub fn is_all_whitespace(text: &str) -> bool
     text.chars().all(|c| c.is_whitespace())
 }
 
-/// Returns the word segments (UAX #29) of the line, those of only whitespace split into clusters.
+/// Returns the word segments (UAX #29) of the line; blank ones are split into grapheme clusters.
 pub fn collect_units<'a>(alloc: Global, line: &'a str) -> Result<Vec<&'a str>, AllocError>
     ensures { IfOk result (λ units. map (λ unit. unit.now) units.items ≡ line_units line.now) }
 {

@@ -20,7 +20,7 @@ fn starts_with_content(units: &[&str]) -> bool
     }
 }
 
-/// Whether the unit is whitespace that ends at `end`, one column past the width, before content.
+/// Returns whether the unit is whitespace that ends one column past the width, before content.
 fn hangs_over(unit: &str, later: &[&str], end: usize, width: usize) -> bool
     ensures { IsTrue result ↔ HangsOver width end unit.now (map (λ unit. unit.now) later.now) }
 {

@@ -39,7 +39,6 @@ cut c =
       few_rows = omega (arith, c.self.invariant.few_rows, ap (λ (v : BlocksView). row_total (all_rows v.blocks)) c.self.view_is);
     }
 
--- the rows of one block
 one : (rows : List RowsView) → all_rows (rows ∷ []) ≡ rows
 one rows = append-nil rows
 
