@@ -1,4 +1,4 @@
--- A text that is laid out with other settings, or with its own.
+-- A text with other settings, or with its own.
 use Rattle.std.proofs.lemmas.Grind.{common_steps}
 use Rattle.std.proofs.Common.{◌≡◌, ℕ, zero, suc, ◌<◌, ◌==◌, ◌&&◌, ◌||◌, Bool, true, false, cond, not, ap, refl, ◌∙◌, arith, eq-eqb}
 use Rattle.std.proofs.Math.Dec.{eqb-suc-zero}

@@ -11,7 +11,7 @@ use Rattle.textarea_blocks.proofs.Totals.{all_set, take_above}
 use Rattle.textarea_blocks.proofs.blocks.RowBlocks.split.Goals as goal
 use Rattle.textarea_blocks.proofs.blocks.RowBlocks.split.Goals.{In_ok-rows}
 
--- what is taken of the block, and what stays
+-- the rows that are removed from the block, and those that remain
 record Cut (blocks now : List (List RowsView)) (block at : ℕ) (rows : List RowsView) : Type 0 where
   rows_are : rows ≡ drop at (get_or blocks block [])
   now_is : now ≡ set blocks block (take at (get_or blocks block []))
@@ -38,7 +38,6 @@ cut c =
       few_rows = omega (arith, c.self.invariant.few_rows, ap (λ (v : BlocksView). row_total (all_rows v.blocks)) c.self.view_is);
     }
 
--- the rows of one block alone
 one : (rows : List RowsView) → all_rows (rows ∷ []) ≡ rows
 one rows = append-nil rows
 

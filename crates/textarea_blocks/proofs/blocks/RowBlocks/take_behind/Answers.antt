@@ -10,7 +10,7 @@ use Rattle.textarea_blocks.proofs.Totals.{all_set, totals_set}
 use Rattle.textarea_blocks.proofs.blocks.RowBlocks.take_behind.Goals as goal
 use Rattle.textarea_blocks.proofs.blocks.RowBlocks.take_behind.Goals.{After-len}
 
--- the block before and afterwards, and what is taken of it
+-- the block before and after, and the rows that are removed from it
 record Taken (blocks : List (List RowsView)) (block at gone : ℕ) (kept rows : List RowsView) : Type 0 where
   within : block < length blocks
   inside : at ≤ length (get_or blocks block [])
