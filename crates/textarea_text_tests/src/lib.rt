@@ -1,5 +1,4 @@
-//! Worked cases of words, fragments, ranges, searches, visual rows, and lines that change with
-//! them.
+//! Worked cases of words, fragments, ranges, searches, visual rows, and lines with these.
 #![tactic(auto)]
 
 #[cfg(test)]

@@ -33,11 +33,11 @@ enum Step {
     Settings(Shape),
     /// The number of visual rows.
     RowCount(usize),
-    /// The visual position of a position.
+    /// A position, and its visual position.
     Seen(Place, Place),
     /// The number of visual rows, and the visual position of the text's end.
     End(usize, Place),
-    /// The positions to which the cursor moves from a position: up, and down.
+    /// A position, and where the cursor moves from it: up, and down.
     Moves(Place, Option<Place>, Option<Place>),
     /// The number of visual rows at a width.
     Count(u16, usize),
@@ -173,7 +173,7 @@ fn settings((mode, line_numbers, inner_width): Shape) -> LayoutSettings {
     }
 }
 
-// A layout of these lines.
+// These lines with a layout.
 fn laid_out(alloc: Global, texts: &[&str], shape: Shape) -> Result<LaidOutLines, AllocError> {
     LaidOutLines::new(alloc, strings(alloc, texts)?, settings(shape))
 }
@@ -186,7 +186,7 @@ fn end_of(laid: &LaidOutLines) -> Place
     (row, column_count(lines[row].as_str()))
 }
 
-// The visual position of a position, if the lines have it.
+// The visual position of `place`, if the lines have that position.
 fn seen(laid: &LaidOutLines, place: Place) -> Option<Place> {
     if is_place(laid.lines(), place) {
         Some(laid.visual_position(place))
@@ -212,7 +212,7 @@ fn has_rows(view: &LaidOutView<'_>, expected: &[&str]) -> bool {
     true
 }
 
-// The layout of the same lines from scratch.
+// The same lines with a layout from scratch.
 fn laid_out_anew(laid: &LaidOutLines) -> Result<LaidOutLines, AllocError> {
     let alloc = laid.allocator();
     LaidOutLines::new(
@@ -245,7 +245,7 @@ fn is_as_anew(laid: &LaidOutLines) -> Result<bool, AllocError> {
     Ok(is_alike(laid, &laid_out_anew(laid)?))
 }
 
-// Makes and undoes an edit. Returns the end in between; none if a layout is not that from scratch.
+// Makes and undoes an edit. Returns the end in between; none if a layout is not as from scratch.
 fn make_and_take_back(
     laid: &mut LaidOutLines,
     edit: &Edit,
@@ -393,7 +393,7 @@ fn steps_over_lines(rt: HostRuntime) -> Result<(), Fail> {
     })
 }
 
-// Whether the layout after replacing all lines is that from scratch.
+// Whether the layout after replacing all lines equals one from scratch.
 fn are_put(alloc: Global, lines: Vec<String>, shape: Shape) -> Result<bool, AllocError>
     requires { 0 < vec_len lines }
 {
@@ -402,7 +402,7 @@ fn are_put(alloc: Global, lines: Vec<String>, shape: Shape) -> Result<bool, Allo
     is_as_anew(&others)
 }
 
-// Whether the layout is that from scratch, also when a character is typed and undone.
+// Whether the layout equals one from scratch, also when a character is typed and undone.
 fn is_right(laid: &mut LaidOutLines) -> Result<bool, AllocError> {
     Ok(is_as_anew(laid)? && type_and_take_back(laid)?.is_some())
 }

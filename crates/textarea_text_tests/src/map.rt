@@ -26,12 +26,12 @@ const GLYPHS: Shape = (WrapMode::Glyph, 4, 4);
 
 const WIDE_WORDS: Shape = (WrapMode::Word, 9, 4);
 
-/// A fact of the map of some lines.
+/// A fact about the map of some lines.
 #[derive(Clone, Copy, Debug)]
 enum Fact {
     /// The number of visual rows.
     RowCount(usize),
-    /// The visual position of a position, and where the cursor moves from it: up, and down.
+    /// A position, its visual position, and where the cursor moves from it: up, and down.
     Moves(Place, Place, Option<Place>, Option<Place>),
     /// The width and the greatest cursor column of a visual row.
     Columns(usize, (usize, usize)),
