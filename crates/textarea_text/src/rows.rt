@@ -14,7 +14,7 @@ use textarea_util::limit::within_limit;
 use textarea_util::replace::replace_items;
 
 /// Returns the byte offset of a column, counted in characters and at most the line's length. A
-/// column that equals the length in bytes takes no walk, since then each character is one byte.
+/// column that equals the length in bytes needs no walk, since then each character is one byte.
 pub fn byte_offset(line: &str, column: usize) -> usize
     requires { column ≤ length (chars line.now) }
     ensures { result ≡ length (encode_utf8_all (take column (chars line.now))) }
