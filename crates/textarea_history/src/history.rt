@@ -283,7 +283,6 @@ impl History {
     }
 }
 
-/// Drops the oldest edit, if there is one.
 fn drop_oldest(items: &mut VecDeque<Edit>)
     ensures items { items.new.items ≡ drop 1 items.old.items }
     ensures capacity { deque_capacity items.new ≡ deque_capacity items.old }

@@ -20,7 +20,6 @@ abbrev pub in_order : List AtomicRange → List AtomicRange
 in_order [] = []
 in_order (range ∷ rest) = insert_among range (in_order rest)
 
--- the ranges are in order
 abbrev pub AreInOrder : List AtomicRange → Type 0
 AreInOrder ranges = in_order ranges ≡ ranges
 

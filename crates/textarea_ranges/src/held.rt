@@ -15,7 +15,6 @@ pub fn inside(ranges: &[AtomicRange], place: (usize, usize)) -> Option<AtomicRan
         .find(|range| is_inside(*range, place))
 }
 
-// Whether the range starts before the position and ends after it.
 fn is_inside(range: AtomicRange, place: (usize, usize)) -> bool
     ensures { result ≡ is_inside place range }
 {
