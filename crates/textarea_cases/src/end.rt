@@ -52,7 +52,6 @@ pub enum Difference {
 }
 
 impl End {
-    /// Returns the exit status of this end.
     pub fn status(&self) -> u8 {
         match self.stop {
             None | Some(Stop::Refused) => 0,

@@ -21,7 +21,6 @@ pub enum Stop {
 }
 
 impl Stop {
-    /// Returns the exit status of this end.
     pub fn status(&self) -> u8 {
         match self {
             Stop::Memory => NO_MEMORY,

@@ -57,7 +57,6 @@ impl Modal {
         Modal { mode: Mode::Normal }
     }
 
-    /// Returns the mode.
     pub fn mode(&self) -> Mode
         ensures { result ≡ self.now }
     {

@@ -120,7 +120,6 @@ fn with_report(alloc: Global, head: String, area: &TextArea<'_>) -> Result<Strin
     Ok(text)
 }
 
-// The printed text of a text area.
 fn report_of(alloc: Global, area: &TextArea<'_>) -> Result<String, AllocError> {
     let report = Report {
         answers: &[],
@@ -137,7 +136,6 @@ fn inputs_of(alloc: Global, text: &str) -> Result<Vec<Input>, AllocError>
     text.chars().map(input_of).collect(alloc)
 }
 
-// The input of a character.
 fn input_of(character: char) -> Input
     ensures { result ≡ input_of character }
 {
