@@ -1,5 +1,5 @@
-//! What a text editor is made of below its widget, each in a crate of its own and listed here: keys, amounts of
-//! scrolling, the history of edits, words, wrapping, layout numbers, screen types and searches.
+//! The base of a text editor: text as lines and its history, words, keys, wrapping, screen types
+//! and search. Each is proved in its own crate and listed here.
 #![tactic(auto)]
 
 pub use textarea_data::{input, scroll};
@@ -9,7 +9,7 @@ pub use textarea_search::search;
 pub use textarea_text::word;
 pub use textarea_wrap::{layout, wrap};
 
-/// Positions, runs of spaces, and the digits of a number.
+/// Positions, spaces, and the digits of a number.
 pub mod util {
     pub use textarea_text::util::{Pos, spaces};
     pub use textarea_wrap::layout::num_digits;
