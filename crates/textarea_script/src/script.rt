@@ -62,56 +62,39 @@ fn read_script<R: Read>(alloc: Global, reader: &mut R) -> Result<Vec<Command>, F
     Ok(commands::read(alloc, script.as_slice())?)
 }
 
-// The printed text of a script with these commands.
+// Returns what is printed after a run of the commands on an empty text area.
 fn printed_of(alloc: Global, commands: Vec<Command>) -> Result<String, Failure> {
     let mut area = TextArea::try_default(alloc)?;
-    let printed = printed_behind(alloc, &mut area, commands);
-    drop(area);
-    printed
-}
-
-// The printed text of a run of the commands' calls.
-fn printed_behind(
-    alloc: Global,
-    area: &mut TextArea<'_>,
-    commands: Vec<Command>,
-) -> Result<String, Failure> {
     let mut buffer = Buffer::empty(alloc, Rect::new(0, 0, COLUMNS, ROWS))?;
-    let ran = run_commands(alloc, area, commands, &mut buffer)?;
-    printed_end(alloc, area, &buffer, &ran)
+    let run = run_commands(alloc, &mut area, commands, &mut buffer)?;
+    let report = Report {
+        answers: run.answers.as_slice(),
+        area: &area,
+        screen: run.drawn.map(|area| Screen {
+            buffer: &buffer,
+            area,
+        }),
+    };
+    Ok(report.to_string(alloc)?)
 }
 
-// The results of a run's calls, and the area that was drawn last, if one was.
+// What a run leaves beside the text area: the answers of the calls, and the area that was drawn
+// last, if any.
 #[derive(Drop)]
 struct Ran {
     answers: Vec<Answer>,
     drawn: Option<Rect>,
 }
 
-// The printed text of a run with these results.
-fn printed_end(
-    alloc: Global,
-    area: &TextArea<'_>,
-    buffer: &Buffer,
-    ran: &Ran,
-) -> Result<String, Failure> {
-    let screen = ran.drawn.map(|area| Screen { buffer, area });
-    let report = Report {
-        answers: ran.answers.as_slice(),
-        area,
-        screen,
-    };
-    Ok(report.to_string(alloc)?)
-}
-
-// Makes the calls of the commands. The commands are dropped before anything is printed.
+// Makes the calls of the commands, and drops the commands.
 fn run_commands(
     alloc: Global,
     area: &mut TextArea<'_>,
     commands: Vec<Command>,
     buffer: &mut Buffer,
 ) -> Result<Ran, Failure> {
-    run_lent(alloc, area, commands.as_slice(), buffer)
+    let calls = commands::calls(alloc, commands.as_slice())?;
+    run_calls(area, calls.as_slice(), buffer)
 }
 
 // Makes the calls, which borrow from the commands.
