@@ -11,7 +11,6 @@ use crate::special::answer_specially;
 use std::alloc::AllocError;
 use textarea_calls::kind::{Attempt, Kind, Write, kind_of};
 use textarea_calls::{Answer, Call};
-use textarea_data::input::Input;
 use textarea_screen::screen::Buffer;
 use tui_textarea::TextArea;
 
@@ -74,19 +73,7 @@ fn attempt(area: &mut TextArea<'_>, call: Attempt<'_>) -> Result<bool, AllocErro
         Attempt::DeleteStr(count) => area.delete_str(count),
         Attempt::SearchForward(match_cursor) => area.search_forward(match_cursor),
         Attempt::SearchBack(match_cursor) => area.search_back(match_cursor),
-        Attempt::Input(input) => area.input(same(input)),
-        Attempt::InputWithoutShortcuts(input) => area.input_without_shortcuts(same(input)),
-    }
-}
-
-// An input equal to this one. `Input::clone` isn't used because a clone can run out of memory.
-fn same(input: &Input) -> Input
-    ensures { result ≡ input.now }
-{
-    Input {
-        key: input.key,
-        ctrl: input.ctrl,
-        alt: input.alt,
-        shift: input.shift,
+        Attempt::Input(input) => area.input(*input),
+        Attempt::InputWithoutShortcuts(input) => area.input_without_shortcuts(*input),
     }
 }

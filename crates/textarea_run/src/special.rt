@@ -7,7 +7,7 @@ ghost use Rattle.tui_textarea.specs.Patterns.{IsNewPattern, IsToldAs};
 ghost use Rattle.tui_textarea.specs.Said.{said};
 
 use crate::memory::allocator;
-use std::alloc::{AllocError, Global};
+use std::alloc::AllocError;
 use textarea_calls::Answer;
 use textarea_calls::kind::Special;
 use textarea_data::range::AtomicRange;
@@ -50,14 +50,8 @@ fn copy_and_set_ranges(
         (area.new ≡ with_ranges_if (rejected_ranges area.old ranges.now) area.old ranges.now) }
     ensures err { OnErr result (area.new ≡ area.old) }
 {
-    let copies = copy_ranges(allocator(area), ranges)?;
+    let copies = ranges.to_vec(allocator(area))?;
     set_ranges(area, copies)
-}
-
-fn copy_ranges(alloc: Global, ranges: &[AtomicRange]) -> Result<Vec<AtomicRange>, AllocError>
-    ensures { IfOk result (λ copies. copies.items ≡ ranges.now) }
-{
-    ranges.to_vec(alloc)
 }
 
 // Sets the ranges, or returns the rejected ones.

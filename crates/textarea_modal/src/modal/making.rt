@@ -76,18 +76,6 @@ pub fn hand_on(area: &mut TextArea<'_>, input: &Input) -> Result<(), AllocError>
     ensures ok { OnOk result (AllMade area.old (handed_on input.now ∷ []) area.new) }
     ensures err { OnErr result (OneRefused area.old (handed_on input.now ∷ []) area.new) }
 {
-    area.input(same(input))?;
+    area.input(*input)?;
     Ok(())
-}
-
-// An input equal to this one. `Input::clone` isn't used because a clone can run out of memory.
-fn same(input: &Input) -> Input
-    ensures { result ≡ input.now }
-{
-    Input {
-        key: input.key,
-        ctrl: input.ctrl,
-        alt: input.alt,
-        shift: input.shift,
-    }
 }
