@@ -1,13 +1,14 @@
 #!/bin/bash
-# Tries the programs that must not compile: each file .ci/refused/NAME.rt.txt names in its first two lines the error that is
-# wanted and the crates that it needs. Those of this repository are copied with all that they need; `rt try` then reports what
-# the compiler says, and nothing is proved for that.
+# Tries the programs that must not compile. The first two lines of a file .ci/refused/NAME.rt.txt
+# name the expected error and the crates that the program needs. These crates are copied with all that
+# they need, and `rt try` compiles the program. Nothing is proved.
 set -euo pipefail
 top=$(cd "$(dirname "$0")/.." && pwd)
 rt=${RT:-rt}
 failed=0
 
-# Copies a crate of this repository, and those below it, with their lines of crates.txt. Libraries of the kit are left alone.
+# Copies a crate of this repository and the crates that it needs, with their lines of crates.txt. The
+# toolchain's crates are not copied.
 copy_crate() {
   local crate=$1 line part below
   [ ! -d "$folder/crates/$crate" ] || return 0
@@ -36,12 +37,12 @@ for program in "$top"/.ci/refused/*.rt.txt; do
   tail -n +3 "$program" > "$folder/crates/refused/src/main.rt"
   log="$folder/log"
   if (cd "$folder/crates/refused" && $rt try) > "$log" 2>&1; then
-    echo "refused: $name was not refused"
+    echo "must not compile: $name compiles"
     failed=1
   elif grep -qF "error[$wanted]" "$log"; then
-    echo "refused: $name: error[$wanted]"
+    echo "must not compile: $name: error[$wanted]"
   else
-    echo "refused: $name was refused, but not by error[$wanted]:"
+    echo "must not compile: $name has another error than error[$wanted]:"
     tail -n 20 "$log"
     failed=1
   fi

@@ -1,8 +1,8 @@
 #!/bin/sh
-# Times the drawing of frames of 24 rows of 80 columns into one buffer (PROGRAM is what `rt run` in crates/textarea_bench builds),
-# and counts what drawing asks for: the number of allocations of a run of ten frames and of a run of ninety, which valgrind counts
-# where it is there. A frame of ASCII should take at most 80 microseconds, and the two numbers be the same. The rows are full of
-# the text.
+# Times the drawing of frames of 24 rows of 80 columns, full of one text, into one buffer. If
+# valgrind is installed, it also counts the allocations of a run of 10 frames and of one of 90. A
+# frame of ASCII should take at most 80 microseconds, and the two counts should be equal.
+# PROGRAM is what `rt run` in crates/textarea_bench builds.
 # usage: bench/paint.sh PROGRAM
 set -e
 program=$1

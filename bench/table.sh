@@ -1,23 +1,29 @@
 #!/bin/bash
-# Prints one table of what keys, frames, cuts and scripts cost, in markdown: the time at 1,000, 10,000, 100,000 and 1,000,000
-# lines, characters or commands, and the last time in the first ones. Times are processor time, the best of some runs; of each
-# that of the same program on the same text, with nothing done to it, is taken away.
-# - A key in a text of lines of 80 columns, wrapped: into a line of some 1,000 characters, which it cuts anew; one that gives a
-#   line a second row, or takes it away; and by turns a line break and Backspace, in the first line, behind which all lines are
-#   moved, and in the last one, behind which none is. The same break in the middle of the lines' screen map alone, and the move
-#   of their headers alone that it makes there.
-# - A character that is typed, or removed by Backspace, in a line that isn't wrapped, by the line's length in characters: of one
-#   byte and of two, at the line's end and in its middle, where what stands behind it in the line is moved; and that move alone.
-# - A width that changes, and one whose rows were measured before: the time for each line.
-# - A key and the frame of 80 by 24 behind it; a frame alone; and one with line numbers, all lines selected and matches in each
-#   row. Where valgrind is there, also how often a frame asks for memory for each of its rows.
-# - Scripts of `tascript`: edits all over a text, a quarter of them line breaks, each undone and made again; all lines cut, and
-#   put back by an undo; a run of characters typed and removed by Backspace, reading and printing included.
-# - Reading alone: scripts whose last line isn't read, so that nothing is run. A `set_lines` of that many lines of 100 bytes,
-#   and that many short commands. Where GNU time is there, also how many bytes are held at the most for each byte of the script,
-#   and the same where the `set_lines` is run and printed.
-# CRATES is the folder with the crates in which `rt run` built textarea_bench and tascript; without it, that of this repository.
-# Rows whose program isn't there are left out. It takes some twenty minutes.
+# Prints one table of what keys, frames, cuts and scripts cost, in markdown: the time at 1,000,
+# 10,000, 100,000 and 1,000,000 lines, characters or commands, and the last time divided by the
+# first. Times are processor time, the fastest of some runs, less the time of the same program on
+# the same text with nothing done to it.
+# - A key in a wrapped text of lines of 80 columns: into a line of some 1,000 characters, which is
+#   wrapped from scratch; one that gives a line a second row, or removes it; and in turns a line
+#   break and Backspace, in the first line, which moves all lines after it, and in the last one,
+#   which moves none. The same break in only the screen map, in its middle, and only its move of the
+#   lines' headers.
+# - A character that is typed, or removed by Backspace, in an unwrapped line, by the line's length
+#   in characters: of one byte and of two, at the line's end and in its middle, where the rest of
+#   the line is moved; and only that move.
+# - A new width, and one whose rows were measured before: the time for each line.
+# - A key and then a frame of 80 by 24; only a frame; and one with line numbers, all lines selected
+#   and matches in each row. If valgrind is installed, also the allocations of a frame for each of
+#   its rows.
+# - Scripts of `tascript`: edits all over a text, a quarter of them line breaks, each undone and
+#   redone; all lines cut, and the cut undone; a run of characters typed and removed by Backspace,
+#   including reading and printing.
+# - Only reading: scripts whose last line is unparsed, so that nothing is run. A `set_lines` of that
+#   many lines of 100 bytes, and that many short commands. If GNU time is installed, also the peak
+#   memory for each byte of the script, and the same if the `set_lines` is run and printed.
+# CRATES is the folder of the crates in which `rt run` built textarea_bench and tascript, by default
+# that of this repository. Rows whose program is missing are left out. A run takes some twenty
+# minutes.
 # usage: bench/table.sh [CRATES]
 set -e
 crates=${1:-$(dirname "$0")/../crates}
@@ -27,13 +33,13 @@ trap 'rm -f "$script" "$script.held"' EXIT
 
 program() { echo "$crates/$1/out/$1"; }
 
-# the nanoseconds of processor time that a run of a program on the script takes
+# the nanoseconds of processor time that one run of a program takes on the script
 run_time() {
     local TIMEFORMAT='%U %S'
     { time "$1" < "$script" > /dev/null 2>&1; } 2>&1 | awk '{ printf "%.0f", ($1 + $2) * 1e9 }'
 }
 
-# the same of the fastest of so many runs
+# the same, for the fastest of $2 runs
 best() {
     local fastest= taken
     for (( turn = 0; turn < $2; turn++ )); do
@@ -43,10 +49,10 @@ best() {
     echo "$fastest"
 }
 
-# how many runs are made at a size
+# the number of runs at a size
 turns() { if [ "$1" -ge 1000000 ]; then echo 3; else echo 8; fi; }
 
-# a row: what it is, its unit, and a value for each size
+# a row: its label, its unit, and a value for each size
 row() {
     local what=$1 unit=$2 first= last=
     shift 2
@@ -60,7 +66,7 @@ row() {
 
 quotient() { awk -v n="$1" -v d="$2" 'BEGIN { printf "%.2f", n / d }'; }
 
-# the time of one job in microseconds: its topic, its word, the size, and how many times it is done
+# the microseconds of one job: its topic, its word, the size, and the number of times it is done
 once() {
     local path none
     path=$(program textarea_bench)
@@ -70,7 +76,7 @@ once() {
     quotient $(( $(best "$path" "$(turns "$3")") - none )) $(( $4 * 1000 ))
 }
 
-# a row of a job: what it is, the topic, the word, and how many times it is done at each size
+# a row of a job: its label, its topic, its word, and the number of times it is done at each size
 jobs_row() {
     local what=$1 topic=$2 word=$3 values=()
     shift 3
@@ -91,8 +97,9 @@ lines_row() {
     row "$what" "nanoseconds a line" "${values[@]}"
 }
 
-# rows of plain frames, of full ones, and how many times a plain one a full one takes; for each size how many frames are drawn. Both
-# are run by turns, in short runs and three times as often, so that a machine that is slower at times slows both
+# rows of plain frames, of full ones, and the quotient of the two; for each size the number of
+# frames. The two run in turns, in short runs and three times as often, so that a slow phase of the
+# machine slows both
 frame_rows() {
     local path plain=() full=() times=() both
     path=$(program textarea_bench)
@@ -109,7 +116,7 @@ frame_rows() {
     row "the same, to a plain one" times "${times[@]}"
 }
 
-# the nanoseconds of so many plain frames at a size, and those of as many full ones
+# the nanoseconds of $3 plain frames at a size, and those of $3 full ones
 frames_by_turns() {
     local -A least=()
     local job taken
@@ -123,7 +130,7 @@ frames_by_turns() {
     echo $(( ${least[plain $2 $3]} - ${least[plain $2 0]} )) $(( ${least[full $2 $3]} - ${least[full $2 0]} ))
 }
 
-# how often a frame asks for memory, for each of its 24 rows
+# the allocations of a frame for each of its 24 rows
 requests_row() {
     local path values=()
     path=$(program textarea_bench)
@@ -138,7 +145,7 @@ requests() {
     echo "frames $2" | valgrind "$1" 2>&1 > /dev/null | sed -n 's/.*heap usage: \([0-9,]*\) allocs.*/\1/p' | tr -d ,
 }
 
-# ---- scripts: each is written by a function, for a size and for how many times
+# ---- scripts: a function writes each, for a size and a number of rounds
 
 some_lines() {
     awk -v lines="$1" 'BEGIN {
@@ -192,8 +199,8 @@ short_commands() {
 
 unread() { "$1" "$2"; echo x; }
 
-# a row of a script: what it is, its unit, how much of the time is counted, the function that writes it, and for each size how
-# many times it does what it does
+# a row of a script: its label, its unit, the number of units in one round, the function that writes
+# the script, and the number of rounds for each size
 script_row() {
     local what=$1 unit=$2 per=$3 write=$4 values=() path none
     path=$(program tascript)
@@ -209,7 +216,8 @@ script_row() {
     row "$what" "$unit" "${values[@]}"
 }
 
-# rows of a script that is only read: the time, and what is held. A small one takes less time than the start of the program
+# rows of a script that is only read: the time and the peak memory. A small script takes less time
+# than the start of the program
 reading_rows() {
     local what=$1 unit=$2 write=$3 times=() held=() path none
     path=$(program tascript)
@@ -229,7 +237,7 @@ reading_rows() {
     row "$what, held" "bytes a byte" "${held[@]}"
 }
 
-# what a program holds on the script at the most, for each byte of the script; of small ones it says nothing
+# the peak memory of a program, in bytes for each byte of the script; not measured for small scripts
 bytes_held() {
     if [ "$2" -lt 100000 ] || [ ! -x /usr/bin/time ]; then echo -; return; fi
     quotient $(( ($(kilobytes "$1" "$script") - $(kilobytes "$1" /dev/null)) * 1024 )) "$(wc -c < "$script")"

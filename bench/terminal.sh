@@ -1,19 +1,21 @@
 #!/bin/bash
-# Prints one table of what a terminal's bytes and frames cost, in markdown. Times are processor time, the best of some runs; of each
-# that of the same program with nothing done is taken away.
-# - Bytes of each kind, 10 MB of them, decoded in pieces of 4,096 bytes, as they are read, and a paste in one piece too: the time for
-#   each byte. Letters in calls of one byte each: the time for each call.
-# - Frames of 80 by 24 cells, painted one after another: the same, those of which one row is another by turns, those of which each
-#   cell is another, and the same with a reset before each. In rows of words a look changes every nine cells. What it takes to
-#   compare the cells of two buffers is what they are measured by. Where valgrind is there, also how often a paint asks for memory.
-# PROGRAM is what `rt run` in crates/textarea_bench builds; without it, that of this repository.
+# Prints one table of what a terminal's bytes and frames cost, in markdown. Times are processor
+# time, the fastest of some runs, less the time of the same program with nothing done.
+# - Bytes of each kind, 10 MB of them, decoded in calls of 4,096 bytes, as a program reads them, and
+#   a paste also in one call: the time for each byte. Letters in calls of one byte: the time for
+#   each call.
+# - Frames of 80 by 24 cells, painted one after another: equal ones, ones that differ in turns in
+#   one row, ones that differ in each cell, and the last with a reset before each. In rows of words
+#   the style changes every nine cells. The times are compared with the time to compare the cells of
+#   two buffers. If valgrind is installed, also the allocations of a paint.
+# PROGRAM is what `rt run` in crates/textarea_bench builds, by default that of this repository.
 # usage: bench/terminal.sh [PROGRAM]
 set -e
 program=${1:-$(dirname "$0")/../crates/textarea_bench/out/textarea_bench}
 [ -x "$program" ] || { echo "usage: bench/terminal.sh PROGRAM"; exit 1; }
 cells=$((80 * 24))
 
-# the nanoseconds of processor time that a run of the program on a job takes, the best of seven
+# the nanoseconds of processor time that a run of the program on a job takes, the fastest of seven
 best() {
     local fastest= taken
     local TIMEFORMAT='%U %S'
@@ -24,7 +26,7 @@ best() {
     echo "$fastest"
 }
 
-# the nanoseconds of a job that is done so many times, each of so many parts, for each part
+# the nanoseconds of a job for each unit: it is done $2 times, with $3 units each
 each() { awk -v all="$(best "$1 $2")" -v none="$(best "$1 0")" -v parts="$(( $2 * $3 ))" 'BEGIN { printf "%.2f", (all - none) / parts }'; }
 
 row() { printf '| %s | %s | %s |\n' "$1" "$2" "$3"; }

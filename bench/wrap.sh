@@ -1,7 +1,8 @@
 #!/bin/sh
-# Times the wrapping of lines of 10, 100 and 1,000 KB in each mode, of the same number of bytes in all (PROGRAM is what
-# `rt run` in crates/textarea_bench builds). A line of n bytes costs O(n): the times of one mode and text should lie within 2x of
-# each other.
+# Times the wrapping of lines of 10, 100 and 1,000 KB in each mode, with the same number of bytes in
+# all. A line of n bytes costs O(n): the times of one mode and text should be within 2x of each
+# other.
+# PROGRAM is what `rt run` in crates/textarea_bench builds.
 # usage: bench/wrap.sh PROGRAM
 set -e
 program=$1

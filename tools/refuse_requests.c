@@ -1,16 +1,17 @@
-// Loaded into a program by LD_PRELOAD: refuses each request for memory of a run in turn.
+// Loaded into a program by LD_PRELOAD: fails each allocation of a run in turn.
 //
-// At each request the process is copied. The copy has this request refused and no other (or so many in a row as REFUSALS_IN_A_ROW
-// says), and goes on to its end; what it writes to standard output and standard error goes into memory. The process waits for it,
-// and goes on with the request granted. Where REFUSALS_ALIKE is set, of more requests than that for the same number of bytes, with
-// no other request between, only each 1,000th of the others is refused to a copy.
-// Standard input has to be a file, so that a copy can read on for itself. Where REFUSALS_ERRORS_FAIL is set, each write of a copy
-// to standard error fails.
+// At each allocation the process is copied. In the copy this allocation fails (or the number of
+// allocations in REFUSALS_IN_A_ROW, from this one on), and the copy runs to its end; its standard output
+// and standard error are stored in memory. The process waits for the copy, and goes on with the memory.
+// REFUSALS_ALIKE is a limit for allocations of the same size that directly follow one another: beyond
+// it only each 1,000th fails in a copy. Standard input has to be a file, so that a copy can read it from
+// its own position. If REFUSALS_ERRORS_FAIL is set, each write of a copy to standard error fails.
 //
-// The file that REFUSALS_FILE names gets a record for each request that a copy was refused, in their order: a line with the
-// request's number, from 1, the copy's exit status (128 and the signal's number, where one ended it), the number of requests that
-// it made, and the lengths of what it wrote to the two streams, and these behind it. The last line is `end`, with the numbers of requests before the first read of standard input,
-// before the last one, before the first write to standard output or standard error, and in all.
+// The file REFUSALS_FILE gets a record for each failed allocation, in their order: a line with the number
+// of the allocation, from 1, the copy's exit status (128 plus the signal's number, if one ended it), the
+// number of its allocations, and the lengths of its two outputs; then the outputs. The last line is `end`
+// with the numbers of allocations before the first read of standard input, before the last one, before
+// the first write to standard output or standard error, and in all.
 #define _GNU_SOURCE
 #include <errno.h>
 #include <fcntl.h>
@@ -28,24 +29,24 @@ extern void *__libc_calloc(size_t count, size_t size);
 extern void *__libc_realloc(void *block, size_t size);
 extern void *__libc_memalign(size_t alignment, size_t size);
 
-// The seconds that a copy has.
+// The time limit of a copy, in seconds.
 enum { MOST_SECONDS = 60 };
 
-// Of requests that are alike, behind the first ones each of this number is refused.
+// Of allocations of the same size, one in this number fails after the first ones.
 enum { STEP = 1000 };
 
 static int records = -1;
 static int is_copy;
-// What is written down asks for memory too, which is no request of the program.
+// Writing a record allocates too, which is no allocation of the program.
 static int is_recording;
-// The last request that the copy is refused.
+// The last allocation that fails in the copy.
 static unsigned long last_refused;
-// How many requests for as many bytes came directly before, and how many of these are each refused; 0 for all.
+// The number of allocations of the same size directly before, and the number of these that all fail; 0 for all.
 static size_t last_size;
 static unsigned long alike, most_alike;
 static unsigned long requests, before_first_read, before_last_read, before_first_write;
 static int has_read, has_written;
-// The number of requests of the copy, which the process reads when it has ended.
+// The number of the copy's allocations, which the process reads after the copy ended.
 static unsigned long *requests_of_copy;
 
 __attribute__((constructor)) static void begin(void) {
@@ -67,7 +68,7 @@ __attribute__((destructor)) static void end(void) {
     }
 }
 
-// Standard input from where it stands, so that reading on moves no other process.
+// Reopens standard input at its position, so that reading it moves no other process.
 static void reopen_input(void) {
     off_t place = lseek(0, 0, SEEK_CUR);
     int input = open("/proc/self/fd/0", O_RDONLY);
@@ -99,14 +100,14 @@ static void record(pid_t copy, int output, int errors) {
     append(errors, errors_length);
 }
 
-// Whether no copy is made for a request of so many bytes, since requests like it came before.
+// Whether no copy is made for an allocation of this size, because of such allocations before it.
 static int is_passed_over(size_t size) {
     alike = size == last_size ? alike + 1 : 0;
     last_size = size;
     return most_alike && alike >= most_alike && alike % STEP != 0;
 }
 
-// Whether this process is the copy whose request of so many bytes is refused.
+// Whether this allocation fails, in this process.
 static int is_refused(size_t size) {
     if (is_recording) {
         return 0;

@@ -1,4 +1,4 @@
-//! The calls of lines: those of scripts, and those that no script makes.
+//! The calls of lines: script commands and test commands.
 use std::alloc::{AllocError, Global};
 use std::slice::Iter;
 use textarea_calls::Call;
@@ -6,7 +6,7 @@ use textarea_calls::commands::Command;
 use textarea_cases::words::{Lent, call_of, character, lines_in, titled};
 use tui_textarea::{Borders, Color, Style};
 
-/// A block with a title, a placeholder of one line, and a key.
+/// Returns the values that calls borrow: a titled block, a placeholder of one line, and a key.
 pub fn lent(alloc: Global) -> Result<Lent, AllocError> {
     let red = Style::new().fg(Color::Red);
     Ok(Lent {
@@ -16,7 +16,7 @@ pub fn lent(alloc: Global) -> Result<Lent, AllocError> {
     })
 }
 
-/// The lines that are no words, which have to be lines of a script.
+/// Returns the lines that are no test commands. They must be script commands.
 pub fn script_of<'a>(alloc: Global, lines: &'a str, lent: &'a Lent) -> Result<String, AllocError> {
     let mut script = String::new(alloc);
     for line in lines.lines() {
@@ -27,7 +27,7 @@ pub fn script_of<'a>(alloc: Global, lines: &'a str, lent: &'a Lent) -> Result<St
     Ok(script)
 }
 
-/// The calls of the lines, in their order, where the commands are those of the lines that are no words.
+/// Returns the calls of the lines, in their order. `commands` are the script commands among them.
 pub fn calls_of<'a>(
     alloc: Global,
     lines: &'a str,
@@ -44,7 +44,7 @@ pub fn calls_of<'a>(
     Ok(calls)
 }
 
-// The call of words or, where the line is none, that of the next command.
+// The call of a test command, or else of the next script command.
 fn next_call<'a>(
     line: &'a str,
     commands: &mut Iter<'a, Command>,

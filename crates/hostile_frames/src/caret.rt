@@ -1,11 +1,11 @@
-//! What is promised of the caret of a frame, reckoned anew from what the text area tells of itself.
+//! Where the caret of a frame must be, computed from scratch from the text area's public state.
 use textarea_wrap::wrap::columns::display_column_behind;
 use tui_textarea::layout::LayoutMetrics;
 use tui_textarea::wrap::{WrapCount, line_ranges};
 use tui_textarea::{Alignment, Rect, TextArea, WrapMode};
 
-/// Whether the caret has to be shown in this inner area. The text's widest cluster that isn't a tab has so many columns, and each
-/// of its whitespace clusters that has a width is one character.
+/// Returns whether the caret must be visible in this inner area. `widest` is the width of the
+/// widest grapheme cluster except tabs. Each whitespace cluster with a width must be one character.
 pub fn is_caret_promised(area: &TextArea<'_>, inner: Rect, widest: usize) -> bool {
     if area.alignment() != Alignment::Left || inner.height() == 0 {
         return false;
@@ -19,8 +19,8 @@ pub fn is_caret_promised(area: &TextArea<'_>, inner: Rect, widest: usize) -> boo
     2 <= rest && 1 <= area.tab_length() && widest_with_tabs(area, widest) < rest
 }
 
-/// Whether each character of the cursor's visual row has a display width. The rows are those that the cursor's line is cut into for
-/// an inner area of this width.
+/// Returns whether each character of the cursor's visual row has a display width above 0. The
+/// cursor's line is wrapped for an inner area of this width.
 pub fn is_wide_row(area: &TextArea<'_>, inner_width: u16) -> bool {
     let (row, column) = area.cursor();
     match area.lines().get(row) {
@@ -39,7 +39,7 @@ fn layout_of(area: &TextArea<'_>, inner_width: u16) -> LayoutMetrics {
     )
 }
 
-// The columns of the widest cluster, a tab counted at its full length.
+// The width of the widest cluster, with a tab at its full length.
 fn widest_with_tabs(area: &TextArea<'_>, widest: usize) -> usize {
     if has_tab(area) {
         widest.max(usize::from(area.tab_length()))
@@ -48,12 +48,12 @@ fn widest_with_tabs(area: &TextArea<'_>, widest: usize) -> usize {
     }
 }
 
-/// Whether the text has a tab.
+/// Returns whether the text has a tab.
 pub fn has_tab(area: &TextArea<'_>) -> bool {
     area.lines().iter().any(|line| line.contains('\t'))
 }
 
-// The visual row of a line that a column lies in; all of the line where it can't be cut.
+// The visual row of a line that has a column; the whole line if it isn't wrapped.
 fn row_of<'a>(area: &TextArea<'_>, line: &'a String, column: usize, inner_width: u16) -> &'a str {
     let Some(width) = layout_of(area, inner_width).wrap_width() else {
         return line;
@@ -83,7 +83,7 @@ fn row_of<'a>(area: &TextArea<'_>, line: &'a String, column: usize, inner_width:
     found
 }
 
-// Whether each character has a display width.
+// Whether each character has a display width above 0.
 fn is_wide(text: &str, tab_length: u8) -> bool {
     text.chars().all(|character| 0 < display_column_behind(character, 0, tab_length))
 }

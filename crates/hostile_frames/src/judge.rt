@@ -1,4 +1,4 @@
-//! Frames, and what is promised of their carets.
+//! Draws frames and checks their carets.
 ghost use Rattle.textarea_calls.specs.Made.{CanBeMade};
 
 use crate::caret::{is_caret_promised, is_wide_row};
@@ -8,23 +8,23 @@ use textarea_calls::Call;
 use textarea_run::perform::perform;
 use tui_textarea::{Buffer, Position, Rect, TextArea};
 
-/// The columns of the buffer: those of the longest tab and of what stands beside it.
+/// The width of the buffer, in columns: enough for the longest tab and what is beside it.
 const COLUMNS: u16 = 300;
 
-/// The rows of the buffer.
+/// The height of the buffer, in rows.
 const ROWS: u16 = 8;
 
-/// What draws and judges frames of one text.
+/// Draws and checks the frames of one text.
 #[derive(Drop)]
 pub struct Judge {
     buffer: Buffer,
-    // The columns of the text's widest cluster that isn't a tab.
+    // The width of the text's widest cluster except tabs.
     widest: usize,
     tally: Tally,
 }
 
 impl Judge {
-    /// Nothing is counted. The text's widest cluster that isn't a tab has so many columns.
+    /// Returns a judge without counts. `widest` is the width of the widest cluster except tabs.
     pub fn new(alloc: Global, widest: usize) -> Result<Judge, AllocError> {
         Ok(Judge {
             buffer: Buffer::empty(alloc, Rect::new(0, 0, COLUMNS, ROWS))?,
@@ -33,7 +33,6 @@ impl Judge {
         })
     }
 
-    /// What was counted.
     pub fn tally(&self) -> Tally {
         self.tally
     }
@@ -45,7 +44,7 @@ impl Judge {
         make(area, call, &mut self.buffer)
     }
 
-    /// Makes a call, which may not fail, if it can be made.
+    /// Makes a call, if it can be made. It must not fail.
     pub fn make_call(&mut self, area: &mut TextArea<'_>, call: Call<'_>) {
         if !call.can_be_made() {
             return;
@@ -56,7 +55,7 @@ impl Judge {
         }
     }
 
-    /// Draws the text area into the place, which may not fail, and judges its caret.
+    /// Draws the text area into this area, which must not fail, and checks its caret.
     pub fn draw_frame(&mut self, area: &mut TextArea<'_>, place: Rect) {
         count(&mut self.tally.frames);
         if area.render(place, &mut self.buffer).is_err() {
@@ -70,7 +69,7 @@ impl Judge {
         self.judge_caret(area, inner);
     }
 
-    // The caret has to be where it is promised.
+    // Checks that the caret is where it is promised.
     fn judge_caret(&mut self, area: &TextArea<'_>, inner: Rect) {
         let is_promised = is_caret_promised(area, inner, self.widest);
         if is_promised {
@@ -83,8 +82,8 @@ impl Judge {
         }
     }
 
-    // The cell of a caret has to lie in the inner area and to be hit back to the cursor or, where the cursor's row has a character
-    // of display width 0, to some place.
+    // Checks the caret's cell. It must be in the inner area, and its hit test must give the cursor
+    // or, if the cursor's visual row has a character of display width 0, any position.
     fn judge_cell(&mut self, area: &TextArea<'_>, inner: Rect, cell: Position) {
         count(&mut self.tally.shown);
         let found = area.cursor_at_position(cell).unwrap_or(None);
@@ -96,7 +95,7 @@ impl Judge {
     }
 }
 
-// Makes a call, and lets its answer go.
+// Makes a call and drops its result.
 fn make(area: &mut TextArea<'_>, call: Call<'_>, buffer: &mut Buffer) -> Result<(), AllocError>
     requires { CanBeMade call }
 {

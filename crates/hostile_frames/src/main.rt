@@ -1,16 +1,17 @@
-//! Draws frames of hostile texts, in many areas and settings and behind each call, and judges them.
+//! Draws frames of hostile texts, in many areas and settings and after each call, and checks them.
 //!
-//! Standard input has blocks of lines, with an empty line between each two. The first block has the calls that are made on each
-//! text, with a frame behind each, as lines of a script or as words (`textarea_cases`). Each further block is a text: its first line
-//! is a name and, behind a space, the columns of the widest cluster that isn't a tab; the lines behind it are a script that makes the
-//! text. A line is printed for each text: how many frames were drawn and calls made, how many carets were shown, had to be shown and
-//! were hit back, and what was wrong.
+//! Standard input has blocks of lines, separated by empty lines. The first block has the calls that
+//! are made on each text, as script commands or test commands (`textarea_cases`). Each further
+//! block is a text: a line with its name, a space and the width of its widest grapheme cluster
+//! except tabs, and a script that writes it. A line is printed for each text: the numbers of
+//! frames, calls, visible carets, promised carets, carets that hit tests map to the cursor,
+//! failures.
 //!
-//! No call may fail. A caret that is shown has to lie in the inner area, and to be hit back to the cursor where no character of the
-//! cursor's visual row has display width 0; and a caret has to be shown where that is promised.
+//! No call may fail. A visible caret must be in the inner area, and its hit test give the cursor if
+//! all characters of the cursor's visual row have a width. A promised caret must be visible.
 //!
-//! The exit status is 0 where all was as it has to be, 1 where a stream failed, 3 where memory was refused to what is around the
-//! calls, or the input can't be read, so that a text wasn't judged, and 4 where a judgement failed.
+//! The exit status is 0 if no check failed, 1 if a stream failed, 3 if a text wasn't judged,
+//! because memory ran out outside of the calls or the input can't be read, and 4 if a check failed.
 #![tactic(auto)]
 
 mod asked;
@@ -36,7 +37,7 @@ fn main(rt: HostRuntime) -> ExitCode {
     ExitCode::from(tell(&rt, given.as_str()))
 }
 
-// Judges the texts, and tells what was counted of each.
+// Judges the texts, and prints the counts of each.
 fn tell(rt: &(impl Print + AllocGlobal), given: &str) -> u8 {
     let (asked, texts) = given.split_once("\n\n").unwrap_or((given, ""));
     let mut status = 0;
@@ -46,7 +47,7 @@ fn tell(rt: &(impl Print + AllocGlobal), given: &str) -> u8 {
     status
 }
 
-// Judges a text, and tells what was counted.
+// Judges a text, and prints its counts.
 fn tell_text(rt: &(impl Print + AllocGlobal), asked: &str, text: &str) -> u8 {
     let (head, lines) = text.split_once('\n').unwrap_or((text, ""));
     let (name, widest) = head.split_once(' ').unwrap_or((head, ""));

@@ -1,4 +1,4 @@
-//! Modes, alignments, line numbers, masks and blocks, in all combinations.
+//! All combinations of wrap modes, alignments, line numbers, masks and blocks.
 use std::alloc::AllocError;
 use tui_textarea::{Alignment, Block, Borders, Style, TextArea, WrapMode};
 
@@ -11,7 +11,6 @@ const MODES: [WrapMode; 4] = [
 
 const ALIGNMENTS: [Alignment; 3] = [Alignment::Left, Alignment::Center, Alignment::Right];
 
-/// One combination.
 #[derive(Clone, Copy)]
 pub struct Setting {
     mode: WrapMode,
@@ -22,10 +21,10 @@ pub struct Setting {
 }
 
 impl Setting {
-    /// How many combinations there are.
+    /// The number of combinations.
     pub const COUNT: usize = 96;
 
-    /// The combination of this number, counted from 0; the first ones again behind the last.
+    /// Returns the combination of this number, counted from 0. After the last one they repeat.
     pub fn numbered(number: usize) -> Setting {
         Setting {
             mode: MODES[number % 4],
@@ -36,7 +35,7 @@ impl Setting {
         }
     }
 
-    /// Sets all of it. Line numbers are set behind the alignment, which takes them away.
+    /// Sets the combination. Line numbers are set after the alignment, which removes them.
     pub fn put(self, area: &mut TextArea<'_>) -> Result<(), AllocError> {
         area.set_wrap_mode(self.mode)?;
         area.set_alignment(self.alignment)?;

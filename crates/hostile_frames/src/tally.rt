@@ -1,30 +1,29 @@
-//! What is counted of a text.
+//! The counts of a text.
 use std::fmt;
 
-/// The status where a judgement failed.
+/// The status if a check failed.
 const WRONG: u8 = 4;
 
-/// What was made and found, and what was wrong.
+/// The counts of frames, calls, carets and failures.
 #[derive(Clone, Copy, Default)]
 pub struct Tally {
     pub frames: usize,
     pub calls: usize,
-    /// Carets that were shown.
+    /// Visible carets.
     pub shown: usize,
-    /// Frames whose caret has to be shown.
+    /// Frames whose caret must be visible.
     pub promised: usize,
-    /// Carets whose cell is hit back to the cursor.
+    /// Carets whose hit test gives the cursor.
     pub hit_back: usize,
     /// Calls and drawings that failed.
     pub failed: usize,
-    /// Carets that weren't shown where that is promised.
+    /// Carets that aren't visible although that is promised.
     pub missing: usize,
-    /// Carets outside of the inner area, and those that weren't hit back where that is promised.
+    /// Carets outside the inner area, and those whose hit test is wrong although it is promised.
     pub astray: usize,
 }
 
 impl Tally {
-    /// The exit status for this tally.
     pub fn status(&self) -> u8 {
         if self.is_right() { 0 } else { WRONG }
     }
@@ -47,7 +46,7 @@ impl fmt::Display for Tally {
     }
 }
 
-/// One more, as far as it can be counted.
+/// Adds one, up to the greatest number.
 pub fn count(number: &mut usize) {
     *number = number.saturating_add(1);
 }

@@ -1,4 +1,4 @@
-//! A text in all settings and areas, behind all calls and at all tab lengths.
+//! A text in all settings and areas, after all calls, and at all tab lengths.
 use crate::asked::{calls_of, lent, script_of};
 use crate::caret::has_tab;
 use crate::judge::Judge;
@@ -11,10 +11,10 @@ use textarea_cases::end::Stop;
 use textarea_cases::words::Lent;
 use tui_textarea::{CursorMove, Rect, TextArea};
 
-/// The frames in each area, the cursor at another place in each.
+/// The number of frames in each area, each with the cursor at another position.
 const FRAMES: usize = 4;
 
-/// The area behind calls.
+/// The area of the frames after calls.
 const BEHIND_CALLS: Rect = Rect {
     x: 1,
     y: 1,
@@ -22,8 +22,8 @@ const BEHIND_CALLS: Rect = Rect {
     height: 4,
 };
 
-/// Judges the text that the lines of a script make, whose widest cluster that isn't a tab has so many columns, and makes the
-/// calls of other lines on it, each a line of a script or words.
+/// Judges the text of a script, also after the calls of other lines, which are script commands or
+/// test commands. `widest` is the width of the text's widest cluster except tabs.
 pub fn tour(alloc: Global, lines: &str, widest: usize, asked: &str) -> Result<Tally, Stop> {
     let mut judge = Judge::new(alloc, widest)?;
     let judged = judge_lines(alloc, lines, asked, &mut judge);
@@ -33,7 +33,7 @@ pub fn tour(alloc: Global, lines: &str, widest: usize, asked: &str) -> Result<Ta
     Ok(tally)
 }
 
-// Judges a text in all settings, behind the calls of lines too.
+// Judges a text in all settings, also after the calls of lines.
 fn judge_lines(alloc: Global, lines: &str, asked: &str, judge: &mut Judge) -> Result<(), Stop> {
     let lent = lent(alloc)?;
     let judged = judge_lent(alloc, lines, (asked, &lent), judge);
@@ -41,7 +41,7 @@ fn judge_lines(alloc: Global, lines: &str, asked: &str, judge: &mut Judge) -> Re
     judged
 }
 
-// Judges a text in all settings, behind the calls of lines too, for which this is lent.
+// The same, with the values that the calls borrow.
 fn judge_lent(
     alloc: Global,
     lines: &str,
@@ -53,7 +53,7 @@ fn judge_lent(
     judge_commands(alloc, lines, (asked, commands.as_slice(), lent), judge)
 }
 
-// Judges a text in all settings, behind the calls of lines too, where the commands are those of the lines that are no words.
+// The same, with the script commands among the lines.
 fn judge_commands(
     alloc: Global,
     lines: &str,
@@ -66,7 +66,7 @@ fn judge_commands(
     judged
 }
 
-// Judges a text in all settings, behind these calls too.
+// Judges a text in all settings, also after these calls.
 fn judge_settings(
     alloc: Global,
     lines: &str,
@@ -79,7 +79,7 @@ fn judge_settings(
     Ok(())
 }
 
-// Judges the text that the lines of a script make, in a setting.
+// Judges the text of a script in one setting.
 fn judge_text(
     alloc: Global,
     lines: &str,
@@ -93,7 +93,7 @@ fn judge_text(
     judged
 }
 
-// Judges an empty text area, once the lines of a script and the setting are put into it.
+// Writes the text of a script and a setting into an empty text area, and judges it.
 fn judge_area(
     area: &mut TextArea<'_>,
     lines: &str,
@@ -118,7 +118,6 @@ fn write(judge: &mut Judge, area: &mut TextArea<'_>, script: &str) -> Result<(),
     Ok(written?)
 }
 
-// Makes the calls of the commands one after another.
 fn write_commands(
     judge: &mut Judge,
     area: &mut TextArea<'_>,
@@ -130,7 +129,7 @@ fn write_commands(
     Ok(())
 }
 
-// Frames of each width and height, the cursor at one place behind another.
+// Draws frames of each width and height, with the cursor at one position after another.
 fn draw_areas(judge: &mut Judge, area: &mut TextArea<'_>) {
     for width in 0..=12 {
         for height in 0..=4 {
@@ -142,7 +141,7 @@ fn draw_areas(judge: &mut Judge, area: &mut TextArea<'_>) {
     }
 }
 
-// The cursor goes on by one place, and from the text's end back to its start.
+// Moves the cursor one position forward, or from the text's end to its start.
 fn go_on(area: &mut TextArea<'_>) {
     let place = area.cursor();
     area.move_cursor(CursorMove::Forward);
@@ -152,7 +151,7 @@ fn go_on(area: &mut TextArea<'_>) {
     }
 }
 
-// Where the text has a tab, frames at each tab length: one where a tab fits, and one where longer ones don't.
+// If the text has tabs, draws at each tab length a frame that a tab fits and a narrow one.
 fn draw_tabs(judge: &mut Judge, area: &mut TextArea<'_>) -> Result<(), AllocError> {
     if !has_tab(area) {
         return Ok(());
@@ -167,7 +166,7 @@ fn draw_tabs(judge: &mut Judge, area: &mut TextArea<'_>) -> Result<(), AllocErro
     area.set_tab_length(before)
 }
 
-// Makes each of the calls, with a frame behind it.
+// Makes each of the calls, and draws a frame after it.
 fn make_calls(judge: &mut Judge, area: &mut TextArea<'_>, calls: &[Call<'_>]) {
     for call in calls {
         judge.make_call(area, *call);

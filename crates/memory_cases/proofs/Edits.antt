@@ -1,4 +1,4 @@
--- Edits of texts: which fit, and which are well formed.
+-- Edits of texts that fit, and that are well formed.
 use Rattle.std.proofs.Common.{true, false, Bool, min, cond, Some, ◌≡◌, ◌≢◌, ◌+◌, ◌-◌, ◌≤◌, ◌<◌, List, [], ◌∷◌, String, length, take, drop, sym, ap, ◌∙◌, subst, arith, refl, ℕ}
 use Rattle.std.specs.Option.{IfSome}
 use Rattle.std.proofs.lemmas.Bool.Decides.{nat_tests}
@@ -16,7 +16,7 @@ use Rattle.textarea_text.specs.Part.{part}
 use Rattle.textarea_document.proofs.Parts.{part_ends, part_stands}
 use Rattle.memory_cases.specs.Ready.{IsReady}
 
--- symbols that end elsewhere than they begin are some
+-- a list of symbols that ends at another position than it begins at is not empty
 pub some_symbols : (place : Place) (symbols : List Symbol) → end place symbols ≢ place → 0 < length symbols
 some_symbols place [] apart = absurd (apart refl)
 some_symbols place (symbol ∷ symbols) apart = omega arith
@@ -39,7 +39,7 @@ alike (InsertChunk p) (InsertChunk q) e = record { symbols = ap joined e; insert
 alike (DeleteChunk p) (DeleteChunk q) e = record { symbols = ap joined e; inserts = refl; pieces = ap Some (sym (length-map q.items characters_of) ∙ ap length e ∙ length-map p.items characters_of) }
 alike kind copy h = absurd h
 
--- the copy has the same splice, ends where it does, and has as many pieces
+-- the copy has the same splice, the same end and the same number of lines
 pub copy_splice : (kind copy : EditKind) (before after : Place) → IsCopyOfKind kind copy → splice_of copy before after ≡ splice_of kind before after
 copy_splice kind copy before after h =
     let same = alike kind copy h in
@@ -49,7 +49,7 @@ copy_splice kind copy before after h =
 pub copy_end : (kind copy : EditKind) (before after : Place) → IsCopyOfKind kind copy → end_of_kind copy before after ≡ end_of_kind kind before after
 copy_end kind copy before after h = ap (λ (b : Bool). cond b after before) (alike kind copy h).inserts
 
--- an edit of the copy is well formed where the kind says what is well formed
+-- an edit with a copy of the kind is well formed if the kind meets the conditions
 pub copy_well_formed : (kind copy : EditKind) (before after : Place) (edit : Stored) → IsCopyOfKind kind copy → 0 < length (symbols_of kind) → IfSome (pieces_of kind) (λ n. 2 ≤ n) → end_of_kind kind before after ≡ end (splice_of kind before after).place (symbols_of kind) → edit.splice ≡ splice_of copy before after → edit.end ≡ end_of_kind copy before after → edit.pieces ≡ pieces_of copy → IsWellFormed edit
 copy_well_formed kind copy before after edit h some pieces ends splice_is end_is pieces_is =
     let is = splice_is ∙ copy_splice kind copy before after h in
@@ -59,7 +59,7 @@ copy_well_formed kind copy before after edit h some pieces ends splice_is end_is
       ends = end_is ∙ copy_end kind copy before after h ∙ ends ∙ ap (λ (s : Splice). end s.place s.symbols) (sym is);
     }
 
--- ---- edits that are ready
+-- ---- ---- edits that are ready
 
 record Holds (text symbols : List Symbol) (before after : Place) (inserts : Bool) : Type 0 where
   ends : cond inserts after before ≡ end (cond inserts before after) symbols
@@ -78,7 +78,7 @@ pub ready_removed : (text : List Symbol) (kind : EditKind) (before after : Place
 ready_removed text kind before after is pieces there ends some stands =
     ready text kind before after false is pieces (record { ends = ends; fits = record { some = some; is_place = there; allowed = stands } })
 
--- a removal of the symbol before a place
+-- a removal of the symbol before a position
 pub ready_before : (text : List Symbol) (kind : EditKind) (before start : Place) (symbol : Symbol) → inserts_of kind ≡ false → symbols_of kind ≡ symbol ∷ [] → IfSome (pieces_of kind) (λ n. 2 ≤ n) → IsSymbolBefore text before start symbol → IsReady text kind before start
 ready_before text kind before start symbol is symbols_are pieces known =
     ready_removed text kind before start is pieces known.is_place
@@ -86,7 +86,7 @@ ready_before text kind before start symbol is symbols_are pieces known =
     (subst (λ (s : List Symbol). 0 < length s) (sym symbols_are) (omega arith))
     (subst (StandsAt text start) (sym symbols_are) known.stands)
 
--- a removal of what is between two places
+-- a removal of the text between two positions
 pub ready_between : (text : List Symbol) (kind : EditKind) (before after : Place) → inserts_of kind ≡ false → symbols_of kind ≡ part text after before → IfSome (pieces_of kind) (λ n. 2 ≤ n) → IsPlace text after → IsPlace text before → index_of text after ≤ index_of text before → before ≢ after → IsReady text kind before after
 ready_between text kind before after is symbols_are pieces from to ordered apart =
     let ends = part_ends text after before from to ordered in
@@ -95,20 +95,20 @@ ready_between text kind before after is symbols_are pieces from to ordered apart
     (subst (λ (s : List Symbol). 0 < length s) (sym symbols_are) (some_symbols after (part text after before) (λ e. apart (ends ∙ e))))
     (subst (StandsAt text after) (sym symbols_are) (part_stands text after before to ordered))
 
--- a place ahead comes no sooner
+-- a position ahead is not earlier
 pub ordered_ahead : (text : List Symbol) (from to : Place) (count : ℕ) → IsPlace text from → index_of text to ≡ min (index_of text from + count) (length text) → index_of text from ≤ index_of text to
 ordered_ahead text from to count h e = subst (λ n. index_of text from ≤ n) (sym e) (le_min (index_of text from) (index_of text from + count) (length text) (omega arith) (index_within text from h))
   where
     le_min : (i a b : ℕ) → i ≤ a → i ≤ b → i ≤ min a b
     le_min i a b left right = grind (arith, nat_tests)
 
--- the inverse fits what an edit made of a copy of the text
+-- the inverse of an edit fits the text that the edit made of a copy
 pub back_fits : (text copy new : List Symbol) (splice wanted : Splice) → Fits text wanted → splice ≡ wanted → copy ≡ text → new ≡ applied copy splice → Fits new (inverse splice)
 back_fits text copy new splice wanted fits is copied made =
     let fits_copy = subst (Fits copy) (sym is) (subst (λ (t : List Symbol). Fits t wanted) (sym copied) fits) in
     subst (λ (t : List Symbol). Fits t (inverse splice)) (sym made) (takes_back copy splice fits_copy).fits
 
--- what fits the text of some lines fits these lines
+-- what fits the text of lines fits the lines
 pub fits_lines : {Z : Type 0} (strings : List (String Z)) (splice : Splice) → 0 < length strings → Fits (text_of strings) splice → FitsLines strings splice
 fits_lines strings splice some h = record {
   is_place = subst (λ (rows : List (List ℕ)). IsPlaceOf rows splice.place) (lines-joined (lines_of strings) (omega (arith, some, length-map strings characters_of))) h.is_place;

@@ -1,4 +1,4 @@
--- What undos, redos and edits keep of lines and their history.
+-- Undos, redos and edits keep lines and their history sound.
 use Rattle.std.proofs.Common.{◌≡◌, ◌<◌, ◌∙◌, length, ℕ, Bool, List, String, Option, Some, None, Result, Ok, Err, ap, refl, subst, sym}
 use Rattle.std.specs.Option.{IfSome}
 use Rattle.std.specs.Result.{IfOk, OnErr}
@@ -37,7 +37,7 @@ pub sound_redo : {Z E : Type 0} (result : Result (Option Place) E) (lines new : 
 sound_redo (Ok place) lines new log after h redoes log_is lines_are = subst IsSound (sym redoes.is_redone) (sound_redone (logged_of lines log) h)
 sound_redo (Err e) lines new log after h redoes log_is lines_are = stays lines new log after h log_is lines_are
 
--- lines that an edit made, with the history that has recorded it
+-- the lines that an edit made, with the history that recorded it
 pub sound_made : {Z : Type 0} (logged : Logged) (new : List (String Z)) (after : Log) (splice : Splice) (typed : Bool) (now : ℕ) → IsSound logged → Fits logged.text splice → text_of new ≡ applied logged.text splice → after ≡ recorded logged.log splice typed now → IsSound (logged_of new after)
 sound_made logged new after splice typed now h fits text_is log_is =
     subst IsSound

@@ -1,4 +1,4 @@
-//! The steps of a row with ample memory, made one after another on texts of all sizes.
+//! The steps of a case with enough memory, made one after another on texts of all sizes.
 use crate::lent::lent_and_rest;
 use crate::script::run_script;
 use crate::step::{Step, make};
@@ -12,26 +12,26 @@ use textarea_cases::tally::Tally;
 use textarea_cases::words::Lent;
 use tui_textarea::{Buffer, Rect, TextArea};
 
-/// The columns of the buffer that the steps draw into.
+/// The width of the buffer that the steps draw into, in columns.
 const COLUMNS: u16 = 220;
 
-/// The rows of that buffer.
+/// The height of that buffer, in rows.
 const ROWS: u16 = 50;
 
-/// The calls that are made on clones.
+/// The case with the calls that are made on clones.
 const CALLS: &str = "list each_call";
 
-/// What the steps draw into, and what they answered.
+/// The buffer that the steps draw into, and their results.
 #[derive(Drop)]
 pub struct Told {
     buffer: Buffer,
     pub tally: Tally,
-    /// The last answer of the last line.
+    /// The last result of the last line.
     last: String,
 }
 
 impl Told {
-    /// Nothing is drawn or answered.
+    /// Returns an empty buffer without results.
     pub fn new(alloc: Global) -> Result<Told, AllocError> {
         Ok(Told {
             buffer: Buffer::empty(alloc, Rect::new(0, 0, COLUMNS, ROWS))?,
@@ -40,14 +40,14 @@ impl Told {
         })
     }
 
-    // Takes an answer in, as the last one.
+    // Adds a result, which is now the last one.
     fn take_last(&mut self, alloc: Global, answer: &Answer) -> Result<(), Stop> {
         self.last = told_answer(alloc, answer)?;
         self.tally.take(answer)
     }
 }
 
-/// Makes the steps of a row's lines on an empty text area. The other rows are those that its lines may name.
+/// Makes the steps of a case's lines on an empty text area. Its lines may name the other cases.
 pub fn make_row(alloc: Global, rows: &str, row: &str, told: &mut Told) -> End {
     let stop = make_lines(alloc, rows, row, told).err();
     End {
@@ -76,7 +76,6 @@ fn make_text(
     made
 }
 
-// Makes the lines of a row one after another.
 fn make_all(
     area: &mut TextArea<'_>,
     rows: &str,
@@ -109,7 +108,7 @@ fn make_line_or_row(
     }
 }
 
-// Makes lines on a text area of its own, and each of the calls on a clone of that.
+// Makes the lines on a new text area, and each of the calls on a clone of it.
 fn make_apart(
     alloc: Global,
     lines: &str,
@@ -151,7 +150,7 @@ fn make_on_clone(
     made
 }
 
-// The lines of the row of this name.
+// The lines of the case of this name.
 fn row_of<'a>(rows: &'a str, name: &str) -> Result<&'a str, Stop> {
     for row in rows.split("\n\n") {
         if let Some((first, lines)) = row.split_once('\n')
@@ -175,7 +174,7 @@ fn make_each(
     Ok(())
 }
 
-// Makes the calls of a line, the last of which must answer so, if that is said.
+// Makes the calls of a line. If the line has a result, the last call must return it.
 fn make_line(
     area: &mut TextArea<'_>,
     line: &str,
@@ -209,7 +208,7 @@ fn make_words(
     }
 }
 
-// Makes so many times the calls of a line.
+// Makes the calls of a line n times.
 fn make_repeated(
     area: &mut TextArea<'_>,
     line: &str,
@@ -237,7 +236,7 @@ fn make_step(
     Ok(())
 }
 
-// Makes the calls of a script by one run.
+// Makes the calls of a script in one run.
 fn make_script(area: &mut TextArea<'_>, script: &str, told: &mut Told) -> Result<(), Stop> {
     let end = run_script(area, script, &mut told.buffer)?;
     for answer in end.answers.as_slice() {

@@ -1,4 +1,4 @@
-//! Calls on lines and on a history of their edits, made one after another, and judged.
+//! Calls on lines and a history of their edits, made one after another and judged.
 mod calls;
 mod kinds;
 mod plans;
@@ -11,13 +11,13 @@ use std::alloc::{AllocError, Global};
 use textarea_cases::end::{Difference, End, Stop, same};
 use textarea_cases::expand::timed;
 
-/// How many edits are remembered at first.
+/// The number of remembered edits of a new history.
 const MAXIMUM: usize = 50;
 
-/// More undos than a row that is judged has edits.
+/// More undos than any judged case has edits.
 const MOST: usize = 200;
 
-/// What a call answered.
+/// The result of a call.
 #[derive(Drop)]
 enum Answer {
     Lines,
@@ -25,7 +25,7 @@ enum Answer {
     BothWays(BothWays),
 }
 
-/// Makes the calls of a row on one empty line. Where they are judged, each is made beside a copy of what is there.
+/// Makes the calls of a case on one empty line. If they are judged, all is copied before each call.
 pub fn make_row(alloc: Global, row: &str, is_judged: bool) -> End {
     let mut made = 0;
     let stop = make_lines(alloc, row, is_judged, &mut made).err();
@@ -40,7 +40,7 @@ fn make_lines(alloc: Global, row: &str, is_judged: bool, made: &mut usize) -> Re
     Ok(())
 }
 
-// Makes the calls of a line, so many times.
+// Makes the calls of a line n times.
 fn make_line(
     alloc: Global,
     recorded: &mut Recorded,
@@ -58,7 +58,7 @@ fn make_line(
     Ok(())
 }
 
-// Makes a call as it is written.
+// Makes a call, and compares its result if the line has one.
 fn make_written(
     alloc: Global,
     recorded: &mut Recorded,
@@ -86,7 +86,7 @@ fn make_written(
     }
 }
 
-// Makes a call to which no memory may be refused.
+// Makes a call that must not run out of memory.
 fn make_granted(alloc: Global, recorded: &mut Recorded, call: Call<'_>) -> Result<Answer, Stop> {
     match make(alloc, recorded, call) {
         Ok(answer) => Ok(answer),
@@ -94,7 +94,7 @@ fn make_granted(alloc: Global, recorded: &mut Recorded, call: Call<'_>) -> Resul
     }
 }
 
-// Makes a call. One that is refused has to leave everything like the copy.
+// Makes a call. If it runs out of memory, all must be as in the copy.
 fn judge_call(alloc: Global, recorded: &mut Recorded, call: Call<'_>) -> Result<Answer, Stop> {
     let mut copy = recorded.copy()?;
     match make(alloc, recorded, call) {
@@ -130,7 +130,6 @@ fn make(alloc: Global, recorded: &mut Recorded, call: Call<'_>) -> Result<Answer
     }
 }
 
-// The answer as rows have it.
 fn printed(alloc: Global, recorded: &Recorded, answer: &Answer) -> Result<String, AllocError> {
     match answer {
         Answer::Lines => joined(alloc, recorded.lines()),
@@ -158,7 +157,7 @@ fn joined(alloc: Global, lines: &[String]) -> Result<String, AllocError> {
     Ok(text)
 }
 
-// The lines have to be the same, and so after each further undo, and then after each redo.
+// Compares the lines, also after each further undo and then after each redo.
 fn compare(recorded: &mut Recorded, copy: &mut Recorded) -> Result<(), Stop> {
     same(recorded.lines() == copy.lines(), Difference::Lines)?;
     compare_edits(recorded, copy, Difference::Undo)?;

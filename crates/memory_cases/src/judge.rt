@@ -1,4 +1,4 @@
-//! The calls of a row, made one after another, and judged.
+//! Makes the calls of a case one after another, and judges them.
 ghost use Rattle.std.specs.Prelude.{All};
 ghost use Rattle.textarea_calls.specs.Made.{CanBeMade};
 
@@ -17,7 +17,7 @@ use textarea_run::RunEnd;
 use textarea_run::run::run;
 use tui_textarea::{Buffer, Rect, TextArea};
 
-/// The area of the buffer that the calls of a row draw into.
+/// The area of the buffer that the calls of a case draw into.
 const WHOLE: Rect = Rect {
     x: 0,
     y: 0,
@@ -25,7 +25,7 @@ const WHOLE: Rect = Rect {
     height: 12,
 };
 
-// What the calls draw into, what the same calls of clones draw into, and how many calls were made.
+// The buffers that the calls and the same calls on clones draw into, and the number of calls made.
 #[derive(Drop)]
 struct Judge {
     buffer: Buffer,
@@ -46,14 +46,14 @@ impl Judge {
         self.made = self.made.saturating_add(calls);
     }
 
-    // The two buffers must have the same cells outside of an area.
+    // Compares the cells of the two buffers outside an area.
     fn compare_cells(&self, area: Rect) -> Result<(), Stop> {
         let are_alike = are_alike_outside(&self.buffer, &self.other, area);
         same(are_alike, Difference::Cells)
     }
 }
 
-/// Makes the calls of a row, up to the one that is refused, if one is.
+/// Makes the calls of a case, until one runs out of memory.
 pub fn judge_row(alloc: Global, row: &str) -> End {
     match Judge::new(alloc) {
         Ok(mut judge) => {
@@ -94,7 +94,7 @@ fn judge_all(
     lent: &Lent,
     judge: &mut Judge,
 ) -> Result<(), Stop> {
-    // The calls of a run stand behind its word, up to the row's end.
+    // The calls of a run are after the line `run`, up to the end of the case.
     let (lines, run) = row.split_once("run\n").unwrap_or((row, ""));
     for line in lines.lines() {
         judge_line(area, line, lent, judge)?;
@@ -146,7 +146,7 @@ fn judge_script(area: &mut TextArea<'_>, script: &str, judge: &mut Judge) -> Res
     judge_commands(area, commands.as_slice(), judge)
 }
 
-// Makes the calls that the commands lend, each behind a clone.
+// Makes the calls, which borrow from the commands. The text area is cloned before each.
 fn judge_commands(
     area: &mut TextArea<'_>,
     commands: &[Command],
@@ -158,7 +158,7 @@ fn judge_commands(
     Ok(())
 }
 
-// Makes a step behind a clone.
+// Clones the text area, and makes a step.
 fn judge_step(area: &mut TextArea<'_>, step: Step<'_>, judge: &mut Judge) -> Result<(), Stop> {
     let mut other = area.clone()?;
     let judged = judge_beside(area, &mut other, step, judge);
@@ -166,7 +166,7 @@ fn judge_step(area: &mut TextArea<'_>, step: Step<'_>, judge: &mut Judge) -> Res
     judged
 }
 
-// Makes a step. Where memory isn't refused to it, the clone has to answer the same and to be alike then.
+// Makes a step. Unless it runs out of memory, the clone must have the same result and state.
 fn judge_beside(
     area: &mut TextArea<'_>,
     other: &mut TextArea<'_>,
@@ -186,7 +186,7 @@ fn judge_beside(
     }
 }
 
-// A pattern was rejected: for want of memory if a clone takes it, and else because it has no reading. Nothing has changed.
+// A pattern was rejected, for lack of memory if a clone takes it. Nothing may have changed.
 fn judge_pattern(
     area: &mut TextArea<'_>,
     other: &mut TextArea<'_>,
@@ -212,7 +212,7 @@ fn is_rejected(
     Ok(answer? == Answer::PatternRefused)
 }
 
-// Makes a step. The error that `regex` may have of its own for want of memory is a refusal too.
+// Makes a step. A rejected pattern counts as out of memory: `regex` may lack memory itself.
 fn make_or_refuse(
     area: &mut TextArea<'_>,
     step: Step<'_>,
@@ -224,7 +224,7 @@ fn make_or_refuse(
     }
 }
 
-// The clone has to answer so. A refusal that it meets is none of the step that is judged.
+// The clone must have the same result. If it runs out of memory, that says nothing about the step.
 fn judge_answer(
     answer: &Answer,
     other: &mut TextArea<'_>,
@@ -239,8 +239,8 @@ fn judge_answer(
     Ok(())
 }
 
-// A step was refused: the text area has to be like the clone or, in an insertion over a selection, like the clone after the
-// removal of what is selected; and the cells outside of the area that the step draws into, as they were.
+// A step ran out of memory. The text area must be like the clone, or for an insertion like the
+// clone without the selected text. The cells outside of the step's area must be unchanged.
 fn judge_refused(
     area: &mut TextArea<'_>,
     other: &mut TextArea<'_>,
@@ -262,7 +262,6 @@ fn holds_selected(area: &TextArea<'_>) -> bool {
     }
 }
 
-// The area that a step draws into.
 fn drawn_area(step: Step<'_>) -> Rect {
     match step {
         Step::Call(Call::Render(area)) => area,
@@ -270,16 +269,17 @@ fn drawn_area(step: Step<'_>) -> Rect {
     }
 }
 
-// Makes the calls of a script by one run. Where it is refused, the answers have to be those of the calls before the refused
-// one, and the text area what a refusal of that one leaves of a clone that made these; the first reservation, whose refusal
-// stands for that of the first call, is met so too. A pattern that `regex` refused for want of memory has changed nothing.
+// Makes the calls of a script in one run. If one fails, the results must be those of the calls
+// before it, and the text area as the failed call leaves a clone that made these. A failed
+// reservation for results counts for the first call. A pattern that `regex` rejects for lack of
+// memory changes nothing.
 fn judge_run(area: &mut TextArea<'_>, script: &str, judge: &mut Judge) -> Result<(), Stop> {
     let alloc = *area.lines()[0].allocator();
     let commands = read(alloc, script.as_bytes())?;
     judge_run_commands(area, commands.as_slice(), judge)
 }
 
-// Makes the calls that the commands lend by one run.
+// Makes the calls, which borrow from the commands, in one run.
 fn judge_run_commands(
     area: &mut TextArea<'_>,
     commands: &[Command],

@@ -1,5 +1,6 @@
-//! Each key with the same modifiers held, on a text area of its own: with shortcuts, undone and redone, and without, undone and
-//! redone. No call is made beside a clone here. A text area that made the same calls before is like the one of a refused call.
+//! Each key with the same modifiers on a new text area, with shortcuts and without, undone and
+//! redone. A failed call is compared with a text area that made the calls before it, not with a
+//! clone.
 use crate::step::{Step, make};
 use std::alloc::{AllocError, Global};
 use textarea_calls::{Answer, Call};
@@ -10,7 +11,7 @@ use tui_textarea::{Buffer, Input, Key, Rect, TextArea};
 /// The lines of each text area.
 const LINES: [&str; 6] = ["abc", "def", "ghi", "jkl", "mno", "pqr"];
 
-/// The keys that are neither a character nor have a number.
+/// The keys that aren't characters and have no number.
 const NAMED: [Key; 19] = [
     Key::Backspace,
     Key::Enter,
@@ -33,15 +34,15 @@ const NAMED: [Key; 19] = [
     Key::Null,
 ];
 
-/// How many calls were made, and how many of them answered that they found something to do.
+/// The number of calls made, and the number of those that returned that they did something.
 #[derive(Default, Clone, Copy)]
 pub struct Made {
     pub calls: usize,
     agreed: usize,
 }
 
-/// Makes the calls of each key, with the modifiers of a word held, as those of scripts have them. After the word is how many calls
-/// must find something to do.
+/// Makes the calls of each key. The text has the modifiers, as scripts write them, and the number
+/// of calls that must return that they did something.
 pub fn judge_keys(alloc: Global, words: &str, made: &mut Made) -> Result<(), Stop> {
     let mut buffer = Buffer::empty(alloc, Rect::default())?;
     let judged = judge_each(alloc, words, &mut buffer, made);
@@ -70,7 +71,7 @@ fn judge_each(
     same(is_counted, Difference::Answer)
 }
 
-// Makes the calls of a key on a text area of its own.
+// Makes the calls of a key on a new text area.
 fn judge_key(
     alloc: Global,
     key: Key,
@@ -90,7 +91,6 @@ fn judge_key(
     judged
 }
 
-// The calls of an input.
 fn calls_of(input: &Input) -> [Call<'_>; 6] {
     [
         Call::Input(input),
@@ -121,7 +121,7 @@ fn judge_calls(
 }
 
 impl Made {
-    // Counts a call with its answer.
+    // Counts a call and its result.
     fn take(&mut self, answer: &Answer) {
         self.calls = self.calls.saturating_add(1);
         if *answer == Answer::Flag(true) {
@@ -130,7 +130,7 @@ impl Made {
     }
 }
 
-// A call was refused: the text area has to be like one that made the calls before it.
+// A call ran out of memory: the text area must be like one that made the calls before it.
 fn judge_refused(
     alloc: Global,
     area: &mut TextArea<'_>,

@@ -1,11 +1,11 @@
-//! Long values that are lent to calls.
+//! Long values that calls borrow.
 use std::alloc::{AllocError, Global};
 use textarea_cases::expand::counted;
 use textarea_cases::words::{Lent, character, titled};
 use tui_textarea::{Borders, Line, Style, Text};
 
-/// What is lent to the calls of a row, and its other lines. A first line `lent COLUMNS LINES` says how many columns the block's title
-/// has, and how many lines the placeholder.
+/// Returns the values that the calls of a case borrow, and its other lines. A first line `lent
+/// COLUMNS LINES` sets the width of the block's title and the number of the placeholder's lines.
 pub fn lent_and_rest(alloc: Global, row: &str) -> Result<(Lent, &str), AllocError> {
     let Some(sizes) = row.strip_prefix("lent ") else {
         return Ok((Lent::new(alloc)?, row));

@@ -1,27 +1,28 @@
-//! Makes the calls of rows, and judges what each of them left where its memory was refused, or tells their answers where
-//! memory was ample.
+//! Makes the calls of cases. If memory runs out, judges what the failed call left; with enough
+//! memory, prints the results.
 //!
-//! Standard input has rows, with an empty line between each two. A row's first line is its name, and each further line a call,
-//! as a line of a script or as a word of `words`. Its calls are judged (`judge`), and whoever starts the program has requests
-//! for memory refused (`tools/refused-memory`).
+//! Standard input has cases, separated by empty lines. The first line of a case is its name, and
+//! each further line a call, as a script command or a command of `words`. The calls are judged
+//! (`judge`). The caller of the program makes allocations fail (`tools/refused-memory`).
 //!
-//! `<N TEXT>` in a line stands for so many times the text, in which `#` is the number of the time, from 0, and `;` a line's end.
+//! `<N TEXT>` is N copies of the text, where `#` is the copy's number from 0 and `;` a line feed.
 //!
-//! A row whose name begins with `ample ` is made without judgement, on small texts and on large ones (`ample`). There
-//! `times N LINE` makes a line so many times, by one run if it is a script's; `row NAME` makes the lines of another row;
-//! `apart NAME` makes them on a text area of its own, and then each line of the row `list each_call` on a clone of that;
-//! `lent COLUMNS LINES`, as the first line, lends a block with a title of so many columns and a placeholder of so many lines; and
-//! what a line's last call must answer may be behind it, after ` => `. A row whose name begins with `list ` isn't made by itself.
+//! A case with a name `ample ..` isn't judged, and is made on small and large texts (`ample`).
+//! There `times N LINE` makes a line N times, in one run if it is a script command; `row NAME`
+//! makes the lines of another case; `apart NAME` makes them on a new text area, and each line of
+//! `list each_call` on a clone of it; `lent COLUMNS LINES`, as the first line, sets the sizes of
+//! values that calls borrow; ` => ` before a result checks a line's last call. A case `list ..`
+//! isn't made by itself.
 //!
-//! A row whose name begins with `history `, or with `ample history `, has no text area: its calls are made on one empty line and a
-//! history of 50 edits, and are those of `history::calls`, each with ` => ` and what it must answer behind it; without that, any
-//! answer will do. `times N` before calls with `; ` between each two makes them n times.
+//! A case `history ..` or `ample history ..` has no text area. Its calls, those of
+//! `history::calls`, are made on one empty line and a history of 50 edits. ` => ` before a result
+//! checks a call. `times N` before calls that are separated by `; ` makes them N times.
 //!
-//! A line is printed for each row. A line that isn't read fails its row; and so does, where memory is ample, a call that is out of
-//! memory or whose pattern is refused.
+//! A line is printed for each case. A line that can't be read fails its case. With enough memory, a
+//! call that runs out of memory or rejects its pattern fails its case too.
 //!
-//! The exit status is 0 where all was as it has to be, 1 where a stream failed, 3 where memory was refused to what is around the
-//! calls, or there is no row, so that nothing was judged, and 4 where a row failed.
+//! The exit status is 0 if no case failed, 1 if a stream failed, 3 if nothing was judged, because
+//! memory ran out outside of the calls or there is no case, and 4 if a case failed.
 #![tactic(auto)]
 
 mod ample;
@@ -52,7 +53,7 @@ fn main(rt: HostRuntime) -> ExitCode {
     ExitCode::from(tell(&rt, given.as_str()))
 }
 
-// Makes the rows, and tells the end of each.
+// Makes the cases, and prints the end of each.
 fn tell(rt: &(impl Print + AllocGlobal), rows: &str) -> u8 {
     if rows.is_empty() {
         return NOT_JUDGED;
@@ -64,7 +65,7 @@ fn tell(rt: &(impl Print + AllocGlobal), rows: &str) -> u8 {
     status
 }
 
-// Makes a row of its kind, and tells its end.
+// Makes a case of its kind, and prints its end.
 fn tell_row(rt: &(impl Print + AllocGlobal), rows: &str, row: &str) -> u8 {
     let (name, lines) = row.split_once('\n').unwrap_or((row, ""));
     let is_ample = name.starts_with("ample ");

@@ -1,10 +1,10 @@
-//! What text areas are drawn and searched by, called by itself: a row with highlights, and the matches of a pattern.
+//! Parts of a text area, called directly: a line with highlights, and the matches of a pattern.
 use std::alloc::{AllocError, Global};
 use tui_textarea::highlight::{CursorCellRender, LineHighlighter};
 use tui_textarea::search::{Search, SearchError};
 use tui_textarea::{Color, Line, Style};
 
-/// The spans of the row `abcdef` with a match from 0 to 3 and a custom highlight from 1 to 5, each with `|` after it.
+/// Returns the spans of `abcdef` with a match 0 to 3 and a highlight 1 to 5, each followed by `|`.
 pub fn spans_of(alloc: Global) -> Result<String, AllocError> {
     let hidden = CursorCellRender::Hidden;
     let mut row = LineHighlighter::new(alloc, "abcdef", hidden, 4, None, Style::new());
@@ -23,7 +23,7 @@ fn joined(alloc: Global, line: &Line<'_>) -> Result<String, AllocError> {
     Ok(text)
 }
 
-/// The byte ranges of the matches of `fo+` in `fo foo bar fooo`.
+/// Returns the byte ranges of the matches of `fo+` in `fo foo bar fooo`.
 pub fn matches_of(alloc: Global) -> Result<String, AllocError> {
     let mut search = Search::default();
     match search.set_pattern(alloc, "fo+") {

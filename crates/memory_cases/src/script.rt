@@ -1,11 +1,11 @@
-//! The calls of a script, made by one run.
+//! Makes the calls of a script in one run.
 use textarea_calls::commands::{Command, calls, read};
 use textarea_cases::end::Stop;
 use textarea_run::RunEnd;
 use textarea_run::run::run;
 use tui_textarea::{Buffer, Rect, TextArea};
 
-/// Makes the calls of a script by one run, which draws into the buffer.
+/// Makes the calls of a script in one run, which draws into the buffer.
 pub fn run_script(
     area: &mut TextArea<'_>,
     script: &str,
@@ -16,7 +16,7 @@ pub fn run_script(
     run_commands(area, commands.as_slice(), buffer)
 }
 
-/// Makes the calls of a script by one run, which draws nowhere.
+/// Makes the calls of a script in one run, which draws nowhere.
 pub fn run_unseen(area: &mut TextArea<'_>, script: &str) -> Result<RunEnd, Stop> {
     let alloc = *area.lines()[0].allocator();
     let mut nowhere = Buffer::empty(alloc, Rect::default())?;
@@ -25,7 +25,7 @@ pub fn run_unseen(area: &mut TextArea<'_>, script: &str) -> Result<RunEnd, Stop>
     end
 }
 
-// Makes the calls that the commands lend.
+// Makes the calls, which borrow from the commands.
 fn run_commands(
     area: &mut TextArea<'_>,
     commands: &[Command],

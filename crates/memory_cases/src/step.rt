@@ -1,4 +1,4 @@
-//! A call, or what else is made of a text area and may be refused.
+//! Steps on a text area: calls, and other work that can run out of memory.
 use crate::parts::{matches_of, spans_of};
 use std::alloc::AllocError;
 use textarea_calls::{Answer, Call};
@@ -6,12 +6,12 @@ use textarea_run::perform::perform;
 use textarea_text::given::copy_pieces;
 use tui_textarea::{Buffer, Input, Key, TextArea};
 
-/// What is made in one step.
+/// One step.
 #[derive(Clone, Copy)]
 pub enum Step<'a> {
     /// A call.
     Call(Call<'a>),
-    /// `TextArea::set_atomic_ranges`, of the ranges that it holds.
+    /// `TextArea::set_atomic_ranges`, of the ranges that are set.
     SetAtomicRanges,
     /// `TextArea::clone`
     Clone,
@@ -23,14 +23,14 @@ pub enum Step<'a> {
     FromStrs,
     /// `TextArea::from_strings`, of copies of the lines.
     FromStrings,
-    /// A row with highlights, as spans.
+    /// A line with highlights, as spans.
     Spans,
     /// The matches of a pattern in a line.
     Matches,
 }
 
 impl Step<'_> {
-    /// Whether the step inserts at the cursor, so that a selection goes first.
+    /// Returns whether the step inserts at the cursor, so that it removes a selection first.
     pub fn inserts(&self) -> bool {
         match self {
             Step::Call(call) => match call {
@@ -57,8 +57,8 @@ fn is_inserting(input: &Input) -> bool {
     }
 }
 
-/// Makes a step. What it draws is drawn into the buffer. A text area that it makes is dropped, and the number of its lines is
-/// the answer.
+/// Makes a step, which draws into the buffer. A text area that it makes is dropped, and the result
+/// is the number of its lines.
 pub fn make(
     area: &mut TextArea<'_>,
     step: Step<'_>,
@@ -86,7 +86,7 @@ fn make_call(
     }
 }
 
-// Sets the ranges again that are held.
+// Sets the ranges that are set already.
 fn set_atomic_ranges(area: &mut TextArea<'_>) -> Result<Answer, AllocError> {
     let alloc = *area.lines()[0].allocator();
     let ranges = area.atomic_ranges().to_vec(alloc)?;
@@ -101,7 +101,7 @@ fn lines_of_another(area: &TextArea<'_>, step: Step<'_>) -> Result<Answer, Alloc
     Ok(Answer::Number(count))
 }
 
-// A clone of the text area or, for the other steps, a text area that is made of its lines or, by default, of none.
+// A clone of the text area, or for other steps one with its lines or, by default, an empty one.
 fn another<'a>(area: &TextArea<'a>, step: Step<'_>) -> Result<TextArea<'a>, AllocError> {
     let lines = area.lines();
     let alloc = *lines[0].allocator();

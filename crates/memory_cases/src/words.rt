@@ -1,8 +1,8 @@
-//! What a row may say besides the lines of scripts: the calls that no script makes, as words, and what makes text areas.
+//! Lines of cases that aren't script commands: test commands, named scripts, and other steps.
 use crate::step::Step;
 use textarea_cases::words::{Lent, call_of};
 
-/// A text with edits of all kinds behind it, of which two are undone: calls that are made by one run.
+/// A script that writes a text with edits of all kinds, and undoes two of them, in one run.
 const EDITED: &str = r"insert_str one two\nthree four\n\nfive
 insert_char a
 delete_word
@@ -16,17 +16,17 @@ undo
 undo
 set_yank_text p\nq";
 
-/// Lines that are wrapped under line numbers, and drawn.
+/// A script that wraps lines, shows line numbers and draws.
 const WRAPPED: &str = "set_wrap_mode Word
 line_numbers true
 render 0 0 12 6";
 
-/// A part of two lines that is selected.
+/// A script that selects from one line to the next.
 const SELECTED: &str = "jump 0 2
 start_selection
 jump 1 2";
 
-/// The script that a word stands for, whose calls are made by one run.
+/// Returns the script of a word. Its calls are made in one run.
 pub fn script_of(word: &str) -> Option<&'static str> {
     match word {
         "edited" => Some(EDITED),
@@ -36,7 +36,7 @@ pub fn script_of(word: &str) -> Option<&'static str> {
     }
 }
 
-/// The step that words stand for.
+/// Returns the step of a line.
 pub fn step_of<'a>(words: &'a str, lent: &'a Lent) -> Option<Step<'a>> {
     Some(match words {
         "set_atomic_ranges" => Step::SetAtomicRanges,

@@ -1,5 +1,5 @@
-// Runs a script of calls on an empty text area, or with the word `modal` a session of a modal editor, and prints how it ended and the
-// text area then.
+// Runs a script of calls on an empty text area, or with the argument `modal` a session of a modal
+// editor. Prints the results and the text area.
 #![tactic(auto)]
 
 use std::env::Env;
@@ -21,7 +21,7 @@ fn main(rt: HostRuntime) -> ExitCode {
     ExitCode::from(status)
 }
 
-// The words that the program is given, behind its name.
+// The arguments of the program.
 fn words_behind_name(rt: &(impl Env + AllocGlobal)) -> io::Result<Vec<String>> {
     let words = env::args(rt)?.skip(1).collect(rt.alloc())?;
     Ok(words)

@@ -1,104 +1,16 @@
-//! What a text editor stands on: the text as lines and its history, words, keys, wrapping, screen types and search,
-//! each proved in a crate of its own and listed here.
+//! The base of a text editor: text as lines and its history, words, keys, wrapping, screen types
+//! and search. Each is proved in its own crate and listed here.
 #![tactic(auto)]
 
-/// Texts that are given, and pieces of them.
-pub mod given {
-    pub use textarea_text::given::{copy_pieces, join_with_line_feeds, pieces_of};
-}
+pub use textarea_data::{input, scroll};
+pub use textarea_history::history;
+pub use textarea_screen::screen;
+pub use textarea_search::search;
+pub use textarea_text::word;
+pub use textarea_wrap::{layout, wrap};
 
-/// The history of a text's edits, and the laws of undo and redo.
-pub mod history {
-    pub use textarea_history::history::{Edit, EditKind, History};
-
-    /// What undo and redo give back, whatever was edited.
-    pub mod laws {
-        pub use textarea_history::history::laws::{
-            each_edit_fits, redo_gives_back, stays_sound, undos_give_back,
-        };
-    }
-}
-
-/// Key inputs.
-pub mod input {
-    pub use textarea_data::input::{Input, Key};
-}
-
-/// Changes of one line in place.
-pub mod inside {
-    pub use textarea_text::inside::{insert_inside, remove_inside};
-}
-
-/// Laws of edits.
-pub mod laws {
-    pub use textarea_history::laws::{lines_are_the_text, undo_takes_back};
-}
-
-/// Layout numbers.
-pub mod layout {
-    pub use textarea_wrap::layout::LayoutMetrics;
-}
-
-/// The part of a text between two places.
-pub mod part {
-    pub use textarea_text::part::between;
-}
-
-/// Places counted through a text.
-pub mod places {
-    pub use textarea_text::places::{
-        ahead, clip, end_of, last_row, line_end, line_length, line_of, text_end,
-    };
-}
-
-/// Lines that take the place of lines.
-pub mod rows {
-    pub use textarea_text::rows::{
-        Replacement, SymbolBefore, byte_offset, byte_offset_from, column_count,
-        prepare_replacement, size_of, size_within_limit, symbol_before,
-    };
-}
-
-/// What a terminal draws.
-pub mod screen {
-    pub use textarea_screen::screen::{
-        Alignment, Block, Borders, Buffer, Cell, Color, Line, Modifier, Padding, Position, Rect,
-        Span, SpanText, Style, Text,
-    };
-}
-
-/// Amounts of scrolling.
-pub mod scroll {
-    pub use textarea_data::scroll::Scrolling;
-}
-
-/// Searches for a pattern, and its matches in lines.
-pub mod search {
-    pub use textarea_search::search::{
-        KeepingMatcher, KeptMatches, LineMatcher, Matches, Search, SearchError,
-    };
-}
-
-/// Tab stops.
-pub mod tab {
-    pub use textarea_text::tab::spaces_to_stop;
-}
-
-/// Positions, runs of spaces, and the digits of a number.
+/// Positions, spaces, and the digits of a number.
 pub mod util {
     pub use textarea_text::util::{Pos, spaces};
     pub use textarea_wrap::layout::num_digits;
-}
-
-/// Classes of characters, and searches for the words of a line.
-pub mod word {
-    pub use textarea_text::word::{
-        CharKind, find_word_exclusive_end_forward, find_word_inclusive_end_forward,
-        find_word_start_backward, find_word_start_forward,
-    };
-}
-
-/// The rows of one line at a width.
-pub mod wrap {
-    pub use textarea_wrap::wrap::{Rows, WrapCount, WrapMode, is_short, line_ranges};
 }

@@ -1,10 +1,11 @@
-//! Draws frames of a text area, and answers with the first row of the last one.
+//! Draws frames of a text area and returns the first row of the last one.
 //!
-//! A job has three parts with one space between them: a word, how many lines the text has, and how many frames are drawn behind a
-//! first one. With the words `Word` and `None` a key is typed into the first line before each of these frames, by turns a hundred
-//! characters and a hundred times Backspace, and lines are wrapped so. With the words `plain` and `full` nothing is done between
-//! the frames, lines are wrapped at words, and the end of the text is seen; with `full` it has line numbers, all of it is selected,
-//! and a pattern matches in each row. A frame is 80 columns wide and 24 rows high.
+//! A job has three fields with one space between them: a word, the number of the text's lines, and
+//! the number of frames after the first one. With the wrap modes `Word` and `None` a key is typed
+//! into the first line before each frame, in turns a hundred characters and a hundred times
+//! Backspace. With `plain` and `full` nothing is done between the frames, lines are wrapped at
+//! words, and the end of the text is in view; with `full` it has line numbers, all of it is
+//! selected, and a pattern matches in each row. A frame is 80 columns wide and 24 rows high.
 use crate::paint::first_row;
 use anyhow::Result;
 use std::alloc::{AllocError, Global};
@@ -22,21 +23,21 @@ const AREA: Rect = Rect {
     height: 24,
 };
 
-/// Words of six letters or more: each row of the paragraphs has some.
+/// A pattern of six letters or more: each row of the paragraphs has a match.
 const PATTERN: &str = "[a-z]{6,}";
 
-/// What a frame shows, and what is done before it.
+/// The content of a frame, and the work before it.
 #[derive(Clone, Copy, Debug)]
 enum Kind {
-    /// A key is typed before each frame, and the lines are wrapped so.
+    /// A key is typed before each frame, with this wrap mode.
     Keys(WrapMode),
-    /// Frames alone, of lines that are wrapped at words.
+    /// Only frames, of lines that are wrapped at words.
     Plain,
     /// The same, with line numbers, all lines selected, and matches in each row.
     Full,
 }
 
-/// What is drawn, of how many lines, and how many frames behind the first one.
+/// The kind of frame, the number of lines, and the number of frames after the first one.
 #[derive(Clone, Copy, Debug)]
 pub struct Job {
     kind: Kind,
@@ -45,7 +46,6 @@ pub struct Job {
 }
 
 impl Job {
-    /// Reads the parts of a job.
     pub fn parse(line: &str) -> Option<Job> {
         let (kind, numbers) = line.split_once(' ')?;
         let (lines, frames) = numbers.split_once(' ')?;
@@ -62,7 +62,7 @@ impl Job {
         })
     }
 
-    /// Draws a frame and then as many as the job has, and answers with the first row of the last one.
+    /// Draws a frame and then the frames of the job, and returns the first row of the last one.
     pub fn run(&self, alloc: Global) -> Result<String> {
         let mut buffer = Buffer::empty(alloc, AREA)?;
         let drawn = self.draw_text(alloc, &mut buffer);
@@ -70,7 +70,7 @@ impl Job {
         drawn
     }
 
-    // Makes the text area, draws the frames of it, and answers with the first row of the last one.
+    // Creates the text area, draws its frames, and returns the first row of the last one.
     fn draw_text(&self, alloc: Global, buffer: &mut Buffer) -> Result<String> {
         let mut text_area = TextArea::new(self.paragraphs(alloc)?)?;
         let drawn = self.draw_frames(&mut text_area, buffer);
@@ -79,7 +79,6 @@ impl Job {
         Ok(first_row(alloc, buffer)?)
     }
 
-    // The lines of the text.
     fn paragraphs(&self, alloc: Global) -> Result<Vec<String>, AllocError> {
         let mut lines = Vec::new(alloc);
         for _ in 0..self.lines {
@@ -88,7 +87,7 @@ impl Job {
         Ok(lines)
     }
 
-    // Draws a frame, and one behind each key.
+    // Draws a frame, and one after each key.
     fn draw_frames(&self, text_area: &mut TextArea<'_>, buffer: &mut Buffer) -> Result<()> {
         self.prepare(text_area)?;
         text_area.render(AREA, buffer)?;
@@ -99,7 +98,7 @@ impl Job {
         Ok(())
     }
 
-    // Lays the text area out, and puts on it what the frames are to show.
+    // Sets the layout of the text area, and what the frames show.
     fn prepare(&self, text_area: &mut TextArea<'_>) -> Result<()> {
         let mode = match self.kind {
             Kind::Keys(mode) => mode,
@@ -122,7 +121,7 @@ impl Job {
         }
     }
 
-    // Types the key before this frame, if one is to be typed: by turns a hundred characters and a hundred times Backspace.
+    // Types the key before this frame, if any: in turns a hundred characters and Backspaces.
     fn type_key(&self, text_area: &mut TextArea<'_>, frame: usize) -> Result<(), AllocError> {
         match self.kind {
             Kind::Keys(_) if frame / 100 % 2 == 0 => {

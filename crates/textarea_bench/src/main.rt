@@ -1,7 +1,7 @@
-//! Does jobs by which the parts of a text area are timed, and prints what each answers with.
+//! Does jobs with which the operations of a text area are timed, and prints the result of each.
 //!
-//! Each line of standard input is a job: its topic, which is `paint`, `wrap`, `typing`, `frames` or `terminal`, and behind one space what the
-//! module of that name says.
+//! Each line of standard input is a job: its topic, which is `paint`, `wrap`, `typing`, `frames` or
+//! `terminal`, then one space and the fields that the topic's module describes.
 #![tactic(auto)]
 
 mod frames;
@@ -24,7 +24,7 @@ enum Job<'a> {
 }
 
 impl<'a> Job<'a> {
-    /// Reads a topic, and behind it a job of that topic.
+    /// Parses a topic and a job of that topic.
     fn parse(line: &'a str) -> Option<Job<'a>> {
         let (topic, job) = line.split_once(' ')?;
         match topic {
@@ -37,7 +37,7 @@ impl<'a> Job<'a> {
         }
     }
 
-    /// Does the job, and answers with what is printed of it.
+    /// Does the job, and returns the text to print.
     fn run(&self, alloc: Global) -> Result<String> {
         match self {
             Job::Paint(job) => Ok(job.run(alloc)?),

@@ -1,13 +1,13 @@
-//! Draws frames, and answers with the first row of the last one.
+//! Draws frames and returns the first row of the last one.
 //!
-//! A job has four parts with one space between them: how many frames, a width, a height, and a text, which a line has once for
-//! each column. Each frame draws that line into each row.
+//! A job has four fields with one space between them: the number of frames, a width, a height, and
+//! a text. A line has the text once for each column, and each frame draws that line into each row.
 
 use std::alloc::{AllocError, Global};
 use textarea_paint::paint::{RowArea, draw_row};
 use textarea_screen::screen::{Alignment, Buffer, Line, Rect, Span, Style};
 
-/// How many frames, of which size, with which text in each row.
+/// The number of frames, their size, and the text of each row.
 #[derive(Drop)]
 pub struct Job<'a> {
     frames: usize,
@@ -17,7 +17,6 @@ pub struct Job<'a> {
 }
 
 impl<'a> Job<'a> {
-    /// Reads the four parts of a job.
     pub fn parse(line: &'a str) -> Option<Job<'a>> {
         let mut parts = line.splitn(4, ' ');
         let frames = parts.next()?.parse().ok()?;
@@ -32,7 +31,7 @@ impl<'a> Job<'a> {
         })
     }
 
-    /// The symbols of the first row, once all frames are drawn into one buffer.
+    /// Returns the symbols of the first row after all frames are drawn into one buffer.
     pub fn run(&self, alloc: Global) -> Result<String, AllocError> {
         let text = repeat(alloc, self.text, usize::from(self.width))?;
         let mut spans = Vec::new(alloc);
@@ -43,7 +42,7 @@ impl<'a> Job<'a> {
         row
     }
 
-    // The symbols of the first row, once all frames of the line are drawn into one buffer.
+    // Returns the symbols of the first row after all frames of the line are drawn into one buffer.
     fn draw(&self, alloc: Global, line: &Line) -> Result<String, AllocError> {
         let area = Rect::new(0, 0, self.width, self.height);
         let mut buffer = Buffer::empty(alloc, area)?;
@@ -66,7 +65,7 @@ impl<'a> Job<'a> {
     }
 }
 
-// The text, so many times.
+// Returns the text, repeated `times` times.
 fn repeat(alloc: Global, text: &str, times: usize) -> Result<String, AllocError> {
     let mut line = String::new(alloc);
     for _ in 0..times {
@@ -75,7 +74,7 @@ fn repeat(alloc: Global, text: &str, times: usize) -> Result<String, AllocError>
     Ok(line)
 }
 
-// One line in each row of the area.
+// Draws the line into each row of the area.
 fn draw_frame(buffer: &mut Buffer, area: Rect, line: &Line) -> Result<(), AllocError> {
     let rows = RowArea {
         area,
@@ -89,7 +88,7 @@ fn draw_frame(buffer: &mut Buffer, area: Rect, line: &Line) -> Result<(), AllocE
     Ok(())
 }
 
-/// The symbols of the cells of the first row.
+/// Returns the symbols of the cells of the first row.
 pub fn first_row(alloc: Global, buffer: &Buffer) -> Result<String, AllocError> {
     let mut row = String::new(alloc);
     let area = buffer.area();

@@ -1,15 +1,15 @@
-//! Decodes bytes as they come from a terminal, and paints frames, and answers with how many events or bytes that were.
+//! Decodes bytes as a terminal sends them, and paints frames, and counts events or bytes.
 //!
-//! A job has four parts with one space between them. With the word `decode` before them they are what the bytes are (`letters`,
-//! `accents`, `keys`, `mouse` or `paste`), how many there are at least, in pieces of how many they are fed, and how often all of them are.
-//! With the word `paint` they are which frames follow each other (see `Frames`), their columns, their rows, and how many follow a
-//! first one.
+//! A job has five fields with one space between them. After `decode`: the kind of the bytes
+//! (`letters`, `accents`, `keys`, `mouse` or `paste`), their least number, the number of bytes in
+//! each call, and how often all of them are decoded. After `paint`: the frames (see `Frames`),
+//! their columns, their rows, and the number of frames after the first one.
 use std::alloc::{AllocError, Global};
 use textarea_screen::screen::{Buffer, Color, Modifier, Position, Rect, Style};
 use textarea_terminal::input::Decoder;
 use textarea_terminal::output::Painter;
 
-/// What is decoded.
+/// The bytes to decode.
 #[derive(Clone, Copy, Debug)]
 pub enum Sent {
     Letters,
@@ -19,22 +19,22 @@ pub enum Sent {
     Paste,
 }
 
-/// Which frames follow each other.
+/// The frames that follow each other.
 #[derive(Clone, Copy, Debug)]
 pub enum Frames {
-    /// The same.
+    /// The same frame.
     Same,
-    /// Those of which one row is another, by turns.
+    /// In turns frames that differ in one row.
     Line,
-    /// Those of which each cell is another, by turns.
+    /// In turns frames that differ in each cell.
     Whole,
     /// The same, with a reset before each.
     Reset,
-    /// No frame is painted: the cells of two are compared.
+    /// No frame is painted: the cells of two frames are compared.
     Compared,
 }
 
-/// What is done, on how many bytes or cells, and how often.
+/// The work, on how many bytes or cells, and how often.
 #[derive(Clone, Copy, Debug)]
 pub enum Job {
     Decode {
@@ -52,7 +52,6 @@ pub enum Job {
 }
 
 impl Job {
-    /// Reads the parts of a job.
     pub fn parse(line: &str) -> Option<Job> {
         let (topic, parts) = line.split_once(' ')?;
         let (word, parts) = parts.split_once(' ')?;
@@ -76,7 +75,7 @@ impl Job {
         }
     }
 
-    /// Does the job, and answers with the number of events or bytes.
+    /// Does the job, and returns the number of events or bytes.
     pub fn run(&self, alloc: Global) -> Result<usize, AllocError> {
         match *self {
             Job::Decode {
@@ -122,7 +121,7 @@ fn frames_of(word: &str) -> Option<Frames> {
     }
 }
 
-/// So many bytes at least.
+/// Returns at least `count` bytes.
 fn bytes_of(alloc: Global, sent: Sent, count: usize) -> Result<Vec<u8>, AllocError> {
     let (begin, part, end) = match sent {
         Sent::Letters => ("", "The quick brown fox jumps over the lazy dog. ", ""),
@@ -156,7 +155,7 @@ fn bytes_of(alloc: Global, sent: Sent, count: usize) -> Result<Vec<u8>, AllocErr
     Ok(bytes)
 }
 
-/// The number of events of the bytes, in pieces, so many times one after another.
+/// Decodes the bytes `times` times, `piece` bytes in each call, and returns the number of events.
 fn decode(alloc: Global, bytes: &[u8], piece: usize, times: usize) -> Result<usize, AllocError> {
     let mut decoder = Decoder::new(alloc);
     let mut events = Vec::new(alloc);
@@ -171,7 +170,7 @@ fn decode(alloc: Global, bytes: &[u8], piece: usize, times: usize) -> Result<usi
     Ok(count)
 }
 
-/// The style of a cell, of which there are nine in a row of words.
+/// Returns the style of a cell; it changes every nine cells of a row.
 fn style_at(x: u16, turn: u16) -> Style {
     let fg = match (x / 9 + turn % 2) % 4 {
         0 => Color::Reset,
@@ -189,7 +188,7 @@ fn style_at(x: u16, turn: u16) -> Style {
 
 const LETTERS: &str = "abcdefghijklmnopqrstuvwxyz";
 
-/// The letter of a cell, another one at each turn.
+/// Returns the letter of a cell, a different one at each turn.
 fn letter(x: u16, y: u16, turn: u16) -> &'static str {
     let at = usize::from((x % 8 + y % 8 + turn % 2) % 26);
     LETTERS.get(at..at + 1).unwrap_or("a")
@@ -202,7 +201,7 @@ fn put_row(buffer: &mut Buffer, columns: u16, y: u16, turn: u16) -> Result<(), A
     Ok(())
 }
 
-/// A frame of letters.
+/// Returns a frame of letters.
 fn frame_of(alloc: Global, area: Rect, turn: u16) -> Result<Buffer, AllocError> {
     let mut buffer = Buffer::empty(alloc, area)?;
     for y in 0..area.height {
@@ -211,7 +210,7 @@ fn frame_of(alloc: Global, area: Rect, turn: u16) -> Result<Buffer, AllocError> 
     Ok(buffer)
 }
 
-/// The other frame: the first one, or with one row or all rows other ones.
+/// Returns the other frame: the first one, or one with one row or all rows changed.
 fn other_frame(alloc: Global, area: Rect, frames: Frames) -> Result<Buffer, AllocError> {
     match frames {
         Frames::Same | Frames::Compared => frame_of(alloc, area, 0),
@@ -224,7 +223,7 @@ fn other_frame(alloc: Global, area: Rect, frames: Frames) -> Result<Buffer, Allo
     }
 }
 
-/// Whether a cell is the same in both frames.
+/// Returns whether a cell is the same in both frames.
 fn is_same_at(a: &Buffer, b: &Buffer, x: u16, y: u16) -> bool {
     match (a.cell(x, y), b.cell(x, y)) {
         (Some(a), Some(b)) => {
@@ -234,7 +233,7 @@ fn is_same_at(a: &Buffer, b: &Buffer, x: u16, y: u16) -> bool {
     }
 }
 
-/// The number of cells that are the same in both frames.
+/// Returns the number of cells that are the same in both frames.
 fn same_cells(a: &Buffer, b: &Buffer, area: Rect) -> usize {
     let mut count = 0usize;
     for y in 0..area.height {
@@ -245,7 +244,7 @@ fn same_cells(a: &Buffer, b: &Buffer, area: Rect) -> usize {
     count
 }
 
-/// Paints the frames by turns, and answers with the number of bytes, or of cells that are the same.
+/// Paints the frames in turns, and returns the number of bytes, or of cells that are the same.
 fn paint(alloc: Global, frames: Frames, area: Rect, times: usize) -> Result<usize, AllocError> {
     let first = frame_of(alloc, area, 0)?;
     let other = other_frame(alloc, area, frames)?;

@@ -1,14 +1,16 @@
-//! Works on a text again and again, and answers with how many visual rows it has then, and the cursor's column.
+//! Works on a text again and again, and returns its visual rows and the cursor's column.
 //!
-//! A job is a word and two numbers with one space between each two: what is done, how large the text is, and how many times it is
-//! done. In a text of that many lines `text` types into a long wrapped line, by turns a hundred characters and a hundred times
-//! Backspace, `rows` by turns a character with which the first line has a row more, and Backspace, `breaks` by turns a line break
-//! and Backspace in the first line, and `last_breaks` in the last one; `map` puts by turns two lines in the place of one in the
-//! middle in the screen map alone, and one in the place of these two, and `headers` does the same to the lines' headers alone;
-//! `width` sets by turns a narrower and the old inner width, and `measured` does that with the rows at each width measured before.
-//! In one line of that many characters, which isn't wrapped, `ascii` types and removes in the same way characters of one byte at
-//! its end, `wide` and `middle` characters of two bytes, at its end and in its middle, and `bytes` moves by turns what stands
-//! behind its middle by two bytes, and back, and does nothing else.
+//! A job is a word for the work, the size of the text and the number of times, with one space
+//! between them. In a text of that many lines `text` types into a long wrapped line, in turns a
+//! hundred characters and a hundred times Backspace; `rows` in turns types a character that gives
+//! the first line one more row, and Backspace; `breaks` in turns a line break and Backspace in the
+//! first line, and `last_breaks` in the last one; `map` in turns replaces one line by two in the
+//! middle of only the screen map, and these two by one, and `headers` does the same to only the
+//! lines' headers; `width` sets in turns a narrower and the old inner width, and `measured` does
+//! that after it measures the rows at each width. In one unwrapped line of that many characters,
+//! `ascii` types and removes in the same way characters of one byte at its end, `wide` and `middle`
+//! characters of two bytes at its end and in its middle, and `bytes` only moves the second half of
+//! the line by two bytes, and back.
 mod parts;
 
 use crate::typing::parts::{break_headers, break_in_map, move_bytes};
@@ -25,39 +27,39 @@ const PARAGRAPH: &str =
     was there and who was not, and what is to be done tomorrow; and at the end, as so often, a remark that has little to do \
     with all of that, but had to be written down somewhere before it was forgotten. ";
 
-// One row of 80 columns, full of text: a character more makes it two.
+// One row of 80 columns, full of text: with one more character it takes two.
 const FULL_ROW: &str =
     "A line that is as wide as the screen, so that one character more takes a row mor";
 
 /// The inner width at first and at the end.
 const INNER_WIDTH: u16 = 81;
 
-/// What is done.
+/// The work.
 #[derive(Clone, Copy, Debug)]
 enum Work {
-    /// Typing into a long wrapped line: by turns a hundred characters and a hundred times Backspace.
+    /// Types into a long wrapped line: in turns a hundred characters and a hundred times Backspace.
     Text,
-    /// By turns a character that makes one row two, and Backspace, which makes them one again.
+    /// In turns a character that makes two rows of one, and Backspace.
     Rows,
-    /// By turns a line break and Backspace, in the first line.
+    /// In turns a line break and Backspace, in the first line.
     Breaks,
-    /// The same in the last line, behind which no line is moved.
+    /// The same in the last line, which no line follows.
     LastBreaks,
-    /// The same in the screen map of the lines alone.
+    /// The same in only the screen map of the lines.
     Map,
-    /// The same move of the lines' headers alone.
+    /// Only the same move of the lines' headers.
     Headers,
-    /// The move of bytes alone that a character of two bytes in the middle of a line makes, and back.
+    /// Only the move of bytes for a character of two bytes in the middle of a line, and back.
     Bytes,
-    /// Typing into one line that isn't wrapped: by turns a hundred characters and a hundred times Backspace.
+    /// Types into one unwrapped line: in turns a hundred characters and a hundred times Backspace.
     Line(Line),
-    /// By turns a narrower and the old inner width.
+    /// Sets in turns a narrower and the old inner width.
     Width,
-    /// The same, each width behind a measuring of the rows at it.
+    /// The same, after the rows at each width are measured.
     Measured,
 }
 
-/// A long line, and where in it is typed.
+/// A long line, and where it is edited.
 #[derive(Clone, Copy, Debug)]
 enum Line {
     /// Characters of one byte, at the end.
@@ -69,7 +71,7 @@ enum Line {
 }
 
 impl Line {
-    // The character that the line is made of.
+    // Returns the character that the line consists of.
     fn character(self) -> char {
         match self {
             Line::Ascii => 'e',
@@ -78,7 +80,7 @@ impl Line {
     }
 }
 
-/// What is done, how large the text is (its lines, or the characters of its one line), and how many times.
+/// The work, the size of the text in lines or characters, and the number of times.
 #[derive(Clone, Copy, Debug)]
 pub struct Job {
     work: Work,
@@ -87,7 +89,6 @@ pub struct Job {
 }
 
 impl Job {
-    /// Reads the parts of a job.
     pub fn parse(line: &str) -> Option<Job> {
         let (work, numbers) = line.split_once(' ')?;
         let (size, times) = numbers.split_once(' ')?;
@@ -112,7 +113,7 @@ impl Job {
         })
     }
 
-    /// Does the work, and answers with the number of visual rows and the cursor's column.
+    /// Does the work, and returns the number of visual rows and the cursor's column.
     pub fn run(&self, alloc: Global) -> Result<(usize, usize), AllocError> {
         if let Work::Bytes = self.work {
             return Ok((move_bytes(alloc, self.size, self.times / 2)?, 0));
@@ -146,7 +147,7 @@ impl Job {
         answer
     }
 
-    // Sets these lines, or the long one, does the work, and answers with the number of visual rows and the cursor's column.
+    // Sets the text, does the work, and returns the number of visual rows and the cursor's column.
     fn work_on(
         &self,
         alloc: Global,
@@ -165,7 +166,7 @@ impl Job {
         Ok((rows, document.cursor().1))
     }
 
-    // The lines of the text; none where it gets one long line.
+    // Returns the lines of the text, or none for a job with one long line.
     fn lines(&self, alloc: Global) -> Result<Vec<String>, AllocError> {
         let mut lines = Vec::new(alloc);
         for index in 0..self.size {
@@ -182,7 +183,7 @@ impl Job {
         Ok(lines)
     }
 
-    // Sets one long line, with the cursor where is typed.
+    // Sets one long line, with the cursor at the edited column.
     fn put_line(
         &self,
         alloc: Global,
@@ -200,7 +201,7 @@ impl Job {
         document.set_lines(vec![in alloc; text]?, (0, column))
     }
 
-    // Does the work one time more.
+    // Does the work once.
     fn work_once(&self, document: &mut Document, time: usize) -> Result<(), AllocError> {
         match self.work {
             Work::Text if time / 100 % 2 == 0 => {
@@ -225,7 +226,7 @@ impl Job {
     }
 }
 
-// Sets the lines, with the cursor at the start of this one, or of the last one where there are fewer.
+// Sets the lines, with the cursor at the start of this one, or of the last one if there are fewer.
 fn put_lines(document: &mut Document, lines: Vec<String>, row: usize) -> Result<(), AllocError> {
     if lines.is_empty() {
         return Ok(());
@@ -233,17 +234,16 @@ fn put_lines(document: &mut Document, lines: Vec<String>, row: usize) -> Result<
     document.set_lines(lines, (row, 0))
 }
 
-// Types a character.
 fn type_character(document: &mut Document, c: char) -> Result<(), AllocError> {
     document.insert_character(c, true, Duration::ZERO)
 }
 
-// The inner width that is set then.
+// Returns the inner width to set at this time.
 fn width_of(time: usize) -> u16 {
     if time % 2 == 0 { 61 } else { INNER_WIDTH }
 }
 
-// Sets the inner width, for which the lines are cut anew.
+// Sets the inner width; the lines are wrapped for it from scratch.
 fn set_width(document: &mut Document, inner_width: u16) -> Result<(), AllocError> {
     let prepared = document.prepare_width(inner_width)?;
     document.put_width(prepared);

@@ -1,7 +1,7 @@
-//! Wraps lines of given sizes, and answers with how many rows they take.
+//! Wraps lines of given sizes and counts their visual rows.
 //!
-//! A job has five parts with one space between them: a mode's name, a number of thousands of bytes, how often to wrap, a width,
-//! and a text, which is repeated until the line has that many bytes. The tab length is 4.
+//! A job has five fields with one space between them: a mode's name, a number of kilobytes, how
+//! often to wrap, a width, and a text, which is repeated to that size. The tab length is 4.
 ghost use Rattle.std.specs.Prelude.{◌≡◌, ℕ, max, List, length, IfOk};
 ghost use Rattle.textarea_wrap.specs.Wrapped.{IsWrapped};
 
@@ -10,7 +10,7 @@ use textarea_wrap::wrap::{WrapCount, WrapMode, line_ranges};
 
 const TAB_LEN: u8 = 4;
 
-/// What to wrap: a text, repeated to a number of bytes, at a width, so many times.
+/// A line to wrap: a text, repeated to a number of bytes, at a width, `times` times.
 #[derive(Drop)]
 pub struct Job<'a> {
     mode: WrapMode,
@@ -21,7 +21,6 @@ pub struct Job<'a> {
 }
 
 impl<'a> Job<'a> {
-    /// Reads the five parts of a job.
     pub fn parse(line: &'a str) -> Option<Job<'a>> {
         let mut parts = line.splitn(5, ' ');
         let mode = mode_named(parts.next()?)?;
@@ -38,7 +37,7 @@ impl<'a> Job<'a> {
         })
     }
 
-    /// The number of rows, the same each time.
+    /// Returns the number of rows, the same each time.
     pub fn run(&self, alloc: Global) -> Result<usize, AllocError> {
         let line = repeat(alloc, self.text, self.kilobytes.saturating_mul(1000))?;
         let mut rows = 0;
@@ -59,7 +58,7 @@ fn mode_named(name: &str) -> Option<WrapMode> {
     }
 }
 
-// The text, again and again, until there are so many bytes.
+// Returns the text, repeated until there are at least `len` bytes.
 fn repeat(alloc: Global, text: &str, len: usize) -> Result<String, AllocError> {
     let mut line = String::new(alloc);
     if text.is_empty() {
@@ -71,7 +70,7 @@ fn repeat(alloc: Global, text: &str, len: usize) -> Result<String, AllocError> {
     Ok(line)
 }
 
-/// How many rows the line takes.
+/// Returns the number of rows of the line.
 pub fn count_rows(
     alloc: Global,
     line: &str,

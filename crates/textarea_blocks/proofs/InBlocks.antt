@@ -1,4 +1,4 @@
--- Rows in blocks: what stands before a block, which block a line is in, and the rows of all blocks where those of one change.
+-- Rows in blocks: totals before a block, the block of a line, and all rows after one block changed.
 use Rattle.std.proofs.lemmas.Grind.{common_steps}
 use Rattle.std.proofs.Common.{◌≡◌, ℕ, zero, suc, ◌+◌, ◌-◌, ◌<◌, ◌≤◌, inl, inr, List, Result, Ok, Err, cond, [], ◌∷◌, ◌++◌, Vec, length, take, drop, get_or, set, vec_len, vec_capacity, sym, ap, refl, ◌∙◌, arith}
 use Rattle.std.specs.Result.{IsOk, is_ok}
@@ -17,14 +17,14 @@ all_rows-append [] more = refl
 all_rows-append (rows ∷ blocks) more =
     ap (λ t. rows ++ t) (all_rows-append blocks more) ∙ sym (append_assoc rows (all_rows blocks) (all_rows more))
 
--- the lines of blocks are such a sum, and so are their rows
+-- the number of lines is such a sum, and so is the number of rows
 pub lines_sum : IsSum length
 lines_sum rows more = length-append rows more
 
 pub rows_sum : IsSum row_total
 rows_sum rows more = row_total-append rows more
 
--- ---- what stands before a block
+-- ---- totals before a block
 
 -- the total of the blocks before one
 abbrev pub total_before : Sum → List (List RowsView) → ℕ → ℕ
@@ -36,7 +36,7 @@ before_all total blocks n all = ap (λ t. total (all_rows t)) (take_all n blocks
 pub before_more : (total : Sum) → IsSum total → (blocks : List (List RowsView)) (block : ℕ) → block < length blocks → total_before total blocks (block + 1) ≡ total_before total blocks block + total (get_or blocks block [])
 before_more total sum blocks block within = grind (arith, common_steps, take_more blocks block [] within, all_rows-append, append-nil)
 
--- and those between it and another
+-- and of the blocks between it and another
 pub before_further : (total : Sum) → IsSum total → (blocks : List (List RowsView)) (block more : ℕ) → total_before total blocks (block + more) ≡ total_before total blocks block + total (all_rows (take more (drop block blocks)))
 before_further total sum blocks block more =
     grind (arith, common_steps, take-add block more blocks, all_rows-append (take block blocks) (take more (drop block blocks)))
@@ -52,7 +52,7 @@ before_within total sum blocks block =
       | inr most ↦ omega (arith, before_all total blocks block most)
     ]
 
--- a line is one of one block
+-- a line is in one block only
 pub one_block : (blocks : List (List RowsView)) (line block other : ℕ) → IsBlockOf blocks line block → IsBlockOf blocks line other → block ≡ other
 one_block blocks line block other h more =
     elim (cases_lt block other) [
@@ -66,7 +66,7 @@ one_block blocks line block other h more =
           ]
     ]
 
--- and one behind the first line of a block is in that block or behind it
+-- a line at or after the start of a block is in that block or a later one
 pub block_ordered : (blocks : List (List RowsView)) (line block other : ℕ) → lines_before blocks block ≤ line → IsBlockOf blocks line other → block ≤ other
 block_ordered blocks line block other from h =
     elim (cases_lt other block) [
@@ -75,7 +75,7 @@ block_ordered blocks line block other from h =
       | inr most ↦ most
     ]
 
--- ---- the rows of one block among those of all
+-- ---- the rows of one block among all rows
 
 pub block_parts : (blocks : List (List RowsView)) (block : ℕ) → block < length blocks → all_rows blocks ≡ all_rows (take block blocks) ++ (get_or blocks block [] ++ all_rows (drop (block + 1) blocks))
 block_parts blocks block within =
@@ -85,7 +85,7 @@ block_parts blocks block within =
 pub take_in_block : (blocks : List (List RowsView)) (block index : ℕ) → block < length blocks → index ≤ length (get_or blocks block []) → take (lines_before blocks block + index) (all_rows blocks) ≡ all_rows (take block blocks) ++ take index (get_or blocks block [])
 take_in_block blocks block index within inside = grind (arith, common_steps, block_parts blocks block within, take-append-add, take-append-le)
 
--- and from one of it on
+-- and those from one of it on
 pub drop_in_block : (blocks : List (List RowsView)) (block index : ℕ) → block < length blocks → index ≤ length (get_or blocks block []) → drop (lines_before blocks block + index) (all_rows blocks) ≡ drop index (get_or blocks block []) ++ all_rows (drop (block + 1) blocks)
 drop_in_block blocks block index within inside =
     let above = all_rows (take block blocks) in
@@ -102,7 +102,7 @@ part_of_block blocks block index count within inside = grind (arith, common_step
 pub line_in_block : (blocks : List (List RowsView)) (block index : ℕ) (d : RowsView) → block < length blocks → index < length (get_or blocks block []) → get_or (all_rows blocks) (lines_before blocks block + index) d ≡ get_or (get_or blocks block []) index d
 line_in_block blocks block index d within inside = grind (arith, common_steps, block_parts blocks block within, get_or-append-add, get_or_append_left)
 
--- a line before which a block ends is the first one of its block
+-- a line at which a block begins is the first of its block
 pub edge_there : (blocks : List (List RowsView)) (line block : ℕ) → IsEdge blocks line → IsBlockOf blocks line block → lines_before blocks block ≡ line
 edge_there blocks line block edge h =
     elim (cases_lt block edge.0) [
@@ -112,12 +112,12 @@ edge_there blocks line block edge h =
           omega (arith, h.from, edge.2, before_ordered length lines_sum blocks edge.0 block most)
     ]
 
--- a line of a block is one of all
+-- a line of a block is one of all lines
 pub line_there : (blocks : List (List RowsView)) (block index : ℕ) → block < length blocks → index < length (get_or blocks block []) → lines_before blocks block + index < length (all_rows blocks)
 line_there blocks block index within inside =
     omega (arith, before_more length lines_sum blocks block within, before_within length lines_sum blocks (block + 1))
 
--- the ranges of a line, and the total up to it
+-- the ranges of a line, and the total before it
 pub ranges_found : (blocks : List (List RowsView)) (block index line : ℕ) (rows : RowsView) → block < length blocks → index < length (get_or blocks block []) → lines_before blocks block + index ≡ line → rows ≡ get_or (get_or blocks block []) index rows → rows.ranges ≡ ranges_at (all_rows blocks) line
 ranges_found blocks block index line rows within inside at is =
     grind (arith, common_steps, line_there blocks block index within inside, line_in_block blocks block index rows within inside, get_or-map)
@@ -125,18 +125,18 @@ ranges_found blocks block index line rows within inside at is =
 pub total_in_block : (total : Sum) → IsSum total → (blocks : List (List RowsView)) (block index line : ℕ) → block < length blocks → index ≤ length (get_or blocks block []) → lines_before blocks block + index ≡ line → total (take line (all_rows blocks)) ≡ total_before total blocks block + total (take index (get_or blocks block []))
 total_in_block total sum blocks block index line within inside at = grind (arith, common_steps, take_in_block blocks block index within inside)
 
--- the totals of lines one behind the other, of which the last ones are some of one block
+-- the totals of consecutive lines, of which the last ones are in one block
 pub total_further : (total : Sum) → IsSum total → (blocks : List (List RowsView)) (here : List RowsView) (block index count line done : ℕ) → block < length blocks → here ≡ get_or blocks block [] → index + count ≤ length here → lines_before blocks block + index ≡ line + done → total (take (done + count) (drop line (all_rows blocks))) ≡ total (take done (drop line (all_rows blocks))) + total (take (index + count - index) (drop index here))
 total_further total sum blocks here block index count line done within is inside at = grind (arith, common_steps, take-add, drop-drop, part_of_block)
 
 -- ---- blocks that change
 
--- lines of a list in the middle give place to others
+-- lines in the middle of a list are replaced
 replaced_between : (above rows below new : List RowsView) (start count : ℕ) → start + count ≤ length rows → replaced (above ++ (rows ++ below)) (length above + start) count new ≡ above ++ (replaced rows start count new ++ below)
 replaced_between above rows below new start count within =
     grind (arith, common_steps, take-append-add above (rows ++ below) start, take-append-le, drop-drop, drop_at above (rows ++ below) (length above), drop-append-le (start + count) rows below within, append_assoc above (take start rows) (new ++ (drop (start + count) rows ++ below)), append_assoc new (drop (start + count) rows) below, append_assoc (take start rows) (new ++ drop (start + count) rows) below)
 
--- another block in the place of one
+-- one block is replaced
 pub block_set : (blocks : List (List RowsView)) (block : ℕ) (rows : List RowsView) → block < length blocks → all_rows (set blocks block rows) ≡ all_rows (take block blocks) ++ (rows ++ all_rows (drop (block + 1) blocks))
 block_set blocks block rows within =
     let next : suc block ≡ block + 1 = omega arith in
@@ -144,7 +144,7 @@ block_set blocks block rows within =
     ∙ ap (λ n. all_rows (take block blocks ++ rows ∷ drop n blocks)) next
     ∙ all_rows-append (take block blocks) (rows ∷ drop (block + 1) blocks)
 
--- what stands before a block, where one behind it or it itself is another
+-- the total before a block, when this block or a later one is replaced
 pub before_set : (total : Sum) (blocks : List (List RowsView)) (block k : ℕ) (rows : List RowsView) → k ≤ block → total_before total (set blocks block rows) k ≡ total_before total blocks k
 before_set total blocks block k rows above = ap (λ t. total (all_rows t)) (take-set-le k blocks block rows above)
 
@@ -154,14 +154,14 @@ behind_set total sum blocks block rows within =
     ∙ ap (λ n. n + total (get_or (set blocks block rows) block [])) (before_set total blocks block block rows (omega arith))
     ∙ ap (λ t. total_before total blocks block + total t) (get_or-set_same blocks block rows [] within)
 
--- lines of one block give place to others
+-- lines of one block are replaced
 pub block_replaced : (blocks : List (List RowsView)) (block start count : ℕ) (new : List RowsView) → block < length blocks → start + count ≤ length (get_or blocks block []) → all_rows (set blocks block (replaced (get_or blocks block []) start count new)) ≡ replaced (all_rows blocks) (lines_before blocks block + start) count new
 block_replaced blocks block start count new within inside = grind (arith, common_steps, block_set, replaced_between, block_parts blocks block within)
 
 drop_all_of : (rows : List RowsView) → drop (0 + length rows) rows ≡ []
 drop_all_of rows = drop_all (0 + length rows) rows (omega arith)
 
--- whole blocks give place to others
+-- whole blocks are replaced
 pub blocks_replaced : (blocks new : List (List RowsView)) (from to : ℕ) → from ≤ to → to ≤ length blocks → all_rows (replaced blocks from (to - from) new) ≡ replaced (all_rows blocks) (lines_before blocks from) (lines_before blocks to - lines_before blocks from) (all_rows new)
 blocks_replaced blocks new from to ordered within =
     let above = all_rows (take from blocks) in
@@ -184,12 +184,12 @@ blocks_replaced blocks new from to ordered within =
     ∙ ap (λ n. replaced (above ++ (between ++ below)) (length above) n (all_rows new)) (sym lines)
     ∙ ap (λ t. replaced t (length above) (lines_before blocks to - lines_before blocks from) (all_rows new)) (sym parts)
 
--- a block more behind all others
+-- one block is appended
 pub block_pushed : (blocks : List (List RowsView)) (rows : List RowsView) → all_rows (blocks ++ rows ∷ []) ≡ all_rows blocks ++ rows
 block_pushed blocks rows =
     all_rows-append blocks (rows ∷ []) ∙ ap (λ t. all_rows blocks ++ t) (append-nil rows)
 
--- a block is cut in two
+-- a block is split in two
 pub block_split : (blocks : List (List RowsView)) (block at : ℕ) → block < length blocks → all_rows (replaced (set blocks block (take at (get_or blocks block []))) (block + 1) 0 (drop at (get_or blocks block []) ∷ [])) ≡ all_rows blocks
 block_split blocks block at within =
     let rows = get_or blocks block [] in
@@ -206,9 +206,9 @@ block_split blocks block at within =
     ∙ ap (λ t. all_rows above ++ t) (sym (append_assoc (take at rows) (drop at rows) (all_rows below)) ∙ ap (λ t. t ++ all_rows below) (take-append-drop at rows))
     ∙ sym (block_parts blocks block within)
 
--- ---- what is read from vectors
+-- ---- elements of vectors
 
--- an element that is there is the same, whatever stands for one that isn't
+-- an element that exists is the same for every default
 pub item_is : {X : Type 0} (items : List X) (i : ℕ) (item d : X) → i < length items → item ≡ get_or items i item → item ≡ get_or items i d
 item_is [] i item d within is = absurd (omega arith)
 item_is (x ∷ items) zero item d within is = is

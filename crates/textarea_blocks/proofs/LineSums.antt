@@ -1,4 +1,4 @@
--- Sums over lines, of their rows and of their sizes, as lines give place to others.
+-- Sums over lines, of their visual rows and of their sizes, as lines are replaced.
 use Rattle.std.proofs.Common.{◌≡◌, ℕ, ◌+◌, ◌-◌, ◌<◌, ◌≤◌, List, [], ◌∷◌, ◌++◌, length, take, drop, get_or, sym, ap, ◌∙◌, arith}
 use Rattle.std.proofs.lemmas.List.{take_more, take-append-drop, drop-drop}
 use Rattle.textarea_wrap.specs.RowsView.{RowsView}
@@ -15,14 +15,14 @@ pub size_total-more : (rows : List RowsView) (i : ℕ) (r : RowsView) → i < le
 size_total-more rows i r within e =
     rw (take_more rows i r within, ← e) (omega (arith, size_total-append (take i rows) (r ∷ [])))
 
--- A sum over lines: of their rows, or of their sizes.
+-- a sum over lines: of their rows, or of their sizes
 abbrev pub Sum : Type 0
 Sum = List RowsView → ℕ
 
 abbrev pub IsSum : Sum → Type 0
 IsSum total = (rows more : List RowsView) → total (rows ++ more) ≡ total rows + total more
 
--- what the lines that go have is part of the whole, and with what comes in its place it is what all have afterwards
+-- the removed lines' sum is within the total, and the total changes by it and by the new sum
 pub record Exchange (total : Sum) (rows going new : List RowsView) (row count : ℕ) : Type 0 where
   pub part : total going ≤ total rows
   pub after : total rows - total going + total new ≡ total (replaced rows row count new)
@@ -38,7 +38,7 @@ exchange total rows going new row count sum is =
       after = omega (arith, whole, sum (take row rows) (new ++ below), sum new below);
     }
 
--- the lines that go, as the code cuts them out of those that are kept
+-- the removed lines, as the code slices them
 abbrev pub going : List RowsView → ℕ → ℕ → List RowsView
 going kept row count = take (row + count - row) (drop row kept)
 
@@ -50,7 +50,7 @@ pub rows_exchanged : (rows kept new : List RowsView) (row count : ℕ) → kept 
 rows_exchanged rows kept new row count is =
     exchange row_total rows (going kept row count) new row count row_total-append (going_are rows kept row count is)
 
--- a line is one of its size at least
+-- each line adds at least 1 to the size
 pub lines_few : (rows : List RowsView) → length rows ≤ size_total rows
 lines_few [] = omega arith
 lines_few (r ∷ rows) = omega (arith, lines_few rows)

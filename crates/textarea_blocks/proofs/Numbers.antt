@@ -1,10 +1,10 @@
--- How many rows some lines have, as lines give place to others.
+-- The number of visual rows of lines, as lines are replaced.
 use Rattle.std.proofs.lemmas.Grind.{common_steps}
-use Rattle.std.proofs.Common.{◌≡◌, ℕ, ◌+◌, ◌-◌, ◌≤◌, ◌<◌, inl, inr, List, [], ◌∷◌, ◌++◌, length, take, drop, get_or, map, sum_by, sym, ap, refl, ◌∙◌, arith}
-use Rattle.std.proofs.lemmas.List.{append_assoc, length-append, take_all, take_more, take-append-drop, take-append-le, length-take-le}
+use Rattle.std.proofs.Common.{◌≡◌, ℕ, ◌+◌, ◌-◌, ◌≤◌, ◌<◌, List, [], ◌∷◌, ◌++◌, length, take, drop, get_or, map, sum_by, sym, ap, refl, ◌∙◌, arith}
+use Rattle.std.proofs.lemmas.List.{take_all, take_more, take-append-drop}
 use Rattle.std.proofs.lemmas.Bool.{cases_lt}
 use Rattle.std.proofs.lemmas.List.Sums.{sum_by-cons}
-use Rattle.std.proofs.Math.Seq.{take-add, take-append-add}
+use Rattle.std.proofs.Math.Seq.{take-add}
 use Rattle.textarea_wrap.specs.RowsView.{RowsView}
 use Rattle.textarea_blocks.specs.Sums.{row_total}
 use Rattle.textarea_util.specs.Replaced.{replaced}
@@ -24,7 +24,7 @@ row_total-more rows i r within e =
 pub row_total-take_le : (n : ℕ) (rows : List RowsView) → row_total (take n rows) ≤ row_total rows
 row_total-take_le n rows = omega (arith, row_total-take_drop n rows)
 
--- the rows of the lines that give place, and of those that come for them
+-- the rows of the removed lines, and of the new ones
 pub row_total-replaced : (rows new : List RowsView) (start count : ℕ) → row_total (replaced rows start count new) + row_total (take (start + count) rows) ≡ row_total rows + row_total (take start rows) + row_total new
 row_total-replaced rows new start count =
     omega (arith, row_total-append (take start rows) (new ++ drop (start + count) rows), row_total-append new (drop (start + count) rows), row_total-take_drop (start + count) rows)
@@ -34,12 +34,12 @@ pub row_total-sum : (rows : List RowsView) → row_total rows ≡ sum_by length 
 row_total-sum [] = refl
 row_total-sum (r ∷ rows) = ap (λ n. length r.ranges + n) (row_total-sum rows) ∙ sym (sum_by-cons length r.ranges (map (λ (s : RowsView). s.ranges) rows))
 
--- ---- lines give place to others
+-- ---- lines are replaced
 
 pub row_total-span : (rows : List RowsView) (row count : ℕ) → row_total (take row rows) ≤ row_total (take (row + count) rows)
 row_total-span rows row count =
     omega (arith, ap row_total (take-add row count rows), row_total-append (take row rows) (take count (drop row rows)))
 
--- a row of the lines behind some first ones is one of a line that is there
+-- a visual row after the first lines is one of a line that exists
 pub line_there : (rows : List RowsView) (line left row : ℕ) → row_total (take line rows) + left ≡ row → row < row_total rows → line < length rows
 line_there rows line left row is within = grind (arith, common_steps, cases_lt line (length rows), take_all)

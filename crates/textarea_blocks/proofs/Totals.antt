@@ -1,4 +1,4 @@
--- The numbers beside blocks of rows, as blocks change.
+-- The numbers of lines and of visual rows before blocks, as blocks change.
 use Rattle.std.proofs.lemmas.Grind.{common_steps}
 use Rattle.std.proofs.Common.{◌≡◌, ℕ, ◌+◌, ◌-◌, ◌<◌, ◌≤◌, inl, inr, List, [], ◌∷◌, ◌++◌, length, take, drop, get_or, set, sym, ap, refl, ◌∙◌, arith}
 use Rattle.std.proofs.lemmas.Bool.{cases_lt}
@@ -13,7 +13,7 @@ use Rattle.textarea_blocks.specs.Numbered.{AreExchanged, AreTotals}
 use Rattle.textarea_blocks.proofs.InBlocks.{all_rows-append, before_all, before_further, before_more, total_before}
 use Rattle.textarea_blocks.proofs.LineSums.{IsSum, Sum}
 
--- the block in which a number falls, by a search
+-- the block that a number is in, found by a search
 pub found_at : (total : Sum) → IsSum total → (blocks : List (List RowsView)) (numbers : List ℕ) (number block : ℕ) → AreTotals total blocks numbers → block < length numbers → get_or numbers block 0 ≤ number → (block + 1 < length numbers → number < get_or numbers (block + 1) 0) → number < total (all_rows blocks) → (total_before total blocks block ≤ number) × (number < total_before total blocks (block + 1))
 found_at total sum blocks numbers number block h within from next there = (
   omega (arith, h.right block (omega (arith, h.len)), from),
@@ -23,12 +23,12 @@ found_at total sum blocks numbers number block h within from next there = (
   ],
 )
 
--- the total before the block behind one
+-- the total before the next block
 pub number_behind : (total : Sum) → IsSum total → (blocks : List (List RowsView)) (numbers : List ℕ) (block number : ℕ) (rows : List RowsView) → AreTotals total blocks numbers → block < length blocks → number ≡ get_or numbers block 0 → rows ≡ get_or blocks block [] → number + total rows ≡ total_before total blocks (block + 1)
 number_behind total sum blocks numbers block number rows h within is rows_are =
     omega (arith, before_more total sum blocks block within, h.right block within, is, ap total rows_are)
 
--- ---- another block in the place of one
+-- ---- one block is replaced
 
 pub total_set : (total : Sum) → IsSum total → (blocks : List (List RowsView)) (block k : ℕ) (rows : List RowsView) → block < length blocks → block < k → total_before total (set blocks block rows) k + total (get_or blocks block []) ≡ total_before total blocks k + total rows
 total_set total sum blocks block k rows within behind =
@@ -47,7 +47,7 @@ total_set total sum blocks block k rows within behind =
       ap total (get_or-set_same blocks block rows [] within),
     )
 
--- and of all blocks
+-- and the total of all blocks
 pub all_set : (total : Sum) → IsSum total → (blocks : List (List RowsView)) (block : ℕ) (rows : List RowsView) → block < length blocks → total (all_rows (set blocks block rows)) + total (get_or blocks block []) ≡ total (all_rows blocks) + total rows
 all_set total sum blocks block rows within =
     grind (arith, common_steps, total_set total sum blocks block (length blocks) rows within within, before_all, length-set blocks block rows)
@@ -65,7 +65,7 @@ totals_set total sum blocks numbers now block gone come rows h within turned siz
       ];
     }
 
--- ---- a block more behind all others
+-- ---- one block is appended
 
 pub totals_pushed : (total : Sum) (blocks : List (List RowsView)) (numbers : List ℕ) (number : ℕ) (rows : List RowsView) → AreTotals total blocks numbers → number ≡ total (all_rows blocks) → AreTotals total (blocks ++ rows ∷ []) (numbers ++ number ∷ [])
 totals_pushed total blocks numbers number rows h is =
@@ -82,7 +82,7 @@ totals_pushed total blocks numbers number rows h is =
           ];
     }
 
--- ---- whole blocks in the place of others
+-- ---- whole blocks are replaced
 
 pub take_above : (blocks new : List (List RowsView)) (from count k : ℕ) → k ≤ from → from ≤ length blocks → take k (replaced blocks from count new) ≡ take k blocks
 take_above blocks new from count k above within =
@@ -94,12 +94,12 @@ take_between blocks new from count k inside within = grind (arith, common_steps,
 take_behind : (blocks new : List (List RowsView)) (from count k : ℕ) → from ≤ length blocks → take (from + (length new + k)) (replaced blocks from count new) ≡ take from blocks ++ (new ++ take k (drop (from + count) blocks))
 take_behind blocks new from count k within = grind (arith, common_steps, length-take-le from blocks within, take-append-add)
 
--- the total before a block behind those that came
+-- the total before a block after the new ones
 pub total_behind : (total : Sum) → IsSum total → (blocks new : List (List RowsView)) (from to k : ℕ) → from ≤ to → to ≤ length blocks → total_before total (replaced blocks from (to - from) new) (from + (length new + k)) + total_before total blocks to ≡ total_before total blocks (to + k) + total_before total blocks from + total (all_rows new)
 total_behind total sum blocks new from to k ordered within =
     grind (arith, common_steps, take_behind, all_rows-append, before_further total sum blocks to k)
 
--- and of all blocks
+-- and the total of all blocks
 pub all_exchanged : (total : Sum) → IsSum total → (blocks new : List (List RowsView)) (from to : ℕ) → from ≤ to → to ≤ length blocks → total (all_rows (replaced blocks from (to - from) new)) + total_before total blocks to ≡ total (all_rows blocks) + total_before total blocks from + total (all_rows new)
 all_exchanged total sum blocks new from to ordered within =
     let more = length blocks - to in
@@ -157,7 +157,7 @@ totals_exchanged total sum blocks new numbers news now exchanged h more ordered 
       ];
     }
 
--- numbers that were turned and then exchanged
+-- numbers that are adjusted and then replaced
 pub numbers_exchanged : (old new turned counted now : List ℕ) (exchanged : Exchanged) → exchanged.from ≤ exchanged.to → exchanged.to ≤ length old → length turned ≡ length old → length counted ≡ length new → ((k : ℕ) → k < exchanged.to → get_or turned k 0 ≡ get_or old k 0) → ((k : ℕ) → exchanged.to ≤ k → k < length old → get_or turned k 0 + exchanged.gone ≡ get_or old k 0 + exchanged.come) → ((k : ℕ) → 0 ≤ k → k < length new → get_or counted k 0 + 0 ≡ get_or new k 0 + exchanged.before) → now ≡ replaced turned exchanged.from (exchanged.to - exchanged.from) counted → AreExchanged old new exchanged now
 numbers_exchanged old new turned counted now exchanged ordered within size size_new above moved moved_new is =
     let from = exchanged.from in

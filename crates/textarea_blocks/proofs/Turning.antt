@@ -1,6 +1,6 @@
--- Numbers that are kept as items, of which those from one place on have a difference that isn't added to them yet.
+-- Numbers stored as items, with a pending difference from one index on.
 use Rattle.std.proofs.lemmas.Grind.{common_steps}
-use Rattle.std.proofs.Common.{◌≡◌, ℕ, zero, suc, ◌+◌, ◌-◌, ◌^◌, ◌<◌, ◌≤◌, inl, inr, List, [], ◌∷◌, Vec, length, get_or, vec_len, sym, ap, refl, ◌∙◌, arith}
+use Rattle.std.proofs.Common.{◌≡◌, ℕ, zero, suc, ◌+◌, ◌-◌, ◌^◌, ◌<◌, ◌≤◌, List, [], ◌∷◌, Vec, length, get_or, vec_len, sym, ap, refl, ◌∙◌, arith}
 use Rattle.std.proofs.lemmas.Bool.{cases_lt}
 use Rattle.std.proofs.lemmas.Grind.{same_number_lists}
 use Rattle.textarea_blocks.specs.Turned.{CanTurn, turned}
@@ -30,20 +30,20 @@ turned_behind (suc from) less more (item ∷ items) (suc k) behind there =
 
 -- ---- a difference that is added to the items
 
--- with none the numbers are the items
+-- without a difference the numbers are the items
 pub not_turned : (from : ℕ) (items : List ℕ) → turned from 0 0 items ≡ items
 not_turned from [] = refl
 not_turned zero (item ∷ items) = grind (arith, common_steps, not_turned zero items)
 not_turned (suc from) (item ∷ items) = ap (λ t. item ∷ t) (not_turned from items)
 
--- as they are once it is added
+-- once the difference is added, the items are the numbers
 pub settled : {A : Type 0} (items now : Vec ℕ A) (from less more : ℕ) → vec_len now ≡ vec_len items → ((k : ℕ) → k < from → get_or now.items k 0 ≡ get_or items.items k 0) → ((k : ℕ) → from ≤ k → k < vec_len items → get_or now.items k 0 + less ≡ get_or items.items k 0 + more) → now.items ≡ turned from less more items.items
 settled {A} items now from less more size above moved =
     grind (arith, common_steps, same_number_lists, length-turned from less more items.items, cases_lt, turned_above, turned_behind)
 
--- ---- a second difference from the same place on
+-- ---- a second difference from the same index on
 
--- the numbers with it: `l` and `m` are both differences in one
+-- the numbers with both differences: `l` and `m` combine them
 pub record AreJoined (items old : List ℕ) (from gone come l m : ℕ) : Type 0 where
   pub can : CanTurn items from l m
   pub above : (k : ℕ) → k < from → get_or (turned from l m items) k 0 ≡ get_or old k 0

@@ -1,4 +1,4 @@
--- The numbers that are kept beside blocks of rows.
+-- The stored number of lines and of visual rows before each block.
 use Rattle.std.specs.Prelude.{◌≡◌, ℕ, ◌+◌, ◌-◌, ◌*◌, ◌<◌, ◌≤◌, List, length, take, get_or}
 use Rattle.textarea_util.specs.Limit.{size_limit}
 use Rattle.textarea_wrap.specs.RowsView.{RowsView}
@@ -6,21 +6,21 @@ use Rattle.textarea_blocks.specs.declared.blocks.numbers.Exchanged.{Exchanged}
 use Rattle.textarea_blocks.specs.Blocks.{all_rows}
 use Rattle.textarea_blocks.specs.Sums.{row_total}
 
--- for each block there is a number: the total of all lines before it
+-- there is a number for each block: the total of all lines before it
 pub record AreTotals (total : List RowsView → ℕ) (blocks : List (List RowsView)) (numbers : List ℕ) : Type 0 where
   pub len : length numbers ≡ length blocks
   pub right : (k : ℕ) → k < length blocks → get_or numbers k 0 ≡ total (all_rows (take k blocks))
 
--- What blocks keep: for each of them the number of lines and of visual rows before it. No more of both than twice the limit, since
--- rows that take the place of others stand beside them for a while, so that no sum leaves a machine word.
+-- The stored numbers of lines and of visual rows before each block are right. Both totals are at
+-- most twice the limit, since removed and new rows exist together for a while; no sum overflows.
 pub record AreNumbered (blocks : List (List RowsView)) (lines rows : List ℕ) : Type 0 where
   pub lines_are : AreTotals length blocks lines
   pub rows_are : AreTotals row_total blocks rows
   pub few_lines : length (all_rows blocks) ≤ 2 * size_limit
   pub few_rows : row_total (all_rows blocks) ≤ 2 * size_limit
 
--- Numbers of blocks after an exchange: above it they stay, new ones stand in the place of those of the blocks that went, counted on
--- from the items before, and those behind say what came more and what went less.
+-- The numbers after a replacement of blocks: those above it are unchanged, those of the new blocks
+-- begin at the items before, and those after it are adjusted by what was added and removed.
 pub record AreExchanged (old new : List ℕ) (exchanged : Exchanged) (now : List ℕ) : Type 0 where
   pub len : length now + (exchanged.to - exchanged.from) ≡ length old + length new
   pub above : (k : ℕ) → k < exchanged.from → get_or now k 0 ≡ get_or old k 0

@@ -1,8 +1,8 @@
-//! The rows of lines in blocks of lines, one behind the other, with the number of lines and of visual rows before each block. So
-//! rows take the place of others by a move of those that stand behind them in one block, or of whole blocks; of all that lies
-//! behind, only those two numbers of each block change, and where changes of one block follow one another, not even these are
-//! touched.
-ghost use Rattle.std.specs.Prelude.{◌≡◌, ◌+◌, ◌≤◌, ◌++◌, ◌∷◌, ℕ, List, [], length, OnOk};
+//! The visual rows of lines, in blocks of consecutive lines, with the number of lines and of visual
+//! rows before each block. A replacement moves only the rows after it in one block, or whole
+//! blocks. Of the later blocks only these two numbers change, and not even they while successive
+//! changes are in one block.
+ghost use Rattle.std.specs.Prelude.{◌≡◌, ◌+◌, ◌≤◌, ◌++◌, ◌∷◌, [], length, OnOk};
 ghost use Rattle.textarea_blocks.specs.Blocks.{all_rows};
 ghost use Rattle.textarea_blocks.specs.Sums.{row_total};
 
@@ -17,7 +17,7 @@ mod change;
 mod look_up;
 mod numbers;
 
-/// The rows of lines, in blocks.
+/// The visual rows of lines, in blocks of consecutive lines.
 #[derive(Drop)]
 pub struct RowBlocks {
     blocks: Vec<Vec<Rows>>,
@@ -26,7 +26,7 @@ pub struct RowBlocks {
 }
 
 impl Model for RowBlocks {
-    ghost use Rattle.std.specs.Prelude.{◌-◌, map, min, vec_len, vec_capacity};
+    ghost use Rattle.std.specs.Prelude.{◌-◌, min, vec_len, vec_capacity};
     ghost use Rattle.textarea_blocks.specs.Blocks.{BlocksView, rows_of_each, spare_of_each};
     ghost use Rattle.textarea_blocks.specs.Numbered.{AreNumbered};
 
@@ -46,7 +46,7 @@ impl Model for RowBlocks {
 impl Clone for RowBlocks {
     ghost is_clone = { λ blocks copy. copy.blocks ≡ blocks.blocks };
 
-    /// The same rows in the same blocks, or an error where there is no memory for them.
+    /// Returns the same rows in the same blocks, or an error if memory runs out.
     fn clone(&self) -> Result<RowBlocks, AllocError> {
         Ok(RowBlocks {
             blocks: self.blocks.clone()?,
@@ -57,7 +57,7 @@ impl Clone for RowBlocks {
 }
 
 impl RowBlocks {
-    /// No block. It takes no memory.
+    /// Returns no blocks. Allocates nothing.
     pub fn new(alloc: Global) -> RowBlocks
         ensures { result.blocks ≡ [] }
     {
@@ -68,7 +68,7 @@ impl RowBlocks {
         }
     }
 
-    /// Puts the rows behind all others, as one block. More than 2^48 lines or rows in all are out of memory.
+    /// Appends the rows as one block. More than 2^48 lines or visual rows in all are out of memory.
     pub fn push(&mut self, rows: Vec<Rows>) -> Result<(), AllocError>
         ensures { OnOk result (self.new.blocks ≡ self.old.blocks ++ rows.items ∷ []) }
     {
@@ -82,7 +82,7 @@ impl RowBlocks {
         Ok(())
     }
 
-    /// Makes room for so many blocks more.
+    /// Reserves room for `more` blocks.
     pub fn reserve(&mut self, more: usize) -> Result<(), AllocError>
         ensures same { self.new.blocks ≡ self.old.blocks }
         ensures room { OnOk result (more ≤ self.new.more) }
@@ -92,21 +92,21 @@ impl RowBlocks {
         self.rows.reserve(more)
     }
 
-    /// How many blocks there are.
+    /// Returns the number of blocks.
     pub fn block_count(&self) -> usize
         ensures { result ≡ length self.now.blocks }
     {
         self.blocks.len()
     }
 
-    /// How many lines all blocks have.
+    /// Returns the number of lines in all blocks.
     pub fn line_count(&self) -> usize
         ensures { result ≡ length (all_rows self.now.blocks) }
     {
         self.lines_before(self.blocks.len())
     }
 
-    // How many visual rows all lines have.
+    // Returns the number of visual rows of all lines.
     pub(crate) fn row_count(&self) -> usize
         ensures { result ≡ row_total (all_rows self.now.blocks) }
     {

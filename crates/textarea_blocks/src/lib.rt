@@ -1,4 +1,4 @@
-//! The rows of lines, kept in blocks of lines, and the sums over them. How a line is cut into rows isn't known here.
+//! The visual rows of lines, in blocks of lines, and sums over them; not how lines are wrapped.
 #![tactic(auto)]
 
 pub mod blocks;

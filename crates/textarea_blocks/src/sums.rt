@@ -1,10 +1,10 @@
-//! How many rows lines have, and how large they are by their rows.
+//! The number of visual rows of lines, and the size of the lines by their rows.
 ghost use Rattle.std.specs.Prelude.{◌≡◌, min};
 ghost use Rattle.textarea_blocks.specs.Sums.{line_bytes, row_total, size_total};
 
 use textarea_wrap::rows::Rows;
 
-/// How many rows these are in all, or the greatest `usize` where that is less.
+/// Returns the number of visual rows in all, at most the greatest `usize`.
 pub fn count_rows(rows: &[Rows]) -> usize
     ensures { result ≡ min (row_total rows.now) usize.MAX }
 {
@@ -15,7 +15,7 @@ pub fn count_rows(rows: &[Rows]) -> usize
     total
 }
 
-/// The bytes of the lines that have these rows and their number, summed, or the greatest `usize` where that is less.
+/// Returns the sum of the bytes and the number of the lines, at most the greatest `usize`.
 pub fn size_of_rows(rows: &[Rows]) -> usize
     ensures { result ≡ min (size_total rows.now) usize.MAX }
 {
@@ -28,7 +28,7 @@ pub fn size_of_rows(rows: &[Rows]) -> usize
     size
 }
 
-// The bytes of the line that has these rows.
+// Returns the bytes of the line that has these rows.
 fn line_bytes(ranges: &[(usize, usize)]) -> usize
     ensures { result ≡ line_bytes ranges.now }
 {

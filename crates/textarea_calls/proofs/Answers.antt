@@ -1,4 +1,4 @@
--- What rows answer is what their actions do.
+-- The result in each case of a table is that of the case's action.
 use Rattle.std.proofs.Common.{◌≡◌, ℕ, Bool, true, false, cond, ◌&&◌, ◌||◌, List, [], ◌∷◌, Option, Some, refl}
 use Rattle.std.proofs.lemmas.Bool.{false≢true}
 use Rattle.std.specs.List.{AllByRecursion}
@@ -8,7 +8,7 @@ use Rattle.textarea_data.specs.declared.input.Key.TheVariants as key
 use Rattle.textarea_calls.specs.Answer.{changed, answer_of}
 use Rattle.textarea_calls.specs.Table.{Row, HasAnswersOfActions, characters_but, has, fits, row_of, action_in, answer_in, action_by, inserted}
 
--- each input of a row answers as inputs do that ask for the same
+-- the result of each input of a case is that of the input's action
 abbrev pub AnswersAsActions : Row → Type 0
 AnswersAsActions row = (input : Input) → fits input row ≡ true → row.answer ≡ answer_of (row.action input)
 
@@ -16,14 +16,14 @@ first_row : (b : Bool) (row : Row) (later : Option Row) (input : Input) → (b �
 first_row true row later input here there = here refl
 first_row false row later input here there = there
 
--- where that is so of each row, it is so of the table
+-- what holds for each case holds for the table
 pub answers_of_rows : (rows : List Row) → AllByRecursion AnswersAsActions rows → HasAnswersOfActions rows
 unfolding action_by
 answers_of_rows [] each input = refl
 answers_of_rows (row ∷ rows) each input =
     first_row (fits input row) row (row_of rows input) input (each.0 input) (answers_of_rows rows each.1 input)
 
--- all characters but some, with something held: only characters are among them, and those are inserted
+-- all characters except some: only characters are in the set, and they are inserted
 pub characters_inserted : (asked : Key) (b : Bool) (left_out : List ℕ) → ((b && has (characters_but left_out) asked) || false) ≡ true → changed ≡ answer_of (inserted asked)
 characters_inserted (key.Char c) b left_out h = refl
 characters_inserted other true left_out h = absurd (false≢true h)

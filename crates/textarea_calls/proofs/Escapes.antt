@@ -1,4 +1,4 @@
--- Escapes, as they are read.
+-- How escapes are read.
 use Rattle.std.proofs.Common.{arith, ◌≡◌, ◌≢◌, ℕ, ◌<◌, ◌≤◌, ◌^◌, Bool, true, false, List, [], ◌∷◌, ◌++◌, Some, None, Result, Ok, Err, length, drop, nat_lt, ◌&&◌, ◌==◌, if◌then◌else◌, option_map, refl, ap, sym, ◌∙◌, subst, lit<, eqb-true, zero-add}
 use Rattle.std.specs.Prelude.{chars, encode_utf8, slice_get}
 use Rattle.std.specs.Char.{digit_value, is_ascii_hexdigit, len_utf8}
@@ -18,7 +18,7 @@ is_false false other = refl
 hex_digit : (c : ℕ) → is_ascii_hexdigit c ≡ true → (digit_value c < 16) × (c ≢ 43)
 hex_digit c is = (grind (arith, nat_tests), grind (arith, nat_tests))
 
--- both of two tests that are true together
+-- a conjunction that is true, as two tests
 both : (a b : Bool) → (a && b) ≡ true → (a ≡ true) × (b ≡ true)
 both true b is = (refl, is)
 both false b is = (let never : false ≡ true = is in cc, let never : false ≡ true = is in cc)
@@ -86,7 +86,7 @@ pub escape_nothing : (text : List ℕ) → length text ≡ 0 → escape text ≡
 unfolding escape
 escape_nothing text none = ap escape (empty text none)
 
--- a letter of ASCII
+-- a text that begins with an ASCII letter
 at_letter : (letter : ℕ) (text rest : List ℕ) → letter < 128 → text ≡ encode_utf8 letter ++ rest → text ≡ letter ∷ rest
 at_letter letter text rest small is = is ∙ ap (λ (b : List ℕ). b ++ rest) (encode_ascii letter small)
 
@@ -97,7 +97,7 @@ pub escape_number : (text rest : List ℕ) → text ≡ encode_utf8 117 ++ rest 
 unfolding escape
 escape_number text rest is = ap escape (at_letter 117 text rest (lit< tt) is)
 
--- the first byte is no letter that the first character isn't
+-- if the first character isn't a letter, the first byte isn't that letter
 first_byte : (byte c letter : ℕ) (text rest : List ℕ) → byte ∷ text ≡ encode_utf8 c ++ rest → letter < 128 → c ≢ letter → byte ≢ letter
 first_byte byte c letter text rest is small other same =
     other (char_from_byte (byte ∷ text) rest c is (omega arith) (omega arith) ∙ same)

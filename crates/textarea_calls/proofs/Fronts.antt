@@ -1,4 +1,4 @@
--- What stands in front of the first backslash of a text is read as it stands.
+-- The text before the first backslash is read unchanged.
 use Rattle.std.proofs.Common.{arith, ◌≡◌, ◌≢◌, ℕ, suc, ◌<◌, List, [], ◌∷◌, ◌++◌, Option, Some, None, length, option_map, refl, ap, sym, ◌∙◌, subst, take, append_assoc, append-nil, lit<}
 use Rattle.std.specs.Prelude.{chars, encode_utf8, slice_get, slice_index}
 use Rattle.std.specs.Str.{IsUtf8, encode_utf8_all}
@@ -25,7 +25,7 @@ other_character : (c : ℕ) (bytes : List ℕ) → Without (encode_utf8 c ++ byt
 other_character c bytes none same =
     (subst (λ (front : List ℕ). Without (front ++ bytes)) (ap encode_utf8 same ∙ encode_ascii 92 (lit< tt)) none).0 refl
 
--- a text whose first character is no backslash
+-- a text whose first character is not a backslash
 begun : (text rest : List ℕ) (c : ℕ) → IsUtf8 text → text ≡ encode_utf8 c ++ rest → c ≢ 92 → first_character text ≡ Some (c, rest)
 begun text rest c utf8 is other =
     first_plain text rest c is (sym (ap (λ (cs : List ℕ). slice_get cs 0) (chars_past_char text rest c utf8 is))) other
@@ -45,7 +45,7 @@ append-nothing : (rest : Option (List ℕ)) → rest ≡ option_map (λ text. []
 append-nothing None = refl
 append-nothing (Some text) = refl
 
--- ---- the characters in front, one after another
+-- ---- ---- the characters before a backslash, one after another
 
 text_front : (cs text rest : List ℕ) → IsUtf8 text → text ≡ encode_utf8_all cs ++ rest → Without (encode_utf8_all cs) → unescaped text ≡ option_map (λ more. encode_utf8_all cs ++ more) (unescaped rest)
 text_front [] text rest utf8 is none = ap unescaped is ∙ append-nothing (unescaped rest)
@@ -134,7 +134,7 @@ line_broken text front escaped behind utf8 is none broken =
     ∙ ap (option_map (λ lines. in_front front lines)) (lines_break (92 ∷ escaped) behind (ap (λ (bytes : List ℕ). 92 ∷ bytes) broken))
     ∙ line_ended front (unescaped_lines behind)
 
--- a line with more in front of it
+-- a line with a longer text before it
 pub line_joined : (line front : List ℕ) (rest : Option (List (List ℕ))) → option_map (λ lines. in_front line lines) (option_map (λ lines. front ∷ lines) rest) ≡ option_map (λ lines. (line ++ front) ∷ lines) rest
 line_joined line front None = refl
 line_joined line front (Some lines) = refl

@@ -1,4 +1,4 @@
--- What lines mean, and the lines of a script one after another.
+-- The meanings of lines, and the lines of a script one after another.
 use Rattle.std.proofs.Common.{◌≡◌, ℕ, ◌+◌, ◌<◌, Bool, true, false, if◌then◌else◌, List, [], ◌∷◌, ◌++◌, length, map, take, nat_lt, Option, Some, None, is_some, refl, ap, subst, ◌∙◌, arith}
 use Rattle.std.specs.Prelude.{IsUtf8, filter}
 use Rattle.std.specs.Str.{is_utf8}
@@ -24,7 +24,7 @@ unfolding meant_line
 meant_line-other line other =
     ap (λ (test : Bool). if test then line_meant line else None) (is_false (is_utf8 line) (λ test. other (IsUtf8-from_is_utf8 line test)))
 
--- ---- lines up to one of them
+-- ---- ---- the lines up to one of them
 
 meant_lines-append : (lines : List (List ℕ)) (line : List ℕ) (more : List (List ℕ)) → filter (λ line. is_filled line) (line ∷ []) ≡ more → meant_lines (lines ++ line ∷ []) ≡ meant_lines lines ++ map meant_line more
 meant_lines-append lines line more is =
@@ -34,7 +34,7 @@ meant_lines-append lines line more is =
 next_line : (lines : List (List ℕ)) (count index : ℕ) (line : List ℕ) → IsTurn lines count index line → take (count + 1) lines ≡ take count lines ++ line ∷ []
 next_line lines count index line turn = take_more lines count line turn.within ∙ ap (λ (l : List ℕ). take count lines ++ l ∷ []) turn.line_is
 
--- an empty line means nothing more
+-- an empty line adds no meaning
 pub meant_lines-empty : (lines : List (List ℕ)) (count index : ℕ) (line : List ℕ) → IsTurn lines count index line → length line ≡ 0 → meant_lines (take (count + 1) lines) ≡ meant_lines (take count lines)
 meant_lines-empty lines count index line turn none =
     let test : is_filled line ≡ false = ap (nat_lt 0) none in
@@ -42,7 +42,7 @@ meant_lines-empty lines count index line turn none =
     ∙ meant_lines-append (take count lines) line [] (ap (λ (test : Bool). if test then line ∷ [] else []) test)
     ∙ append-nil (meant_lines (take count lines))
 
--- a line that holds something means one thing more
+-- a line that is not empty adds one meaning
 pub meant_lines-filled : (lines : List (List ℕ)) (count index : ℕ) (line : List ℕ) → IsTurn lines count index line → 0 < length line → meant_lines (take (count + 1) lines) ≡ meant_lines (take count lines) ++ meant_line line ∷ []
 meant_lines-filled lines count index line turn some =
     let test : is_filled line ≡ true = grind (arith, nat_tests) in
@@ -53,6 +53,6 @@ all_some : {C : Type 0} → (view : C → Meaning) (commands : List C) → list_
 all_some view [] = refl
 all_some view (command ∷ commands) = all_some view commands
 
--- where each line is read, each means something
+-- if each line is read, each has a meaning
 pub all_meant : {C : Type 0} → (view : C → Meaning) (commands : List C) (meant : List (Option Meaning)) → map (λ command. Some (view command)) commands ≡ meant → list_all (λ one. is_some one) meant ≡ true
 all_meant view commands meant is = subst (λ (m : List (Option Meaning)). list_all (λ one. is_some one) m ≡ true) is (all_some view commands)

@@ -1,4 +1,4 @@
--- Numbers, as `parse` reads them.
+-- How `parse` reads numbers.
 use Rattle.std.proofs.Common.{arith, rules, ◌≡◌, ℕ, ◌+◌, ◌<◌, ◌≤◌, ◌^◌, Bool, true, false, List, [], ◌∷◌, Option, Some, None, Result, Ok, Err, length, nat_lt, ◌&&◌, if◌then◌else◌, refl, ap, sym, ◌∙◌, Bor, ◌==◌, ◌≢◌, ℤ, pos, neg_ℤ, slice_index, drop, option_map, unwrap_or, MatchOption, eqb-true, lit<}
 use Rattle.std.specs.Char.{is_ascii_digit}
 use Rattle.std.specs.List.{list_all}
@@ -51,7 +51,7 @@ parsed : {E : Type 0} → (bound : ℕ) (bs : List ℕ) (r : Result ℕ E) → O
 parsed bound bs (Ok n) is all = ap Some is.1 ∙ sym (number_read bound bs all is.0.0 is.0.1)
 parsed bound bs (Err e) is all = sym (number_unread bound bs is)
 
--- a number is parsed where the text is digits alone
+-- a text of digits only is parsed as its number
 pub number_parsed : {E : Type 0} → (k : ℕ) (bs : List ℕ) (r : Result ℕ E) → ParsesUnsigned k 10 bs r → list_all (λ byte. is_ascii_digit byte) bs ≡ true → result_ok r ≡ number_below (2 ^ k) bs
 number_parsed k bs r h all = parsed (2 ^ k) bs r (parse_digits numerals k bs r h (all_digits bs all)) all
 
@@ -69,7 +69,7 @@ is_false : (test : Bool) → (test ≡ true → ⊥) → test ≡ false
 is_false true other = absurd (other refl)
 is_false false other = refl
 
--- what stands behind a `-` at the front, or the whole text
+-- the text after a `-` at the front, or the whole text
 abbrev pub behind_minus : Bool → List ℕ → List ℕ
 behind_minus minus text = if minus then drop 1 text else text
 
@@ -93,7 +93,7 @@ at_most : {E : Type 0} → (f : ℕ → ℤ) (bound : ℕ) (ds : List ℕ) (r : 
 at_most f bound ds (Ok n) is all = ((is.0.1, omega (arith, is.0.2)), is.1)
 at_most f bound ds (Err e) is all = λ (q : (0 < length ds) × (digits_value 10 ds < bound + 1)). is (all_digits ds all, q.0, omega (arith, q.1))
 
--- a signed number is parsed where digits alone stand behind its sign
+-- a text is parsed as a signed number if only digits follow its sign
 pub signed_parsed : {E : Type 0} → (bs : List ℕ) (r : Result ℤ E) → ParsesSigned w16 10 bs r → list_all (λ byte. is_ascii_digit byte) (behind_minus (has_minus bs) bs) ≡ true → result_ok r ≡ signed_number bs
 unfolding signed_number
 signed_parsed bs r h all =
@@ -112,7 +112,7 @@ signed_letters bs some =
       | false ↦ λ letters. ap (option_map pos) (number_letters (2 ^ 15) bs letters)
     ] some
 
--- `strip_prefix` of a `-`, and the whole text where there is none
+-- the result of `strip_prefix` of a `-`, or the whole text where there is none
 pub stripped : (text : Bor (List ℕ)) (r : Option (Bor (List ℕ))) (digits : Bor (List ℕ)) → MatchOption r (FindsCharPrefix 45 text.now None) (λ x. (n : ℕ) × FindsCharPrefix 45 text.now (Some n) × (x.now ≡ drop n text.now) × (length x.now + n ≡ length text.now))
     → digits ≡ unwrap_or r text → digits.now ≡ behind_minus (has_minus text.now) text.now
 stripped text r digits cases is = ap (λ (b : Bor (List ℕ)). b.now) is ∙ minus_stripped text r (strip_prefix_char 45 text.now r cases (lit< tt))

@@ -1,5 +1,5 @@
--- Rows that have an input in common are found by looking at the rows alone; so no two rows of a table have one where none are
--- found.
+-- A test finds the cases of a table that have an input in common, without trying inputs. If it
+-- finds none, no two cases have one.
 use Rattle.std.proofs.Common.{◌≡◌, ℕ, ◌+◌, ◌≤◌, Bool, true, false, cond, ◌&&◌, ◌||◌, not, List, [], ◌∷◌, refl, ap, subst, arith}
 use Rattle.std.proofs.lemmas.Bool.{false≢true, eqb-true}
 use Rattle.std.proofs.lemmas.List.Sums.{sum_by-cons}
@@ -20,7 +20,7 @@ or_grows : (a b c d : Bool) → (a ≡ true → b ≡ true) → (c ≡ true → 
 or_grows true b c d first rest h = rw (first refl)
 or_grows false b c d first rest h = rw (rest h) (or_true b)
 
--- where an element passes a test, one passes any test that is passed with it
+-- if some element passes a test, some element passes each weaker test
 any_grows : {X : Type 0} (p q : X → Bool) (xs : List X) → ((x : X) → p x ≡ true → q x ≡ true) → list_any p xs ≡ true → list_any q xs ≡ true
 any_grows p q [] each h = h
 any_grows p q (x ∷ xs) each h =
@@ -45,7 +45,7 @@ count_step : (b rest : Bool) (count : ℕ) → ((b || rest) ≡ true → ⊥) �
 count_step true rest count none later = absurd (none refl)
 count_step false rest count none later = rw (later none)
 
--- where no element passes, none is counted
+-- if no element passes, the count is 0
 count_none : {X : Type 0} (p : X → Bool) (xs : List X) → (list_any p xs ≡ true → ⊥) → count_by p xs ≡ 0
 count_none p [] none = refl
 count_none p (x ∷ xs) none =
@@ -78,7 +78,7 @@ same key.MouseScrollUp key.MouseScrollUp h = refl
 same key.Null key.Null h = refl
 same _ _ h = absurd (false≢true h)
 
--- whether two lists of keys share one; all characters but some always do
+-- whether two sets of keys share a key; two sets of all characters except some always do
 abbrev share : Keys → Keys → Bool
 share (these keys) others = list_any (has others) keys
 share (characters_but left_out) (these keys) = list_any (has (characters_but left_out)) keys
@@ -92,7 +92,7 @@ share_has (characters_but left_out) (these keys) asked h k =
     (λ x e. subst (λ y. has (characters_but left_out) y ≡ true) (same asked x e) h) k
 share_has (characters_but left_out) (characters_but others) asked h k = refl
 
--- whether what has to be held for one can be what has to be held for another
+-- whether two requirements on modifier keys can be met together
 abbrev meet : Held → Held → Bool
 meet one other =
     is_held one false false && is_held other false false || (is_held one true false && is_held other true false
@@ -104,7 +104,7 @@ meet_held one other true false h k = rw (h, k) (or_true _)
 meet_held one other false true h k = rw (h, k) (rw (or_true _) (or_true _))
 meet_held one other true true h k = rw (h, k) (rw (or_true _) (rw (or_true _) (or_true _)))
 
--- whether inputs share one
+-- whether two sets of inputs share an input
 abbrev overlap : Inputs → Inputs → Bool
 overlap (held, keys) (other_held, other_keys) = meet held other_held && share keys other_keys
 
@@ -115,9 +115,9 @@ overlap_among input (held, keys) (other_held, other_keys) h k =
     (share_has keys other_keys input.key
     (and_right (is_held held input.ctrl input.alt) _ h) (and_right (is_held other_held input.ctrl input.alt) _ k))
 
--- ---- rows
+-- ---- ---- cases
 
--- whether rows share an input
+-- whether two cases share an input
 abbrev rows_overlap : Row → Row → Bool
 rows_overlap one other = list_any (λ inputs. list_any (overlap inputs) other.inputs) one.inputs
 
@@ -126,7 +126,7 @@ overlap_fits input one other h k =
     any_grows (is_among input) (λ inputs. list_any (overlap inputs) other.inputs) one.inputs
     (λ inputs e. any_grows (is_among input) (overlap inputs) other.inputs (λ others. overlap_among input inputs others e) k) h
 
--- whether no two rows of a table do
+-- whether no two cases of a table share an input
 abbrev pub is_disjoint : List Row → Bool
 is_disjoint [] = true
 is_disjoint (row ∷ rows) = not (list_any (rows_overlap row) rows) && is_disjoint rows
@@ -135,7 +135,7 @@ at_most_one : (b : Bool) (count : ℕ) → (b ≡ true → count ≡ 0) → coun
 at_most_one true count none least = rw (none refl) (omega arith)
 at_most_one false count none least = omega arith
 
--- then each input is one of at most one row
+-- each input is one of at most one case of such a table
 pub no_overlap : (rows : List Row) → is_disjoint rows ≡ true → HasNoOverlap rows
 no_overlap [] h input = omega arith
 no_overlap (row ∷ rows) h input =

@@ -1,4 +1,4 @@
--- Values that are read side by side.
+-- Two values that are read from one text.
 use Rattle.std.proofs.Common.{◌≡◌, ◌∙◌, ℕ, List, Option, Some, ap, sym}
 use Rattle.std.specs.Prelude.{option_and_then}
 use Rattle.std.specs.Option.{option_zip}

@@ -59,7 +59,7 @@ ranges_three text row rest start end one two none =
     ap ranges_of (words_some text row rest one ∙ ap (λ (w : List (List ℕ)). row ∷ w) (words_some rest start end two ∙ ap (λ (w : List (List ℕ)). start ∷ w) (words_none end none)))
     ∙ alone (range row start end)
 
--- where the three numbers of the first range aren't read, nothing is; else it stands in front of the others
+-- the first range, if it is read, before the others
 abbrev pub first_and : Option AtomicRange → Option (List AtomicRange) → Option (List AtomicRange)
 first_and None more = None
 first_and (Some one) more = option_map (λ ranges. one ∷ ranges) more

@@ -1,4 +1,4 @@
--- The lines of a script, taken one after another with their index.
+-- The lines of a script, one after another with their indices.
 use Rattle.std.proofs.Common.{◌≡◌, ℕ, ◌+◌, ◌<◌, List, [], ◌∷◌, ◌++◌, length, map, take, get_or, nat_lt, true, ap, subst, sym, ◌∙◌, arith, zero-add, ◌-◌, slice_index_or, is_some}
 use Rattle.std.proofs.lemmas.List.{map-append, take_more}
 use Rattle.std.specs.List.{enumerate_from, list_all}
@@ -12,7 +12,7 @@ use Rattle.textarea_calls.specs.declared.commands.Content.{Content}
 use Rattle.textarea_calls.specs.declared.commands.ReadError.{ReadError}
 use Rattle.textarea_calls.specs.declared.commands.ReadError.TheVariants.{Line, Memory}
 
--- an item that stands at this count of lines with their indices
+-- the item at this index of the lines
 pub record IsTurn (lines : List (List ℕ)) (count index : ℕ) (line : List ℕ) : Type 0 where
   pub index_is : index ≡ count
   pub within : count < length lines
@@ -24,18 +24,18 @@ turn_at lines count index line some e =
     let pair : (index, line) ≡ (0 + count, get_or lines count line) = e ∙ get_or-enumerate_from 0 lines count (index, line) within in
     record { index_is = ap (λ (p : ℕ × List ℕ). p.0) pair ∙ zero-add count; within = within; line_is = sym (ap (λ (p : ℕ × List ℕ). p.1) pair) }
 
--- an empty line counts no more
+-- an empty line doesn't change the count
 pub filled_lines-empty : (lines : List (List ℕ)) (count index : ℕ) (line : List ℕ) → IsTurn lines count index line → length line ≡ 0 → filled_lines (take (count + 1) lines) ≡ filled_lines (take count lines)
 filled_lines-empty lines count index line turn none =
     count_by_more_no (λ l. nat_lt 0 (length l)) lines count line turn.within (ap (λ (l : List ℕ). nat_lt 0 (length l)) turn.line_is ∙ ap (nat_lt 0) none)
 
--- a line that holds something counts one more
+-- a line that is not empty adds one to the count
 pub filled_lines-filled : (lines : List (List ℕ)) (count index : ℕ) (line : List ℕ) → IsTurn lines count index line → 0 < length line → filled_lines (take (count + 1) lines) ≡ filled_lines (take count lines) + 1
 filled_lines-filled lines count index line turn some =
     let test : nat_lt 0 (length line) ≡ true = grind (arith, nat_tests) in
     count_by_more_yes (λ l. nat_lt 0 (length l)) lines count line turn.within (ap (λ (l : List ℕ). nat_lt 0 (length l)) turn.line_is ∙ test)
 
--- an error that says of which line it is names the first line that is not read, where that line is
+-- an error at a line names the first unread line, if that line is the first unread one
 pub names_line : (script : List ℕ) (number : ℕ) (error : ReadError) → IsFilledLine script number
     → list_all (λ meant. is_some meant) (meant_lines (take (number - 1) (lines_of script))) ≡ true
     → IsAtLine number error → IsUnreadLine (meant_line (slice_index_or (lines_of script) (number - 1) [])) error → NamesLine script error
@@ -55,7 +55,7 @@ AreCallsOf-append [] (call ∷ calls) content made all is = absurd all
 AreCallsOf-append (one ∷ first) [] content made all is = absurd all
 AreCallsOf-append (one ∷ first) (call ∷ calls) content made all is = (all.0, AreCallsOf-append first calls content made all.1 is)
 
--- the calls of the commands up to the one at the index
+-- the calls of the commands up to the index
 pub calls_more : (commands : List Command) (calls : List Call) (index : ℕ) (command : Command) (made : Call) → index < length commands
     → command ≡ get_or commands index command → AreCallsOf (contents (take index commands)) calls → IsCallOf command.content made
     → AreCallsOf (contents (take (index + 1) commands)) (calls ++ made ∷ [])

@@ -1,4 +1,4 @@
--- The table of commands: names that it doesn't have, and what a name that it has means.
+-- The table of commands: names that it doesn't have, and the meaning of a name that it has.
 use Rattle.std.proofs.Common.{◌≡◌, ◌≢◌, ℕ, Bool, true, false, List, [], ◌∷◌, ◌++◌, Option, Some, None, ◌⊎◌, inl, inr, refl, if◌then◌else◌, ◌∙◌, ap, sym, subst, Result, Ok, Err, IsOkAnd, MatchResult}
 use Rattle.std.proofs.lemmas.Slice.Eq.{bytes_eq-Decides}
 use Rattle.std.specs.Prelude.{bytes_eq, option_and_then, option_map, IfOk, IfSome, IsSomeAnd, MatchOption}
@@ -13,7 +13,7 @@ use Rattle.textarea_calls.specs.declared.commands.Content.{Content}
 use Rattle.textarea_calls.specs.declared.commands.Content.TheVariants.{Plain}
 use Rattle.textarea_calls.specs.Commands.{Meaning, borrowing_commands, given, plain_commands, meant, meant_by, plain_meant}
 
--- each row has another name, or means nothing by these arguments
+-- each case has another name, or no meaning for these arguments
 abbrev pub MeansNothing : List ℕ → Option (List ℕ) → List (List ℕ × (Option (List ℕ) → Option Meaning)) → Type 0
 MeansNothing name arguments [] = Unit {0}
 MeansNothing name arguments (row ∷ rows) =
@@ -30,19 +30,19 @@ meant_by-none name arguments (row ∷ rows) all =
       | inr nothing ↦ elim (bytes_eq name row.0) as (λ test. chosen test ≡ None) [ true ↦ nothing | false ↦ rest ]
     ]
 
--- a row of another name is passed over
+-- a case of another name is skipped
 meant_by-other : (name : List ℕ) (arguments : Option (List ℕ)) (row : List ℕ × (Option (List ℕ) → Option Meaning)) (rows : List (List ℕ × (Option (List ℕ) → Option Meaning))) → name ≢ row.0 → meant_by (row ∷ rows) name arguments ≡ meant_by rows name arguments
 meant_by-other name arguments row rows other =
     let chosen : Bool → Option Meaning = λ test. option_and_then (λ means. means arguments) (if test then Some row.1 else named rows name) in
     let same : bytes_eq name row.0 ≡ true → name ≡ row.0 = (bytes_eq-Decides name row.0).0 in
     elim (bytes_eq name row.0) as (λ test. (test ≡ true → name ≡ row.0) → chosen test ≡ chosen false) [ true ↦ λ so. absurd (other (so refl)) | false ↦ λ so. refl ] same
 
--- each row has another name
+-- each case has another name
 abbrev pub IsOther : {A : Type 0} → List ℕ → List (List ℕ × A) → Type 0
 IsOther name [] = Unit {0}
 IsOther name (row ∷ rows) = (name ≢ row.0) × IsOther name rows
 
--- a table names nothing by another name
+-- a table has no value for a name that is none of its own
 pub named-none : {A : Type 0} → (name : List ℕ) (rows : List (List ℕ × A)) → IsOther name rows → named rows name ≡ None
 named-none name [] others = refl
 named-none {A} name (row ∷ rows) others =
@@ -56,12 +56,12 @@ meant_by-behind name arguments [] more others = refl
 meant_by-behind name arguments (row ∷ rows) more others =
     meant_by-other name arguments row (rows ++ more) others.0 ∙ meant_by-behind name arguments rows more others.1
 
--- a call that borrows nothing is found behind the other rows
+-- a call that borrows nothing is found after the other cases
 pub meant-plain : (name : List ℕ) (arguments : Option (List ℕ)) → IsOther name borrowing_commands → meant name arguments ≡ plain_meant name arguments
 unfolding meant plain_meant
 meant-plain name arguments others = meant_by-behind name arguments borrowing_commands plain_commands others
 
--- what a name means by arguments that are read as a value
+-- the meaning of a name with arguments that are read as a value
 pub meant-read : (meant : List ℕ → Option (List ℕ) → Option Meaning) {A : Type 0} (means : A → Meaning) (name row : List ℕ) (arguments : List ℕ) (reading read : Option A) (value : A) (meaning : Meaning) → name ≡ row → meant row (Some arguments) ≡ option_map means reading → read ≡ reading → read ≡ Some value → meaning ≡ means value → Some meaning ≡ meant name (Some arguments)
 meant-read meant means name row arguments reading read value meaning named by_row so found told =
     let valued : reading ≡ Some value = sym so ∙ found in
@@ -70,7 +70,7 @@ meant-read meant means name row arguments reading read value meaning named by_ro
     ∙ sym by_row
     ∙ sym (ap (λ given. meant given (Some arguments)) named)
 
--- a name means nothing by arguments that aren't read
+-- a name has no meaning with arguments that are unread
 pub meant-unread : (meant : List ℕ → Option (List ℕ) → Option Meaning) {A : Type 0} (means : A → Meaning) (name row : List ℕ) (arguments : List ℕ) (reading : Option A) (made : Option Call) → made ≡ None → name ≡ row → meant row (Some arguments) ≡ option_map means reading → None ≡ reading → option_map (λ call. meaning_of (Plain call)) made ≡ meant name (Some arguments)
 meant-unread meant means name row arguments reading made none named by_row unread =
     ap (λ (made : Option Call). option_map (λ call. meaning_of (Plain call)) made) none
@@ -78,16 +78,16 @@ meant-unread meant means name row arguments reading made none named by_row unrea
     ∙ sym by_row
     ∙ sym (ap (λ given. meant given (Some arguments)) named)
 
--- what is read in one step is what is read in two
+-- two steps of reading are one
 pub option_map-twice : {A B C : Type 0} (second : B → C) (first : A → B) (read : Option A) → option_map second (option_map first read) ≡ option_map (λ x. second (first x)) read
 option_map-twice second first None = refl
 option_map-twice second first (Some x) = refl
 
--- where no call is made, none has to be ready
+-- where there is no call, none has to be ready
 pub ready-none : (made : Option Call) → made ≡ None → IfSome made CanBeMade
 ready-none made none = subst (λ (made : Option Call). IfSome made CanBeMade) (sym none) tt
 
--- what is read is made a command's content, and means what was read
+-- a value that is read becomes a command's content with the value's meaning
 pub read-made : {A V : Type 0} → (view : A → V) (content : A → Content) (means : V → Meaning) (given : Option V) (read : Result A Unread) (made : Result Content Unread) → ((x : A) → meaning_of (content x) ≡ means (view x)) → IsReadAs view given read → MatchResult read (λ x. IsOkAnd made (λ one. one ≡ content x)) (λ unread. made ≡ Err unread) → IsReadAs meaning_of (option_map means given) made
 read-made view content means given (Ok x) (Ok one) told so cases =
     ap (option_map means) so ∙ ap Some (sym (told x)) ∙ ap (λ (one : Content). Some (meaning_of one)) (sym cases)
@@ -97,13 +97,13 @@ read-made view content means given (Err NoCommand) made told so cases =
 read-made view content means given (Err Memory) made told so cases =
     subst (λ (made : Result Content Unread). IsReadAs meaning_of (option_map means given) made) (sym cases) tt
 
--- the content that is made of what is read is ready
+-- the content of a value that is read is ready
 pub ready-read : {A : Type 0} (content : A → Content) (read : Result A Unread) (made : Result Content Unread) → ((x : A) → IsReady (content x)) → MatchResult read (λ x. IsOkAnd made (λ one. one ≡ content x)) (λ unread. made ≡ Err unread) → IfOk made IsReady
 ready-read content (Ok x) (Ok one) ready cases = subst IsReady (sym cases) (ready x)
 ready-read content (Ok x) (Err unread) ready cases = absurd cases
 ready-read content (Err unread) made ready cases = subst (λ (made : Result Content Unread). IfOk made IsReady) (sym cases) tt
 
--- what is given is made a command's content, which is ready
+-- the content of an optional value is ready
 pub ready-given : {A : Type 0} (content : A → Content) (given : Option A) (mapped : Option Content) (made : Result Content Unread) → ((x : A) → given ≡ Some x → IsReady (content x)) → MatchOption given (mapped ≡ None) (λ x. IsSomeAnd mapped (λ one. one ≡ content x)) → made ≡ ok_or mapped NoCommand → IfOk made IsReady
 ready-given content None mapped made ready cases value =
     subst (λ (made : Result Content Unread). IfOk made IsReady) (sym (value ∙ ap (λ (mapped : Option Content). ok_or mapped NoCommand) cases)) tt
@@ -111,7 +111,7 @@ ready-given content (Some x) None made ready cases value = absurd cases
 ready-given content (Some x) (Some one) made ready cases value =
     subst (λ (made : Result Content Unread). IfOk made IsReady) (sym value) (subst IsReady (sym cases) (ready x refl))
 
--- and means what was given
+-- the content of an optional value has the value's meaning
 pub given-made : {A : Type 0} (content : A → Content) (means : A → Meaning) (reading given : Option A) (mapped : Option Content) (made : Result Content Unread) → ((x : A) → meaning_of (content x) ≡ means x) → given ≡ reading → MatchOption given (mapped ≡ None) (λ x. IsSomeAnd mapped (λ one. one ≡ content x)) → made ≡ ok_or mapped NoCommand → IsReadAs meaning_of (option_map means reading) made
 given-made content means reading None mapped made told so cases value =
     subst (λ (made : Result Content Unread). IsReadAs meaning_of (option_map means reading) made)
@@ -121,7 +121,7 @@ given-made content means reading (Some x) (Some one) made told so cases value =
     subst (λ (made : Result Content Unread). IsReadAs meaning_of (option_map means reading) made) (sym value)
     (ap (option_map means) (sym so) ∙ ap Some (sym (told x)) ∙ ap (λ (one : Content). Some (meaning_of one)) (sym cases))
 
--- what is given behind a name is read, if it is there
+-- the argument after a name, if there is one, is read
 pub given-then : {A : Type 0} (reading : List ℕ → Option A) (means : A → Meaning) (arguments : Option (List ℕ)) → given reading means arguments ≡ option_map means (option_and_then reading arguments)
 given-then reading means None = refl
 given-then reading means (Some arguments) = refl

@@ -7,7 +7,7 @@ use Rattle.std.proofs.lemmas.Str.{encode_ascii}
 use Rattle.std.proofs.lemmas.Bool.Decides.{nat_tests}
 use Rattle.textarea_calls.specs.Escapes.{Token, Character, Break, character_numbered, control, escape, first_character, in_front, is_break, is_closing, lines_of, numbered, plain_character, text_of, token, tokens, tokens_within, unescaped, unescaped_lines}
 
--- ---- each character takes a byte at least
+-- ---- ---- each character takes at least one byte
 
 abbrev behind : Option (ℕ × List ℕ) → List ℕ
 behind None = []
@@ -55,7 +55,7 @@ first_short byte text =
       | false ↦ plain_short (byte ∷ text) (omega arith)
     ]
 
--- ---- so there are enough bytes for the tokens
+-- ---- ---- there are enough bytes for the tokens
 
 abbrev step : ℕ → List ℕ → Option (ℕ × List ℕ) → Option (List Token)
 step most text found = option_and_then (λ p. option_map (λ more. token text p.0 ∷ more) (tokens_within most p.1)) found
@@ -169,7 +169,7 @@ lines_break text rest is =
     ∙ ap (option_map lines_of) (tokens_first (92 ∷ 110 ∷ rest) 10 rest (break_first rest))
     ∙ elim (tokens rest) as (λ found. option_map lines_of (option_map (λ more. Break ∷ more) found) ≡ option_map (λ lines. [] ∷ lines) (option_map lines_of found)) [ None ↦ refl | Some more ↦ refl ]
 
--- ---- what stands in front
+-- ---- ---- the text before the tokens
 
 pub text_grown : (plain more : List ℕ) (rest : Option (List ℕ)) → option_map (λ text. plain ++ text) (option_map (λ text. more ++ text) rest) ≡ option_map (λ text. (plain ++ more) ++ text) rest
 text_grown plain more None = refl

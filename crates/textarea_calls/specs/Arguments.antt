@@ -1,5 +1,5 @@
--- How the arguments of a command are read. A reading gives what a text, a list of bytes, stands for, or none where it stands for
--- nothing.
+-- How the arguments of a command are read. A reading takes a text, a list of bytes, and gives the
+-- value that it writes, or none.
 use Rattle.std.specs.Prelude.{ℕ, ℤ, pos, neg_ℤ, ◌+◌, ◌-◌, ◌^◌, ◌==◌, min, Bool, true, false, ◌&&◌, if◌then◌else◌, nat_lt, List, [], ◌∷◌, length, drop, slice_index, bytes_eq, codes, Option, Some, None, option_map, option_and_then, Result, Ok, Err, ◌≡◌}
 use Rattle.std.specs.Char.{is_ascii_digit}
 use Rattle.std.specs.List.{after_first, before_first, list_all, position_or_len}
@@ -15,7 +15,7 @@ use Rattle.textarea_calls.specs.declared.arguments.Unread.TheVariants.{NoCommand
 use Rattle.textarea_wrap.specs.declared.wrap.WrapMode.{WrapMode}
 use Rattle.textarea_wrap.specs.declared.wrap.WrapMode.TheVariants as mode
 
--- what the table has beside the name
+-- the value of a name in a table, if the table has the name
 abbrev pub named : {A : Type 0} → List (List ℕ × A) → List ℕ → Option A
 named [] name = None
 named (row ∷ rows) name = if bytes_eq name row.0 then Some row.1 else named rows name
@@ -27,11 +27,11 @@ is_space byte = byte == 32
 abbrev pub has_space : List ℕ → Bool
 has_space text = nat_lt (position_or_len is_space text) (length text)
 
--- what stands before the first space and what stands behind it; none where there is no space
+-- the text before the first space and the text after it; none where there is no space
 abbrev pub parts : List ℕ → Option (List ℕ × List ℕ)
 parts text = if has_space text then Some (before_first is_space text, after_first is_space text) else None
 
--- two arguments with one space between them, each read in its own way
+-- two arguments, separated by one space, each read in its own way
 abbrev pub both : {A B : Type 0} → (List ℕ → Option A) → (List ℕ → Option B) → List ℕ → Option (A × B)
 both first second text = option_and_then (λ p. option_zip (first p.0) (second p.1)) (parts text)
 
@@ -41,11 +41,11 @@ truths = (codes "true", true) ∷ (codes "false", false) ∷ []
 abbrev pub truth : List ℕ → Option Bool
 truth = named truths
 
--- digits alone, and one at least: the first one may be 0
+-- the text has only digits, and at least one; the first may be 0
 abbrev pub is_number : List ℕ → Bool
 is_number text = nat_lt 0 (length text) && list_all (λ byte. is_ascii_digit byte) text
 
--- the decimal number, where it is less than the bound
+-- the decimal number, if it is less than the bound
 unfoldable pub number_below : ℕ → List ℕ → Option ℕ
 number_below bound text =
     if is_number text && nat_lt (digits_value 10 text) bound then Some (digits_value 10 text) else None
@@ -60,7 +60,7 @@ short_number = number_below (2 ^ 16)
 abbrev pub byte_number : List ℕ → Option ℕ
 byte_number = number_below (2 ^ 8)
 
--- a number of 16 bits that may be negative: it then has a `-` before its digits
+-- a number of 16 bits; a negative number has a `-` before its digits
 unfoldable pub signed_number : List ℕ → Option ℤ
 signed_number text =
     if slice_index text 0 == 45
@@ -70,7 +70,7 @@ signed_number text =
 abbrev pub two_short_numbers : List ℕ → Option (ℕ × ℕ)
 two_short_numbers = both short_number short_number
 
--- an area: its first column, its first row, its columns and its rows, cut where they would reach past 65535
+-- an area: its left column, top row, width and height, clipped so that it ends at 65535 or before
 abbrev pub Sides : Type 0
 Sides = ℕ × ℕ × ℕ × ℕ
 
@@ -83,7 +83,7 @@ sides text = option_map sides_of (both short_number (both short_number two_short
 abbrev pub sides_of_area : Rect → Sides
 sides_of_area area = (area.x, area.y, area.width, area.height)
 
--- the amounts of a scroll: rows, and then columns
+-- the amounts of a scroll: rows, then columns
 abbrev pub scroll_by : List ℕ → Option Scrolling
 scroll_by text = option_map (λ p. scrolling.Delta p.0 p.1) (both signed_number signed_number text)
 
@@ -98,7 +98,7 @@ pages =
 abbrev pub page : List ℕ → Option Scrolling
 page = named pages
 
--- the moves by their names. `Jump` has a command of its own
+-- the moves by their names; `Jump` has its own command
 abbrev pub moves : List (List ℕ × CursorMove)
 moves =
     (codes "Forward", move.Forward)
@@ -131,12 +131,12 @@ modes =
 abbrev pub mode_named : List ℕ → Option WrapMode
 mode_named = named modes
 
--- why something is not read: it stands for nothing, or there was no memory for it
+-- why a value is unread: the text writes no value, or memory ran out
 abbrev pub IsUnreadAs : {B : Type 0} → Option B → Unread → Type 0
 IsUnreadAs meant NoCommand = meant ≡ None
 IsUnreadAs meant Memory = Unit {0}
 
--- what is read is seen as what is meant
+-- a value that is read is the one that the text writes
 abbrev pub IsReadAs : {A B : Type 0} → (A → B) → Option B → Result A Unread → Type 0
 IsReadAs view meant (Ok read) = meant ≡ Some (view read)
 IsReadAs view meant (Err unread) = IsUnreadAs meant unread

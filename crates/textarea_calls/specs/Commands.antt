@@ -1,4 +1,4 @@
--- The table of commands, and what a line of a script means by it.
+-- The table of commands, and the meaning of a script's line.
 use Rattle.std.specs.Prelude.{ℕ, ◌*◌, Bool, if◌then◌else◌, List, [], ◌∷◌, ◌++◌, codes, unwrap_or, Option, Some, None, option_map, option_and_then}
 use Rattle.std.specs.List.{after_first, before_first}
 use Rattle.std.specs.Option.{option_zip}
@@ -13,8 +13,8 @@ use Rattle.textarea_calls.specs.Ranges.{ranges_behind}
 use Rattle.textarea_calls.specs.declared.call.Call.{Call}
 use Rattle.textarea_calls.specs.declared.call.Call.TheVariants as call
 
--- what a line means: a call that borrows nothing, or one of a moment, in nanoseconds, of an area, or one that borrows a text, ranges,
--- lines beside the cursor's place, or an input. Texts and lines are bytes
+-- the meaning of a line: a call that borrows nothing; a time in nanoseconds; an area; or what a
+-- call borrows: a text, ranges, lines (with the cursor's position) or an input. Texts are bytes
 pub data Meaning : Type 0 where
   Plain : Call → Meaning
   SetNow : ℕ → Meaning
@@ -31,16 +31,16 @@ abbrev pub alone : Call → Option (List ℕ) → Option Meaning
 alone means None = Some (Plain means)
 alone means (Some arguments) = None
 
--- a command whose arguments are read so, and mean this
+-- a command whose arguments are read as a value, with the meaning of that value
 abbrev pub given : {A : Type 0} → (List ℕ → Option A) → (A → Meaning) → Option (List ℕ) → Option Meaning
 given reading means None = None
 given reading means (Some arguments) = option_map means (reading arguments)
 
--- the same where they mean a call that borrows nothing
+-- the same, for a meaning that is a call that borrows nothing
 abbrev pub plain : {A : Type 0} → (List ℕ → Option A) → (A → Call) → Option (List ℕ) → Option Meaning
 plain reading means = given reading (λ value. Plain (means value))
 
--- the text that follows a name: the empty one where nothing follows it
+-- the text after a name: the empty one where there is no argument
 abbrev pub given_text : Option (List ℕ) → Option (List ℕ)
 given_text arguments = unescaped (unwrap_or arguments [])
 
@@ -52,7 +52,7 @@ text means arguments = option_map means (given_text arguments)
 abbrev pub line_numbers : Bool → Call
 line_numbers shown = if shown then call.SetLineNumberStyle empty_style else call.RemoveLineNumber
 
--- the lines of a `set_lines` and the cursor's place: a row, a column, and a text, which is empty where nothing follows the column
+-- the lines and cursor position of a `set_lines`: a row, a column, and a text, empty by default
 abbrev pub lines_and_place : List ℕ → Option (List (List ℕ) × (ℕ × ℕ))
 lines_and_place text =
     option_and_then
@@ -62,12 +62,12 @@ lines_and_place text =
 abbrev pub set_lines_meant : Option (List ℕ) → Option Meaning
 set_lines_meant = given lines_and_place (λ p. SetLines p.0 p.1)
 
--- a command with any number of atomic ranges: none where nothing follows the name
+-- a command with any number of atomic ranges; there are none where nothing follows the name
 abbrev pub some_ranges : Option (List ℕ) → Option Meaning
 some_ranges arguments = option_map TrySetAtomicRanges (ranges_behind arguments)
 
--- the commands that stand for calls that borrow nothing: their names, and what they mean by the arguments that follow one space
--- behind the name, if a space is there. Here those with arguments that edit, move, search, measure, draw or scroll
+-- the commands of calls that borrow nothing: their names, and the meaning of their arguments, if
+-- any. These have arguments, and edit, move, search, measure, draw or scroll
 abbrev pub acting_commands : List (List ℕ × (Option (List ℕ) → Option Meaning))
 acting_commands =
     (codes "insert_char", plain character call.InsertChar)
@@ -83,7 +83,7 @@ acting_commands =
     ∷ (codes "page", plain page call.Scroll)
     ∷ []
 
--- those with arguments that set something
+-- the commands with arguments that set something
 abbrev pub setting_commands : List (List ℕ × (Option (List ℕ) → Option Meaning))
 setting_commands =
     (codes "set_tab_length", plain byte_number call.SetTabLength)
@@ -96,7 +96,7 @@ setting_commands =
     ∷ (codes "now", given number (λ millis. SetNow (millis * 1_000_000)))
     ∷ []
 
--- those without arguments
+-- the commands without arguments
 abbrev pub lone_commands : List (List ℕ × (Option (List ℕ) → Option Meaning))
 lone_commands =
     (codes "insert_tab", alone call.InsertTab)
@@ -121,11 +121,11 @@ lone_commands =
     ∷ (codes "clear_mask_char", alone call.ClearMaskChar)
     ∷ []
 
--- all of these
+-- all commands of calls that borrow nothing
 abbrev pub plain_commands : List (List ℕ × (Option (List ℕ) → Option Meaning))
 plain_commands = acting_commands ++ (setting_commands ++ lone_commands)
 
--- the commands that stand for calls that borrow a text, ranges, lines or an input
+-- the commands of calls that borrow a text, ranges, lines or an input
 abbrev pub borrowing_commands : List (List ℕ × (Option (List ℕ) → Option Meaning))
 borrowing_commands =
     (codes "insert_str", text InsertStr)
@@ -140,24 +140,24 @@ borrowing_commands =
 abbrev pub commands : List (List ℕ × (Option (List ℕ) → Option Meaning))
 commands = borrowing_commands ++ plain_commands
 
--- what the table means by this name and these arguments; none where it has no such name, or the arguments aren't read
+-- the meaning of a name and its arguments by a table; none for an unknown name or unread arguments
 abbrev pub meant_by : List (List ℕ × (Option (List ℕ) → Option Meaning)) → List ℕ → Option (List ℕ) → Option Meaning
 meant_by table name arguments = option_and_then (λ means. means arguments) (named table name)
 
 unfoldable pub plain_meant : List ℕ → Option (List ℕ) → Option Meaning
 plain_meant = meant_by plain_commands
 
--- what the two last tables mean by them
+-- their meaning by the last two tables
 unfoldable pub setting_meant : List ℕ → Option (List ℕ) → Option Meaning
 setting_meant = meant_by (setting_commands ++ lone_commands)
 
 unfoldable pub meant : List ℕ → Option (List ℕ) → Option Meaning
 meant = meant_by commands
 
--- what stands behind the first space of a line, if a space is there
+-- the text after the first space of a line, if there is a space
 abbrev pub behind_space : List ℕ → Option (List ℕ)
 behind_space line = if has_space line then Some (after_first is_space line) else None
 
--- what a line means: its name reaches to the first space
+-- the meaning of a line: its name ends at the first space
 abbrev pub line_meant : List ℕ → Option Meaning
 line_meant line = meant (before_first is_space line) (behind_space line)

@@ -1,11 +1,11 @@
--- The first line that a text with escapes stands for.
+-- The first line of a text with escapes.
 use Rattle.std.specs.Prelude.{◌≡◌, ℕ, List, ◌∷◌, Option, option_copied, option_map, Result, Ok, Err, String, string_bytes}
 use Rattle.textarea_calls.specs.Arguments.{IsUnreadAs}
 use Rattle.textarea_calls.specs.Escapes.{lines_behind, unescaped_lines}
 use Rattle.textarea_calls.specs.declared.arguments.Unread.{Unread}
 use denote.Ref.{Bor}
 
--- the line, and in front of the lines behind it, if there are any
+-- the lines of the text are this line and the lines after it, if there are any
 abbrev pub IsFirstLineOf : {Z : Type 0} → List ℕ → Result (String Z × Option (Bor (List ℕ))) Unread → Type 0
 IsFirstLineOf text (Ok first) = unescaped_lines text ≡ option_map (λ more. string_bytes first.0 ∷ more) (lines_behind (option_copied first.1))
 IsFirstLineOf text (Err unread) = IsUnreadAs (unescaped_lines text) unread

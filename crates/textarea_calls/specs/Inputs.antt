@@ -1,4 +1,4 @@
--- How an input is read: what is held, and a key.
+-- How an input is read: the modifier keys, and a key.
 use Rattle.std.specs.Prelude.{ℕ, Bool, true, false, if◌then◌else◌, List, [], ◌∷◌, bytes_eq, codes, Option, Some, None, option_map}
 use Rattle.textarea_data.specs.declared.input.Input.{Input}
 use Rattle.textarea_data.specs.declared.input.Key.{Key}
@@ -6,7 +6,7 @@ use Rattle.textarea_data.specs.declared.input.Key.TheVariants as key
 use Rattle.textarea_calls.specs.Arguments.{both, byte_number, named, parts}
 use Rattle.textarea_calls.specs.Escapes.{character}
 
--- what is held: Ctrl, Alt and Shift
+-- the modifier keys that are held, as (Ctrl, Alt, Shift)
 abbrev pub modifiers : List (List ℕ × (Bool × Bool × Bool))
 modifiers =
     (codes "-", (false, false, false))
@@ -22,7 +22,7 @@ modifiers =
 abbrev pub held : List ℕ → Option (Bool × Bool × Bool)
 held = named modifiers
 
--- the keys by their names, but for those that take an argument
+-- the keys without an argument, by their names
 abbrev pub keys : List (List ℕ × Key)
 keys =
     (codes "Backspace", key.Backspace)
@@ -58,13 +58,13 @@ abbrev pub key_of : List ℕ → Option (List ℕ × List ℕ) → Option Key
 key_of text None = key_alone text
 key_of text (Some p) = key_with p.0 p.1
 
--- the key that the text names, with what one space divides from the name, if a space is there
+-- the key that the text names; one space separates a key's name from its argument, if it has one
 unfoldable pub key_named : List ℕ → Option Key
 key_named text = key_of text (parts text)
 
 abbrev pub input_of : (Bool × Bool × Bool) × Key → Input
 input_of p = record { key = p.1; ctrl = p.0.0; alt = p.0.1; shift = p.0.2 }
 
--- the input of what is held and a key, with one space between them
+-- the input of modifier keys and a key, separated by one space
 abbrev pub input_named : List ℕ → Option Input
 input_named text = option_map input_of (both held key_named text)

@@ -1,6 +1,7 @@
--- The keys of a text area, in two tables. A row has its inputs, what they ask for, and what they answer: that the text was
--- changed, that it was not, or what the call answers. An input that is in no row asks for nothing.
--- What is held: `plain` neither Ctrl nor Alt, `ctrl` Ctrl and not Alt, `alt` Alt and not Ctrl, `both`, or `any` whatever is.
+-- The key tables of a text area. A case has inputs, their action, and their result: the text is
+-- changed, unchanged, or as the call returns. An input without a case asks for nothing. The
+-- modifiers are `plain` (neither Ctrl nor Alt), `ctrl` (Ctrl only), `alt` (Alt only), `both`, and
+-- `any` of these.
 use Rattle.std.specs.Prelude.{pos, negsuc, List, [], ◌∷◌, codes}
 use Rattle.textarea_data.specs.declared.input.Key.TheVariants as key
 use Rattle.textarea_data.specs.declared.cursor.CursorMove.TheVariants as move
@@ -12,14 +13,14 @@ use Rattle.textarea_calls.specs.declared.kind.Write.TheVariants as write
 use Rattle.textarea_calls.specs.Answer.{changed, unchanged, as_called}
 use Rattle.textarea_calls.specs.Table.{Row, plain, ctrl, alt, both, any, chars, chars_but, one, row, always, insert_its_char, move_by, scroll_by}
 
--- one row down, and one up
+-- a scroll by one row down, and by one row up
 abbrev pub one_down : Scrolling
 one_down = scrolling.Delta (pos 1) (pos 0)
 
 abbrev pub one_up : Scrolling
 one_up = scrolling.Delta (negsuc 0) (pos 0)
 
--- the keys with shortcuts
+-- the key table with shortcuts
 unfoldable pub keys : List Row
 keys =
     row (chars ctrl (codes "m") ∷ chars plain (codes "\n\r") ∷ one any key.Enter ∷ []) (always (action.Write write.InsertNewline)) changed
@@ -54,7 +55,7 @@ keys =
     ∷ row (one any key.MouseScrollUp ∷ []) (scroll_by one_up) unchanged
     ∷ []
 
--- the keys without shortcuts
+-- the key table without shortcuts
 unfoldable pub keys_without_shortcuts : List Row
 keys_without_shortcuts =
     row (chars_but plain [] ∷ []) insert_its_char changed

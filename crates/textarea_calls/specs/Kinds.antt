@@ -1,4 +1,4 @@
--- Calls in groups: the call of each group's item, and of a group.
+-- The call of each member of a group of calls.
 use Rattle.std.specs.Prelude.{Bool, true, false}
 use Rattle.textarea_calls.specs.declared.call.Call.{Call}
 use Rattle.textarea_calls.specs.declared.call.Call.TheVariants as call

@@ -5,23 +5,23 @@ use Rattle.std.specs.Option.{option_zip}
 use Rattle.textarea_data.specs.declared.range.AtomicRange.{AtomicRange}
 use Rattle.textarea_calls.specs.Arguments.{is_space, number}
 
--- the range of a row, a first column, and the column behind the last one
+-- the range of a row, a first column, and the column after the last one
 abbrev pub range : List ℕ → List ℕ → List ℕ → Option AtomicRange
 range row start end =
     option_map (λ p. record { row = p.0; start_col = p.1.0; end_col = p.1.1 })
     (option_zip (number row) (option_zip (number start) (number end)))
 
--- the ranges of three words each
+-- the ranges of words, each of three words
 abbrev pub ranges_of : List (List ℕ) → Option (List AtomicRange)
 ranges_of [] = Some []
 ranges_of (row ∷ start ∷ end ∷ words) = option_map (λ p. p.0 ∷ p.1) (option_zip (range row start end) (ranges_of words))
 ranges_of words = None
 
--- the ranges that a text names, with one space between each two words
+-- the ranges that a text names; its words are separated by single spaces
 unfoldable pub ranges : List ℕ → Option (List AtomicRange)
 ranges text = ranges_of (slice_split is_space text)
 
--- the ranges of what stands behind a space, and no more where there is none
+-- the ranges of the text after a space; there are none where there is no space
 abbrev pub ranges_behind : Option (List ℕ) → Option (List AtomicRange)
 ranges_behind None = Some []
 ranges_behind (Some text) = ranges text

@@ -1,4 +1,4 @@
--- The lines of a script, and what its reading says of them.
+-- The lines of a script, and the result of reading them.
 use Rattle.std.specs.Prelude.{◌≡◌, ℕ, ◌≤◌, ◌<◌, ◌-◌, ◌==◌, Bool, true, if◌then◌else◌, List, [], ◌∷◌, length, count_by, filter, map, take, nat_lt, slice_index_or, string_bytes, vec_len, Option, Some, None, is_some, Result, Ok, Err}
 use Rattle.std.specs.Coded.{le_prop, Unit-prop}
 use Rattle.std.specs.Duration.{as_nanos}
@@ -15,47 +15,47 @@ use Rattle.textarea_calls.specs.declared.commands.Content.TheVariants.{Plain, In
 use Rattle.textarea_calls.specs.declared.commands.ReadError.{ReadError}
 use Rattle.textarea_calls.specs.declared.commands.ReadError.TheVariants.{Line, Memory}
 
--- the lines of a text: what stands between its line feeds, before the first and behind the last
+-- the lines of a text, separated by line feeds
 abbrev pub lines_of : List ℕ → List (List ℕ)
 lines_of script = slice_split (λ byte. byte == 10) script
 
 abbrev pub is_filled : List ℕ → Bool
 is_filled line = nat_lt 0 (length line)
 
--- how many of the lines hold something
+-- the number of lines that are not empty
 abbrev pub filled_lines : List (List ℕ) → ℕ
 filled_lines lines = count_by (λ line. is_filled line) lines
 
--- what a line means, where it is UTF-8
+-- the meaning of a line, which has to be UTF-8
 unfoldable pub meant_line : List ℕ → Option Meaning
 meant_line line = if is_utf8 line then line_meant line else None
 
--- what the lines mean that hold something
+-- the meanings of the lines that are not empty
 abbrev pub meant_lines : List (List ℕ) → List (Option Meaning)
 meant_lines lines = map meant_line (filter (λ line. is_filled line) lines)
 
--- the number, counted from 1, is that of a line that holds something
+-- the number, counted from 1, is that of a line that is not empty
 pub record IsFilledLine (script : List ℕ) (number : ℕ) : Type 0 where
   pub from_one : 1 ≤ number
   pub within : number ≤ length (lines_of script)
   pub filled : 0 < length (slice_index_or (lines_of script) (number - 1) [])
 
--- the line of this number means nothing, and each line before it that holds something means something
+-- the line of this number has no meaning, and each earlier line that is not empty has one
 pub record IsFirstUnread (script : List ℕ) (number : ℕ) : Type 0 where
   pub unread : meant_line (slice_index_or (lines_of script) (number - 1) []) ≡ None
   pub first : list_all (λ meant. is_some meant) (meant_lines (take (number - 1) (lines_of script))) ≡ true
 
--- the line that an error names is the first one of the script's that holds something and isn't read
+-- the error names the first line of the script that is not empty and is unread
 abbrev pub NamesLine : List ℕ → ReadError → Type 0
 NamesLine script (Line number) = IsFilledLine script number × IsFirstUnread script number
 NamesLine script Memory = Unit {0}
 
--- the error says that this is the line that isn't read, or that there was no memory for it
+-- the error names this line, or is that memory ran out
 abbrev pub IsAtLine : ℕ → ReadError → Type 0
 IsAtLine number (Line named) = named ≡ number
 IsAtLine number Memory = Unit {0}
 
--- what a line commands stands for a call that can be made
+-- the call of a content can be made
 abbrev pub IsReady : Content → Type 0
 IsReady (Plain call) = CanBeMade call
 IsReady (InsertStr text) = Unit {0}
@@ -74,7 +74,7 @@ IsReady-prop (SetSearchPattern text) = Unit-prop
 IsReady-prop (SetLines lines cursor) = le_prop
 IsReady-prop (Input input) = Unit-prop
 
--- what a command's content means
+-- the meaning of a command's content
 abbrev pub meaning_of : Content → Meaning
 meaning_of (Plain (call.SetNow moment)) = meaning.SetNow (as_nanos moment)
 meaning_of (Plain (call.Render area)) = meaning.Render (sides_of_area area)
@@ -86,17 +86,17 @@ meaning_of (SetSearchPattern text) = meaning.SetSearchPattern (string_bytes text
 meaning_of (SetLines lines cursor) = meaning.SetLines (map string_bytes lines.items) cursor
 meaning_of (Input input) = meaning.Press input
 
--- a line that is not read means nothing
+-- an unread line has no meaning
 abbrev pub IsUnreadLine : Option Meaning → ReadError → Type 0
 IsUnreadLine meant (Line number) = meant ≡ None
 IsUnreadLine meant Memory = Unit {0}
 
--- a line is read as a command of what it means
+-- a line that is read is a command with the line's meaning
 abbrev pub IsCommandOf : {C : Type 0} → (C → Content) → Option Meaning → Result C ReadError → Type 0
 IsCommandOf content_of meant (Ok command) = meant ≡ Some (meaning_of (content_of command))
 IsCommandOf content_of meant (Err error) = IsUnreadLine meant error
 
--- the call that a command's content stands for: that call itself, or one that lends the text, the ranges, the lines or the input that it owns
+-- the call of a command's content: the stored call, or one that borrows the content's values
 abbrev pub IsCallOf : Content → Call → Type 0
 IsCallOf (Plain plain) made = made ≡ plain
 IsCallOf (InsertStr text) (call.InsertStr lent) = lent.now ≡ string_bytes text
@@ -107,7 +107,7 @@ IsCallOf (SetLines lines cursor) (call.SetLines lent place) = (lent.now ≡ line
 IsCallOf (Input input) (call.Input lent) = lent.now ≡ input
 IsCallOf content other = ⊥
 
--- the calls of the commands of these contents, one by one
+-- the calls of the commands with these contents, one by one
 abbrev pub AreCallsOf : List Content → List Call → Type 0
 AreCallsOf [] [] = Unit {0}
 AreCallsOf (content ∷ contents) (made ∷ rest) = IsCallOf content made × AreCallsOf contents rest

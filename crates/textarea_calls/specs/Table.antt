@@ -11,9 +11,9 @@ use Rattle.textarea_calls.specs.declared.action.Action.TheVariants as action
 use Rattle.textarea_calls.specs.declared.kind.Write.TheVariants as write
 use Rattle.textarea_calls.specs.Answer.{Answer, unchanged, answer_of}
 
--- ---- the inputs of a row
+-- ---- ---- the inputs of a case
 
--- what has to be held: neither Ctrl nor Alt; Ctrl and not Alt; Alt and not Ctrl; both; or whatever is held
+-- the modifier keys: neither Ctrl nor Alt; Ctrl but not Alt; Alt but not Ctrl; both; or any
 pub data Held : Type 0 where
   plain : Held
   ctrl : Held
@@ -21,7 +21,7 @@ pub data Held : Type 0 where
   both : Held
   any : Held
 
--- whether that is so where Ctrl and Alt are held or not
+-- whether the modifier keys fit, where the two truth values are whether Ctrl and Alt are held
 abbrev pub is_held : Held → Bool → Bool → Bool
 is_held plain false false = true
 is_held ctrl true false = true
@@ -55,22 +55,22 @@ is_same key.MouseScrollUp key.MouseScrollUp = true
 is_same key.Null key.Null = true
 is_same _ _ = false
 
--- some keys: those of a list, or those of all characters but some
+-- a set of keys: those of a list, or those of all characters except some
 pub data Keys : Type 0 where
   these : List Key → Keys
   characters_but : List ℕ → Keys
 
--- whether a key is among them
+-- whether a key is in the set
 abbrev pub has : Keys → Key → Bool
 has (these keys) asked = list_any (is_same asked) keys
 has (characters_but left_out) (key.Char c) = not (list_any (λ other. c == other) left_out)
 has (characters_but left_out) other = false
 
--- inputs: some keys, with what has to be held; Shift is free
+-- a set of inputs: keys with modifier keys; Shift is ignored
 abbrev pub Inputs : Type 0
 Inputs = Held × Keys
 
--- one key, the characters of a text, or all characters but these
+-- one key, the characters of a text, or all characters except these
 abbrev pub one : Held → Key → Inputs
 one held key = (held, these (key ∷ []))
 
@@ -80,13 +80,13 @@ chars held characters = (held, these (map (λ c. key.Char c) characters))
 abbrev pub chars_but : Held → List ℕ → Inputs
 chars_but held left_out = (held, characters_but left_out)
 
--- whether an input is one of these
+-- whether an input is in the set
 abbrev pub is_among : Input → Inputs → Bool
 is_among input (held, keys) = is_held held input.ctrl input.alt && has keys input.key
 
--- ---- rows and tables
+-- ---- ---- cases and tables
 
--- a row: inputs, what each of them asks for, and what it answers
+-- a case: its inputs, the action that each of them asks for, and their result
 pub record Row : Type 0 where
   pub inputs : List Inputs
   pub action : Input → Action
@@ -95,44 +95,44 @@ pub record Row : Type 0 where
 abbrev pub row : List Inputs → (Input → Action) → Answer → Row
 row inputs action answer = record { inputs = inputs; action = action; answer = answer }
 
--- whether an input is one of a row
+-- whether an input is one of a case
 abbrev pub fits : Input → Row → Bool
 fits input row = list_any (is_among input) row.inputs
 
--- each input is one of at most one row of the table
+-- each input is one of at most one case of the table
 abbrev pub HasNoOverlap : List Row → Type 0
 HasNoOverlap rows = (input : Input) → count_by (fits input) rows ≤ 1
 
--- the first row that has the input, the only one where no two rows overlap
+-- the first case that has the input, which is the only one if no two cases overlap
 abbrev pub row_of : List Row → Input → Option Row
 row_of rows input = find (fits input) rows
 
--- what an input asks for by its row: nothing where it has none
+-- the action of an input by its case; nothing where it has none
 abbrev pub action_in : Option Row → Input → Action
 action_in None input = action.Nothing
 action_in (Some row) input = row.action input
 
--- what an input asks for by a table
+-- the action of an input by a table
 unfoldable pub action_by : List Row → Input → Action
 action_by rows input = action_in (row_of rows input) input
 
--- what an input answers by its row: that the text was not changed where it has none
+-- the result of an input by its case; the text is unchanged where it has none
 abbrev pub answer_in : Option Row → Answer
 answer_in None = unchanged
 answer_in (Some row) = row.answer
 
--- each input answers by the table as inputs do that ask for the same
+-- the table's result for each input is that of the input's action
 abbrev pub HasAnswersOfActions : List Row → Type 0
 HasAnswersOfActions rows =
     (input : Input) → answer_in (row_of rows input) ≡ answer_of (action_by rows input)
 
--- ---- what the inputs of a row ask for
+-- ---- ---- the actions of a case
 
--- the same for all
+-- the same action for all inputs
 abbrev pub always : Action → Input → Action
 always action input = action
 
--- that the character of the input's key is inserted
+-- the insertion of the character of the input's key
 abbrev pub inserted : Key → Action
 inserted (key.Char c) = action.Write (write.InsertChar c)
 inserted other = action.Nothing
@@ -147,14 +147,14 @@ move_by cursor_move input = action.MoveWithShift cursor_move input.shift
 abbrev pub scroll_by : Scrolling → Input → Action
 scroll_by scrolling input = action.ScrollWithShift scrolling input.shift
 
--- ---- parts of a table
+-- ---- ---- the cases that ignore Ctrl and Alt
 
--- a key, and whether Ctrl, Alt and Shift are held with it
+-- a key, with Ctrl, Alt and Shift held or not
 abbrev pub pressed : Key → Bool → Bool → Bool → Input
 pressed key with_ctrl with_alt with_shift =
     record { key = key; ctrl = with_ctrl; alt = with_alt; shift = with_shift }
 
--- the rows with those of their inputs alone for which it doesn't matter what is held
+-- the cases with only those inputs that ignore Ctrl and Alt
 abbrev pub is_any : Inputs → Bool
 is_any (any, keys) = true
 is_any other = false

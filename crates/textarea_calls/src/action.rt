@@ -7,26 +7,26 @@ use crate::kind::{Edit, Write};
 use textarea_data::cursor::CursorMove;
 use textarea_data::scroll::Scrolling;
 
-/// What an input asks for: a call of the text area, with what it takes.
+/// What an input asks for: a call of the text area, with its arguments.
 #[derive(Clone, Copy, Debug, PartialEq, Eq)]
 pub enum Action {
     /// No call.
     Nothing,
-    /// An edit, an undo or a redo, which answers whether the text was changed.
+    /// An edit, an undo or a redo. The call returns whether the text changed.
     Edit(Edit),
-    /// A character or a break that is inserted, or a copy.
+    /// Inserts a character or a line break, or copies the selection.
     Write(Write),
-    /// A move of the cursor, and whether Shift is held with it: if so, the move selects, else it drops the selection.
+    /// A move of the cursor. With Shift (`true`) it selects; without Shift it drops the selection.
     MoveWithShift(CursorMove, bool),
-    /// A scroll, and whether Shift is held with it, which the move into what is then shown follows.
+    /// A scroll. The cursor then moves into the visible rows, with or without Shift.
     ScrollWithShift(Scrolling, bool),
-    /// `scroll`, which goes by whether a selection is open, and by no Shift.
+    /// A scroll by `scroll`, which keeps an open selection and ignores Shift.
     Scroll(Scrolling),
 }
 
 impl Action {
-    /// What an input that asks for this answers, whether the text was changed, where the call answered `called`. What stands
-    /// for `called` is of no account where the call answers nothing.
+    /// Returns whether an input that asks for this action changes the text. `called` is the result
+    /// of the call; it is ignored where the call has none.
     pub fn answer(self, called: bool) -> bool
         ensures { result ≡ told (answer_of self) called }
     {

@@ -1,46 +1,46 @@
-//! What calls answer.
+//! The results of calls, as values that can be printed and compared.
 use textarea_data::range::{AtomicRange, RejectedAtomicRange};
 use textarea_screen::screen::{Alignment, Position, Style};
 use textarea_view::TextAreaMeasure;
 use textarea_view::look::CursorRenderMode;
 use textarea_wrap::wrap::WrapMode;
 
-/// What a call answered.
+/// The result of a call.
 #[derive(Debug, PartialEq, Eq, Drop)]
 pub enum Answer {
-    /// The call has nothing to say but that it was made.
+    /// The call was made; it has no result.
     Done,
     /// Whether the call found something to do.
     Flag(bool),
-    /// What was yanked last.
+    /// The text that was yanked last.
     Text(String),
-    /// The range that was hit or removed, if there was one.
+    /// The range at the cursor, or the range that was removed, if there is one.
     Range(Option<AtomicRange>),
-    /// The ranges that were rejected, so that none was set.
+    /// The rejected ranges. If there is one, no range is set.
     Rejected(Vec<RejectedAtomicRange>),
-    /// The heights that were measured.
+    /// The measured heights.
     Measured(TextAreaMeasure),
-    /// The pattern isn't taken, and nothing changed.
+    /// The pattern is rejected, and nothing changed.
     PatternRefused,
-    /// The place of the text that a cell of the screen shows, if there is one: (row, column).
+    /// The position (row, column) in the text of what a screen cell shows, if the cell shows text.
     Place(Option<(usize, usize)>),
-    /// The cell of the cursor at the last `Call::Render`, if it was shown.
+    /// The cursor's cell at the last `Call::Render`, if the cursor was visible.
     Position(Option<Position>),
     /// One of the styles.
     Style(Style),
-    /// The character that is shown in the place of each of the text, if there is one.
+    /// The mask: the character that is drawn instead of each character of the text, if one is set.
     Character(Option<char>),
     /// How the cell at the cursor is drawn.
     CursorRenderMode(CursorRenderMode),
-    /// Where rows stand in the inner area.
+    /// The alignment of the lines in the inner area.
     Alignment(Alignment),
-    /// The number that is set.
+    /// A number that is set.
     Number(usize),
-    /// The cursor's (row, column).
+    /// The cursor's position (row, column).
     Cursor((usize, usize)),
-    /// The two ends of the selection, the first one first, if one is open.
+    /// The two ends of the selection, the earlier one first, if a selection is open.
     Selection(Option<((usize, usize), (usize, usize))>),
-    /// A style, where what it is for is shown.
+    /// A style, if what it styles is shown.
     StyleIfShown(Option<Style>),
     /// How lines are wrapped.
     WrapMode(WrapMode),

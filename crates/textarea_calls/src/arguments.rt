@@ -1,4 +1,4 @@
-// The arguments of commands: numbers, truth values, names of moves and of scrolls, and texts with escapes.
+// Reads the arguments of commands: numbers, truth values, names, and texts with escapes.
 ghost use Rattle.std.specs.Char.{is_ascii_digit, is_ascii_hexdigit};
 ghost use Rattle.std.specs.List.{list_all};
 ghost use Rattle.std.specs.Prelude.{◌≡◌, ◌<◌, ◌≤◌, ◌∷◌, length, map, option_copied, option_map, string_bytes, vec_len, IfOk, IfSome, MatchOption};
@@ -16,10 +16,10 @@ use textarea_data::scroll::Scrolling;
 use textarea_screen::screen::Rect;
 use textarea_wrap::wrap::WrapMode;
 
-// Why a command was not read.
+// Why a command could not be read.
 #[derive(Clone, Copy)]
 pub enum Unread {
-    // It is none.
+    // The text is no command.
     NoCommand,
     // Out of memory.
     Memory,
@@ -47,7 +47,7 @@ impl<T: Drop> From<AllocFailed<T>> for Unread {
     }
 }
 
-// What stands before the first space, and what stands behind it.
+// Splits the text at its first space: the text before it, and the text after it.
 pub fn parts(text: &str) -> Option<(&str, &str)>
     ensures value { MatchOption result (parts text.now ≡ None)
         (λ x. parts text.now ≡ Some (x.0.now, x.1.now)) }
@@ -56,14 +56,14 @@ pub fn parts(text: &str) -> Option<(&str, &str)>
     text.split_once(' ')
 }
 
-// Whether there is nothing but digits.
+// Whether the text has only digits.
 fn is_all_digits(text: &str) -> bool
     ensures { result ≡ list_all (λ byte. is_ascii_digit byte) text.now }
 {
     text.bytes().all(|byte| byte.is_ascii_digit())
 }
 
-// The decimal number that the text is: digits alone, leading zeros allowed.
+// The decimal number that the text is. It has only digits; leading zeros are allowed.
 #[tactic(auto, unfolding(crate::specs::Arguments::number_below))]
 pub fn number(text: &str) -> Option<u64>
     ensures { result ≡ number text.now }
@@ -98,8 +98,8 @@ pub fn two_short_numbers(text: &str) -> Option<(u16, u16)>
     Some((short_number(first)?, short_number(second)?))
 }
 
-// The area that the text names by its first column, its first row, its columns and its rows, with one space between each two
-// numbers.
+// The area that the text names: its left column, its top row, its width and its height, separated
+// by single spaces.
 pub fn area(text: &str) -> Option<Rect>
     ensures { option_map sides_of_area result ≡ sides text.now }
 {
@@ -109,7 +109,7 @@ pub fn area(text: &str) -> Option<Rect>
     Some(Rect::new(short_number(x)?, short_number(y)?, width, height))
 }
 
-// A number of 16 bits that may be negative: it then has a `-` before its digits.
+// A number of 16 bits. A negative number has a `-` before its digits.
 fn signed_number(text: &str) -> Option<i16>
     ensures { result ≡ signed_number text.now }
 {
@@ -120,7 +120,7 @@ fn signed_number(text: &str) -> Option<i16>
     text.parse().ok()
 }
 
-// The scroll by the rows and the columns that the text names, with one space between them.
+// The scroll by the rows and the columns that the text names, separated by one space.
 pub fn scroll_by(text: &str) -> Option<Scrolling>
     ensures { result ≡ scroll_by text.now }
 {
@@ -144,8 +144,8 @@ pub fn page_named(name: &str) -> Option<Scrolling>
     })
 }
 
-// The atomic ranges that the text names, each by its row, its first column and the column behind its last one, with one
-// space between each two numbers.
+// The atomic ranges that the text names, each by its row, its first column and the column after its
+// last one. All numbers are separated by single spaces.
 pub fn ranges(alloc: Global, text: &str) -> Result<Vec<AtomicRange>, Unread>
     ensures { IsReadAs (λ read. read.items) (ranges text.now) result }
 {
@@ -161,7 +161,7 @@ pub fn ranges(alloc: Global, text: &str) -> Result<Vec<AtomicRange>, Unread>
     Ok(ranges)
 }
 
-// The first of the ranges that the text names, and the text behind the space that ends it, if there is one.
+// The first range that the text names, and the text after the space that ends it, if there is one.
 fn first_range(text: &str) -> Option<(AtomicRange, Option<&str>)>
     ensures value { MatchOption result (ranges text.now ≡ None) (λ x. ranges text.now
         ≡ option_map (λ more. x.0 ∷ more) (ranges_behind (option_copied x.1))) }
@@ -175,7 +175,7 @@ fn first_range(text: &str) -> Option<(AtomicRange, Option<&str>)>
     }
 }
 
-// The range of a row, a first column, and the column behind the last one.
+// The range of a row, a first column, and the column after the last one.
 fn range(row: &str, start: &str, end: &str) -> Option<AtomicRange>
     ensures { result ≡ range row.now start.now end.now }
 {
@@ -197,7 +197,7 @@ pub fn truth(text: &str) -> Option<bool>
     }
 }
 
-// The move that the text names. `Jump` has a command of its own.
+// The move that the text names. `Jump` has its own command.
 pub fn move_named(name: &str) -> Option<CursorMove>
     ensures { result ≡ move_named name.now }
 {
@@ -233,7 +233,7 @@ pub fn mode_named(name: &str) -> Option<WrapMode>
     })
 }
 
-// The input of what is held, as letters of `cas` or `-` for nothing, and a key, with one space between them.
+// The input that the text names: the modifiers (letters of `cas`, or `-`), a space, and the key.
 pub fn input_named(text: &str) -> Option<Input>
     ensures { result ≡ input_named text.now }
 {
@@ -247,7 +247,7 @@ pub fn input_named(text: &str) -> Option<Input>
     })
 }
 
-// What is held by these letters: Ctrl, Alt and Shift.
+// Whether Ctrl, Alt and Shift are held, by the letters `c`, `a` and `s`.
 fn held(modifiers: &str) -> Option<(bool, bool, bool)>
     ensures { result ≡ held modifiers.now }
 {
@@ -264,7 +264,7 @@ fn held(modifiers: &str) -> Option<(bool, bool, bool)>
     }
 }
 
-// The key that the text names, with what one space divides from the name, if there is a space.
+// The key that the text names. One space separates a key's name from its argument, if it has one.
 #[tactic(auto, unfolding(crate::specs::Inputs::key_named))]
 fn key_named(text: &str) -> Option<Key>
     ensures { result ≡ key_named text.now }
@@ -286,7 +286,7 @@ fn key_with(name: &str, argument: &str) -> Option<Key>
     })
 }
 
-// The key of this name, which takes no argument.
+// The key of this name. It has no argument.
 fn key_alone(name: &str) -> Option<Key>
     ensures { result ≡ key_alone name.now }
 {
@@ -314,7 +314,7 @@ fn key_alone(name: &str) -> Option<Key>
     })
 }
 
-// The character that the whole text stands for, as itself or by an escape.
+// The only character of the text, written as itself or as an escape.
 #[tactic(auto, unfolding(crate::specs::Escapes::character))]
 pub fn one_character(text: &str) -> Option<char>
     ensures { result ≡ character text.now }
@@ -323,7 +323,7 @@ pub fn one_character(text: &str) -> Option<char>
     rest.is_empty().then_some(c)
 }
 
-// The text that a text with escapes stands for.
+// Returns the text with its escapes replaced by their characters.
 pub fn unescape(alloc: Global, text: &str) -> Result<String, Unread>
     ensures { IsReadAs string_bytes (unescaped text.now) result }
 {
@@ -341,8 +341,8 @@ pub fn unescape(alloc: Global, text: &str) -> Result<String, Unread>
     Ok(plain)
 }
 
-// The lines that a text with escapes stands for: it is cut at each escape `\n`, so there is one line more
-// than these. A line feed by its number stays a character of its line.
+// Returns the lines of a text with escapes. The text is split at each escape `\n`. An escape of a
+// line feed by its number is a character of its line.
 pub fn unescaped_lines(alloc: Global, text: &str) -> Result<Vec<String>, Unread>
     ensures some { IfOk result (λ lines. 0 < vec_len lines) }
     ensures value { IsReadAs (λ lines. map string_bytes lines.items)
@@ -358,7 +358,7 @@ pub fn unescaped_lines(alloc: Global, text: &str) -> Result<Vec<String>, Unread>
     Ok(lines)
 }
 
-// The first line that a text with escapes stands for, and the text behind the escape `\n` that ends it, if there is one.
+// The first line of a text with escapes, and the text after the `\n` that ends it, if there is one.
 fn first_line(alloc: Global, text: &str) -> Result<(String, Option<&str>), Unread>
     ensures value { IsFirstLineOf text.now result }
     ensures shorter { IfOk result (λ x. IfSome x.1 (λ rest. length rest.now < length text.now)) }
@@ -380,7 +380,7 @@ fn first_line(alloc: Global, text: &str) -> Result<(String, Option<&str>), Unrea
     Ok((line, None))
 }
 
-// The first character that a text with escapes stands for, and the text behind it.
+// The first character of a text with escapes, and the text after it.
 fn first_character(text: &str) -> Option<(char, &str)>
     ensures value { MatchOption result (first_character text.now ≡ None)
         (λ x. first_character text.now ≡ Some (x.0, x.1.now)) }
@@ -394,7 +394,7 @@ fn first_character(text: &str) -> Option<(char, &str)>
     Some((c, rest.as_str()))
 }
 
-// The character of an escape, whose text is given behind its backslash, and the text behind it.
+// The character of an escape, and the text after it. The argument is the text after the backslash.
 fn escaped_character(text: &str) -> Option<(char, &str)>
     ensures value { MatchOption result (escape text.now ≡ None)
         (λ x. escape text.now ≡ Some (x.0, x.1.now)) }
@@ -412,7 +412,7 @@ fn escaped_character(text: &str) -> Option<(char, &str)>
     Some((c, rest.as_str()))
 }
 
-// The character of a number in braces, of 1 to 6 hexadecimal digits, and the text behind it.
+// The character of a number in braces, of 1 to 6 hexadecimal digits, and the text after it.
 fn numbered_character(text: &str) -> Option<(char, &str)>
     ensures value { MatchOption result (numbered text.now ≡ None)
         (λ x. numbered text.now ≡ Some (x.0, x.1.now)) }
@@ -422,7 +422,7 @@ fn numbered_character(text: &str) -> Option<(char, &str)>
     Some((character_of_number(digits)?, rest))
 }
 
-// The character of the number that 1 to 6 hexadecimal digits write.
+// The character whose number is written in 1 to 6 hexadecimal digits.
 fn character_of_number(digits: &str) -> Option<char>
     ensures { result ≡ character_numbered digits.now }
 {
@@ -432,7 +432,7 @@ fn character_of_number(digits: &str) -> Option<char>
     char::from_u32(u32::from_str_radix(digits, 16).ok()?)
 }
 
-// Whether there is nothing but hexadecimal digits.
+// Whether the text has only hexadecimal digits.
 fn is_all_hexadecimal(text: &str) -> bool
     ensures { result ≡ list_all (λ byte. is_ascii_hexdigit byte) text.now }
 {

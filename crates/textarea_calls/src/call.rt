@@ -82,11 +82,11 @@ pub enum Call<'a> {
     AtomicRangeAtCursor(AtomicDeleteDirection),
     /// `TextArea::delete_atomic_range_at_cursor`
     DeleteAtomicRangeAtCursor(AtomicDeleteDirection),
-    /// `TextArea::set_lines`, with a copy of these lines, of which there is one at least
+    /// `TextArea::set_lines`, with a copy of these lines; there is at least one
     SetLines {
         /// The lines that are copied.
         lines: &'a [String],
-        /// The place whose nearest place of the lines the cursor takes: (row, column).
+        /// The cursor's new position (row, column); it moves to the nearest one in the lines.
         cursor: (usize, usize),
     },
     /// `TextArea::set_search_pattern`
@@ -153,11 +153,11 @@ pub enum Call<'a> {
     Alignment,
     /// `TextArea::custom_highlight`
     CustomHighlight {
-        /// Where it starts and where it ends: a row and a byte of it each.
+        /// The start and the end, each as a row and a byte of it.
         range: ((usize, usize), (usize, usize)),
-        /// How it is shown.
+        /// How it is drawn.
         style: Style,
-        /// Which of the highlights that start at one place is seen: the one of the highest priority.
+        /// Of highlights that start at one position, the one of the highest priority is drawn.
         priority: u8,
     },
     /// `TextArea::clear_custom_highlight`
@@ -203,7 +203,7 @@ pub enum Call<'a> {
 }
 
 impl Call<'_> {
-    /// Whether the call can be made: lines that take the place of others are one at least.
+    /// Returns whether the call can be made: `TextArea::set_lines` needs at least one line.
     pub fn can_be_made(&self) -> bool
         ensures { IsTrue result ↔ CanBeMade self.now }
     {

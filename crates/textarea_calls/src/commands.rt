@@ -1,5 +1,5 @@
-// Reading a script: each line is a command, and stands for one call.
-ghost use Rattle.std.specs.Prelude.{◌≡◌, ◌+◌, All, IfOk, IfErr, IfSome, length, map, option_and_then, option_copied, option_map, string_bytes, true, vec_len};
+// Reads a script: each line is a command for one call.
+ghost use Rattle.std.specs.Prelude.{◌≡◌, ◌+◌, All, IfOk, IfErr, IfSome, map, option_and_then, option_copied, option_map, string_bytes, true, vec_len};
 ghost use Rattle.textarea_data.specs.declared.cursor.CursorMove.TheVariants as move;
 ghost use Rattle.textarea_calls.specs.Arguments.{IsReadAs, two_short_numbers};
 ghost use Rattle.textarea_calls.specs.Made.{CanBeMade};
@@ -24,10 +24,10 @@ use textarea_data::input::Input;
 use textarea_data::range::AtomicRange;
 use textarea_screen::screen::{Position, Style};
 
-/// Why a script was not read.
+/// Why a script could not be read.
 #[derive(Clone, Copy, Debug, PartialEq, Eq)]
 pub enum ReadError {
-    /// The line of this number, counted from 1, is no command or isn't UTF-8.
+    /// The number, counted from 1, of a line that is no command or isn't UTF-8.
     Line(usize),
     /// Out of memory.
     Memory,
@@ -44,7 +44,7 @@ impl<T: Drop> From<AllocFailed<T>> for ReadError {
     }
 }
 
-/// A command that was read, with texts of its own. The call that it stands for can be made.
+/// A command that was read. It owns its texts, and its call can be made.
 #[derive(Drop)]
 pub struct Command {
     content: Content,
@@ -67,7 +67,7 @@ enum Content {
 }
 
 impl Command {
-    /// The call that the command stands for.
+    /// Returns the call of the command. It borrows the texts of the command.
     pub fn call(&self) -> Call<'_>
         ensures ready { CanBeMade result }
         ensures is { IsCallOf self.now.content result }
@@ -82,7 +82,7 @@ impl Command {
 }
 
 impl Content {
-    // The call that is lent ranges or lines.
+    // The call that borrows ranges or lines.
     fn list_call(&self) -> Call<'_>
         requires lends { lends_list self.now ≡ true }
         requires ready { IsReady self.now }
@@ -99,7 +99,7 @@ impl Content {
         }
     }
 
-    // The call that is lent a text.
+    // The call that borrows a text.
     fn text_call(&self) -> Call<'_>
         requires { lends_text self.now ≡ true }
         ensures ready { CanBeMade result }
@@ -114,9 +114,8 @@ impl Content {
     }
 }
 
-/// Reads a script, a command a line. Each line but the last ends in a line feed; empty lines are
-/// skipped, and each other line is one command. The error's line is the first that is no command or
-/// isn't UTF-8.
+/// Reads a script, one command per line. Each line but the last ends in a line feed. Empty lines
+/// are skipped. The error names the first line that is no command or isn't UTF-8.
 pub fn read(alloc: Global, script: &[u8]) -> Result<Vec<Command>, ReadError>
     ensures ok { IfOk result (λ commands. vec_len commands ≡ filled_lines (lines_of script.now)) }
     ensures means { IfOk result (λ commands.
@@ -134,7 +133,7 @@ pub fn read(alloc: Global, script: &[u8]) -> Result<Vec<Command>, ReadError>
     Ok(commands)
 }
 
-/// The calls that the commands stand for, in their order.
+/// Returns the calls of the commands, in their order.
 pub fn calls(alloc: Global, commands: &[Command]) -> Result<Vec<Call<'_>>, AllocError>
     ensures ready { IfOk result (λ calls. All CanBeMade calls.items) }
     ensures each { IfOk result (λ calls.
@@ -162,7 +161,7 @@ fn read_line(alloc: Global, line: &[u8], number: usize) -> Result<Command, ReadE
     }
 }
 
-// What a line commands: a call's name and, after one space, its arguments.
+// Reads the content of a line: a call's name and, after one space, its arguments.
 fn content_of(alloc: Global, line: &str) -> Result<Content, Unread>
     ensures ready { IfOk result IsReady }
     ensures means { IsReadAs meaning_of (line_meant line.now) result }
@@ -173,7 +172,7 @@ fn content_of(alloc: Global, line: &str) -> Result<Content, Unread>
     }
 }
 
-// What a call's name and its arguments command, if there are any.
+// Reads the content of a command from a call's name and its arguments, if there are any.
 #[tactic(auto, unfolding(crate::specs::Commands::meant))]
 fn content_named(alloc: Global, name: &str, arguments: Option<&str>) -> Result<Content, Unread>
     ensures ready { IfOk result IsReady }
@@ -194,14 +193,14 @@ fn content_named(alloc: Global, name: &str, arguments: Option<&str>) -> Result<C
     }
 }
 
-// The text that the arguments stand for: the empty one where there are none.
+// The text that the arguments write with escapes. It is empty where there are no arguments.
 fn text(alloc: Global, arguments: Option<&str>) -> Result<String, Unread>
     ensures { IsReadAs string_bytes (given_text (option_copied arguments.entry)) result }
 {
     unescape(alloc, arguments.unwrap_or(""))
 }
 
-// The ranges that the arguments name: none where there are no arguments.
+// The ranges that the arguments name. There are none where there are no arguments.
 fn some_ranges(alloc: Global, arguments: Option<&str>) -> Result<Vec<AtomicRange>, Unread>
     ensures { IsReadAs (λ read. read.items) (ranges_behind (option_copied arguments.entry)) result }
 {
@@ -218,7 +217,7 @@ fn input(arguments: Option<&str>) -> Option<Input>
     input_named(arguments?)
 }
 
-// A `set_lines` of these arguments: a row, a column, and a text that may be left out.
+// A `set_lines` with these arguments: a row, a column, and a text, which may be missing.
 fn set_lines(alloc: Global, arguments: Option<&str>) -> Result<Content, Unread>
     ensures ready { IfOk result IsReady }
     ensures means { IsReadAs meaning_of (set_lines_meant (option_copied arguments.entry)) result }
@@ -233,7 +232,7 @@ fn set_lines(alloc: Global, arguments: Option<&str>) -> Result<Content, Unread>
     })
 }
 
-// The call of this name and its arguments, if there are any, none of which is a text.
+// The call of this name and its arguments, if there are any. None of the arguments is a text.
 fn plain(name: &str, arguments: Option<&str>) -> Option<Call<'static>>
     ensures ready { IfSome result CanBeMade }
     ensures means { option_map (λ call. meaning_of (Plain call)) result
@@ -245,7 +244,7 @@ fn plain(name: &str, arguments: Option<&str>) -> Option<Call<'static>>
     }
 }
 
-// The call of this name, without arguments.
+// The call of this name without arguments.
 #[tactic(auto, unfolding(crate::specs::Commands::plain_meant))]
 fn call_alone(name: &str) -> Option<Call<'static>>
     ensures ready { IfSome result CanBeMade }
@@ -277,7 +276,7 @@ fn call_alone(name: &str) -> Option<Call<'static>>
     })
 }
 
-// The call of this name and these arguments, none of which is a text.
+// The call of this name and these arguments. None of the arguments is a text.
 #[tactic(auto, unfolding(crate::specs::Commands::plain_meant))]
 fn call_with(name: &str, arguments: &str) -> Option<Call<'static>>
     ensures ready { IfSome result CanBeMade }
@@ -300,7 +299,7 @@ fn call_with(name: &str, arguments: &str) -> Option<Call<'static>>
     })
 }
 
-// The call of this name and these arguments, if it sets something.
+// The call of this name and these arguments, for the calls that set something.
 #[tactic(auto, unfolding(crate::specs::Commands::setting_meant))]
 fn setting_with(name: &str, arguments: &str) -> Option<Call<'static>>
     ensures ready { IfSome result CanBeMade }
@@ -320,7 +319,7 @@ fn setting_with(name: &str, arguments: &str) -> Option<Call<'static>>
     })
 }
 
-// Line numbers in the empty style, or none.
+// The call that shows line numbers in the empty style, or that removes them.
 fn line_numbers(shown: bool) -> Call<'static>
     ensures { result ≡ line_numbers shown }
 {
@@ -339,7 +338,7 @@ fn jump(arguments: &str) -> Option<CursorMove>
     Some(CursorMove::Jump(row, column))
 }
 
-// The cell in a column and a row.
+// The screen cell at a column and a row.
 fn position(arguments: &str) -> Option<Position>
     ensures { result
         ≡ option_map (λ p. record { x = p.0; y = p.1 }) (two_short_numbers arguments.now) }

@@ -1,4 +1,4 @@
-//! The two tables of keys.
+//! The two key tables of a text area.
 
 ghost use Rattle.std.specs.Prelude.{◌≡◌};
 ghost use Rattle.textarea_calls.specs.Keys.{keys, keys_without_shortcuts};
@@ -11,12 +11,12 @@ use textarea_data::scroll::Scrolling;
 
 mod groups;
 
-/// What a notch of the mouse's wheel scrolls by.
+/// The scroll by one notch of the mouse wheel.
 const ONE_DOWN: Scrolling = Scrolling::Delta { rows: 1, cols: 0 };
 
 const ONE_UP: Scrolling = Scrolling::Delta { rows: -1, cols: 0 };
 
-/// What an input asks for, by the table of keys with shortcuts.
+/// Returns what an input asks for by the key table with shortcuts.
 pub fn action_of(input: &Input) -> Action
     ensures { result ≡ action_by keys input.now }
 {
@@ -28,7 +28,7 @@ pub fn action_of(input: &Input) -> Action
     }
 }
 
-/// What an input asks for, by the table of keys without shortcuts, for a caller that has shortcuts of its own.
+/// Returns what an input asks for by the key table without shortcuts, for callers with their own.
 #[tactic(auto, unfolding(crate::specs::Keys::keys_without_shortcuts, crate::specs::Table::action_by))]
 pub fn action_without_shortcuts(input: &Input) -> Action
     ensures { result ≡ action_by keys_without_shortcuts input.now }

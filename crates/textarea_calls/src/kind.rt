@@ -1,4 +1,4 @@
-//! Calls in groups: the calls of a group answer in the same form, and one function makes them all.
+//! Groups of calls. The calls of a group have results of one form, and one function makes them all.
 ghost use Rattle.std.specs.Prelude.{◌≡◌};
 ghost use Rattle.textarea_calls.specs.Kinds.{call_of, draws, is_drawing};
 
@@ -23,11 +23,11 @@ pub enum Kind<'a> {
     Appearance(Appearance),
     Question(Question),
     Special(Special<'a>),
-    /// It draws into the buffer.
+    /// Draws into the buffer.
     Render(Rect),
 }
 
-/// Edits that take no argument, an undo and a redo. Each answers whether there was something to do, and may run out of memory.
+/// Edits without arguments, undo, redo. Each returns whether it did something; memory can run out.
 #[derive(Clone, Copy, Debug, PartialEq, Eq)]
 pub enum Edit {
     InsertTab,
@@ -45,7 +45,7 @@ pub enum Edit {
     Redo,
 }
 
-/// A character, a break and a copy. They have nothing to say, and may run out of memory.
+/// Insertion of a character or a line break, and copying. They have no result; memory can run out.
 #[derive(Clone, Copy, Debug, PartialEq, Eq)]
 pub enum Write {
     InsertChar(char),
@@ -53,7 +53,7 @@ pub enum Write {
     Copy,
 }
 
-/// Other calls that answer whether there was something to do, and may run out of memory.
+/// Other calls that return whether they did something. Memory can run out.
 #[derive(Clone, Copy)]
 pub enum Attempt<'a> {
     InsertStr(&'a str),
@@ -64,7 +64,7 @@ pub enum Attempt<'a> {
     InputWithoutShortcuts(&'a Input),
 }
 
-/// Settings and texts that may run out of memory. They have nothing to say.
+/// Settings and texts. They have no result; memory can run out.
 #[derive(Clone, Copy)]
 pub enum Change<'a> {
     SetYankText(&'a str),
@@ -87,7 +87,7 @@ pub enum Change<'a> {
     },
 }
 
-/// Moves, scrolls, selections and settings that take no memory in any state. They have nothing to say.
+/// Moves, scrolls, selections and settings. They have no result, and allocate nothing.
 #[derive(Clone, Copy)]
 pub enum Setting {
     Move(CursorMove),
@@ -102,7 +102,7 @@ pub enum Setting {
     ClearAtomicRanges,
 }
 
-/// Settings of how the text looks and what is around it, which take no memory in any state. They have nothing to say.
+/// Settings of how the text and its surroundings look. They have no result, and allocate nothing.
 #[derive(Clone, Copy)]
 pub enum Appearance {
     RemoveBlock,
@@ -120,7 +120,7 @@ pub enum Appearance {
     ClearCustomHighlight,
 }
 
-/// Calls that read where the cursor is, or what is set. They change nothing, and take no memory in any state.
+/// Calls that return the cursor's position or a setting. They change nothing, and allocate nothing.
 #[derive(Clone, Copy)]
 pub enum Question {
     Cursor,
@@ -147,7 +147,7 @@ pub enum Question {
     Alignment,
 }
 
-/// Calls whose answers have forms of their own.
+/// Calls with results of their own forms.
 #[derive(Clone, Copy)]
 pub enum Special<'a> {
     YankText,
@@ -160,7 +160,7 @@ pub enum Special<'a> {
     CursorAtPosition(Position),
 }
 
-/// The group of the call, with the call's arguments.
+/// Returns the group of the call, with the call's arguments.
 pub fn kind_of(call: Call<'_>) -> Kind<'_>
     ensures call { call_of result ≡ call.entry }
     ensures drawing { draws call.entry ≡ is_drawing result }

@@ -1,4 +1,4 @@
-//! The calls of a text area as data: which call an input asks for, how a script writes each call, their kinds, and their answers.
+//! The calls of a text area as data: their keys, form in scripts, groups, and results.
 #![tactic(auto)]
 
 pub mod action;

@@ -1,4 +1,4 @@
-//! The text that is printed of an answer.
+//! Prints the results of calls.
 use crate::answer::Answer;
 use std::fmt;
 use textarea_data::range::{AtomicRange, AtomicRangeRejectReason};
@@ -40,7 +40,7 @@ impl fmt::Display for Answer {
     }
 }
 
-// A range, printed as its row, its first column and the column behind its last one.
+// A range, printed as its row, its first column and the column after its last one.
 #[derive(Clone, Copy)]
 struct Printed(AtomicRange);
 
@@ -64,7 +64,7 @@ fn reason_name(reason: AtomicRangeRejectReason) -> &'static str {
     }
 }
 
-/// A text, printed with the escapes `\\`, `\n`, `\r` and `\t` for the four characters.
+/// A text, printed with the escapes `\\`, `\n`, `\r` and `\t`.
 #[derive(Clone, Copy)]
 pub struct Escaped<'a>(pub &'a str);
 

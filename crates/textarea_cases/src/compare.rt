@@ -1,20 +1,20 @@
-//! What two text areas differ in, as far as it is seen.
+//! Compares two text areas by all that can be observed of them.
 use crate::end::{Difference, Stop, same};
 use std::alloc::AllocError;
 use textarea_text::given::copy_pieces;
 use tui_textarea::{Buffer, Cell, Position, Rect, TextArea};
 
-/// The columns of an area in which two text areas are drawn.
+/// The width of the area in which text areas are drawn for a comparison, in columns.
 const COLUMNS: u16 = 24;
 
-/// The rows of such an area.
+/// The height of that area, in rows.
 const ROWS: u16 = 8;
 
-/// More edits than a row of calls makes.
+/// More edits than any case makes.
 const MOST_EDITS: usize = 1000;
 
-/// The two text areas must be alike: in what they show of themselves, in their next drawing, in a character that is typed into
-/// clones of them, and in all further undos and redos, with what they show after each, and in a drawing behind these.
+/// Compares two text areas: their state, a drawing, a character that is typed into clones of them,
+/// all further undos and redos with the state after each, and a drawing after these.
 pub fn compare(area: &mut TextArea<'_>, other: &mut TextArea<'_>) -> Result<(), Stop> {
     compare_shown(area, other)?;
     compare_yanks(area, other)?;
@@ -26,7 +26,7 @@ pub fn compare(area: &mut TextArea<'_>, other: &mut TextArea<'_>) -> Result<(), 
     compare_drawn(area, other)
 }
 
-/// The two text areas must show the same of themselves, as far as that takes no memory.
+/// Compares the state of two text areas, as far as that allocates nothing.
 pub fn compare_shown(area: &TextArea<'_>, other: &TextArea<'_>) -> Result<(), Stop> {
     same(area.lines() == other.lines(), Difference::Lines)?;
     same(area.cursor() == other.cursor(), Difference::Cursor)?;
@@ -48,7 +48,7 @@ fn compare_yanks(area: &TextArea<'_>, other: &TextArea<'_>) -> Result<(), Stop> 
     same(yank.as_str() == other_yank.as_str(), Difference::Yank)
 }
 
-// Measures both and draws both, at a width that no row draws at.
+// Measures and draws both, at a width at which no case draws.
 fn compare_drawn(area: &mut TextArea<'_>, other: &mut TextArea<'_>) -> Result<(), Stop> {
     let is_measured_alike = area.measure(COLUMNS)? == other.measure(COLUMNS)?;
     same(is_measured_alike, Difference::Measure)?;
@@ -73,7 +73,7 @@ fn drawn(area: &mut TextArea<'_>) -> Result<Buffer, AllocError> {
     Ok(buffer)
 }
 
-/// Whether the cells of the buffers outside of an area are alike.
+/// Returns whether the cells of two buffers outside an area are equal.
 pub fn are_alike_outside(buffer: &Buffer, other: &Buffer, area: Rect) -> bool {
     let whole = buffer.area();
     for y in whole.y..whole.y + whole.height {
@@ -97,14 +97,14 @@ fn is_cell_alike(cell: Option<&Cell>, other: Option<&Cell>) -> bool {
     }
 }
 
-// A character that is typed joins the same edit, if any.
+// Compares the lines after a typed character is undone; it may have joined the last edit.
 fn compare_typed(area: &TextArea<'_>, other: &TextArea<'_>) -> Result<(), Stop> {
     let lines = typed_lines(area)?;
     let other_lines = typed_lines(other)?;
     same(lines == other_lines, Difference::Typing)
 }
 
-// The lines of a clone in which a character was typed and taken back.
+// The lines of a clone after a character was typed and undone.
 fn typed_lines(area: &TextArea<'_>) -> Result<Vec<String>, AllocError> {
     let mut typed = area.clone()?;
     let lines = type_and_undo(&mut typed);
@@ -119,7 +119,7 @@ fn type_and_undo(area: &mut TextArea<'_>) -> Result<Vec<String>, AllocError> {
     copy_pieces(*lines[0].allocator(), lines)
 }
 
-// As many edits are taken back, or made again, with the same behind each.
+// Undoes or redoes all edits of both, and compares the state after each.
 fn compare_edits(
     area: &mut TextArea<'_>,
     other: &mut TextArea<'_>,

@@ -1,38 +1,38 @@
-//! How a row ends.
+//! The end of a case.
 use std::alloc::{AllocError, AllocFailed};
 use std::fmt;
 use textarea_calls::commands::ReadError;
 
-/// The status where memory was refused to something else than a call, so that nothing was judged.
+/// The status if memory ran out outside of a call, so that nothing was judged.
 const NOT_JUDGED: u8 = 3;
 
-/// The status where something isn't as it has to be.
+/// The status if a check failed.
 const WRONG: u8 = 4;
 
-/// How a row ended: behind as many calls, and why it wasn't gone on with, if it wasn't.
+/// The end of a case: the number of calls that were made, and why it stopped early, if it did.
 #[derive(Clone, Copy)]
 pub struct End {
     pub made: usize,
     pub stop: Option<Stop>,
 }
 
-/// Why the calls of a row aren't gone on with.
+/// Why a case stops early.
 #[derive(Clone, Copy)]
 pub enum Stop {
-    /// Memory was refused to something else than a call.
+    /// Memory ran out outside of a call.
     Memory,
-    /// A call was refused, and what it left is as it has to be.
+    /// A call ran out of memory, and left the correct state.
     Refused,
-    /// Something isn't as it has to be.
+    /// A check failed.
     Wrong(Difference),
 }
 
-/// What isn't as it has to be.
+/// What differs.
 #[derive(Clone, Copy, Debug)]
 pub enum Difference {
-    /// A line is neither a word nor a line of a script.
+    /// A line is neither a test command nor a line of a script.
     Script,
-    /// A call was out of memory where memory is ample.
+    /// A call ran out of memory although there is enough memory.
     Memory,
     Answer,
     Lines,
@@ -52,7 +52,6 @@ pub enum Difference {
 }
 
 impl End {
-    /// The exit status for this end.
     pub fn status(&self) -> u8 {
         match self.stop {
             None | Some(Stop::Refused) => 0,
@@ -96,7 +95,7 @@ impl From<ReadError> for Stop {
     }
 }
 
-/// It must be the same.
+/// Returns an error with this difference unless the two compared values are the same.
 pub fn same(is_same: bool, difference: Difference) -> Result<(), Stop> {
     if is_same {
         Ok(())

@@ -1,8 +1,8 @@
-//! Lines that stand for long ones.
+//! Short forms of long lines.
 use std::alloc::{AllocError, Global};
 
-/// The line with each `<N TEXT>` replaced by so many times the text. In the text `#` is the number of the time, from 0, and `;` a
-/// line's end.
+/// Replaces each `<N TEXT>` in the line by N copies of the text. In the text `#` is the number of
+/// the copy, from 0, and `;` is a line feed.
 pub fn expanded(alloc: Global, line: &str) -> Result<String, AllocError> {
     let mut long = String::new(alloc);
     for (index, part) in line.split('<').enumerate() {
@@ -36,7 +36,7 @@ fn push_numbered(long: &mut String, text: &str, number: usize) -> Result<(), All
     Ok(())
 }
 
-/// The number in front of a text, and the text; 1 and the whole where no number stands in front.
+/// Splits a text into a number before its first space and the rest; without one, it returns 1.
 pub fn counted(text: &str) -> (usize, &str) {
     match text.split_once(' ') {
         Some((count, rest)) => match count.parse::<usize>() {
@@ -47,7 +47,7 @@ pub fn counted(text: &str) -> (usize, &str) {
     }
 }
 
-/// The number behind a `times ` that begins a line, and what is behind it; 1 and the line where none does.
+/// Splits a line `times N LINE` into N and the rest; any other line is returned with 1.
 pub fn timed(line: &str) -> (usize, &str) {
     match line.strip_prefix("times ") {
         Some(rest) => counted(rest),
@@ -55,7 +55,7 @@ pub fn timed(line: &str) -> (usize, &str) {
     }
 }
 
-/// As many times the line, each with a line's end.
+/// Returns the line n times, each with a line feed.
 pub fn repeated(alloc: Global, times: usize, line: &str) -> Result<String, AllocError> {
     let mut lines = String::new(alloc);
     for _ in 0..times {

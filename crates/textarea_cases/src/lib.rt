@@ -1,4 +1,4 @@
-//! Shared by the test programs: cases as lines, a text form for calls that scripts have no command for, and comparisons of text areas.
+//! Shared by the test programs: cases, commands that scripts don't have, and comparisons.
 #![tactic(auto)]
 
 pub mod compare;

@@ -4,7 +4,7 @@ use std::alloc::{AllocError, Global};
 use textarea_calls::Call;
 use textarea_calls::commands::{Command, read};
 
-/// The lines of a case behind its comments, each with a line feed, and with a blank for a `\u{20}` at its end.
+/// Returns the lines of a case after its comments. A `\u{20}` at a line's end becomes a blank.
 pub fn plain(alloc: Global, case: &str) -> Result<String, AllocError> {
     let mut lines = String::new(alloc);
     for line in case.lines().skip_while(|line| line.starts_with("# ")) {
@@ -16,7 +16,7 @@ pub fn plain(alloc: Global, case: &str) -> Result<String, AllocError> {
     Ok(lines)
 }
 
-/// The keys in the first line of a case, behind `> `, and what stands behind that line.
+/// Returns the keys in the first line of a case, after `> `, and the lines after it.
 pub fn keys_and_rest(alloc: Global, case: &str) -> Result<(String, &str), Stop> {
     let (first, rest) = case.split_once('\n').unwrap_or((case, ""));
     let Some(keys) = first.strip_prefix("> ") else {
@@ -25,7 +25,7 @@ pub fn keys_and_rest(alloc: Global, case: &str) -> Result<(String, &str), Stop> 
     Ok((unescaped(alloc, keys)?, rest))
 }
 
-/// The text that scripts write so, with their escapes.
+/// Replaces the escapes of scripts in a text.
 pub fn unescaped(alloc: Global, text: &str) -> Result<String, Stop> {
     let line = format!(in alloc; "insert_str {text}")?;
     let commands = read(alloc, line.as_bytes())?;

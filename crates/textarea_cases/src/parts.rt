@@ -1,4 +1,4 @@
-//! What is told beside what scripts print: styles by their names, the cells of a buffer, and what isn't as of a new text area.
+//! Printed forms of styles by name, of a buffer's styles, and of differences from a new text area.
 use crate::stop::Stop;
 use crate::styles::style_name;
 use std::alloc::{AllocError, Global};
@@ -9,7 +9,7 @@ use textarea_data::range::AtomicRange;
 use textarea_screen::screen::{Buffer, Color, Rect, Style};
 use textarea_wrap::wrap::WrapMode;
 
-// A style, by its name.
+// A style, printed by its name.
 #[derive(Clone, Copy)]
 struct Named(Style);
 
@@ -22,7 +22,7 @@ impl fmt::Display for Named {
     }
 }
 
-// Ranges, with a blank between each two.
+// Ranges, printed with a blank between them.
 #[derive(Clone, Copy)]
 struct Ranges<'a>(&'a [AtomicRange]);
 
@@ -38,7 +38,7 @@ impl fmt::Display for Ranges<'_> {
     }
 }
 
-/// An answer as scripts print it, a style by its name.
+/// Returns a result as scripts print it, but a style by its name.
 pub fn told_answer(alloc: Global, answer: &Answer) -> Result<String, AllocError> {
     match answer {
         Answer::Style(style) | Answer::StyleIfShown(Some(style)) => {
@@ -49,7 +49,7 @@ pub fn told_answer(alloc: Global, answer: &Answer) -> Result<String, AllocError>
     }
 }
 
-/// Ranges as they are told: `none`, or each with a blank between.
+/// Returns the printed ranges, with a blank between them, or `none`.
 pub fn told_ranges(alloc: Global, ranges: &[AtomicRange]) -> Result<String, AllocError> {
     if ranges.is_empty() {
         return String::from_str(alloc, "none");
@@ -57,8 +57,8 @@ pub fn told_ranges(alloc: Global, ranges: &[AtomicRange]) -> Result<String, Allo
     format!(in alloc; "{}", Ranges(ranges))
 }
 
-/// The styles of the cells of a part of a buffer, row after row, those that are alike counted. The part's first column and row, its
-/// columns and its rows stand in a text.
+/// Returns the styles of the cells in an area of a buffer, row by row, with the length of each run
+/// of equal styles. The area is written as left column, top row, width and height.
 pub fn told_styles(alloc: Global, buffer: &Buffer, place: &str) -> Result<String, Stop> {
     let Some(place) = area_of(place) else {
         return Err(Stop::Unread);
@@ -80,7 +80,7 @@ pub fn told_styles(alloc: Global, buffer: &Buffer, place: &str) -> Result<String
     Ok(told)
 }
 
-// The style of a cell, without the colours of the terminal's own.
+// The style of a cell, without the terminal's default colours.
 fn style_of(buffer: &Buffer, x: u16, y: u16) -> Style {
     let Some(cell) = buffer.cell(x, y) else {
         return Style::new();
@@ -113,21 +113,21 @@ fn number(text: Option<&str>) -> Option<u16> {
     text?.parse().ok()
 }
 
-/// What isn't as of a new text area: each part by its name.
+/// The printed differences from a new text area, each by its name.
 #[derive(Drop)]
 pub struct Parts {
     told: String,
 }
 
 impl Parts {
-    /// Nothing.
+    /// Returns an empty list of differences.
     pub fn new(alloc: Global) -> Parts {
         Parts {
             told: String::new(alloc),
         }
     }
 
-    /// What was told, or `nothing`.
+    /// Returns the printed differences, or `nothing`.
     pub fn told(&self, alloc: Global) -> Result<String, AllocError> {
         match self.told.strip_prefix(", ") {
             Some(parts) => String::from_str(alloc, parts),
@@ -135,7 +135,7 @@ impl Parts {
         }
     }
 
-    /// Tells a flag that is set.
+    /// Adds a flag that is set.
     pub fn flag(&mut self, is_set: bool, name: &str) -> Result<(), AllocError> {
         if is_set {
             write!(self.told, ", {name}")?;
@@ -143,7 +143,7 @@ impl Parts {
         Ok(())
     }
 
-    /// Tells a number that isn't as at first.
+    /// Adds a number that differs from that of a new text area.
     pub fn number(&mut self, number: usize, at_first: usize, name: &str) -> Result<(), AllocError> {
         if number != at_first {
             write!(self.told, ", {name} {number}")?;
@@ -151,7 +151,7 @@ impl Parts {
         Ok(())
     }
 
-    /// Tells a style that is set.
+    /// Adds a style that is set.
     pub fn style(&mut self, style: Option<Style>, name: &str) -> Result<(), AllocError> {
         match style {
             Some(style) => write!(self.told, ", {name} {}", Named(style)),
@@ -159,7 +159,7 @@ impl Parts {
         }
     }
 
-    /// Tells what else than four blanks indents.
+    /// Adds an indent other than four blanks.
     pub fn indent(&mut self, indent: &str) -> Result<(), AllocError> {
         if indent != "    " {
             write!(self.told, ", indent \"{}\"", Escaped(indent))?;
@@ -167,7 +167,7 @@ impl Parts {
         Ok(())
     }
 
-    /// Tells how lines are wrapped, if they are.
+    /// Adds the wrap mode, if lines are wrapped.
     pub fn mode(&mut self, mode: WrapMode) -> Result<(), AllocError> {
         if mode != WrapMode::None {
             write!(self.told, ", wrap_mode {mode:?}")?;
@@ -175,7 +175,7 @@ impl Parts {
         Ok(())
     }
 
-    /// Tells the pattern, if there is one.
+    /// Adds the search pattern, if there is one.
     pub fn pattern(&mut self, pattern: Option<&str>) -> Result<(), AllocError> {
         match pattern {
             Some(pattern) => write!(self.told, ", search_pattern {pattern}"),
@@ -183,7 +183,7 @@ impl Parts {
         }
     }
 
-    /// Tells the ranges, if there are any.
+    /// Adds the atomic ranges, if there are any.
     pub fn ranges(&mut self, ranges: &[AtomicRange]) -> Result<(), AllocError> {
         if !ranges.is_empty() {
             write!(self.told, ", atomic_ranges {}", Ranges(ranges))?;
@@ -191,7 +191,7 @@ impl Parts {
         Ok(())
     }
 
-    /// Tells the placeholder, of so many lines, if it has one.
+    /// Adds the placeholder, if it has lines.
     pub fn placeholder(&mut self, lines: usize, text: &str) -> Result<(), AllocError> {
         if lines != 0 {
             write!(self.told, ", placeholder {lines} {}", Escaped(text))?;

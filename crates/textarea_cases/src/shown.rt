@@ -1,23 +1,23 @@
-//! What transcripts show: the lines of a script with what they answered, and a text area as `tascript` prints it.
+//! The content of transcripts: a script with its results, and the state as `tascript` prints it.
 use crate::lines::unescaped;
 use crate::stop::Stop;
 use std::alloc::{AllocError, Global};
 use textarea_calls::printing::Escaped;
 
-/// The lines of a script, and what they answered.
+/// The lines of a script, and their results.
 #[derive(Drop)]
 pub struct Script {
     /// The lines, each with a line feed.
     pub lines: String,
-    /// What they answered, as `tascript` prints it.
+    /// The results, as `tascript` prints them.
     pub answers: String,
     count: usize,
-    /// Whether there were calls that no script makes.
+    /// Whether there was a test command, which no script has.
     pub has_words: bool,
 }
 
 impl Script {
-    /// No line.
+    /// Returns an empty script.
     pub fn new(alloc: Global) -> Script {
         Script {
             lines: String::new(alloc),
@@ -27,7 +27,7 @@ impl Script {
         }
     }
 
-    /// A line more, and what it answered.
+    /// Adds a line and its result.
     pub fn push(&mut self, line: &str, answer: &str) -> Result<(), AllocError> {
         self.count = self.count.saturating_add(1);
         writeln!(self.lines, "{line}")?;
@@ -35,23 +35,23 @@ impl Script {
     }
 }
 
-/// What was shown last of a text area.
+/// The last printed state of a text area in a transcript.
 #[derive(Drop)]
 pub struct Shown {
     lines: String,
     cursor: String,
     selection: String,
     screen: String,
-    // Whether a row that is shown next is one of the screen, and not a line.
+    // Whether the next line that begins with `|` is a screen row, and not a line of the text.
     is_screen: bool,
-    /// Whether something was shown that isn't compared yet.
+    /// Whether a part of the state was read that isn't compared yet.
     pub is_new: bool,
-    /// Whether anything was shown.
+    /// Whether any part of the state was read.
     pub is_known: bool,
 }
 
 impl Shown {
-    /// An empty text area, of which nothing was shown.
+    /// Returns the state of an empty text area.
     pub fn new(alloc: Global) -> Result<Shown, AllocError> {
         Ok(Shown {
             lines: String::from_str(alloc, "lines 1\n|\n")?,
@@ -64,7 +64,8 @@ impl Shown {
         })
     }
 
-    /// Takes a line in, as `tascript` prints it. A row may have any escape of scripts for a character.
+    /// Reads a line of the state as `tascript` prints it. After `|` it may have any escape of
+    /// scripts.
     pub fn show(&mut self, alloc: Global, line: &str) -> Result<(), Stop> {
         self.is_new = true;
         self.is_known = true;
@@ -81,7 +82,7 @@ impl Shown {
         Ok(())
     }
 
-    // Shows the head of the lines or of the screen, or a row of these.
+    // Reads the head of the lines or of the screen, or one of their lines.
     fn show_row(&mut self, line: &str) -> Result<(), Stop> {
         if line.starts_with("lines ") {
             self.is_screen = false;
@@ -100,7 +101,7 @@ impl Shown {
         Ok(())
     }
 
-    /// What `tascript` prints of such a text area.
+    /// Returns the state as `tascript` prints it.
     pub fn printed(&self, alloc: Global) -> Result<String, AllocError> {
         let Shown {
             lines,

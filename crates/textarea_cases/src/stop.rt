@@ -1,27 +1,26 @@
-//! Why a case isn't as it is written.
+//! Why a case fails.
 use std::alloc::{AllocError, AllocFailed};
 use std::fmt;
 use textarea_calls::commands::ReadError;
 
-/// The status where memory was refused.
+/// The status if memory ran out.
 const NO_MEMORY: u8 = 3;
 
-/// The status where something isn't as it is written.
+/// The status if a case fails or can't be read.
 const WRONG: u8 = 4;
 
-/// Why a case isn't gone on with.
+/// Why a case fails or stops.
 #[derive(Drop)]
 pub enum Stop {
-    /// Memory was refused.
+    /// Memory ran out.
     Memory,
     /// The case can't be read.
     Unread,
-    /// Something else came than what is written.
+    /// The result differs from the expected one.
     Differs { found: String, wanted: String },
 }
 
 impl Stop {
-    /// The exit status for this end.
     pub fn status(&self) -> u8 {
         match self {
             Stop::Memory => NO_MEMORY,
@@ -61,7 +60,7 @@ impl From<ReadError> for Stop {
     }
 }
 
-/// It must be the wanted text.
+/// Returns an error unless the found text is the expected one.
 pub fn compare(found: String, wanted: &str) -> Result<(), Stop> {
     if found.as_str() == wanted {
         return Ok(());

@@ -1,11 +1,11 @@
-//! Styles by their names.
+//! Names of styles.
 use textarea_screen::screen::Color::*;
 use textarea_screen::screen::{Color, Modifier, Style};
 
 const NONE: Modifier = Modifier(0);
 
-/// The styles that have a name, by their colours and what they add: those of a text area at first (`cursor`, `cursor_line`,
-/// `selected`, `matched`, and `gray` of a placeholder), and some others.
+/// The named styles, by their colours and added modifiers. The first are those of a new text area
+/// (`cursor`, `cursor_line`, `selected`, `matched`, and `gray` of a placeholder).
 const STYLES: [(&str, Option<Color>, Option<Color>, Modifier); 19] = [
     ("plain", None, None, NONE),
     ("cursor", None, None, Modifier::REVERSED),
@@ -47,7 +47,7 @@ fn style_of(fg: Option<Color>, bg: Option<Color>, add_modifier: Modifier) -> Sty
     }
 }
 
-/// The style of this name.
+/// Returns the style of this name.
 pub fn style_named(name: &str) -> Option<Style> {
     for (own, fg, bg, modifier) in &STYLES {
         if *own == name {
@@ -57,7 +57,7 @@ pub fn style_named(name: &str) -> Option<Style> {
     None
 }
 
-/// The name of this style, if it has one.
+/// Returns the name of this style, if it has one.
 pub fn style_name(style: Style) -> Option<&'static str> {
     for (name, fg, bg, modifier) in &STYLES {
         if style_of(*fg, *bg, *modifier) == style {

@@ -1,22 +1,22 @@
-//! What the steps of a row with ample memory answered.
+//! A summary of the results of a case with enough memory.
 use crate::end::{Difference, Stop};
 use std::fmt;
 use textarea_calls::Answer;
 
-/// The answers, counted and summed up, and what the steps left.
+/// The counted and summed results of calls, and the state after them.
 #[derive(Default, Clone, Copy)]
 pub struct Tally {
     pub calls: usize,
     yanked: usize,
     rows: usize,
-    /// The lines that they left.
+    /// The number of lines of the text area.
     pub lines: usize,
-    /// The cursor's (row, column).
+    /// The cursor's position (row, column).
     pub cursor: (usize, usize),
 }
 
 impl Tally {
-    /// Takes an answer in, which may not be that a pattern was refused.
+    /// Adds a result. A rejected pattern is a failure.
     pub fn take(&mut self, answer: &Answer) -> Result<(), Stop> {
         match answer {
             Answer::Text(text) => self.yanked = self.yanked.saturating_add(text.len()),

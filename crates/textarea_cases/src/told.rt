@@ -1,11 +1,11 @@
-//! What a text area and a buffer tell, beside what calls answer.
+//! Prints what no call returns of a text area and a buffer.
 use crate::parts::{Parts, told_ranges, told_styles};
 use crate::stop::Stop;
 use std::alloc::{AllocError, Global};
 use tui_textarea::{Buffer, TextArea};
 
-/// What is told where a line asks for what no call answers: `unprinted`, `atomic_ranges` and `viewport` of the text area, or `styles`
-/// of the cells of a part of the buffer (its first column and row, its columns and its rows).
+/// Returns the text for a line that asks for more than a call returns: `unprinted`, `atomic_ranges`
+/// or `viewport` of the text area, or `styles` of the cells in an area of the buffer.
 pub fn told_of(
     alloc: Global,
     area: &TextArea<'_>,
@@ -31,7 +31,7 @@ fn told_viewport(alloc: Global, area: &TextArea<'_>) -> Result<String, AllocErro
     format!(in alloc; "{top} {left}; {row} {column} {width} {height}; {first} {start} {last} {end}")
 }
 
-// What other calls read, where it isn't as of a new text area that holds a text.
+// The settings and states that differ from those of a new text area with a text.
 fn unprinted(alloc: Global, area: &TextArea<'_>) -> Result<String, AllocError> {
     let mut parts = Parts::new(alloc);
     tell(&mut parts, area)?;

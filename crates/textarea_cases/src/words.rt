@@ -1,4 +1,4 @@
-//! The calls that words stand for, and what is lent to them.
+//! Test commands: a text form for calls that scripts have no command for.
 ghost use Rattle.std.specs.Prelude.{IfSome};
 ghost use Rattle.textarea_calls.specs.Made.{CanBeMade};
 
@@ -10,19 +10,19 @@ use textarea_data::range::{AtomicCursorBias, AtomicDeleteDirection};
 use textarea_screen::screen::{Alignment, Block, Borders, Line, Style, Text};
 use textarea_view::look::CursorRenderMode;
 
-/// What is lent to calls.
+/// The values that these calls borrow.
 #[derive(Drop)]
 pub struct Lent {
-    /// What `set_block` sets.
+    /// The block that `set_block` sets.
     pub block: Block<'static>,
-    /// What `set_styled_placeholder` sets.
+    /// The placeholder that `set_styled_placeholder` sets.
     pub placeholder: Text<'static>,
-    /// What `letter` types.
+    /// The input that `letter` types.
     pub letter: Input,
 }
 
 impl Lent {
-    /// A block with all borders and a title, a placeholder of two lines in the empty style, and the key of the letter `z`.
+    /// Returns a titled block with all borders, a placeholder of two lines, and the key of `z`.
     pub fn new(alloc: Global) -> Result<Lent, AllocError> {
         Ok(Lent {
             block: titled(alloc, Borders::ALL, "a title")?,
@@ -32,13 +32,13 @@ impl Lent {
     }
 }
 
-/// A block with these borders and this title.
+/// Returns a block with these borders and this title.
 pub fn titled(alloc: Global, borders: Borders, title: &str) -> Result<Block<'static>, AllocError> {
     let title = line_of(alloc, title)?;
     Ok(Block::new().borders(borders).title(title))
 }
 
-/// A text of these lines, in this style.
+/// Returns a text of these lines, in this style.
 pub fn lines_in(alloc: Global, style: Style, texts: &[&str]) -> Result<Text<'static>, AllocError> {
     let mut lines = Vec::new(alloc);
     for text in texts {
@@ -51,7 +51,7 @@ fn line_of(alloc: Global, text: &str) -> Result<Line<'static>, AllocError> {
     Line::raw(String::from_str(alloc, text)?)
 }
 
-/// The key of a character, with nothing held.
+/// Returns the key of a character, without modifiers.
 pub fn character(character: char) -> Input {
     Input {
         key: Key::Char(character),
@@ -61,8 +61,8 @@ pub fn character(character: char) -> Input {
     }
 }
 
-/// The call that a line of words stands for: the name of a call of the text area that no script makes and, behind blanks, its
-/// arguments. `letter` types the letter that is lent, without shortcuts.
+/// Returns the call of a line: the name of a call of the text area that scripts have no command for
+/// and, after a blank, its arguments. `letter` types the letter of `lent`, without shortcuts.
 pub fn call_of<'a>(line: &'a str, lent: &'a Lent) -> Option<Call<'a>>
     ensures { IfSome result CanBeMade }
 {
@@ -72,7 +72,7 @@ pub fn call_of<'a>(line: &'a str, lent: &'a Lent) -> Option<Call<'a>>
     }
 }
 
-// The call of this name, without arguments.
+// The call of this name without arguments.
 fn call_alone<'a>(name: &str, lent: &'a Lent) -> Option<Call<'a>>
     ensures { IfSome result CanBeMade }
 {
@@ -89,7 +89,7 @@ fn call_alone<'a>(name: &str, lent: &'a Lent) -> Option<Call<'a>>
     })
 }
 
-// The call of this name that reads the text, or how it is edited.
+// The call of this name that returns the cursor, the selection or an option of editing.
 fn reading<'a>(name: &str) -> Option<Call<'a>>
     ensures { IfSome result CanBeMade }
 {
@@ -107,7 +107,7 @@ fn reading<'a>(name: &str) -> Option<Call<'a>>
     })
 }
 
-// The call of this name that reads how the text area is drawn.
+// The call of this name that returns an option of drawing.
 fn reading_look<'a>(name: &str) -> Option<Call<'a>>
     ensures { IfSome result CanBeMade }
 {
@@ -140,7 +140,7 @@ fn call_with<'a>(name: &str, arguments: &'a str) -> Option<Call<'a>>
     }
 }
 
-// The same, where the arguments aren't lent.
+// The call of this name and these arguments, if it doesn't borrow them.
 fn call_of_parts<'a>(name: &str, arguments: &str) -> Option<Call<'a>>
     ensures { IfSome result CanBeMade }
 {
@@ -176,7 +176,7 @@ fn setting_style<'a>(name: &str, style: &str) -> Option<Call<'a>>
     })
 }
 
-// The highlight from one row and byte to another, of a style and a priority.
+// The highlight between two positions, each a row and a byte, with a style and a priority.
 fn highlight<'a>(arguments: &str) -> Option<Call<'a>>
     ensures { IfSome result CanBeMade }
 {

@@ -1,4 +1,4 @@
--- A place as a cursor and as a row and a column.
+-- A position as a cursor, and as a row and a column.
 use Rattle.std.specs.Prelude.{ℕ}
 use Rattle.textarea_data.specs.declared.cursor.DataCursor.{DataCursor}
 
@@ -6,6 +6,6 @@ use Rattle.textarea_data.specs.declared.cursor.DataCursor.{DataCursor}
 abbrev pub cursor_of : ℕ × ℕ → DataCursor
 cursor_of place = record { 0 = place.0; 1 = place.1 }
 
--- the row and the column at which a cursor stands
+-- the row and the column of a cursor
 abbrev pub place_of : DataCursor → ℕ × ℕ
 place_of cursor = (cursor.0, cursor.1)

@@ -1,4 +1,4 @@
-//! Cursor moves and places.
+//! Cursor moves and positions.
 
 ghost use Rattle.std.specs.Prelude.{◌≡◌};
 ghost use Rattle.textarea_data.specs.Cursor.{cursor_of, place_of};
@@ -8,9 +8,9 @@ use serde::{Deserialize, Serialize};
 /// A way to move the cursor.
 #[derive(Clone, Copy, Debug, PartialEq, Eq, Serialize, Deserialize)]
 pub enum CursorMove {
-    /// To the next place, over a line's end too.
+    /// To the next position; from the end of a line, to the start of the next one.
     Forward,
-    /// To the previous place, over a line's start too.
+    /// To the previous position; from the start of a line, to the end of the line above.
     Back,
     /// To the visual row above.
     Up,
@@ -34,17 +34,17 @@ pub enum CursorMove {
     ParagraphForward,
     /// To the start of the previous paragraph.
     ParagraphBack,
-    /// To a row and a column, counted from 0.
+    /// To this row and column, both counted from 0.
     Jump(u16, u16),
-    /// Into what was last drawn, as far as the cursor lies outside.
+    /// Into the area that was last drawn, if the cursor is outside of it.
     InViewport,
 }
 
-/// A place in a text: a row and a column in characters, both counted from 0.
+/// A position in a text: a row and a column in characters, both counted from 0.
 #[derive(Clone, Copy, Debug, PartialEq, Eq)]
 pub struct DataCursor(pub usize, pub usize);
 
-/// The row and the column, in this order.
+/// Converts from (row, column).
 impl From<(usize, usize)> for DataCursor {
     ghost from_gives = { λ place cursor. (cursor ≡ cursor_of place) × (place_of cursor ≡ place) };
 
@@ -53,7 +53,7 @@ impl From<(usize, usize)> for DataCursor {
     }
 }
 
-/// The row and the column, in this order.
+/// Converts to (row, column).
 impl From<DataCursor> for (usize, usize) {
     ghost from_gives = { λ cursor place. (place ≡ place_of cursor) × (cursor_of place ≡ cursor) };
 

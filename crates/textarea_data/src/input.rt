@@ -1,11 +1,11 @@
-//! Key inputs, whatever terminal library they come from.
+//! Key inputs, independent of the terminal library.
 
 use serde::{Deserialize, Serialize};
 
 /// A key.
 #[derive(Clone, Copy, Debug, Default, PartialEq, Eq, Hash, Serialize, Deserialize)]
 pub enum Key {
-    /// A key that stands for a character.
+    /// A key that types a character.
     Char(char),
     /// A function key by its number: F1, F2 and so on.
     F(u8),
@@ -35,30 +35,30 @@ pub enum Key {
     PageDown,
     /// Escape.
     Esc,
-    /// Copy, which few terminals tell.
+    /// Copy, which few terminals report.
     Copy,
-    /// Cut, which few terminals tell.
+    /// Cut, which few terminals report.
     Cut,
-    /// Paste, which few terminals tell.
+    /// Paste, which few terminals report.
     Paste,
     /// The mouse's wheel, turned down.
     MouseScrollDown,
     /// The mouse's wheel, turned up.
     MouseScrollUp,
-    /// No key: an input that no text area answers.
+    /// No key: an input that text areas ignore.
     #[default]
     Null,
 }
 
-/// A key with the modifiers that are held down. The default is [`Key::Null`] with none held.
-#[derive(Clone, Debug, Default, Drop, PartialEq, Eq, Hash, Serialize, Deserialize)]
+/// A key with the modifiers that are pressed. The default is [`Key::Null`] without any.
+#[derive(Clone, Copy, Debug, Default, PartialEq, Eq, Hash, Serialize, Deserialize)]
 pub struct Input {
     /// The key.
     pub key: Key,
-    /// Whether Control is held down.
+    /// Whether Control is pressed.
     pub ctrl: bool,
-    /// Whether Alt is held down.
+    /// Whether Alt is pressed.
     pub alt: bool,
-    /// Whether Shift is held down.
+    /// Whether Shift is pressed.
     pub shift: bool,
 }

@@ -1,4 +1,4 @@
-//! Plain data with written forms: keys, moves and cursors, amounts of scrolling, and atomic ranges.
+//! Plain data, mostly with serde's traits: keys, cursor moves, positions, scrolling, atomic ranges.
 #![tactic(auto)]
 
 pub mod cursor;

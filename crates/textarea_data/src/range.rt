@@ -1,23 +1,23 @@
-//! Atomic ranges: parts of a line that are edited as a whole.
+//! Atomic ranges: characters of a line that are edited as a whole.
 
 ghost use Rattle.std.specs.Prelude.{◌≡◌, IfOk};
 
 use serde::{Deserialize, Serialize};
 use std::alloc::AllocError;
 
-/// A part of a line that is edited as a whole: the characters of a row from `start_col` up to and
-/// without `end_col`. Rows and columns count from 0, columns in characters.
+/// Characters of a line that are edited as a whole: from `start_col` up to, but not including,
+/// `end_col`. Row and columns count from 0, columns in characters.
 #[derive(Clone, Copy, Debug, PartialEq, Eq, Serialize, Deserialize)]
 pub struct AtomicRange {
-    /// The row of the line.
+    /// The line's row.
     pub row: usize,
     /// The column of the first character.
     pub start_col: usize,
-    /// The column behind the last character.
+    /// The column after the last character.
     pub end_col: usize,
 }
 
-/// To which end a cursor strictly inside an atomic range goes.
+/// The end to which a cursor strictly inside an atomic range moves.
 #[derive(Clone, Copy, Debug, PartialEq, Eq, Serialize, Deserialize)]
 pub enum AtomicCursorBias {
     /// To the range's start.
@@ -26,47 +26,46 @@ pub enum AtomicCursorBias {
     Forward,
 }
 
-/// On which side of the cursor an atomic range is looked for.
+/// The side of the cursor on which an atomic range is looked for.
 #[derive(Clone, Copy, Debug, PartialEq, Eq, Serialize, Deserialize)]
 pub enum AtomicDeleteDirection {
-    /// A range that starts before the cursor and ends at or behind it.
+    /// A range that starts before the cursor and ends at or after it.
     Backward,
-    /// A range that starts at or before the cursor and ends behind it.
+    /// A range that starts at or before the cursor and ends after it.
     Forward,
 }
 
-/// Why an atomic range is refused.
+/// Why an atomic range is rejected.
 #[derive(Clone, Copy, Debug, PartialEq, Eq, Serialize, Deserialize)]
 pub enum AtomicRangeRejectReason {
     /// It ends where it starts.
     Empty,
     /// The text has no such row.
     RowOutOfBounds,
-    /// It starts behind its end, or ends past its line's end.
+    /// It starts after its end, or ends past its line's end.
     ColumnOutOfBounds,
     /// It starts before the end of the last valid range of its row.
     OverlapsPrevious,
 }
 
-/// An atomic range that is refused, and why.
+/// A rejected atomic range, and why it is rejected.
 #[derive(Clone, Copy, Debug, PartialEq, Eq, Serialize, Deserialize)]
 pub struct RejectedAtomicRange {
-    /// The range as it was given.
+    /// The range as it was passed in.
     pub range: AtomicRange,
-    /// Why it is refused.
+    /// Why it is rejected.
     pub reason: AtomicRangeRejectReason,
 }
 
-/// The ranges of a list that are refused, so that none of the list was taken.
+/// The rejected ranges of a list. With at least one of them, the whole list is rejected.
 #[derive(Debug, Drop, PartialEq, Eq, Serialize, Deserialize)]
 pub struct AtomicRangeError {
-    /// The refused ranges, by row and start.
+    /// The rejected ranges, ordered by row and start.
     pub rejected: Vec<RejectedAtomicRange>,
 }
 
 impl AtomicRangeError {
-    /// An error with the same ranges in the same order. Only out of memory does it fail, and that leaves
-    /// `self` as it is.
+    /// Returns a copy with the same ranges in the same order. Fails only when out of memory.
     pub fn clone(&self) -> Result<AtomicRangeError, AllocError>
         ensures { IfOk result (λ copy. copy.rejected.items ≡ self.now.rejected.items) }
     {

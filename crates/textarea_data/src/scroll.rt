@@ -8,11 +8,11 @@ use serde::{Deserialize, Serialize};
 /// How far to scroll, and in which direction.
 #[derive(Clone, Copy, Debug, PartialEq, Eq, Serialize, Deserialize)]
 pub enum Scrolling {
-    /// By visual rows, down where positive, and by columns, to the right where positive.
+    /// By visual rows, down if positive, and by columns, to the right if positive.
     Delta {
-        /// The rows, down where positive.
+        /// The visual rows, down if positive.
         rows: i16,
-        /// The columns, to the right where positive.
+        /// The columns, to the right if positive.
         cols: i16,
     },
     /// Down by the height of the viewport.
@@ -25,7 +25,7 @@ pub enum Scrolling {
     HalfPageUp,
 }
 
-/// Rows and columns, in this order.
+/// Converts from (rows, columns).
 impl From<(i16, i16)> for Scrolling {
     ghost from_gives = { λ amounts scrolling. scrolling ≡ delta_of amounts };
 

@@ -1,4 +1,4 @@
--- What stands directly behind a place.
+-- The symbol directly after a position.
 use Rattle.std.proofs.Common.{◌≡◌, ◌≢◌, ℕ, Bool, false, cond, ◌==◌, ◌+◌, ◌-◌, ◌≤◌, ◌<◌, List, [], ◌∷◌, ◌++◌, length, take, drop, get_or, sym, ap, refl, ◌∙◌, arith, String, subst, Option, Some, None, ◌^◌, encode_utf8, encode_utf8_all}
 use Rattle.std.specs.Str.{IsCharBoundary}
 use Rattle.std.proofs.lemmas.List.{drop_all, length-drop}
@@ -12,7 +12,7 @@ use Rattle.textarea_history.specs.Edit.{splice_of}
 use Rattle.textarea_text.proofs.TextPlaces.{joined-lines, place_of-index}
 use Rattle.std.proofs.lemmas.Bool.Decides.{nat_tests}
 
--- an index at which a symbol stands is not the text's end
+-- an index with a symbol is not the text's end
 not_end : (text : List Symbol) (index : ℕ) (symbol : Symbol) → take 1 (drop index text) ≡ symbol ∷ [] → index ≢ length text
 not_end text index symbol e = λ same. cc (e, drop_all index text (omega arith))
 
@@ -32,18 +32,18 @@ break_is_behind rows row column within e =
 pub boundary_of : (line : List ℕ) (column offset : ℕ) → IsUtf8 line → offset ≡ offset_in (chars line) column → IsCharBoundary line offset
 boundary_of line column offset utf8 e = subst (IsCharBoundary line) (sym e) (IsCharBoundary-column line column utf8)
 
--- a call of `next` behind the column
+-- a call of `next` after the column
 pub behind_is : (Same : Type 0) (cs was rest : List ℕ) (column : ℕ) (found : Option ℕ) → column ≤ length cs → was ≡ encode_utf8_all (drop column cs) → MatchOption found ((length was ≡ 0) × Same) (λ d. was ≡ encode_utf8 d ++ rest) → MatchOption found (column ≡ length cs) (λ c. drop column cs ≡ c ∷ drop (column + 1) cs)
 behind_is Same cs was rest column None within e h = omega (arith, h.0, ap length e, length-le-encodes (drop column cs), length-drop column cs)
 behind_is Same cs was rest column (Some c) within e h = next_is Same cs was rest column c (Some c) e h refl
 
--- a column of a string can be counted on by one
+-- one can be added to a column of a string without overflow
 pub column_in_string : {Z : Type 0} (items : List (String Z)) (place : Place) → IsPlaceOf (lines_of items) place → place.1 + 1 < 2 ^ 64
 column_in_string items place h = omega (arith, h.1, column_bound items place.0)
 
--- ---- the break before a row
+-- ---- the break before a line
 
--- the removal of the break at the end of a row's line fits the text, where another row follows
+-- the removal of the break at the end of a line fits the text, if another line follows
 pub break_removal_fits : (text : List Symbol) (row : ℕ) → row + 1 < length (lines text) → Fits text (break_removal text row)
 break_removal_fits text row within =
     let rows = lines text in
@@ -53,7 +53,7 @@ break_removal_fits text row within =
       allowed = subst (λ t. StandsAt t (line_end rows row) (Break ∷ [])) (joined-lines text) (break_stands rows row within);
     }
 
--- ---- the symbol behind the cursor
+-- ---- the symbol after the cursor
 
 pub symbol_removed_behind_is : (document : DocumentState) (to : Place) (symbol : Symbol) (typed : Bool) (now : ℕ) → IsPlace document.text document.cursor → IsSymbolBehind document.text document.cursor to symbol → edited document (record { place = document.cursor; symbols = symbol ∷ []; inserts = false }) typed now ≡ symbol_removed_behind document typed now
 symbol_removed_behind_is document to symbol typed now h behind =
@@ -86,19 +86,19 @@ pub nothing_before : (document : DocumentState) (typed : Bool) (now : ℕ) → i
 nothing_before document typed now start =
     ap (λ (n : ℕ). cond (n == 0) (unanchored document) (edited document (symbol_removal document.text (index_of document.text document.cursor - 1)) typed now)) (sym start)
 
--- the change of an edit that removes
+-- the splice of an edit that removes
 pub removal_of_kind : (kind : EditKind) (before after : Place) (symbols : List Symbol) → inserts_of kind ≡ false → symbols_of kind ≡ symbols → splice_of kind before after ≡ record { place = after; symbols = symbols; inserts = false }
 removal_of_kind kind before after symbols removes e =
     ap (λ (b : Bool). record { place = cond b before after; symbols = symbols_of kind; inserts = b }) removes
     ∙ ap (λ (s : List Symbol). record { place = after; symbols = s; inserts = false }) e
 
--- ---- behind the cursor, from what is found behind a place that is the cursor
+-- ---- after the cursor, from what is found after a position that is the cursor
 
 pub behind_cursor : {Z : Type 0} (items : List (String Z)) (text : List Symbol) (at cursor to : Place) (symbol : Symbol) → text_of items ≡ text → at ≡ cursor → IsSymbolBehind (text_of items) at to symbol → IsSymbolBehind text cursor to symbol
 behind_cursor items text at cursor to symbol text_is is h =
     subst (λ t. IsSymbolBehind t cursor to symbol) text_is (subst (λ (p : Place). IsSymbolBehind (text_of items) p to symbol) is h)
 
--- the change of an edit that removes there
+-- the splice of an edit that removes there
 pub removal_at_cursor : (kind : EditKind) (before at cursor : Place) (symbols : List Symbol) → inserts_of kind ≡ false → symbols_of kind ≡ symbols → at ≡ cursor → splice_of kind before at ≡ record { place = cursor; symbols = symbols; inserts = false }
 removal_at_cursor kind before at cursor symbols removes e is =
     removal_of_kind kind before at symbols removes e ∙ ap (λ (p : Place). record { place = p; symbols = symbols; inserts = false }) is

@@ -3,8 +3,8 @@ use Rattle.std.proofs.Common.{◌≡◌, ℕ, List, [], ◌∷◌, map, refl, Op
 use Rattle.textarea_document.specs.Prelude.{Symbol, joined, Place, class_of, target, word_end_after, word_start_before, CursorMove, Back, Up, Down, Head, End, Bottom, WordForward, WordEnd, WordBack, ParagraphForward, ParagraphBack, Jump}
 use Rattle.textarea_data.specs.declared.cursor.CursorMove.TheVariants.{Forward}
 
--- each move leads from its place to the other place, or nowhere, in a text whose first visual row is the cursor's, and whose last one
--- is behind it; its start is what is shown
+-- each move leads from its position to the other one, or nowhere, in a text whose first visual row
+-- is the cursor's, and whose last one is after it; the viewport shows its start
 abbrev pub Lead : List Symbol → List (Place × CursorMove × Option Place) → Type 0
 Lead text cases =
     map (λ (c : Place × CursorMove × Option Place). target (record { above = None; below = Some (1, 0); inside = (0, 0) }) text c.0 c.1) cases
@@ -71,7 +71,7 @@ paragraph_cases = refl
 abbrev pub three : List ℕ
 three = 97 ∷ 97 ∷ 97 ∷ 32 ∷ 98 ∷ 98 ∷ 98 ∷ 32 ∷ 99 ∷ 99 ∷ 99 ∷ []
 
--- the removal of the word before, and of the one behind
+-- the removal of the word before, and of the one after
 pub removed_word_cases : (word_start_before three 11 ∷ word_start_before (32 ∷ 32 ∷ 97 ∷ []) 2 ∷ word_end_after three 0 ∷ word_end_after three 8 ∷ []) ≡ 8 ∷ 0 ∷ 3 ∷ 11 ∷ []
 unfolding class_of
 removed_word_cases = refl

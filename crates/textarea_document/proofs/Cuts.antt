@@ -1,4 +1,4 @@
--- What the edits of a document cut, where each splice of a text cuts what it cuts.
+-- The lines that the edits of a document wrap, given those that each splice of a text wraps.
 use Rattle.std.proofs.Common.{◌≡◌, ℕ, Bool, Option, Some, subst, sym}
 use Rattle.textarea_document.specs.Prelude.{Splice, Fits, inverse, newest, next, IsSpliced, IsSetTo, IsWidened, LaidOut, applied_to, at_width, laid_out_with, LayoutSettings, CutsBySettings, CutsByWidth, SplicesBy, IsMade, Step, splice_of, stepped, edited, redone, redone_by, undone, undone_by, laid_out_of, with_inner_width, with_layout_settings, IsSound, DocumentState}
 use Rattle.textarea_document.proofs.Sounds.{laid_out_seen, newest_fits, next_fits}

@@ -1,4 +1,4 @@
--- How the atomic ranges of a document go with its text, over one splice after another.
+-- How the atomic ranges of a document move with its text, over one splice after another.
 use Rattle.std.proofs.Common.{◌≡◌, ℕ, zero, suc, Bool, true, false, List, [], ◌∷◌, ◌++◌, get_or, filter_map, Contains, Option, None, Some, sym, ap, refl, subst, ◌∙◌, arith, inl, inr, ◌⊎◌, suc-le-suc}
 use Rattle.std.proofs.lemmas.Bool.Decides.{nat_tests}
 use Rattle.std.proofs.lemmas.List.Elements.{All-cons, All-contains, All-nil, Contains-get_or}
@@ -67,7 +67,7 @@ goes_uncut_on old between new first second h k = (
   CutNone-append old.ranges first second h.1 (subst (λ (r : List AtomicRange). CutNone r second) h.0.ranges k.1),
 )
 
--- ---- each range stems from one that was held
+-- ---- each range comes from an old one
 
 record From {X Y : Type 0} (f : X → Option Y) (xs : List X) (y : Y) : Type 0 where
   x : X
@@ -124,7 +124,7 @@ stems_from old new splices sound h range held =
 pub all_stem : (old new : DocumentState) (splices : List Splice) → IsSound old → GoesOver old splices new → AllStemFrom old splices new
 all_stem old new splices sound h k d within = stems_from old new splices sound h (get_or new.ranges k d) (Contains-get_or new.ranges k d within)
 
--- ---- each range that was held is carried on, or one splice disturbs it
+-- ---- each old range is moved on, or one splice disturbs it
 
 contains_behind : {Y : Type 0} (found : Option Y) (ys : List Y) (y : Y) → Contains ys y → Contains (cons_option found ys) y
 contains_behind None ys y h = h

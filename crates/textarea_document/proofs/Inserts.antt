@@ -12,7 +12,7 @@ pub filled_none : (symbols : List Symbol) → symbols ≡ [] → false ≡ is_fi
 filled_none [] e = refl
 filled_none (symbol ∷ symbols) e = cc
 
--- one piece holds a symbol where it is not empty
+-- a fragment of one string has a symbol if the string is not empty
 pub filled_one : {Z : Type 0} (items : List (String Z)) (s : String Z) (empty : Bool) → length items ≡ 1 → s ≡ get_or items 0 s → empty ≡ (string_len s == 0) → not empty ≡ is_filled (text_of items)
 filled_one items s true one read e = filled_none (text_of items) ((empty_text items s one read).0 (eqb-true (string_len s) 0 (sym e)))
 filled_one items s false one read e =

@@ -1,8 +1,8 @@
--- Ranges of a document that go with its text.
+-- Ranges of a document that move with its text.
 use Rattle.std.proofs.Common.{◌≤◌, ◌<◌, List, All, get_or, arith}
 use Rattle.textarea_document.specs.Prelude.{size_limit, Symbol, lines, IsPlace, Place, AtomicRange, range_end, IsMovable, AreValid}
 
--- each place of the text has a row and a column that are small
+-- each position of the text has a small row and column
 abbrev pub HasSmallPlaces : List Symbol → Type 0
 HasSmallPlaces text = (place : Place) → IsPlace text place → (place.0 < size_limit) × (place.1 ≤ size_limit)
 

@@ -1,4 +1,4 @@
--- What stands between two places of a text.
+-- The text between two positions.
 use Rattle.std.proofs.Common.{◌≡◌, ◌+◌, ◌-◌, ◌≤◌, ◌<◌, List, [], ◌∷◌, length, take, drop, sym, ap, ◌∙◌, subst, arith, String}
 use Rattle.std.proofs.lemmas.List.{length-drop, length-take-le}
 use Rattle.std.proofs.Math.Seq.{take-add}
@@ -12,7 +12,7 @@ length-part text from to h ordered =
     let j = index_of text to in
     length-take-le (j - i) (drop i text) (omega (arith, length-drop i text, index_within text to h))
 
--- a part stands at its start, and ends at its end
+-- the text between two positions is at the first, and ends at the second
 pub part_stands : (text : List Symbol) (from to : Place) → IsPlace text to → index_of text from ≤ index_of text to → StandsAt text from (part text from to)
 part_stands text from to h ordered = ap (λ n. take n (drop (index_of text from) text)) (length-part text from to h ordered)
 
@@ -34,7 +34,7 @@ part_some text from to h ordered = omega (arith, length-part text from to h (ome
 pub removal_fits : (text : List Symbol) (from to : Place) → IsPlace text from → IsPlace text to → index_of text from < index_of text to → Fits text (removal text from to)
 removal_fits text from to h h' ordered = record { some = part_some text from to h' ordered; is_place = h; allowed = part_stands text from to h' (omega arith) }
 
--- an edit of this change with these ends is well formed
+-- an edit of this splice with these ends is well formed
 pub well_formed : (edit : Stored) (splice : Splice) → edit.splice ≡ splice → 0 < length splice.symbols → edit.end ≡ end splice.place splice.symbols → IfSome edit.pieces (λ n. 2 ≤ n) → IsWellFormed edit
 well_formed edit splice is some ends pieces = record {
   some = subst (λ (s : Splice). 0 < length s.symbols) (sym is) some;
@@ -42,7 +42,7 @@ well_formed edit splice is some ends pieces = record {
   ends = ends ∙ ap (λ (s : Splice). end s.place s.symbols) (sym is);
 }
 
--- pieces that hold a symbol are some
+-- a fragment with a symbol has at least one string
 pub some_pieces : {Z : Type 0} (pieces : List (String Z)) {symbols : List Symbol} → text_of pieces ≡ symbols → 0 < length symbols → 0 < length pieces
 some_pieces [] e some = omega (arith, ap length e)
 some_pieces (piece ∷ pieces) e some = omega arith

@@ -1,4 +1,4 @@
--- Ranges of a text, and what an edit keeps of them.
+-- Ranges of a text, and the condition that an edit satisfies for them.
 use Rattle.std.proofs.Common.{◌≡◌, ℕ, ◌+◌, ◌<◌, ◌≤◌, ◌==◌, inl, inr, Bool, true, false, cond, List, [], ◌∷◌, length, drop, take, get_or, Option, Some, None, All, Contains, MatchOption, refl, sym, ap, subst, ◌∙◌, arith}
 use Rattle.std.proofs.lemmas.Bool.{cases_lt}
 use Rattle.std.proofs.lemmas.Bool.Decides.{nat_tests}
@@ -13,13 +13,13 @@ use Rattle.textarea_data.specs.declared.range.AtomicCursorBias.TheVariants.{Back
 use Rattle.textarea_data.specs.declared.range.AtomicDeleteDirection.TheVariants.{Backward as DeleteBackward, Forward as DeleteForward}
 use Rattle.textarea_ranges.proofs.HeldLemmas.{IsPlaceOf-moved_out, MatchOption-hit, taken}
 
--- no range is valid for all lines
+-- an empty list of ranges is valid for all lines
 pub valid_none : (rows : List (List ℕ)) → AreValid rows []
 valid_none rows = record { parts = λ k d within. absurd (omega arith); disjoint = λ j k d before within. absurd (omega arith) }
 
--- ---- the order of places and of indices
+-- ---- the order of positions and of indices
 
--- a place of no greater index comes before, or is the same
+-- a position whose index is not greater is before the other, or is the same
 pub up_to_from_index : (text : List Symbol) (from to : Place) → IsPlace text from → IsPlace text to → index_of text from ≤ index_of text to → IsUpTo from to
 up_to_from_index text from to h h' ordered =
     up_to_in_lines (lines text) from to h h' (subst (λ t. index_of t from ≤ index_of t to) (sym (joined-lines text)) ordered)
@@ -42,9 +42,9 @@ pub widened_ordered : (text : List Symbol) (from to : Place) (wide : Place × Pl
 widened_ordered text from to wide h h' w w' starts ends ordered =
     omega (arith, index_from_up_to text wide.0 from w h starts, index_from_up_to text to wide.1 h' w' ends)
 
--- ---- the range that is hit
+-- ---- the range at the cursor
 
--- its ends are places of the text, the first one first
+-- its ends are positions of the text, the first one first
 pub record IsHeld (text : List Symbol) (range : AtomicRange) : Type 0 where
   pub start_is : IsPlace text (range_start range)
   pub end_is : IsPlace text (range_end range)
@@ -74,7 +74,7 @@ held_ordered text (Some range) h = h.ordered
 not_equal : (m n : ℕ) → m < n → (m == n) ≡ false
 not_equal m n less = grind (arith, nat_tests)
 
--- where a range is hit before the place, the place isn't the text's start
+-- with a range at the position, backward, the position isn't the text's start
 pub hit_before_start : (text : List Symbol) (ranges : List AtomicRange) (place : Place) (found : Option AtomicRange) → hit ranges place DeleteBackward ≡ found → IfSome found (λ _. (index_of text place == 0) ≡ false)
 hit_before_start text ranges place None e = tt
 hit_before_start text ranges place (Some range) e =
@@ -84,7 +84,7 @@ hit_before_start text ranges place (Some range) e =
     positive : (n : ℕ) → 0 < n → (n == 0) ≡ false
     positive n some = grind (arith, nat_tests)
 
--- where one is hit behind it, it isn't the text's end
+-- with one forward, it isn't the text's end
 pub hit_behind_end : (text : List Symbol) (ranges : List AtomicRange) (place : Place) (found : Option AtomicRange) → AreValid (lines text) ranges → hit ranges place DeleteForward ≡ found → IfSome found (λ _. (index_of text place == length text) ≡ false)
 hit_behind_end text ranges place None valid e = tt
 hit_behind_end text ranges place (Some range) valid e =
@@ -102,7 +102,7 @@ whole_from_ends ranges from to from_out to_out k d within = taken from to (get_o
 none_hit : (ranges : List AtomicRange) (place : Place) (direction : AtomicDeleteDirection) → hit ranges place direction ≡ None → All (λ range. ¬ IsHit place direction range) ranges
 none_hit ranges place direction e = subst (λ o. MatchOption o (All (λ range. ¬ IsHit place direction range) ranges) (λ range. Contains ranges range × IsHit place direction range)) e (MatchOption-hit ranges place direction)
 
--- the start of a line and its end are
+-- the start and the end of a line are
 pub outside_start : (ranges : List AtomicRange) (place : Place) → place.1 ≡ 0 → All (λ range. ¬ IsInside place range) ranges
 outside_start ranges place e k d within h = omega (arith, h.1)
 
@@ -111,7 +111,7 @@ outside_end rows ranges place valid e k d within h =
     let part = valid.parts k d within in
     omega (arith, h.2, part.2, e, ap (λ n. length (get_or rows n [])) h.0)
 
--- where a break stands, its line ends
+-- at a break the line ends
 break_at_end : (text : List Symbol) (place : Place) → IsPlace text place → StandsAt text place (Break ∷ []) → length (get_or (lines text) place.0 []) ≤ place.1
 break_at_end text place h stands =
     elim (cases_lt place.1 (length (get_or (lines text) place.0 []))) [
@@ -126,7 +126,7 @@ break_at_end text place h stands =
     not_both : (symbols : List Symbol) (c : ℕ) → symbols ≡ Break ∷ [] → symbols ≡ Character c ∷ [] → ⊥
     not_both symbols c e e' = cc
 
--- the symbol before a place, where no range is hit before it, takes each range whole or not at all
+-- the removal of the symbol before a position, without a range there backward, splits no range
 pub before_by : (text : List Symbol) (ranges : List AtomicRange) (place from : Place) (symbol : Symbol) → AreValid (lines text) ranges → hit ranges place DeleteBackward ≡ None → IsPlace text from → StandsAt text from (symbol ∷ []) → place ≡ end from (symbol ∷ []) → TakesWhole ranges from place
 before_by text ranges place from (Character c) valid none h stands ends =
     let free = none_hit ranges place DeleteBackward none in
@@ -141,7 +141,7 @@ before_by text ranges place from Break valid none h stands ends =
 pub whole_before : (text : List Symbol) (ranges : List AtomicRange) (place from : Place) (symbol : Symbol) → AreValid (lines text) ranges → hit ranges place DeleteBackward ≡ None → IsSymbolBefore text place from symbol → TakesWhole ranges from place
 whole_before text ranges place from symbol valid none before = before_by text ranges place from symbol valid none before.is_place before.stands before.ends
 
--- and so does the symbol behind it
+-- and so does the removal of the symbol after it
 pub whole_behind : (ranges : List AtomicRange) (place to : Place) (symbol : Symbol) → hit ranges place DeleteForward ≡ None → to ≡ end place (symbol ∷ []) → TakesWhole ranges place to
 whole_behind ranges place to (Character c) none ends =
     let free = none_hit ranges place DeleteForward none in
@@ -154,7 +154,7 @@ whole_behind ranges place to Break none ends =
     let free = none_hit ranges place DeleteForward none in
     whole_from_ends ranges place to (λ k d within inside. free k d within (inside.0, omega (arith, inside.1), inside.2)) (outside_start ranges to (ap (λ (p : Place). p.1) ends))
 
--- where a selection began, moved out of a range, is a place still
+-- a selection's beginning, moved out of a range, is still a position
 unless_empty_place : (text : List Symbol) (anchor : Option Place) (cursor : Place) → IfSome anchor (IsPlace text) → IfSome (unless_empty anchor cursor) (IsPlace text)
 unless_empty_place text None cursor h = tt
 unless_empty_place text (Some place) cursor h = by (is_same_place place cursor)
@@ -168,11 +168,10 @@ anchor_place text ranges None cursor valid h = tt
 anchor_place text ranges (Some place) cursor valid h =
     unless_empty_place text (Some (moved_out ranges place Backward)) cursor (IsPlaceOf-moved_out (lines text) ranges place Backward valid h)
 
--- a break that is removed cuts no range
+-- the removal of a break splits no range
 pub whole_break : (text : List Symbol) (ranges : List AtomicRange) (place : Place) → AreValid (lines text) ranges → Fits text (record { place = place; symbols = Break ∷ []; inserts = false }) → CutsNone ranges (record { place = place; symbols = Break ∷ []; inserts = false })
 whole_break text ranges place valid fits =
     whole_from_ends ranges place (place.0 + 1, 0) (outside_end (lines text) ranges place valid (break_at_end text place fits.is_place fits.allowed)) (outside_start ranges (place.0 + 1, 0) refl)
 
--- copies of ranges are the same ranges
 pub copy_ranges : (ranges copies : List AtomicRange) → AllZip (λ range copy. copy ≡ range) ranges copies → copies ≡ ranges
 copy_ranges ranges copies h = AllZip-map (λ range. range) ranges copies h ∙ map-id ranges

@@ -1,15 +1,15 @@
--- Searches over the rows of some lines: for a row that holds a word, and for one at which a paragraph begins.
+-- Searches over lines: for one that has a word, and for one where a paragraph begins.
 use Rattle.std.proofs.Common.{◌≡◌, ℕ, ◌==◌, ◌<◌, nat_lt, ◌&&◌, Bool, List, [], ◌∷◌, length, encode_utf8_all, sym, ap, refl, ◌∙◌, arith, Option, String, string_len, string_bytes}
 use Rattle.std.proofs.lemmas.Bool.Decides.{nat_tests}
 use Rattle.std.proofs.lemmas.Str.{encodes-chars, length-le-encodes, IsUtf8-string_bytes}
 use Rattle.textarea_document.specs.Prelude.{is_some, characters_of, lines, lines_of, text_of, Place, IsPlaceOf, line_of, is_empty_line, is_paragraph_start, is_later_paragraph_start, is_earlier_paragraph_start, next_word_last, VisualTargets, is_later_word_row, target, CursorMove}
 use Rattle.textarea_text.proofs.Splices.{lines-joined}
 
--- the lines that some `String`s hold are those of the text that they hold
+-- the lines of some `String`s are those of their text
 pub rows_of_text : {Z : Type 0} (items : List (String Z)) (place : Place) → IsPlaceOf (lines_of items) place → lines_of items ≡ lines (text_of items)
 rows_of_text items place h = sym (lines-joined (lines_of items) (omega (arith, h.0)))
 
--- where a move leads is told from the lines: the move is the one that is meant
+-- the target of a move is computed from the lines: the move is the intended one
 pub leads : {Z : Type 0} (visual : VisualTargets) (items : List (String Z)) (cursor : Place) (cursor_move meant : CursorMove) (found : Option Place) (of_rows : List (List ℕ) → Option Place) → IsPlaceOf (lines_of items) cursor → cursor_move ≡ meant → found ≡ of_rows (lines_of items) → of_rows (lines (text_of items)) ≡ target visual (text_of items) cursor meant → found ≡ target visual (text_of items) cursor cursor_move
 leads visual items cursor cursor_move meant found of_rows h is told same =
     told ∙ ap of_rows (rows_of_text items cursor h) ∙ same ∙ ap (target visual (text_of items) cursor) (sym is)
@@ -26,7 +26,7 @@ is_empty_line-string line =
     ap (λ (n : ℕ). n == 0) line.bytes.ok.0
     ∙ ap (λ (bs : List ℕ). length bs == 0) (sym (encodes-chars (string_bytes line) (IsUtf8-string_bytes line))) ∙ encoded_empty (characters_of line)
 
--- ---- what the searches know of a row
+-- ---- what the searches know of a line
 
 less_and : (m n : ℕ) (b : Bool) → m < n → (nat_lt m n && b) ≡ b
 less_and m n b h = grind (arith, nat_tests)

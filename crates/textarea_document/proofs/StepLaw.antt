@@ -1,4 +1,4 @@
--- The law of the steps: each fits the text and cuts no range.
+-- The law of the steps: each fits the text and splits no range.
 use Rattle.std.proofs.Common.{◌≡◌, ◌+◌, ◌-◌, ◌<◌, ℕ, List, [], ◌∷◌, length, take, drop, get_or, None, sym, ap, subst, ◌∙◌, arith}
 use Rattle.std.proofs.lemmas.List.{drop_more, length-take-le, take-append-drop}
 use Rattle.std.proofs.Math.Seq.{take-add}

@@ -1,4 +1,4 @@
--- One symbol on from a place of some lines, and one back.
+-- One symbol on from a position of some lines, and one back.
 use Rattle.std.proofs.Common.{◌≡◌, ℕ, ◌+◌, ◌-◌, ◌≢◌, ◌<◌, ◌≤◌, List, [], ◌∷◌, length, get_or, sym, ap₂, subst, refl, arith, Some, None}
 use Rattle.std.proofs.lemmas.Bool.Decides.{nat_tests}
 use Rattle.std.proofs.lemmas.Grind.{common_steps}
@@ -12,14 +12,14 @@ use Rattle.textarea_text.proofs.PlaceLemmas.{is_at_end}
 
 -- ---- neighbours
 
--- the second place is one symbol behind the first
+-- the second position is one symbol after the first
 pub record IsNext (text : List Symbol) (place next : Place) : Type 0 where
   pub place_is : place_of text (index_of text place) ≡ place
   pub next_is : place_of text (index_of text next) ≡ next
   pub index : index_of text next ≡ index_of text place + 1
   pub within : index_of text next ≤ length text
 
--- it is where a symbol ends that stands at the first
+-- it is the end of the symbol at the first
 next_behind : (text : List Symbol) (place : Place) (symbol : Symbol) → IsPlace text place → StandsAt text place (symbol ∷ []) → IsNext text place (end place (symbol ∷ []))
 next_behind text place symbol h stands =
     let until = stands_until text place (symbol ∷ []) h stands in
@@ -61,17 +61,17 @@ IsNext-line rows row column within whole =
 pub index_of-text_end : (rows : List (List ℕ)) (row column : ℕ) → IsPlaceOf rows (row, column) → length (get_or rows row []) ≤ column → length rows ≤ row + 1 → index_of (joined rows) (row, column) ≡ length (joined rows)
 index_of-text_end rows row column h whole last = (is_at_end rows row column (omega (arith, h.0)) (omega (arith, h.1))).index_is
 
--- nothing is behind it
+-- nothing is after it
 pub next_place-none : (text : List Symbol) (place : Place) → index_of text place ≡ length text → None ≡ next_place text place
 next_place-none text place whole = grind (arith, common_steps, nat_tests)
 
--- the column before a place inside a line
+-- the column before a position inside a line
 pub IsNext-column-back : (rows : List (List ℕ)) (place : Place) → IsPlaceOf rows place → 0 < place.1 → IsNext (joined rows) (place.0, place.1 - 1) place
 IsNext-column-back rows place h some =
     let same : place.1 - 1 + 1 ≡ place.1 = omega arith in
     subst (λ (n : ℕ). IsNext (joined rows) (place.0, place.1 - 1) (place.0, n)) same (IsNext-column rows place.0 (place.1 - 1) h.0 (omega (arith, h.1)))
 
--- the end of the line above a place at a line's start
+-- the end of the line above a position at a line's start
 pub IsNext-line-back : (rows : List (List ℕ)) (place previous : Place) → IsPlaceOf rows place → place.1 ≡ 0 → place.0 ≢ 0 → previous ≡ line_end rows (place.0 - 1) → IsNext (joined rows) previous place
 IsNext-line-back rows place previous h none later is =
     let first : place.0 - 1 + 1 ≡ place.0 = omega arith in

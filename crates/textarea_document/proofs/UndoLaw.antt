@@ -11,7 +11,7 @@ use Rattle.textarea_history.proofs.Joins.{joins_newest}
 use Rattle.textarea_history.proofs.LogLaws.{next_again, gives_back as text_gives_back}
 use Rattle.textarea_document.proofs.Sounds.{logged_sound, sound_edited}
 
--- an undo and a redo of a document do to its text and log what they do to a text with its log
+-- an undo and a redo of a document change its text and log as they change a text with its log
 undone_logged : (document : DocumentState) → logged (undone document) ≡ text_undone (logged document)
 undone_logged document = by (newest document.log)
   where
@@ -34,7 +34,7 @@ redone_times : (count : ℕ) (document : DocumentState) → logged (times count 
 redone_times zero document = refl
 redone_times (suc count) document = redone_logged (times count redone document) ∙ ap text_redone (redone_times count document)
 
--- the last of as many redos leaves the cursor where the newest edit does
+-- the last of `count` redos leaves the cursor where the newest edit does
 cursor_again : (count : ℕ) (document : DocumentState) (found : Option Splice) → newest document.log ≡ found → IsSound document → count ≤ length document.log.done → 0 < count → IfSome found (λ splice. (times count redone (times count undone document)).cursor ≡ place_after splice)
 cursor_again zero document found e h within some = absurd (omega arith)
 cursor_again (suc count) document None e h within some = tt
@@ -55,9 +55,9 @@ gives_back count document h within =
       cursor = cursor_again count document (newest document.log) refl h within;
     }
 
--- ---- behind an edit
+-- ---- after an edit
 
--- the cursor stands where the newest of the done edits leaves it
+-- the cursor is where the newest of the done edits leaves it
 merged_after : (run edit : Splice) → edit.inserts ≡ run.inserts → place_after run ≡ place_before edit → place_after (merged run edit) ≡ place_after edit
 merged_after run edit direction meets = by run.inserts edit.inserts direction run.place edit.place run.symbols edit.symbols meets
   where

@@ -1,4 +1,4 @@
--- What holds of the edits of both lists, and what undos and redos one after another come to.
+-- The laws of both lists of edits, and of undos and redos one after another.
 use Rattle.std.specs.Prelude.{◌≡◌, ℕ, ◌-◌, ◌<◌, length, drop, reverse, IfSome}
 use Rattle.textarea_text.specs.Splice.{CanApply, CanTakeBack, StoodBefore, place_after}
 use Rattle.textarea_history.specs.Log.{newest}
@@ -6,15 +6,16 @@ use Rattle.textarea_history.specs.Law.{IsSame, times}
 use Rattle.textarea_document.specs.State.{DocumentState, logged}
 use Rattle.textarea_document.specs.Outcomes.{redone, undone}
 
--- The edits of both lists can be made again one after another. Each done one, from the newest on, has a symbol at least, and its
--- inverse fits the text that it left; and each undone one, from the next on, has a symbol at least, and fits the text that is
--- there once those before it are made again.
+-- The edits of both lists can be made one after another. Each done one, from the newest on, has at
+-- least one symbol, and its inverse fits the text after it; each undone one, from the next on, has
+-- at least one symbol, and fits the text once those before it are redone.
 pub record ListsFit (document : DocumentState) : Type 0 where
   pub done : CanTakeBack document.text (reverse document.log.done)
   pub undone : CanApply document.text document.log.undone
 
--- so many undos give the text on which the last so many done changes lead to the present text; and as many redos behind them
--- give back the text and both lists of changes, and leave the cursor where the newest change leaves it
+-- after `count` undos the text is the one from which the last `count` done edits lead to the
+-- present text; after the same number of redos the text and both lists of edits are restored, and
+-- the cursor is where the newest edit leaves it
 pub record GivesBack (document : DocumentState) (count : ℕ) : Type 0 where
   pub before : StoodBefore (times count undone document).text document.text
       (drop (length document.log.done - count) document.log.done)
@@ -22,7 +23,7 @@ pub record GivesBack (document : DocumentState) (count : ℕ) : Type 0 where
   pub cursor : 0 < count → IfSome (newest document.log)
       (λ splice. (times count redone (times count undone document)).cursor ≡ place_after splice)
 
--- an undo and a redo give back the text and both lists of changes, and the cursor where it stood
+-- an undo and a redo restore the text, both lists of edits, and the cursor
 pub record GivesAllBack (document : DocumentState) : Type 0 where
   pub same : IsSame (logged (redone (undone document))) (logged document)
   pub cursor : (redone (undone document)).cursor ≡ document.cursor

@@ -1,4 +1,4 @@
--- What an edit, an undo, a redo and a move make of a document.
+-- The documents after an edit, an undo, a redo and a move.
 use Rattle.std.specs.Prelude.{Bool, false, ℕ, length, Option, Some, None}
 use Rattle.textarea_text.specs.Text.{lines}
 use Rattle.textarea_lines.specs.Layout.{Layout, after_splice}
@@ -8,13 +8,13 @@ use Rattle.textarea_history.specs.Log.{Log, recorded, newest, next, taken_back, 
 use Rattle.textarea_ranges.specs.Moved.{moved_ranges}
 use Rattle.textarea_document.specs.State.{DocumentState}
 
--- the layout of the text after a change: the lines that it touches are cut, each once, and all others keep their rows; all
--- lines are cut where their number changes how they are cut
+-- the layout of the text after a splice: the lines that it touches are wrapped, each once, and all
+-- others keep their rows; all lines are wrapped if their number changes how lines wrap
 abbrev pub layout_after : DocumentState → Splice → Layout
 layout_after document splice = after_splice document.layout (length (lines document.text)) splice
 
--- a change is made, and this is the log then: the cursor stands behind what was inserted, or where what was removed began,
--- nothing is selected, and the atomic ranges that the change leaves go with the text
+-- a splice is applied, and this is the log after it: the cursor is after the inserted text, or
+-- where the removed text began, nothing is selected, and the remaining ranges move with the text
 abbrev pub after_change : DocumentState → Splice → Log → DocumentState
 after_change document splice log = record {
   text = applied document.text splice;
@@ -25,13 +25,13 @@ after_change document splice log = record {
   log = log;
 }
 
--- an edit is made and recorded, as a typed one or not, at the moment
+-- an edit is made and recorded, as typed or not, at this time
 abbrev pub edited : DocumentState → Splice → Bool → ℕ → DocumentState
 edited document splice typed now =
     after_change document splice (recorded document.log splice typed now)
 
--- the newest edit is taken back, if there is one: the cursor stands behind the text that came back, or where the text that went
--- began
+-- the newest edit is undone, if any: the cursor is after the restored text, or where it removed
+-- text
 abbrev pub undone_by : Option Splice → DocumentState → DocumentState
 undone_by None document = document
 undone_by (Some splice) document =
@@ -40,7 +40,7 @@ undone_by (Some splice) document =
 abbrev pub undone : DocumentState → DocumentState
 undone document = undone_by (newest document.log) document
 
--- the edit that was taken back last is made again, if there is one: the cursor stands where it had left it
+-- the edit that was undone last is redone, if there is one: the cursor is where it left it
 abbrev pub redone_by : Option Splice → DocumentState → DocumentState
 redone_by None document = document
 redone_by (Some splice) document = after_change document splice (made_again document.log splice)
@@ -48,11 +48,10 @@ redone_by (Some splice) document = after_change document splice (made_again docu
 abbrev pub redone : DocumentState → DocumentState
 redone document = redone_by (next document.log) document
 
--- a run of typing ends
 abbrev pub run_ended : Log → Log
 run_ended log = record log { run_open = false }
 
--- the cursor goes to the place, and the selection begins where the anchor says; a run of typing ends
+-- the cursor moves to the position, and the selection begins at the anchor; a run of typing ends
 abbrev pub moved : DocumentState → Place → Option Place → DocumentState
 moved document cursor anchor =
     record document { cursor = cursor; anchor = anchor; log = run_ended document.log }

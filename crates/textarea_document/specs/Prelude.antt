@@ -1,4 +1,4 @@
--- The names that clauses and proofs of this crate cite, passed on from one place. Declares nothing.
+-- The names that clauses and proofs of this crate cite, re-exported together. Declares nothing.
 pub use Rattle.std.specs.Duration.{as_nanos}
 pub use Rattle.std.specs.List.{AllZip, cons_option}
 pub use Rattle.std.specs.Option.{IfSome, MatchOption, is_some}

@@ -1,4 +1,4 @@
--- What the calls for atomic ranges make of a document, and what each edit keeps of them.
+-- The documents after the calls for atomic ranges, and what each edit satisfies for ranges.
 use Rattle.std.specs.Prelude.{ℕ, Bool, true, false, List, [], All, Option, None, Some, option_map, if◌then◌else◌}
 use Rattle.textarea_text.specs.Text.{lines}
 use Rattle.textarea_text.specs.Place.{Place, end, is_same_place}
@@ -12,7 +12,8 @@ use Rattle.textarea_ranges.specs.Order.{in_order}
 use Rattle.textarea_document.specs.State.{DocumentState}
 use Rattle.textarea_document.specs.Edits.{part_removed}
 
--- a change cuts no range: what is inserted goes strictly inside none, and what is removed takes each whole or not at all
+-- a splice splits no range: it inserts strictly inside none, or removes each completely or not at
+-- all
 abbrev pub CutsNoneBy : Bool → List AtomicRange → Place → Place → Type 0
 CutsNoneBy true ranges place to = All (λ range. ¬ IsInside place range) ranges
 CutsNoneBy false ranges place to = TakesWhole ranges place to
@@ -26,12 +27,12 @@ abbrev pub unless_empty : Option Place → Place → Option Place
 unless_empty None cursor = None
 unless_empty (Some anchor) cursor = if is_same_place anchor cursor then None else Some anchor
 
--- the place where the selection began, moved out of the range that strictly holds it, to its start
+-- the selection's beginning, or, if it is strictly inside a range, that range's start
 abbrev pub anchor_out : List AtomicRange → Option Place → Option Place
 anchor_out ranges anchor = option_map (λ place. moved_out ranges place Backward) anchor
 
--- the ranges are held: the cursor goes out of the range that strictly holds it, to its end, the anchor to its start,
--- and a selection that is empty then is dropped
+-- the ranges are replaced: a cursor strictly inside one moves to its end, such an anchor to its
+-- start, and a selection that is empty after that is dropped
 abbrev pub holding : DocumentState → List AtomicRange → DocumentState
 holding document ranges =
     let cursor = moved_out ranges document.cursor Forward in
@@ -41,25 +42,24 @@ holding document ranges =
       anchor = unless_empty (anchor_out ranges document.anchor) cursor;
     }
 
--- the ranges are accepted: by row and start, those that start at one place as they stood
+-- the ranges are accepted: sorted by row and start, those with the same start in their given order
 abbrev pub accepted : DocumentState → List AtomicRange → DocumentState
 accepted document ranges = holding document (in_order ranges)
 
--- no range is held any more
 abbrev pub ranges_forgotten : DocumentState → DocumentState
 ranges_forgotten document = record document { ranges = [] }
 
--- the cursor goes out of the range that strictly holds it, and all else stays
+-- the cursor moves out of the range that strictly contains it, and all else stays
 abbrev pub normalized : DocumentState → AtomicCursorBias → DocumentState
 normalized document bias =
     record document { cursor = moved_out document.ranges document.cursor bias }
 
--- the document has this anchor, in its row or at that row's end where the row is shorter
+-- the document has this anchor, or the end of its line if it is past that
 abbrev pub anchored : DocumentState → Option Place → DocumentState
 anchored document anchor =
     record document { anchor = option_map (clip (lines document.text)) anchor }
 
--- the range is removed, where one was hit, and the selection kept
+-- the range is removed, if there is one, and the selection stays
 abbrev pub range_removed : Option AtomicRange → DocumentState → ℕ → DocumentState
 range_removed None document now = document
 range_removed (Some range) document now =

@@ -1,4 +1,4 @@
--- The visual rows of a document: where a cursor goes up and down, how many rows there are at a width, and other settings.
+-- The visual rows of a document, the positions above and below the cursor, and other settings.
 use Rattle.std.specs.Prelude.{ℕ, Option}
 use Rattle.textarea_text.specs.Place.{Place}
 use Rattle.textarea_lines.specs.declared.settings.LayoutSettings.{LayoutSettings}
@@ -10,19 +10,19 @@ use Rattle.textarea_document.specs.State.{DocumentState}
 abbrev pub laid_out_of : DocumentState → LaidOut
 laid_out_of document = record { text = document.text; layout = document.layout }
 
--- the place one visual row up from the cursor, in the rows of the text as it stands; none from the first visual row
+-- the position one visual row above the cursor; none in the first visual row
 unfoldable pub IsAboveCursor : DocumentState → Option Place → Type 0
 IsAboveCursor document found = IsFoundAbove (laid_out_of document) document.cursor found
 
--- the place one visual row down; none from the last visual row
+-- the position one visual row below the cursor; none in the last visual row
 unfoldable pub IsBelowCursor : DocumentState → Option Place → Type 0
 IsBelowCursor document found = IsFoundBelow (laid_out_of document) document.cursor found
 
--- the text has this many visual rows in all where it is laid out anew in an inner area of this width
+-- the text has this number of visual rows, laid out from scratch in an inner area of this width
 unfoldable pub HasRowsAt : DocumentState → ℕ → ℕ → Type 0
 HasRowsAt document inner_width count = IsRowCountAt (laid_out_of document) inner_width count
 
--- the text is seen in another way: its lines are cut anew, each once, where they are cut in another way; all else stays
+-- the layout settings change: lines are wrapped again if that changes how they wrap; all else stays
 abbrev pub with_layout_settings : DocumentState → LayoutSettings → DocumentState
 with_layout_settings document settings =
     record document { layout = (laid_out_with (laid_out_of document) settings).layout }

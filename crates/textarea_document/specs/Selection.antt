@@ -1,4 +1,4 @@
--- What is selected in a document.
+-- The selection of a document.
 use Rattle.std.specs.Prelude.{Bool, ℕ, List, Option, Some, None, unwrap_or, if◌then◌else◌}
 use Rattle.textarea_text.specs.Text.{Symbol}
 use Rattle.textarea_text.specs.Place.{Place, is_before}
@@ -6,7 +6,7 @@ use Rattle.textarea_text.specs.Part.{part}
 use Rattle.textarea_document.specs.State.{DocumentState}
 use Rattle.textarea_document.specs.Edits.{part_removed, taken_symbols}
 
--- where the selection began; the cursor where there is none
+-- where the selection began; the cursor if there is none
 abbrev pub origin : DocumentState → Place
 origin document = unwrap_or document.anchor document.cursor
 
@@ -19,7 +19,7 @@ abbrev pub selection_end : DocumentState → Place
 selection_end document =
     if is_before document.cursor (origin document) then origin document else document.cursor
 
--- the ends of a selection, an empty one too
+-- the ends of a selection, even an empty one
 abbrev pub selection_by : Option Place → DocumentState → Option (Place × Place)
 selection_by None document = None
 selection_by (Some anchor) document = Some (selection_start document, selection_end document)
@@ -31,16 +31,15 @@ selection document = selection_by document.anchor document
 abbrev pub is_selected : DocumentState → Bool
 is_selected document = is_before (selection_start document) (selection_end document)
 
--- the symbols selected
 abbrev pub selected : DocumentState → List Symbol
 selected document = part document.text (selection_start document) (selection_end document)
 
--- what is selected is removed, if a symbol is
+-- the selected symbols are removed, if there are any
 abbrev pub selected_removed : DocumentState → ℕ → DocumentState
 selected_removed document now =
     if is_selected document
     then part_removed document (selection_start document) (selection_end document) now else document
 
--- the symbols that go then: those selected, and those of the ranges that they overlap
+-- the symbols that this removes: those selected, and those of the ranges that they overlap
 abbrev pub selected_taken : DocumentState → List Symbol
 selected_taken document = taken_symbols document (selection_start document) (selection_end document)

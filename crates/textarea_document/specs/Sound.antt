@@ -1,4 +1,4 @@
--- What holds of every document.
+-- The invariant of every document.
 use Rattle.std.specs.Prelude.{◌+◌, ◌≤◌, length, reverse, IfSome}
 use Rattle.textarea_text.specs.Text.{lines}
 use Rattle.textarea_text.specs.Place.{IsPlace}
@@ -7,8 +7,9 @@ use Rattle.textarea_ranges.specs.Order.{AreInOrder}
 use Rattle.textarea_ranges.specs.Valid.{AreValid}
 use Rattle.textarea_document.specs.State.{DocumentState}
 
--- the cursor and the anchor are places of the text, and the ranges are valid for it and in order; the done changes can be taken
--- back, the newest first; the undone ones can be made again, the next one first; together they are at most the maximum
+-- the cursor and the anchor are positions of the text, and the ranges are valid for it and sorted;
+-- the done edits can be undone, the newest first; the undone ones can be redone, the next one
+-- first; together they are at most the maximum
 pub record IsSound (document : DocumentState) : Type 0 where
   pub cursor : IsPlace document.text document.cursor
   pub anchor : IfSome document.anchor (IsPlace document.text)

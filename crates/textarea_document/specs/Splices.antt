@@ -1,5 +1,5 @@
--- The splices by which the edits of a document change its text, as a list: one, or none where nothing changes. Each is the splice of
--- one of the five steps.
+-- The splices by which the edits of a document change its text, as a list: one, or none if nothing
+-- changes. Each is the splice of one of the five steps.
 use Rattle.std.specs.Prelude.{◌==◌, List, [], ◌∷◌, Option, None, Some, if◌then◌else◌}
 use Rattle.textarea_text.specs.Place.{Place}
 use Rattle.textarea_text.specs.Splice.{Splice, inverse}
@@ -17,21 +17,21 @@ abbrev pub insertion_splices : DocumentState → List Symbol → List Splice
 insertion_splices document [] = []
 insertion_splices document (symbol ∷ symbols) = splice_of document (Insert (symbol ∷ symbols)) ∷ []
 
--- the removal of what is between two places, with the ranges that this overlaps
+-- the removal of the text between two positions, with the ranges that this overlaps
 abbrev pub removal_splices : DocumentState → Place → Place → List Splice
 removal_splices document from to = splice_of document (Remove from to) ∷ []
 
--- the removal of the range, where one was hit; else the other splices
+-- the removal of the range, if there is one; otherwise the other splices
 abbrev pub range_splices_or : Option AtomicRange → DocumentState → List Splice → List Splice
 range_splices_or None document other = other
 range_splices_or (Some range) document other =
     removal_splices document (range_start range) (range_end range)
 
--- the removal of the range that is hit from the cursor in this direction, if there is one
+-- the removal of the range at the cursor in this direction, if there is one
 abbrev pub hit_splices : DocumentState → AtomicDeleteDirection → List Splice
 hit_splices document direction = range_splices_or (hit_at_cursor document direction) document []
 
--- the removal of the range that is hit before the cursor, or else of the symbol there, if there is one
+-- the removal of the range at the cursor, backward, or else of the symbol before it, if any
 abbrev pub before_splices : DocumentState → List Splice
 before_splices document =
     range_splices_or (hit_before document) document
@@ -48,7 +48,7 @@ abbrev pub break_splices : DocumentState → List Splice
 break_splices document =
     if document.cursor.0 == 0 then [] else splice_of document RemoveBreak ∷ []
 
--- the removal of what is selected, if a symbol is
+-- the removal of the selected symbols, if there are any
 abbrev pub selected_splices : DocumentState → List Splice
 selected_splices document =
     if is_selected document then removal_splices document (selection_start document) (selection_end document) else []

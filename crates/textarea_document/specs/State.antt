@@ -1,4 +1,4 @@
--- What a document is: a text, two places in it, ranges of it, and the changes made and taken back.
+-- The state of a document: a text, two positions in it, its ranges, and its history.
 use Rattle.std.specs.Prelude.{ℕ, List, [], length, Option, None}
 use Rattle.textarea_text.specs.Text.{Symbol, lines}
 use Rattle.textarea_text.specs.Place.{Place}
@@ -7,8 +7,8 @@ use Rattle.textarea_lines.specs.declared.settings.LayoutSettings.{LayoutSettings
 use Rattle.textarea_lines.specs.Layout.{LaidOut, Layout, all_cut}
 use Rattle.textarea_data.specs.declared.range.AtomicRange.{AtomicRange}
 
--- the text as one flat list of symbols; its layout, with the ticks of its lines' rows; where the cursor stands; where
--- the selection began, if there is one; the atomic ranges; and the changes made and taken back
+-- the text as one flat list of symbols; its layout, with the ticks of its lines' rows; the cursor;
+-- where the selection began, if there is one; the atomic ranges; and the done and undone edits
 pub record DocumentState : Type 0 where
   pub text : List Symbol
   pub layout : Layout
@@ -17,7 +17,7 @@ pub record DocumentState : Type 0 where
   pub ranges : List AtomicRange
   pub log : Log
 
--- a document of these parts: a text with what is seen of it, and the others as above
+-- a document from a text with its layout, and the rest
 abbrev pub document_of : LaidOut → Place → Option Place → List AtomicRange → Log → DocumentState
 document_of laid cursor anchor ranges log = record {
   text = laid.text;
@@ -32,7 +32,8 @@ document_of laid cursor anchor ranges log = record {
 abbrev pub logged : DocumentState → Logged
 logged document = record { text = document.text; log = document.log }
 
--- a document without a past and without ranges, the cursor at this place; all lines are cut, where the count stood at this one
+-- a document without a history and without ranges, with this cursor; all lines are wrapped, from
+-- this value of the wrap counter on
 abbrev pub fresh_document : List Symbol → LayoutSettings → ℕ → Place → ℕ → DocumentState
 fresh_document text settings count cursor maximum = record {
   text = text;

@@ -1,4 +1,4 @@
--- Where the moves of a cursor lead.
+-- The targets of cursor moves.
 use Rattle.std.specs.Prelude.{ℕ, ◌+◌, ◌-◌, ◌==◌, nat_lt, ◌&&◌, Bool, true, false, List, length, Option, Some, None, is_some, unwrap_or, if◌then◌else◌}
 use Rattle.textarea_text.specs.Text.{Symbol, lines}
 use Rattle.textarea_text.specs.Place.{Place, index_of, last_row, line_end, line_of, place_of}
@@ -9,60 +9,61 @@ use Rattle.textarea_text.specs.Part.{clip}
 use Rattle.textarea_data.specs.declared.cursor.CursorMove.{CursorMove}
 use Rattle.textarea_data.specs.declared.cursor.CursorMove.TheVariants.{Forward, Back, Up, Down, Head, End, Top, Bottom, WordForward, WordEnd, WordBack, ParagraphForward, ParagraphBack, Jump, InViewport}
 
--- ---- the neighbours of a place
+-- ---- the neighbours of a position
 
--- the place one symbol on: none at the text's end
+-- the position one symbol on: none at the text's end
 abbrev pub next_place : List Symbol → Place → Option Place
 next_place text place =
     if nat_lt (index_of text place) (length text)
     then Some (place_of text (index_of text place + 1)) else None
 
--- the place one symbol back: none at the text's start
+-- the position one symbol back: none at the text's start
 abbrev pub previous_place : List Symbol → Place → Option Place
 previous_place text place =
     if index_of text place == 0 then None else Some (place_of text (index_of text place - 1))
 
 -- ---- words
 
--- the column that was found, in the row; the other place where none was found
+-- the found column, in the line; the other position if none was found
 abbrev pub found_or : Option ℕ → ℕ → Place → Place
 found_or None row other = other
 found_or (Some column) row other = (row, column)
 
--- the start of the next row, or this row's end where it is the last
+-- the start of the next line, or the end of the last line
 abbrev pub next_head : List (List ℕ) → ℕ → Place
 next_head rows row = if nat_lt (row + 1) (length rows) then (row + 1, 0) else line_end rows row
 
--- the end of the previous row, or the text's start in the first row
+-- the end of the previous line, or the text's start in the first line
 abbrev pub previous_end : List (List ℕ) → ℕ → Place
 previous_end rows row = if row == 0 then (0, 0) else line_end rows (row - 1)
 
--- the row lies below the other and holds a word
+-- the line is below the other and has a word
 abbrev pub is_later_word_row : List (List ℕ) → ℕ → ℕ → Bool
 is_later_word_row rows start row = nat_lt start row && is_some (next_word_last (line_of rows row) 0)
 
--- the first row below this one that holds a word
+-- the first line below this one that has a word
 abbrev pub next_word_row : List (List ℕ) → ℕ → Option ℕ
 next_word_row rows start = least_below (is_later_word_row rows start) (length rows)
 
--- the last character of the first word of the row that was found, or the text's end where none was
+-- the last character of the first word of the found line, or the text's end if none was found
 abbrev pub first_word_end : List (List ℕ) → Option ℕ → Place
 first_word_end rows None = line_end rows (last_row rows)
 first_word_end rows (Some row) =
     found_or (next_word_last (line_of rows row) 0) row (line_end rows (last_row rows))
 
--- the start of the next word of the row, else the next row's start, else the row's end
+-- the start of the next word of the line, otherwise the next line's start, otherwise the line's end
 abbrev pub word_forward : List (List ℕ) → Place → Place
 word_forward rows place =
     found_or (next_word_start (line_of rows place.0) place.1) place.0 (next_head rows place.0)
 
--- the first column behind the place that holds a word's last character, in its row or in later ones, else the text's end
+-- the first position after this one with a word's last character, or else the text's end
 abbrev pub word_end : List (List ℕ) → Place → Place
 word_end rows place =
     let later = first_word_end rows (next_word_row rows place.0) in
     found_or (next_word_last (line_of rows place.0) (place.1 + 1)) place.0 later
 
--- the start of the word before the place in its row, else the previous row's end, else the text's start
+-- the start of the word before the position in its line, otherwise the previous line's end,
+-- otherwise the text's start
 abbrev pub word_back : List (List ℕ) → Place → Place
 word_back rows place =
     found_or (previous_word_start (line_of rows place.0) place.1) place.0
@@ -70,12 +71,12 @@ word_back rows place =
 
 -- ---- paragraphs
 
--- the column in the row at which the next paragraph begins, or in the last row
+-- the column in the line where the next paragraph begins, or in the last line
 abbrev pub paragraph_forward : List (List ℕ) → Place → Place
 paragraph_forward rows place =
     clip rows (unwrap_or (next_paragraph_start rows place.0) (last_row rows), place.1)
 
--- the column in the nearest row above at which a paragraph begins, or in the first row: none from the first row
+-- the column in the nearest line above where a paragraph begins, or in the first; none from there
 abbrev pub paragraph_back : List (List ℕ) → Place → Option Place
 paragraph_back rows place =
     if place.0 == 0 then None
@@ -83,15 +84,14 @@ paragraph_back rows place =
 
 -- ---- all moves
 
--- where the moves that go over visual rows lead from a cursor: one row up and one row down, if there is such a row, and into what
--- is shown
+-- the targets that depend on visual rows: up and down, if there is such a row, and in the viewport
 pub record VisualTargets : Type 0 where
   pub above : Option Place
   pub below : Option Place
   pub inside : Place
 
--- Where a move leads from a cursor, of the targets that visual rows decide: none where it leads nowhere. Each move but Up, Down and
--- InViewport is told from the text alone.
+-- The target of a move from a cursor, if it has one, with the targets that depend on visual rows.
+-- For each move but Up, Down and InViewport it depends only on the text and the cursor.
 abbrev pub target : VisualTargets → List Symbol → Place → CursorMove → Option Place
 target visual text cursor Forward = next_place text cursor
 target visual text cursor Back = previous_place text cursor
@@ -109,19 +109,19 @@ target visual text cursor ParagraphBack = paragraph_back (lines text) cursor
 target visual text cursor (Jump row column) = Some (clip (lines text) (row, column))
 target visual text cursor InViewport = Some visual.inside
 
--- whether the move goes over visual rows
+-- whether the move's target depends on visual rows
 abbrev pub is_visual : CursorMove → Bool
 is_visual Up = true
 is_visual Down = true
 is_visual InViewport = true
 is_visual other = false
 
--- ---- the ends of what a removal of a word takes
+-- ---- the ends of a word's removal
 
 -- the start of the word before the column, or the line's start
 abbrev pub word_start_before : List ℕ → ℕ → ℕ
 word_start_before line column = unwrap_or (previous_word_start line column) 0
 
--- the column behind the first word that ends after the column and before the line's end, or the line's end
+-- the end of the first word that ends after the column and before the line's end, or the line's end
 abbrev pub word_end_after : List ℕ → ℕ → ℕ
 word_end_after line column = unwrap_or (next_behind_word line column) (length line)

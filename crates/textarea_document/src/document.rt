@@ -8,7 +8,7 @@ mod rows;
 mod selection;
 
 ghost use Rattle.std.specs.Prelude.{◌≡◌, ◌<◌, ◌≤◌, ◌+◌, ◌↔◌, length, OnOk, OnErr, IsOk, IfOk, IfSome, None, IsTrue, is_some, [], vec_len};
-ghost use Rattle.textarea_document.specs.Prelude.{as_nanos, size_limit, lines, lines_of, text_of, IsPlace, Place, size_of, Fits, place_after, IsWellFormed, empty_log, newest, next, recorded, clip, new_document, fresh_document, edited, moved, redone, run_ended, undone, applied_to, moved_ranges, AreValid, CutsNone};
+ghost use Rattle.textarea_document.specs.Prelude.{as_nanos, size_limit, lines, lines_of, text_of, IsPlace, size_of, Fits, place_after, IsWellFormed, empty_log, newest, next, clip, new_document, fresh_document, edited, moved, redone, run_ended, undone, applied_to, moved_ranges, AreValid, CutsNone};
 
 use std::alloc::{AllocError, Global};
 use std::marker::Model;
@@ -21,9 +21,9 @@ use textarea_lines::settings::LayoutSettings;
 use textarea_ranges::moved::move_ranges;
 use textarea_text::places::clip;
 
-/// Lines of text, a cursor, the place where a selection began, atomic ranges, and a history of edits.
+/// Lines of text with a cursor, an anchor of a selection, atomic ranges, and an undo history.
 ///
-/// Rows and columns count from 0, columns in characters. A call that runs out of memory leaves the document as it was.
+/// Rows and columns count from 0, columns in characters. Out of memory, a call changes nothing.
 #[derive(Drop)]
 pub struct Document {
     laid: LaidOutLines,
@@ -52,7 +52,7 @@ impl Model for Document {
 impl Clone for Document {
     ghost is_clone = { λ document copy. copy ≡ document };
 
-    /// The same document, or an error where there is no memory for its lines and edits.
+    /// Returns a copy of the document with its history, or an error if memory runs out.
     fn clone(&self) -> Result<Document, AllocError> {
         let laid = self.laid.clone()?;
         let ranges = self.ranges.clone()?;
@@ -68,8 +68,9 @@ impl Clone for Document {
 }
 
 impl Document {
-    /// A document of these lines, the cursor at the start, which remembers so many edits and is seen under these settings; no
-    /// line at all becomes one empty line. A line feed inside a line stays a character of that line.
+    /// Returns a document with these lines, layout settings and maximum of remembered edits, and
+    /// the cursor at the start. An empty list becomes one empty line. A line feed inside a line
+    /// stays a character of that line.
     pub fn new(
         alloc: Global,
         lines: Vec<String>,
@@ -88,7 +89,8 @@ impl Document {
         })
     }
 
-    /// The lines, one at least, in which the atomic ranges lie. Their bytes and their number together are at most 2^48.
+    /// Returns the lines, at least one. The atomic ranges are valid for them. Their bytes and their
+    /// number together are at most 2^48.
     pub fn lines(&self) -> &[String]
         ensures value { text_of result.now ≡ self.now.text }
         ensures lines { lines_of result.now ≡ lines self.now.text }
@@ -99,12 +101,12 @@ impl Document {
         self.laid.lines()
     }
 
-    /// Where all memory of the document comes from.
+    /// Returns the allocator of all the document's memory.
     pub fn allocator(&self) -> Global {
         self.laid.allocator()
     }
 
-    /// The cursor's (row, column), which is always a place of the text.
+    /// Returns the cursor's (row, column), which is always a position of the text.
     pub fn cursor(&self) -> (usize, usize)
         ensures value { result ≡ self.now.cursor }
         ensures place { IsPlace self.now.text result }
@@ -114,7 +116,7 @@ impl Document {
         self.cursor
     }
 
-    /// Where the selection began, if there is one; always a place of the text.
+    /// Returns where the selection began, if there is one; always a position of the text.
     pub fn anchor(&self) -> Option<(usize, usize)>
         ensures value { result ≡ self.now.anchor }
         ensures place { IfSome result (IsPlace self.now.text) }
@@ -122,15 +124,16 @@ impl Document {
         self.anchor
     }
 
-    /// Whether the text is one empty line.
+    /// Returns whether the text is one empty line.
     pub fn is_empty(&self) -> bool
         ensures { IsTrue result ↔ (self.now.text ≡ []) }
     {
         self.laid.is_empty()
     }
 
-    /// Takes back the newest edit, and says whether there was one. The cursor then stands behind the text that came
-    /// back, or where the text that went began, nothing is selected, and the ranges that are left went with the text.
+    /// Undoes the newest edit, and returns whether there was one. The cursor is then after the
+    /// restored text, or where the removed text began; nothing is selected, and the remaining
+    /// ranges have moved with the text.
     pub fn undo(&mut self) -> Result<bool, AllocError>
         ensures undone { IfOk result (λ found. found ≡ is_some (newest self.old.log)) }
         ensures ok { OnOk result (self.new ≡ undone self.old) }
@@ -147,8 +150,8 @@ impl Document {
         Ok(true)
     }
 
-    /// Makes again the edit that was undone last, and says whether there was one. The cursor then stands where that edit
-    /// had left it, nothing is selected, and the ranges that are left went with the text.
+    /// Redoes the edit that was undone last, and returns whether there was one. The cursor is then
+    /// where that edit left it, nothing is selected, and the other ranges have moved with the text.
     pub fn redo(&mut self) -> Result<bool, AllocError>
         ensures redone { IfOk result (λ found. found ≡ is_some (next self.old.log)) }
         ensures ok { OnOk result (self.new ≡ redone self.old) }
@@ -165,8 +168,8 @@ impl Document {
         Ok(true)
     }
 
-    /// Makes an edit that fits the text and cuts no range, and records it, as typed with coalescing on or not. The ranges that
-    /// it doesn't take go with the text. All memory is taken before the first change.
+    /// Makes an edit that fits the text and splits no range, and records it as typed or not. The
+    /// ranges that it does not remove move with the text. It allocates its memory first.
     pub fn edit(&mut self, edit: Edit, typed: bool, now: Duration) -> Result<(), AllocError>
         requires well_formed { IsWellFormed edit }
         requires fits { Fits self.old.text edit.splice }
@@ -182,7 +185,7 @@ impl Document {
         Ok(())
     }
 
-    /// Puts the cursor and the anchor at places of the text, and ends a run of typing.
+    /// Moves the cursor and the anchor to positions of the text, and ends a run of typing.
     pub fn move_to(&mut self, cursor: (usize, usize), anchor: Option<(usize, usize)>)
         requires cursor { IsPlace self.old.text cursor }
         requires anchor { IfSome anchor (IsPlace self.old.text) }
@@ -193,7 +196,7 @@ impl Document {
         self.history.break_run();
     }
 
-    /// Sets where the selection began, or that nothing is selected.
+    /// Sets where the selection began, or `None` for no selection.
     pub fn set_anchor(&mut self, anchor: Option<(usize, usize)>)
         requires { IfSome anchor (IsPlace self.old.text) }
         ensures { self.new ≡ record self.old { anchor = anchor } }
@@ -201,14 +204,14 @@ impl Document {
         self.anchor = anchor;
     }
 
-    /// Ends a run of typing: the next edit is one of its own.
+    /// Ends a run of typing: the next edit is recorded separately.
     pub fn break_run(&mut self)
         ensures { self.new ≡ record self.old { log = run_ended self.old.log } }
     {
         self.history.break_run();
     }
 
-    /// How many edits are remembered at most, done and undone together.
+    /// Returns the greatest number of edits that are remembered, done and undone together.
     pub fn max_histories(&self) -> usize
         ensures value { result ≡ self.now.log.maximum }
         ensures bound { length self.now.log.done + length self.now.log.undone ≤ result }
@@ -216,8 +219,8 @@ impl Document {
         self.history.max_items()
     }
 
-    /// Forgets the text and all edits, and holds these lines, the cursor at the nearest place; it remembers as many edits as
-    /// before.
+    /// Replaces all lines, forgets all edits, and moves the cursor to the nearest position; the
+    /// maximum of remembered edits stays.
     pub fn set_lines(
         &mut self,
         lines: Vec<String>,
@@ -239,7 +242,7 @@ impl Document {
         Ok(())
     }
 
-    /// The lines alone.
+    /// Drops everything but the lines, and returns these.
     pub fn into_lines(self) -> Vec<String>
         ensures text { text_of result.items ≡ self.text }
         ensures some { 0 < vec_len result }
@@ -248,7 +251,7 @@ impl Document {
         laid.into_lines()
     }
 
-    /// Forgets all edits, and remembers so many from now on.
+    /// Forgets all edits, and remembers at most this number from now on.
     pub fn set_max_histories(&mut self, max_histories: usize)
         ensures { self.new ≡ record self.old { log = empty_log max_histories } }
     {
@@ -256,8 +259,8 @@ impl Document {
     }
 }
 
-// Makes a change that fits the text of the lines, and moves the ranges with it. Gives where the cursor stands then. All memory is
-// taken before the first change.
+// Makes a change that fits the text of the lines, moves the ranges with it, and returns the cursor
+// after it. All memory is allocated before the first change.
 fn make_change(
     laid: &mut LaidOutLines,
     ranges: &mut Vec<AtomicRange>,
@@ -275,7 +278,7 @@ fn make_change(
     let start = change.start();
     let old = change.cursor_before();
     let new = change.cursor_after();
-    let _lines = laid.lines(); // whose places are small, before the change and after it
+    let _lines = laid.lines(); // their positions are small, before and after the change
     laid.apply(change)?;
     let _changed = laid.lines();
     move_ranges(ranges, start, old, new);

@@ -1,4 +1,4 @@
-//! The neighbours of a place, and how far the removal of a word reaches.
+//! The neighbours of a position, and the ends of a word's removal.
 ghost use Rattle.std.specs.Prelude.{◌≡◌, ◌+◌, ◌<◌, ◌≤◌, length, IfSome, MatchOption};
 ghost use Rattle.textarea_document.specs.Prelude.{chars, lines_of, text_of, IsPlaceOf, index_of, next_place, previous_place, word_end_after, word_start_before};
 
@@ -6,7 +6,7 @@ use textarea_text::places::{line_end, line_length};
 use textarea_text::rows::column_count;
 use textarea_text::word::{find_word_exclusive_end_forward, find_word_start_backward};
 
-/// The place behind the symbol that begins at the place; none at the text's end.
+/// Returns the position after the symbol at this position; `None` at the text's end.
 pub fn next_place(lines: &[String], place: (usize, usize)) -> Option<(usize, usize)>
     requires { IsPlaceOf (lines_of lines.now) place }
     ensures value { result ≡ next_place (text_of lines.now) place }
@@ -25,7 +25,7 @@ pub fn next_place(lines: &[String], place: (usize, usize)) -> Option<(usize, usi
     None
 }
 
-/// The place of the symbol that stands directly before the place; none at the text's start.
+/// Returns the position of the symbol directly before this position; `None` at the text's start.
 pub fn previous_place(lines: &[String], place: (usize, usize)) -> Option<(usize, usize)>
     requires { IsPlaceOf (lines_of lines.now) place }
     ensures value { result ≡ previous_place (text_of lines.now) place }
@@ -44,7 +44,7 @@ pub fn previous_place(lines: &[String], place: (usize, usize)) -> Option<(usize,
     Some(line_end(lines, row - 1))
 }
 
-/// The column from which the removal of the word before the column takes: the start of that word, or 0.
+/// Returns the column where a removal of the word before the column begins: its start, or 0.
 pub fn word_start_before(line: &str, column: usize) -> usize
     ensures value { result ≡ word_start_before (chars line.now) column }
     ensures within { result ≤ length (chars line.now) }
@@ -53,8 +53,8 @@ pub fn word_start_before(line: &str, column: usize) -> usize
     find_word_start_backward(line, column).unwrap_or(0)
 }
 
-/// The column up to which the removal of the word after the column takes: the one behind the first word that ends
-/// after the column and before the line's end, or the line's end.
+/// Returns the column where the removal of the word after the column ends: the end of the first
+/// word that ends after the column and before the line's end, or the line's end.
 pub fn word_end_after(line: &str, column: usize) -> usize
     ensures value { result ≡ word_end_after (chars line.now) column }
     ensures within { result ≤ length (chars line.now) }

@@ -5,7 +5,7 @@ ghost use Rattle.textarea_document.specs.Prelude.{newest, next, LayoutSettings, 
 use textarea_lines::laws::{settings_cut, splices_cut};
 use textarea_ranges::laws::ranges_go_with_the_text;
 
-/// From a document's cursor one place, or none, is found one visual row up, and one place, or none, one visual row down.
+/// From a document's cursor at most one position is one visual row up, and at most one down.
 pub fn one_place_up_and_down()
     ensures above { (document : DocumentState) (found other : Option Place) →
         IsAboveCursor document found → IsAboveCursor document other → found ≡ other }
@@ -15,7 +15,7 @@ pub fn one_place_up_and_down()
     textarea_lines::laws::one_place_up_and_down();
 }
 
-/// A document has one number of visual rows where it is laid out in an inner area of a width, in columns.
+/// The number of a document's visual rows is determined by the width of the inner area, in columns.
 pub fn one_row_count()
     ensures { (document : DocumentState) (inner_width count other : ℕ) →
         HasRowsAt document inner_width count → HasRowsAt document inner_width other →
@@ -24,8 +24,8 @@ pub fn one_row_count()
     textarea_screen_map::laws::one_row_count();
 }
 
-/// What each edit of a document cuts, one that is made, taken back or made again: the lines that its splice touches where it leaves
-/// the width of the map, and all lines where it changes that width. The count grows by just as many.
+/// Which lines each edit, undo and redo wraps, and so adds to the wrap counter: the lines that its
+/// splice touches if it keeps the width of the map of visual rows, and otherwise all lines.
 pub fn edits_cut()
     ensures edited { (document : DocumentState) (splice : Splice) (typed : Bool) (now : ℕ) →
         Fits document.text splice →
@@ -43,8 +43,9 @@ pub fn edits_cut()
     splices_cut();
 }
 
-/// What else cuts lines of a document: another inner width cuts all lines where it changes the width of the map, other settings
-/// where they cut lines in another way, and other lines that take the place of all always.
+/// What else wraps lines of a document: another inner width wraps all lines if it changes the width
+/// of the map of visual rows, settings wrap all lines if they change how lines wrap, and lines that
+/// replace all others are always wrapped.
 pub fn layouts_cut()
     ensures width { (document : DocumentState) (inner_width : ℕ) →
         CutsByWidth document (with_inner_width document inner_width) }
@@ -58,10 +59,10 @@ pub fn layouts_cut()
     settings_cut();
 }
 
-/// The ranges of a document go with its text: over the splice of each of the five steps, which cuts no range, and over that of an
-/// undo or a redo. Where they go so over splices, each range that is held then stems from one that was held before, and covers the
-/// same characters, all in one line; and a range that was held before is held then, as the splices carry it, or one of them disturbs
-/// it: nothing else drops a range.
+/// The ranges of a document move with its text: over the splice of each of the five steps, which
+/// splits no range, and over that of an undo or a redo. After such splices each range comes from an
+/// old one, and covers the same characters, all in one line; and each old range either is there, as
+/// the splices move it, or is disturbed by one of them: nothing else drops a range.
 pub fn ranges_go_along()
     ensures stepped { (document : DocumentState) (step : Step) (typed : Bool) (now : ℕ) →
         IsSound document → IsMade document step →
@@ -80,7 +81,8 @@ pub fn ranges_go_along()
     ranges_go_with_the_text();
 }
 
-/// A splice that cuts no range drops those alone that it takes whole: it removes, and from its start to its end.
+/// A splice that splits no range drops only those that it removes completely: it is a removal, and
+/// they are between its start and its end.
 pub fn only_taken_ranges_are_dropped()
     ensures { (ranges : List AtomicRange) (splice : Splice) (range : AtomicRange) →
         CutsNone ranges splice → Contains ranges range → moved_range splice range ≡ None →

@@ -1,4 +1,5 @@
-//! A document: lines with a cursor, an anchor, atomic ranges and a history; where a move leads in it; and the one function that makes every edit.
+//! A document: lines with a cursor, an anchor, atomic ranges and a history; the targets of cursor
+//! moves; and the one function that makes every edit.
 #![tactic(auto)]
 
 pub mod document;

@@ -1,10 +1,10 @@
-//! The moves by paragraphs.
+//! Moves by paragraphs.
 ghost use Rattle.std.specs.Prelude.{◌≡◌, ◌<◌, length, IfSome};
 ghost use Rattle.textarea_document.specs.Prelude.{lines_of, IsPlaceOf, line_of, is_empty_line, is_paragraph_start, next_paragraph_start, previous_paragraph_start, paragraph_back, paragraph_forward};
 
 use textarea_text::places::{clip, last_row};
 
-/// The cursor's column in the row at which the next paragraph begins, or in the last row.
+/// Returns the cursor's column in the line where the next paragraph begins, or in the last line.
 pub fn paragraph_forward(lines: &[String], cursor: (usize, usize)) -> (usize, usize)
     requires { IsPlaceOf (lines_of lines.now) cursor }
     ensures value { result ≡ paragraph_forward (lines_of lines.now) cursor }
@@ -14,7 +14,8 @@ pub fn paragraph_forward(lines: &[String], cursor: (usize, usize)) -> (usize, us
     clip(lines, (row, cursor.1))
 }
 
-/// The cursor's column in the nearest row above at which a paragraph begins, or in the first row; none from the first row.
+/// Returns the position at the cursor's column in the nearest line above where a paragraph begins,
+/// or in the first line; `None` from the first line.
 pub fn paragraph_back(lines: &[String], cursor: (usize, usize)) -> Option<(usize, usize)>
     requires { IsPlaceOf (lines_of lines.now) cursor }
     ensures value { result ≡ paragraph_back (lines_of lines.now) cursor }
@@ -27,7 +28,7 @@ pub fn paragraph_back(lines: &[String], cursor: (usize, usize)) -> Option<(usize
     Some(clip(lines, (row, cursor.1)))
 }
 
-// The first row below this one at which a paragraph begins.
+// Returns the first line below this one where a paragraph begins.
 fn next_paragraph_start(lines: &[String], start: usize) -> Option<usize>
     requires { start < length lines.now }
     ensures value { result ≡ next_paragraph_start (lines_of lines.now) start }
@@ -41,7 +42,7 @@ fn next_paragraph_start(lines: &[String], start: usize) -> Option<usize>
     None
 }
 
-// The last row above this one at which a paragraph begins.
+// Returns the last line above this one where a paragraph begins.
 fn previous_paragraph_start(lines: &[String], start: usize) -> Option<usize>
     requires { start < length lines.now }
     ensures value { result ≡ previous_paragraph_start (lines_of lines.now) start }
@@ -55,7 +56,7 @@ fn previous_paragraph_start(lines: &[String], start: usize) -> Option<usize>
     None
 }
 
-// Whether a paragraph begins at the row, behind an empty line.
+// Returns whether a paragraph begins at the line, after an empty line.
 fn is_paragraph_start(lines: &[String], row: usize) -> bool
     requires { row < length lines.now }
     ensures { result ≡ is_paragraph_start (lines_of lines.now) row }
@@ -63,7 +64,6 @@ fn is_paragraph_start(lines: &[String], row: usize) -> bool
     0 < row && !is_empty_row(lines, row) && is_empty_row(lines, row - 1)
 }
 
-// Whether the row's line has no character.
 fn is_empty_row(lines: &[String], row: usize) -> bool
     requires { row < length lines.now }
     ensures { result ≡ is_empty_line (line_of (lines_of lines.now) row) }

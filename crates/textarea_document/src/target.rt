@@ -1,4 +1,4 @@
-//! Where the moves of a cursor lead.
+//! The targets of cursor moves.
 ghost use Rattle.std.specs.Prelude.{◌≡◌, false, true, IfSome, None};
 ghost use Rattle.textarea_document.specs.Prelude.{lines_of, text_of, IsPlaceOf, VisualTargets, is_visual, target};
 
@@ -8,9 +8,10 @@ use crate::words::{word_back, word_end, word_forward};
 use textarea_data::cursor::CursorMove;
 use textarea_text::places::{clip, last_row, line_end};
 
-/// Where the move leads from the cursor, a place of the lines: row and column, both from 0, the column in characters.
-/// None where it leads nowhere: Forward from the text's end, Back from its start, and ParagraphBack from the first row.
-/// None for Up, Down and InViewport too, which go over visual rows: whoever knows these answers for them.
+/// Returns the target of the move from the cursor, a position of the lines, as row and column, both
+/// from 0, the column in characters. `None` if there is no target: for Forward at the text's end,
+/// Back at its start, and ParagraphBack in the first line. `None` also for Up, Down and InViewport,
+/// which depend on visual rows: their callers compute those targets.
 pub fn target(
     lines: &[String],
     cursor: (usize, usize),

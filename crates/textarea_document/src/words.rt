@@ -1,4 +1,4 @@
-//! The moves by words.
+//! Moves by words.
 ghost use Rattle.std.specs.Prelude.{◌≡◌, ◌<◌, length};
 ghost use Rattle.textarea_document.specs.Prelude.{lines_of, IsPlaceOf, first_word_end, next_head, next_word_row, previous_end, word_back, word_end, word_forward};
 
@@ -7,7 +7,7 @@ use textarea_text::word::{
     find_word_inclusive_end_forward, find_word_start_backward, find_word_start_forward,
 };
 
-/// The start of the next word of the row, else the next row's start, else this row's end.
+/// Returns the line's next word start, otherwise the next line's start, otherwise this line's end.
 pub fn word_forward(lines: &[String], cursor: (usize, usize)) -> (usize, usize)
     requires { IsPlaceOf (lines_of lines.now) cursor }
     ensures value { result ≡ word_forward (lines_of lines.now) cursor }
@@ -20,7 +20,8 @@ pub fn word_forward(lines: &[String], cursor: (usize, usize)) -> (usize, usize)
     }
 }
 
-/// The first column behind the cursor that holds a word's last character, in its row or in later ones, else the text's end.
+/// Returns the first position after the cursor with a word's last character, in its line or in a
+/// later one, otherwise the text's end.
 pub fn word_end(lines: &[String], cursor: (usize, usize)) -> (usize, usize)
     requires { IsPlaceOf (lines_of lines.now) cursor }
     ensures value { result ≡ word_end (lines_of lines.now) cursor }
@@ -33,7 +34,8 @@ pub fn word_end(lines: &[String], cursor: (usize, usize)) -> (usize, usize)
     }
 }
 
-/// The start of the word before the cursor in its row, else the previous row's end, else the text's start.
+/// Returns the start of the word before the cursor in its line, otherwise the previous line's end,
+/// otherwise the text's start.
 pub fn word_back(lines: &[String], cursor: (usize, usize)) -> (usize, usize)
     requires { IsPlaceOf (lines_of lines.now) cursor }
     ensures value { result ≡ word_back (lines_of lines.now) cursor }
@@ -46,7 +48,7 @@ pub fn word_back(lines: &[String], cursor: (usize, usize)) -> (usize, usize)
     }
 }
 
-// The next row's start, or this row's end where it is the last.
+// Returns the next line's start, or the end of the last line.
 fn next_head(lines: &[String], row: usize) -> (usize, usize)
     requires { row < length lines.now }
     ensures value { result ≡ next_head (lines_of lines.now) row }
@@ -59,7 +61,7 @@ fn next_head(lines: &[String], row: usize) -> (usize, usize)
     }
 }
 
-// The previous row's end, or the text's start in the first row.
+// Returns the previous line's end, or the text's start in the first line.
 fn previous_end(lines: &[String], row: usize) -> (usize, usize)
     requires { row < length lines.now }
     ensures value { result ≡ previous_end (lines_of lines.now) row }
@@ -72,7 +74,7 @@ fn previous_end(lines: &[String], row: usize) -> (usize, usize)
     }
 }
 
-// The last character of the first word of the rows below, or the text's end where they hold none.
+// Returns the last character of the first word below the line, or the text's end if there is none.
 fn later_word_end(lines: &[String], start: usize) -> (usize, usize)
     requires { start < length lines.now }
     ensures value { result

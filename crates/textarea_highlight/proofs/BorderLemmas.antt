@@ -1,4 +1,4 @@
--- Places at which a row can be cut, and their order.
+-- Offsets at which a row can be split, and their order.
 use Rattle.std.proofs.lemmas.Grind.{common_steps}
 use Rattle.std.proofs.Common.{◌≡◌, ℕ, zero, suc, ◌≤◌, ◌<◌, min, true, false, List, [], ◌∷◌, ◌++◌, length, get_or, refl, sym, ap, subst, ◌∙◌, ⊎_elim, arith, is_lt, IsCharBoundary, cond}
 use Rattle.std.specs.Fmt.{is_char_start}
@@ -58,7 +58,7 @@ rounded row offset at h = ⊎_elim
     rw least (last ∙ sym (at_end row (length row) refl)))
     (cases_lt offset (length row))
 
--- ---- borders in order stand in ascending order
+-- ---- sorted borders have ascending offsets
 
 not_before : (a b : Border) → is_lt (place_cmp (place_of b) (place_of a)) ≡ false → a.offset ≤ b.offset
 not_before a b h = grind (arith, nat_tests)

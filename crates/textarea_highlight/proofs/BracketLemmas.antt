@@ -1,4 +1,4 @@
--- The list of open styles against the starts that stay open.
+-- The list of open styles is that of the starts that remain open.
 use Rattle.std.proofs.lemmas.Grind.{common_steps}
 use Rattle.std.proofs.Common.{◌≡◌, ℕ, zero, suc, ◌+◌, ◌-◌, ◌<◌, ◌≤◌, Bool, true, false, ◌==◌, cond, List, [], ◌∷◌, ◌++◌, take, length, count_by, Option, None, Some, refl, sym, ap, ◌∙◌, subst, inl, inr, arith}
 use Rattle.std.specs.List.{slice_get}
@@ -13,7 +13,7 @@ use Rattle.textarea_highlight.specs.declared.highlight.borders.Mark.TheVariants.
 use Rattle.textarea_highlight.specs.Brackets.{is_start, is_end, StaysOpen, OpensAt, OpensLast, OpensNone, IsStyleBehind}
 use Rattle.textarea_highlight.specs.OpenStyles.{passed, passed_all}
 
--- how many starts before them these marks close
+-- the number of starts before them that these marks close
 closed_by : List Mark → ℕ
 closed_by [] = 0
 closed_by (Start style ∷ marks) = closed_by marks - 1
@@ -22,7 +22,7 @@ closed_by (End ∷ marks) = closed_by marks + 1
 StaysAbove : List Mark → ℕ → Type 0
 StaysAbove marks d = (n : ℕ) → count_by is_end (take n marks) ≤ count_by is_start (take n marks) + d
 
--- those behind the first mark, and that one
+-- counting in a prefix: the first mark, and the marks after it
 counted_behind : (test : Mark → Bool) (mark : Mark) (marks : List Mark) (n : ℕ) →
     count_by test (take (suc n) (mark ∷ marks)) ≡ cond (test mark) 1 0 + count_by test (take n marks)
 counted_behind test mark marks n = sum_by-cons (λ m. cond (test m) 1 0) mark (take n marks)

@@ -71,7 +71,7 @@ pub none_always : {X : Type 0} (P : Type 0) (o : Option X) → P → IfNone o P
 none_always P None p = p
 none_always P (Some x) p = tt
 
--- ---- what `nth` gives
+-- ---- the result of `nth`
 
 module _ (row : List ℕ) (s u : CharIndices) (r : Option (ℕ × ℕ)) (column : ℕ) (utf8 : IsUtf8 row) (rest : char_indices_rest s ≡ row) (at : char_indices_offset s ≡ 0)
     (ran : SkipsThenYields char_indices_steps s column r u) where

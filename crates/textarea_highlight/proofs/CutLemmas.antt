@@ -1,4 +1,4 @@
--- A row that is cut border by border.
+-- A row that is split border by border.
 use Rattle.std.proofs.Common.{◌≡◌, ◌↔◌, ℕ, ◌+◌, ◌-◌, ◌*◌, ◌^◌, ◌<◌, ◌≤◌, Bool, true, false, nat_le, List, [], ◌∷◌, ◌++◌, map, take, drop, length, get_or, slice_range, Option, refl, sym, ap, ◌∙◌, subst, inl, inr, ⊎_elim, arith, IsUtf8, IsCharBoundary, encode_utf8_all, ◌⊎◌}
 use Rattle.std.specs.List.{filter, All, Any}
 use Rattle.std.specs.Str.{chars}
@@ -21,7 +21,7 @@ use Rattle.textarea_highlight.specs.Texts.{bytes_of, IsLent}
 use Rattle.textarea_highlight.specs.Brackets.{IsStyleBehind}
 use Rattle.textarea_highlight.specs.Cut.{marks_upto, piece_of, shown_piece, ShowsPiece, IsCut, ShowsNext, AddsPiece}
 
--- ---- the column behind a piece
+-- ---- the column after a segment
 
 end_column-append : (tab_len column : ℕ) (xs ys : List ℕ) →
     end_column tab_len column (xs ++ ys) ≡ end_column tab_len (end_column tab_len column xs) ys
@@ -38,7 +38,7 @@ filter-none : {X : Type 0} (p : X → Bool) (xs : List X) → All (λ x. p x ≡
 filter-none p [] h = refl
 filter-none p (x ∷ xs) h = rw (All-head (λ y. p y ≡ false) x xs h) (filter-none p xs (All-tail (λ y. p y ≡ false) x xs h))
 
--- the first n borders stand up to an offset, and the others from another on
+-- the first `n` borders are up to an offset, and the others from another on
 pub record Splits (borders : List Border) (n from to : ℕ) : Type 0 where
   pub within : n ≤ length borders
   pub passed : (k : ℕ) (d : Border) → k < n → (get_or borders k d).offset ≤ from
@@ -71,7 +71,7 @@ IsCut-push row borders base tab_len mask [] span from mid to h piece =
 IsCut-push row borders base tab_len mask (s ∷ spans) span from mid to h piece =
     (h.0, h.1, IsCut-push row borders base tab_len mask spans span h.0 mid to h.2 piece)
 
--- ---- the row that is cut so far: n borders are passed, and the pieces stand behind the spans that were there before
+-- ---- the row so far: n borders are passed, and the segments come after the earlier spans
 
 abbrev pub HasPieces : List ℕ → List Border → Style → ℕ → Option ℕ → List ShownSpan → ℕ → List ShownSpan → Type 0
 HasPieces row borders base tab_len mask before start spans =
@@ -130,7 +130,7 @@ pieces_more row borders base tab_len mask before spans start to span h piece = (
   ap (λ ss. ss ++ span ∷ []) h.2 ∙ append_assoc before h.0 (span ∷ []),
 )
 
--- a piece is shown by one span more
+-- one more span shows a segment
 pub piece_added : (row : List ℕ) (display : Display) (styles : OpenStyles) (from to : ℕ) (piece : List ℕ) (span : ShownSpan) (old new : List ShownSpan) → from < to →
     piece ≡ slice_range row from to → bytes_of span.content ≡ shown_bytes display.mask display.tab_len display.column piece →
     (IsLent span.content ↔ IsShownAsItIs display.mask display.tab_len display.column piece) →

@@ -1,4 +1,4 @@
--- What is shown for a text, character by character.
+-- The text on the screen for a text, character by character.
 use Rattle.std.proofs.lemmas.Grind.{common_steps}
 use Rattle.std.proofs.Common.{◌≡◌, ◌≢◌, None, ℕ, zero, suc, ◌+◌, ◌-◌, ◌<◌, ◌≤◌, Bool, true, false, not, ◌==◌, cond, List, [], ◌∷◌, ◌++◌, take, drop, length, replicate, get_or, refl, sym, ap, ◌∙◌, arith, IsUtf8, encode_utf8_all}
 use Rattle.std.specs.List.{list_any, filter}
@@ -32,7 +32,7 @@ pub tab_shown : (tab_len column next c : ℕ) → c ≡ 9 → next ≡ column_af
     replicate (next - column) 32 ≡ encode_utf8_all (shown_char tab_len column c)
 tab_shown tab_len column next c tab h = rw (h, tab) (sym (spaces_encoded (next_stop tab_len column - column)))
 
--- ---- where nothing is changed
+-- ---- texts that are shown unchanged
 
 no_tab_in_spaces : (n : ℕ) → list_any is_tab (replicate n 32) ≡ false
 no_tab_in_spaces zero = refl
@@ -68,7 +68,7 @@ without_tabs-changed [] some = λ e. false≢true some
 without_tabs-changed (c ∷ cs) some = λ e.
     false≢true (sym (no_tab_kept cs) ∙ ap (λ ys. list_any is_tab (drop 1 ys)) e ∙ some)
 
--- ---- a piece that is shown without a mask, by its tab length and whether it has a tab that counts
+-- ---- a segment without a mask, by its tab length and whether it has a tab that counts
 
 module _ (tab_len column : ℕ) (bs : List ℕ) (u : IsUtf8 bs) where
   at_zero : tab_len ≡ 0 → shown None tab_len column (chars bs) ≡ without_tabs (chars bs)

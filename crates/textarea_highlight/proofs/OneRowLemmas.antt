@@ -1,4 +1,4 @@
--- A row is shown by one line: its borders have one order, and it is cut into one list of spans.
+-- A row is shown by only one line: its borders have one order, and it has one list of spans.
 use Rattle.std.proofs.Common.{◌≡◌, ℕ, zero, suc, ◌<◌, ◌≤◌, Bool, true, false, not, List, [], ◌∷◌, ◌++◌, length, get_or, Option, Some, refl, sym, ap, subst, ◌∙◌, inl, inr, ⊎_elim, arith, is_lt, suc-le-suc, zero-le}
 use Rattle.std.specs.Cmp.{IsStrictWeakOrder}
 use Rattle.std.specs.List.{All, filter, slice_get}
@@ -21,7 +21,7 @@ use Rattle.textarea_highlight.specs.Row.{ShowsRow}
 use Rattle.textarea_highlight.specs.Texts.{bytes_of, IsLent}
 use Rattle.textarea_highlight.proofs.BorderLemmas.{order_of_borders}
 
--- ---- a list in order, whose elements that tie stand as in another list
+-- ---- a sorted list, whose tied elements are ordered as in another list
 
 module _ {X : Type 0} (lt : X → X → Bool) (order : IsStrictWeakOrder lt) where
   -- no element is less than one before it
@@ -49,7 +49,7 @@ module _ {X : Type 0} (lt : X → X → Bool) (order : IsStrictWeakOrder lt) whe
       let not_below : lt x x ≡ false = never_below_itself (lt x x) (order.one_way x x) in
       ties-from_parts x x not_below not_below
 
-  -- what ties with an element of the list is not less than what none of the list is less than
+  -- if no element is less than `first`, nothing that ties with an element is
   not_below : (first x : X) (xs : List X) (found : X) (others : List X) → All (λ y. lt y first ≡ false) xs →
       filter (ties lt x) xs ≡ found ∷ others → lt x first ≡ false
   not_below first x [] found others h e = cc
@@ -93,7 +93,7 @@ one_border_order added sorted other h k =
     one_order below order_of_borders sorted other (sorted_far below order_of_borders sorted h.in_order) (sorted_far below order_of_borders other k.in_order)
     (λ x. h.stable x ∙ sym (k.stable x))
 
--- ---- one style behind marks
+-- ---- one style after marks
 
 one_last : (marks : List Mark) (style other : Style) → OpensLast marks style → OpensLast marks other → style ≡ other
 one_last marks style other h k = elim (cases_lt h.0 k.0) [
@@ -113,7 +113,7 @@ one_style marks base style other (inl h) (inr k) = absurd (k.0 h.0 style h.1)
 one_style marks base style other (inr h) (inl k) = absurd (h.0 k.0 other k.1)
 one_style marks base style other (inr h) (inr k) = h.1 ∙ sym k.1
 
--- ---- one span shows a piece
+-- ---- one span shows a segment
 
 one_content : (content other : ShownContent) → bytes_of content ≡ bytes_of other → (IsLent content → IsLent other) → (IsLent other → IsLent content) → content ≡ other
 one_content (Lent text) (Lent text') e there back = ap Lent e
@@ -130,13 +130,13 @@ module _ (row : List ℕ) (borders : List Border) (base : Style) (tab_len : ℕ)
       ap (λ (c : ShownContent). record { content = c; style = span.style }) content
       ∙ ap (λ (s : Style). record { content = other.content; style = s }) (one_style (marks_upto borders from) base span.style other.style h.style k.style)
 
-  -- ---- the row is cut in one way
+  -- ---- the row has one list of spans
 
   rises : (from : ℕ) (spans : List ShownSpan) (to : ℕ) → IsCut row borders base tab_len mask from spans to → from ≤ to
   rises from [] to cut = omega (arith, cut)
   rises from (span ∷ spans) to cut = omega (arith, cut.1.not_empty, rises cut.0 spans to cut.2)
 
-  -- a piece does not go on behind a place at which another one ends
+  -- a segment does not continue past an offset at which another one ends
   not_behind : (from to other : ℕ) (span next : ShownSpan) → ShowsPiece row borders base tab_len mask from to span →
       ShowsPiece row borders base tab_len mask from other next → other ≤ length row → other ≤ to
   not_behind from to other span next h k within = ⊎_elim

@@ -1,4 +1,4 @@
--- The pieces of a row together show the row as a whole, where tabs have stops.
+-- With tab stops, the segments of a row together show the row as a whole.
 use Rattle.std.proofs.Common.{◌≡◌, ℕ, ◌<◌, ◌≤◌, false, ◌==◌, List, [], ◌∷◌, ◌++◌, take, drop, length, slice_range, Option, None, Some, refl, ap, ◌∙◌, arith, All, IsUtf8, IsCharBoundary, encode_utf8_all}
 use Rattle.std.specs.Str.{chars}
 use Rattle.std.proofs.lemmas.Bool.Decides.{nat_tests}

@@ -9,16 +9,16 @@ use Rattle.textarea_screen.specs.declared.screen.style.Style.{Style}
 use Rattle.textarea_highlight.specs.declared.highlight.borders.Border.{Border}
 use Rattle.textarea_highlight.specs.declared.highlight.borders.Mark.TheVariants.{Start, End}
 
--- the offset clipped to the row, and then rounded down to the place where a character starts or the row ends
+-- the offset clipped to the row, then rounded down to the start of a character or the row's end
 abbrev pub rounded_down : List ℕ → ℕ → ℕ
 rounded_down row offset = floor_char_boundary row (min offset (length row))
 
--- a highlight's start at one offset, and its end at another, which has the rank 0
+-- a highlight's start at one offset, and its end, of rank 0, at another
 abbrev pub start_and_end : ℕ → ℕ → Style → ℕ → List Border
 start_and_end from to style rank =
     record { offset = from; rank = rank; mark = Start style } ∷ record { offset = to; rank = 0; mark = End } ∷ []
 
--- the borders of a highlight from one offset to another: none where no character lies between them
+-- the borders of a highlight between two offsets; none if no character is between them
 abbrev pub highlight_borders : List ℕ → ℕ → ℕ → Style → ℕ → List Border
 highlight_borders row from to style rank =
     if nat_lt (rounded_down row from) (rounded_down row to) then start_and_end (rounded_down row from) (rounded_down row to) style rank else []
@@ -33,20 +33,20 @@ match_borders row [] style = []
 match_borders row (found ∷ others) style =
     highlight_borders row found.0 found.1 style search_rank ++ match_borders row others style
 
--- between the two places of a highlight lies no character of the row, so that it has no borders
+-- no character of the row is between the two offsets of a highlight, so it has no borders
 abbrev pub IsEmptyAt : List ℕ → ℕ → ℕ → Type 0
 IsEmptyAt row from to = rounded_down row to ≤ rounded_down row from
 
--- each match that an iterator gives, call after call, lies on no character of the row
+-- each match that an iterator yields covers no character of the row
 abbrev pub MarkNothing : {S : Type 0} → (S → Option (ℕ × ℕ) → S → Type 0) → S → List ℕ → Type 0
 MarkNothing {S} steps matches row =
     (before : List (ℕ × ℕ)) (found : ℕ × ℕ) (rest : S) → YieldsThen steps matches before (Some found) rest → IsEmptyAt row found.0 found.1
 
--- where a border stands, and its rank there
+-- the offset of a border, and its rank there
 abbrev pub place_of : Border → ℕ × ℕ
 place_of border = (border.offset, border.rank)
 
--- each border stands where a character of the row starts, or where the row ends
+-- each border is where a character of the row starts, or where the row ends
 abbrev pub ArePlaced : List ℕ → List Border → Type 0
 ArePlaced row borders = All (λ border. IsCharBoundary row border.offset) borders
 
@@ -54,7 +54,7 @@ ArePlaced row borders = All (λ border. IsCharBoundary row border.offset) border
 abbrev pub place_cmp : ℕ × ℕ → ℕ × ℕ → Ordering
 place_cmp a b = ordering_then (nat_cmp a.0 b.0) (nat_cmp a.1 b.1)
 
--- the borders in order, and those at one offset of one rank as they were added
+-- the borders in order; those of one offset and one rank are as they were added
 pub record IsBorderOrder (added sorted : List Border) : Type 0 where
   pub same : IsPermutation added sorted
   pub in_order : IsSortedByKey place_of place_cmp sorted

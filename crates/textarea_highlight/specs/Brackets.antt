@@ -1,4 +1,4 @@
--- Which of several starts is open, where each end closes one.
+-- Which of several starts is open, when each end closes one.
 use Rattle.std.specs.Prelude.{◌≡◌, ◌⊎◌, ℕ, suc, ◌<◌, ◌≤◌, Bool, true, false, List, take, drop, count_by, Some}
 use Rattle.std.specs.List.{slice_get}
 use Rattle.textarea_screen.specs.declared.screen.style.Style.{Style}
@@ -13,23 +13,23 @@ abbrev pub is_end : Mark → Bool
 is_end (Start style) = false
 is_end End = true
 
--- no stretch of the marks that begins with the first holds more ends than starts
+-- no prefix of the marks has more ends than starts
 abbrev pub StaysOpen : List Mark → Type 0
 StaysOpen marks = (n : ℕ) → count_by is_end (take n marks) ≤ count_by is_start (take n marks)
 
--- the mark at i starts this style, and what follows leaves it open
+-- the mark at `i` starts this style, and the marks after it leave it open
 abbrev pub OpensAt : List Mark → ℕ → Style → Type 0
 OpensAt marks i style = (slice_get marks i ≡ Some (Start style)) × StaysOpen (drop (suc i) marks)
 
--- the last start that is open is one of this style
+-- the last open start is one of this style
 abbrev pub OpensLast : List Mark → Style → Type 0
 OpensLast marks style =
     (i : ℕ) × OpensAt marks i style × ((k : ℕ) (other : Style) → i < k → ¬ (OpensAt marks k other))
 
--- each start was closed again
+-- each start is closed
 abbrev pub OpensNone : List Mark → Type 0
 OpensNone marks = (k : ℕ) (other : Style) → ¬ (OpensAt marks k other)
 
--- the style behind these marks: that of the last start that is open, or the base
+-- the style after these marks: that of the last open start, or the base
 abbrev pub IsStyleBehind : List Mark → Style → Style → Type 0
 IsStyleBehind marks base style = OpensLast marks style ⊎ (OpensNone marks × (style ≡ base))

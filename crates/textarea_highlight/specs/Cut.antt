@@ -1,4 +1,4 @@
--- A row that is cut into spans at its borders.
+-- A row that is split into spans at its borders.
 use Rattle.std.specs.Prelude.{◌≡◌, ◌⊎◌, ℕ, ◌<◌, ◌≤◌, ◌↔◌, nat_le, List, [], ◌∷◌, ◌++◌, All, map, filter, take, slice_range, length, slice_index_or, Option, None, encode_utf8_all}
 use Rattle.std.specs.List.{Any, concat}
 use Rattle.std.specs.Str.{chars}
@@ -14,7 +14,7 @@ use Rattle.textarea_highlight.specs.declared.highlight.brackets.OpenStyles.{Open
 use Rattle.textarea_highlight.specs.declared.highlight.display.Display.{Display}
 use Rattle.textarea_highlight.specs.declared.highlight.borders.Border.{Border}
 
--- no border stands before an earlier one
+-- the offsets of the borders never decrease
 abbrev pub IsAscending : List Border → Type 0
 IsAscending borders = (i k : ℕ) (d e : Border) → i ≤ k → k < length borders →
     (slice_index_or borders i d).offset ≤ (slice_index_or borders k e).offset
@@ -23,7 +23,7 @@ IsAscending borders = (i k : ℕ) (d e : Border) → i ≤ k → k < length bord
 abbrev pub marks_upto : List Border → ℕ → List Mark
 marks_upto borders offset = map (λ border. border.mark) (filter (λ border. nat_le border.offset offset) borders)
 
--- the characters of a piece of the row, and what is shown for them
+-- the characters of a segment of the row, and the characters that are shown for them
 abbrev pub piece_of : List ℕ → ℕ → ℕ → List ℕ
 piece_of row from to = chars (slice_range row from to)
 
@@ -31,8 +31,8 @@ abbrev pub shown_piece : List ℕ → ℕ → Option ℕ → ℕ → ℕ → Lis
 shown_piece row tab_len mask from to =
     shown mask tab_len (end_column tab_len 0 (chars (take from row))) (piece_of row from to)
 
--- the span shows the piece of the row from one offset to another, which ends at a border or at the row's end, and which no
--- border cuts; its text is lent exactly where it is the row's own
+-- The span shows the segment of the row between two offsets, which ends at a border or at the row's
+-- end, and has no border inside. Its text is borrowed exactly if it is the row's own.
 pub record ShowsPiece (row : List ℕ) (borders : List Border) (base : Style) (tab_len : ℕ) (mask : Option ℕ) (from to : ℕ) (span : ShownSpan) : Type 0 where
   pub not_empty : from < to
   pub edge : (to ≡ length row) ⊎ Any (λ border. border.offset ≡ to) borders
@@ -41,30 +41,30 @@ pub record ShowsPiece (row : List ℕ) (borders : List Border) (base : Style) (t
   pub text : bytes_of span.content ≡ encode_utf8_all (shown_piece row tab_len mask from to)
   pub borrowed : IsLent span.content ↔ ((mask ≡ None) × (shown_piece row tab_len mask from to ≡ piece_of row from to))
 
--- the spans show the row between two offsets, one piece after another
+-- the spans show the row between two offsets, segment by segment
 abbrev pub IsCut : List ℕ → List Border → Style → ℕ → Option ℕ → ℕ → List ShownSpan → ℕ → Type 0
 IsCut row borders base tab_len mask from [] to = from ≡ to
 IsCut row borders base tab_len mask from (span ∷ spans) to =
     (mid : ℕ) × ShowsPiece row borders base tab_len mask from mid span × IsCut row borders base tab_len mask mid spans to
 
--- the span shows the next piece, in the style that is open
+-- the span shows the next segment, in the current style
 pub record ShowsNext (row : List ℕ) (display : Display) (styles : OpenStyles) (from to : ℕ) (span : ShownSpan) : Type 0 where
   pub style : (marks : List Mark) → IsBehind styles marks → IsStyleBehind marks (base_of styles) span.style
   pub text : bytes_of span.content ≡ encode_utf8_all (shown display.mask display.tab_len display.column (piece_of row from to))
   pub borrowed : IsLent span.content
       ↔ ((display.mask ≡ None) × (shown display.mask display.tab_len display.column (piece_of row from to) ≡ piece_of row from to))
 
--- nothing was added for no piece, and else a span that shows it in the style that is open
+-- an empty segment adds nothing, and another one adds a span that shows it in the current style
 abbrev pub AddsPiece : List ℕ → Display → OpenStyles → ℕ → ℕ → List ShownSpan → List ShownSpan → Type 0
 AddsPiece row display styles from to old new =
     ((from ≡ to) × (new ≡ old))
     ⊎ ((from < to) × ((span : ShownSpan) × ShowsNext row display styles from to span × (new ≡ old ++ span ∷ [])))
 
--- the texts of spans, one after another
+-- the joined texts of spans
 abbrev pub text_of_spans : List ShownSpan → List ℕ
 text_of_spans spans = concat (map (λ span. bytes_of span.content) spans)
 
--- the row's pieces were added to the spans; where tabs have stops, they together show the row as one piece would
+-- the row's segments are appended to the spans; with tab stops they show the row like one segment
 pub record AddsPieces (row : List ℕ) (borders : List Border) (base : Style) (tab_len : ℕ) (mask : Option ℕ) (old new : List ShownSpan) : Type 0 where
   pub pieces : List ShownSpan
   pub cut : IsCut row borders base tab_len mask 0 pieces (length row)

@@ -1,4 +1,4 @@
--- What a highlighter holds, and what each call adds.
+-- The content of a highlighter, and what each call adds.
 use Rattle.std.specs.Prelude.{◌≡◌, ℕ, ◌+◌, ◌≤◌, ◌⊎◌, Bool, false, ◌&&◌, ◌||◌, ◌==◌, nat_le, nat_lt, if◌then◌else◌, List, [], ◌∷◌, ◌++◌, length, take, Option, None, Some, encode_utf8_all, codes}
 use Rattle.std.specs.Str.{chars}
 use Rattle.textarea_screen.specs.declared.screen.style.Style.{Style}
@@ -20,16 +20,16 @@ pub record Highlights : Type 0 where
   pub borders : List Border
   -- the style where no highlight is
   pub base : Style
-  -- the cursor stands behind the row's last character
+  -- the cursor is after the row's last character
   pub cursor_at_end : Bool
   pub cursor_cell : CursorCellRender
   pub tab_len : ℕ
   pub mask : Option ℕ
-  -- a selection goes on behind the row
+  -- a selection continues after the row
   pub break_is_selected : Bool
   pub select_style : Style
 
--- ---- ranks: of the highlights that start at one offset the one of the highest rank is seen; a match's rank is 20
+-- ---- ranks: of highlights that start at one offset, the highest rank is shown; a match's is 20
 
 abbrev pub cursor_rank : ℕ
 cursor_rank = 30
@@ -64,15 +64,15 @@ with_placeholder h width style = record h { numbers = h.numbers ++ placeholder_s
 abbrev pub with_base : Highlights → Style → Highlights
 with_base h style = record h { base = style }
 
--- a highlight of the row's bytes from one offset to another
+-- a highlight of the row's bytes between two offsets
 abbrev pub with_highlight : Highlights → ℕ → ℕ → Style → ℕ → Highlights
 with_highlight h from to style rank = record h { borders = h.borders ++ highlight_borders h.row from to style rank }
 
--- the byte at which the character of this column begins, or the row's length behind them all
+-- the byte at which the character of this column begins, or the row's length after them all
 abbrev pub byte_of : List ℕ → ℕ → ℕ
 byte_of row column = length (encode_utf8_all (take column (chars row)))
 
--- the cursor at a column: its cell is a highlight of one character, where it is drawn and the row has the character
+-- the cursor at a column: a highlight of one character, if its cell is drawn and the row has it
 abbrev pub cursor_borders : CursorCellRender → List ℕ → ℕ → List Border
 cursor_borders (Draw style) row column = highlight_borders row (byte_of row column) (byte_of row (column + 1)) style cursor_rank
 cursor_borders Hidden row column = []
@@ -84,7 +84,7 @@ with_cursor_line h column style = record h {
   cursor_at_end = h.cursor_at_end || nat_le (length (chars h.row)) column;
 }
 
--- the cursor is highlighted in no cell of the row: its cell is hidden, or its column is past the row's characters
+-- the cursor highlights no cell of the row: it is hidden, or its column is after all characters
 abbrev pub AddsNoCursor : Highlights → ℕ → Type 0
 AddsNoCursor h column = (h.cursor_cell ≡ Hidden) ⊎ (length (chars h.row) ≤ column)
 
@@ -96,15 +96,15 @@ with_matches h pairs style = record h { borders = h.borders ++ match_borders h.r
 abbrev pub Range : Type 0
 Range = (ℕ × ℕ) × (ℕ × ℕ)
 
--- the row with this index is one of the range's
+-- the row with this index is in the range
 abbrev pub is_in_range : ℕ → Range → Bool
 is_in_range current range = nat_le range.0.0 current && nat_le current range.1.0
 
--- the range goes on behind the row
+-- the range continues after the row
 abbrev pub goes_on : ℕ → Range → Bool
 goes_on current range = nat_le range.0.0 current && nat_lt current range.1.0
 
--- the row's part of the range: from its start in its first row, else from 0, and to its end in its last row, else to the row's end
+-- the range in the row: from its start, or else from 0; to its end, or else to the row's end
 abbrev pub part_start : ℕ → Range → ℕ
 part_start current range = if current == range.0.0 then range.0.1 else 0
 
@@ -121,7 +121,7 @@ with_range h current range style rank = record h {
   break_is_selected = h.break_is_selected || goes_on current range;
 }
 
--- the range marks no character of the row: it has no part in the row, or none with a character
+-- the range covers no character of the row: the row is outside of it, or it is empty in the row
 abbrev pub AddsNoRange : Highlights → ℕ → Range → Type 0
 AddsNoRange h current range =
     (is_in_range current range ≡ false) ⊎ IsEmptyAt h.row (part_start current range) (part_end h.row current range)
@@ -129,18 +129,18 @@ AddsNoRange h current range =
 abbrev pub with_selection : Highlights → ℕ → Range → Highlights
 with_selection h current range = with_range h current range h.select_style selection_rank
 
--- a part of a selection in this row alone, which may go on behind it
+-- a range of a selection in this row, which may continue after it
 abbrev pub with_segment : Highlights → ℕ → ℕ → Bool → Highlights
 with_segment h from to at_end = record h {
   borders = h.borders ++ highlight_borders h.row from to h.select_style selection_rank;
   break_is_selected = h.break_is_selected || at_end;
 }
 
--- ---- the cell behind the row
+-- ---- the cell after the row
 
--- the style in which it is drawn, if it is: with the cursor there in the cursor's style where that is drawn, and where it is
--- hidden in the selection's style if the break is selected, and else in the base style; without the cursor there only if the
--- break is selected
+-- The style of the cell after the row, if it is drawn. With the cursor there it is the cursor's
+-- style, or for a hidden cursor the selection's style if the break is selected, and else the base
+-- style. Without the cursor it is drawn only if the break is selected.
 abbrev pub cursor_end_style : CursorCellRender → Bool → Style → Style → Style
 cursor_end_style (Draw style) break_is_selected select_style base = style
 cursor_end_style Hidden break_is_selected select_style base = if break_is_selected then select_style else base

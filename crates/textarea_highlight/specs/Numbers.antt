@@ -1,15 +1,14 @@
--- What stands in front of a row for its line's number.
+-- The line number in front of a row.
 use Rattle.std.specs.Prelude.{ℕ, ◌+◌, ◌-◌, List, ◌++◌, length, replicate, codes}
 use Rattle.std.specs.Fmt.{decimal}
 use Rattle.textarea_screen.specs.declared.screen.style.Style.{Style}
 use Rattle.textarea_screen.specs.Text.{ShownSpan}
 use Rattle.textarea_screen.specs.Text.ShownContent.{Lent, Held}
 
--- this many spaces
 abbrev pub spaces : ℕ → List ℕ
 spaces count = replicate count 32
 
--- the number at the right of a field of `width` columns, and a space on either side of the field
+-- the number at the right of a field of `width` columns, and a space on each side of the field
 abbrev pub number_text : ℕ → ℕ → List ℕ
 number_text number width = spaces (width + 1 - length (decimal number)) ++ decimal number ++ codes " "
 
@@ -17,6 +16,6 @@ number_text number width = spaces (width + 1 - length (decimal number)) ++ decim
 abbrev pub number_span : ℕ → ℕ → Style → ShownSpan
 number_span row width style = record { content = Held (number_text (row + 1) width); style = style }
 
--- as many spaces as a line's number takes
+-- spaces of the width of a line number
 abbrev pub placeholder_span : ℕ → Style → ShownSpan
 placeholder_span width style = record { content = Lent (spaces (width + 2)); style = style }

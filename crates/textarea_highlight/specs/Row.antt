@@ -9,13 +9,13 @@ use Rattle.textarea_highlight.specs.Display.{shown}
 use Rattle.textarea_highlight.specs.Cut.{AddsPieces, IsCut, text_of_spans}
 use Rattle.textarea_highlight.specs.Highlights.{Highlights, end_style, end_cell}
 
--- the pieces of the row, cut at its borders as they stand, and the cell behind it were added to the spans
+-- the segments of the row, split at its borders, and the cell after it are appended to the spans
 pub record AddsRow (h : Highlights) (old new : List ShownSpan) : Type 0 where
   pub front : List ShownSpan
   pub cut : AddsPieces h.row h.borders h.base h.tab_len h.mask old front
   pub spans : new ≡ front ++ end_cell (end_style h)
 
--- the line shows the row: what stands in front of it, its pieces, and the cell behind it
+-- the line shows the row: the spans in front of it, its segments, and the cell after it
 pub record ShowsRow (h : Highlights) (line : ShownLine) : Type 0 where
   pub sorted : List Border
   pub order : IsBorderOrder h.borders sorted
@@ -23,10 +23,10 @@ pub record ShowsRow (h : Highlights) (line : ShownLine) : Type 0 where
   pub cut : IsCut h.row sorted h.base h.tab_len h.mask 0 pieces (length h.row)
   pub spans : line.spans ≡ h.numbers ++ (pieces ++ end_cell (end_style h))
   pub style : line.style ≡ empty_style
-  -- where tabs have stops, the pieces together show the same text whatever is highlighted and wherever the cursor stands
+  -- with tab stops, the segments together show the same text for all highlights and cursors
   pub whole : 0 < h.tab_len → text_of_spans pieces ≡ encode_utf8_all (shown h.mask h.tab_len 0 (chars h.row))
 
--- a row without a byte, with nothing in front of it or behind it, and without a highlight
+-- an empty row with nothing in front of it or after it, and without a highlight
 pub record ShowsNothing (h : Highlights) : Type 0 where
   pub row : h.row ≡ []
   pub numbers : h.numbers ≡ []

@@ -1,4 +1,4 @@
-//! The highlighter of a row: what is highlighted is added first, and then the row is cut into spans.
+//! The highlighter of a row: highlights are added first, and then the row is split into spans.
 
 mod borders;
 mod brackets;

@@ -1,10 +1,10 @@
-//! Laws of drawn rows, each the contract of a function that does nothing.
+//! Laws of drawn rows. Each is the contract of a function with an empty body.
 ghost use Rattle.std.specs.Prelude.{◌≡◌};
 ghost use Rattle.textarea_screen.specs.Text.{ShownLine};
 ghost use Rattle.textarea_highlight.specs.Highlights.{Highlights};
 ghost use Rattle.textarea_highlight.specs.Row.{ShowsRow};
 
-/// A row is shown by one line.
+/// A row is shown by only one line.
 pub fn one_line_shows_a_row()
     ensures { (h : Highlights) (line other : ShownLine) →
         ShowsRow h line → ShowsRow h other → line ≡ other }

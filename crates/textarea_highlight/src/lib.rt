@@ -1,4 +1,4 @@
-//! One row of text cut into styled spans, which borrow from the row wherever it is shown as it is.
+//! One row of text as styled spans, which borrow from the row where it is shown unchanged.
 #![tactic(auto)]
 
 pub mod highlight;

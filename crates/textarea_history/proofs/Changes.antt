@@ -1,4 +1,4 @@
--- What a change is, of what its edit keeps; and the replacements that make it.
+-- The symbols of a change, from the content of its edit; and the replacements that make it.
 use Rattle.std.proofs.Common.{◌≡◌, ℕ, ◌+◌, ◌<◌, ◌≤◌, Bool, true, false, cond, List, [], ◌∷◌, length, sym, ap, ◌∙◌, arith, subst, inl, inr, ◌⊎◌, String, encode_utf8, Vec}
 use Rattle.std.proofs.lemmas.List.{append-nil, length-map}
 use Rattle.textarea_history.specs.Prelude.{Global, IfSome, chars, IsUtf8, Symbol, characters, characters_of, lines_of, text_of, Place, IsPlace, IsPlaceOf, StandsAt, changed, end, inserted, removed, Splice, Allows, Fits, applied, IsReplacementFor, ReplacesPart, breaks_of, lines_coming, lines_going, Replacement, Stored, IsWellFormed, directed, stored_of, symbols_in, Content}
@@ -14,11 +14,11 @@ use Rattle.textarea_history.specs.declared.edit.Content.TheVariants as content
 pub symbols_of_change : (kept : Content) (inserts told : Bool) (start to : Place) (edit : Stored) (now : Splice) → stored_of kept inserts start to ≡ edit → directed edit.splice told ≡ now → symbols_in inserts kept ≡ now.symbols
 symbols_of_change kept inserts told start to edit now view view' = ap (λ (s : Stored). s.splice.symbols) view ∙ ap (λ (s : Splice). s.symbols) view'
 
--- a character, encoded
+-- the symbols of an encoded character
 pub characters_of_one : (bs : List ℕ) (c : ℕ) → IsUtf8 bs → bs ≡ encode_utf8 c → characters (chars bs) ≡ characters (c ∷ [])
 characters_of_one bs c text e = ap characters (chars_from_bytes bs (c ∷ []) text (e ∙ sym (append-nil (encode_utf8 c))))
 
--- a break, and pieces of which there are at least two, don't stay within a line
+-- a break, or a fragment of at least two lines, is not within a line
 pub has_break : (kept : Content) (inserts told : Bool) (start to : Place) (edit : Stored) (now : Splice) → stored_of kept inserts start to ≡ edit → directed edit.splice told ≡ now → IsWellFormed edit → breaks_of now.symbols ≡ 0 → (kept ≡ content.Break) ⊎ ((pieces : Vec (String Global) Global) × kept ≡ content.Chunk pieces) → ⊥
 has_break kept inserts told start to edit now view view' h none (inl is) =
     omega (arith, none, ap breaks_of (symbols_of_change kept inserts told start to edit now view view'), ap (λ k. breaks_of (symbols_in inserts k)) is)
@@ -30,7 +30,7 @@ has_break kept inserts told start to edit now view view' h none (inr found) =
 
 -- ---- removals
 
--- the two ends are places, in order, and the text without what stands between them is the one after the splice
+-- the ends are positions, in order, and removing the text between them makes the splice
 pub record Removing {Z : Type 0} (items : List (String Z)) (splice : Splice) (start to : Place) : Type 0 where
   pub from : IsPlaceOf (lines_of items) start
   pub end_place : IsPlaceOf (lines_of items) to
@@ -52,7 +52,7 @@ removing items splice start to some fits removes begins ends =
           ap (λ (p : Place). changed text p to none) begins ∙ changed_by_none text splice.place to splice.symbols none fits.is_place stands ends is ∙ sym gone;
     }
 
--- where they have no break, they end in the row where they begin
+-- symbols without a break end in the row where they begin
 pub ends_inside : (splice : Splice) (start to : Place) → breaks_of splice.symbols ≡ 0 → start ≡ splice.place → to ≡ end splice.place splice.symbols → ((start.0, to.1) ≡ end splice.place splice.symbols) × (start.1 ≤ to.1)
 ends_inside splice start to none begins ends =
     let row : start.0 ≡ to.0 = omega (arith, none, ap (λ (p : Place). p.0) begins, ap (λ (p : Place). p.0) ends, end_row splice.place splice.symbols) in

@@ -1,4 +1,4 @@
--- What is known of an edit that joins the newest one.
+-- Facts of an edit that joins the newest one.
 use Rattle.std.proofs.Common.{◌≡◌, ℕ, ◌-◌, Bool, true, false, ◌&&◌, nat_lt, List, [], ◌∷◌, Option, Some, None, ap, refl, ◌∙◌, eqb, eqb-true}
 use Rattle.textarea_history.specs.Prelude.{Place, Splice, place_before, place_after, Log, continues_newest, is_empty, is_same_direction, is_same_place, is_typed, joins, newest, pause}
 
@@ -25,7 +25,7 @@ none_left : (undone : List Splice) → is_empty undone ≡ true → undone ≡ [
 none_left [] e = refl
 none_left (splice ∷ undone) e = cc
 
--- the run is the newest change, the edit does as it did and begins where it ended, and nothing is undone
+-- the run is the newest edit, the other begins at its end in its direction, and nothing is undone
 pub record Joins (log : Log) (edit : Splice) : Type 0 where
   pub run : Splice
   pub newest_is : newest log ≡ Some run

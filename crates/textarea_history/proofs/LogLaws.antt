@@ -8,7 +8,7 @@ use Rattle.textarea_text.proofs.TextPlaces.{takes_back}
 use Rattle.textarea_history.proofs.Joins.{joins_newest}
 use Rattle.textarea_history.proofs.UndoLaws.{CanApply-last, CanTakeBack-merged, applied_all-last, inverse-inverse}
 
--- ---- lists of changes
+-- ---- lists of edits
 
 CanTakeBack-front : (xs ys : List Splice) (text : List Symbol) → CanTakeBack text (xs ++ ys) → CanTakeBack text xs
 CanTakeBack-front [] ys text h = tt
@@ -25,7 +25,7 @@ kept_length false done undone maximum e bounded some =
     let apart : length done + length undone ≢ maximum = λ same. cc (e, eq-eqb (length done + length undone) maximum same) in
     omega arith
 
--- the newest is the last
+-- the newest edit is the last
 pub last_split : (done : List Splice) (splice : Splice) → slice_get done (length done - 1) ≡ Some splice → done ≡ take (length done - 1) done ++ (splice ∷ [])
 last_split done splice e =
     let within : length done - 1 < length done = slice_get_within done (length done - 1) splice e in
@@ -49,7 +49,7 @@ newest_some (first ∷ rest) some =
     let done = first ∷ rest in
     (get_or done (length done - 1) first, slice_get-get_or done (length done - 1) first (omega arith))
 
--- the last of some are those before the newest one, and the newest
+-- the last edits are those before the newest one, and the newest
 pub last_changes : (done : List Splice) (splice : Splice) (count : ℕ) → slice_get done (length done - 1) ≡ Some splice → suc count ≤ length done → drop (length (take (length done - 1) done) - count) (take (length done - 1) done) ++ splice ∷ [] ≡ drop (length done - suc count) done
 last_changes done splice count e within =
     let front = take (length done - 1) done in
@@ -123,7 +123,7 @@ before_newest text splice fits =
     let same = inverse-inverse splice in
     record { fits = subst (Fits before) same taken.fits; leads = ap (applied before) (sym same) ∙ taken.back }
 
--- the newest edit can be taken back, and those before it behind it
+-- the newest edit can be undone, and then those before it
 pub newest_back : (logged : Logged) (splice : Splice) → IsSound logged → newest logged.log ≡ Some splice → CanTakeBack logged.text (splice ∷ reverse (take (length logged.log.done - 1) logged.log.done))
 newest_back logged splice h e = subst (CanTakeBack logged.text) (reverse_last logged.log.done splice e) h.undo
 
@@ -163,7 +163,7 @@ sound_redone logged h = by (next logged.log) refl
     by None e = h
     by (Some splice) e = sound_redone_by logged splice h e
 
--- one step more in front is one step more behind
+-- one step more at the start is one step more at the end
 pub times-front : {A : Type 0} (count : ℕ) (step : A → A) (start : A) → times (suc count) step start ≡ times count step (step start)
 times-front zero step start = refl
 times-front (suc count) step start = ap step (times-front count step start)
@@ -210,7 +210,7 @@ each_undone (suc count) logged splice h e =
 pub each_fits : (logged : Logged) → IsSound logged → EachFits logged
 each_fits logged h = record { done = λ count splice e. each_done count logged splice h e; undone = λ count splice e. each_undone count logged splice h e }
 
--- ---- undos, and as many redos
+-- ---- undos, and the same number of redos
 
 same_all : (logged : Logged) → IsSame logged logged
 same_all logged = record { text = refl; done = refl; undone = refl }
@@ -218,7 +218,7 @@ same_all logged = record { text = refl; done = refl; undone = refl }
 same_then : (first second third : Logged) → IsSame first second → IsSame second third → IsSame first third
 same_then first second third h h' = record { text = h.text ∙ h'.text; done = h.done ∙ h'.done; undone = h.undone ∙ h'.undone }
 
--- a redo of what is the same comes to the same
+-- a redo of equal states gives equal states
 redone_same : (first second : Logged) → IsSame first second → IsSame (redone first) (redone second)
 redone_same first second h = by (next second.log) (next first.log) (ap (λ (u : List Splice). slice_get u 0) h.undone)
   where
@@ -234,7 +234,7 @@ redone_same first second h = by (next second.log) (next first.log) (ap (λ (u : 
     by None (Some other) e = cc
     by (Some splice) None e = cc
 
--- a redo behind an undo gives back the text and the lists
+-- a redo after an undo gives back the text and the lists
 redone_undone : (logged : Logged) (splice : Splice) → IsSound logged → newest logged.log ≡ Some splice → IsSame (redone (undone_by (Some splice) logged)) logged
 redone_undone logged splice h e = record {
   text = (before_newest logged.text splice (newest_back logged splice h e).0).leads;
@@ -249,7 +249,7 @@ redo_gives_back old back again splice undo_cursor redo_cursor h e undoes redoes 
       redoes.cursor ∙ ap (λ (l : Logged). option_map place_after (next l.log)) back_is,
     )
 
--- the newest edit led from the text before it
+-- the newest edit led from the text before it to the present one
 stood_last : (base : List Symbol) (logged : Logged) (splice : Splice) (changes : List Splice) → IsSound logged → newest logged.log ≡ Some splice → StoodBefore base (applied logged.text (inverse splice)) changes → StoodBefore base logged.text (changes ++ splice ∷ [])
 stood_last base logged splice changes h e stood =
     let before = before_newest logged.text splice (newest_back logged splice h e).0 in
@@ -277,7 +277,7 @@ gives_back (suc count) logged h within =
           (same_then (redone (times count redone (times count undone first))) (redone first) logged (redone_same (times count redone (times count undone first)) first rest.again) (redone_undone logged splice h found.1));
     }
 
--- behind one undo more than redos, the next to be made again is the newest edit
+-- after one undo more than redos, the next edit to redo is the newest one
 pub next_again : (count : ℕ) (logged : Logged) (splice : Splice) → IsSound logged → newest logged.log ≡ Some splice → suc count ≤ length logged.log.done → next (times count redone (times (suc count) undone logged)).log ≡ Some splice
 next_again count logged splice h e within =
     let rest = gives_back count (undone_by (Some splice) logged) (sound_undone_by logged splice h e) (omega (arith, within, length-take-le (length logged.log.done - 1) logged.log.done (omega arith))) in

@@ -1,4 +1,4 @@
--- The bytes of its line before the place where symbols end.
+-- The byte offset of the position where symbols end.
 use Rattle.std.proofs.Common.{◌≡◌, ℕ, zero, suc, ◌+◌, ◌<◌, ◌^◌, List, [], ◌∷◌, ◌++◌, length, take, drop, refl, ap, ◌∙◌, arith, lit<, get_or, encode_utf8_all, String, string_bytes}
 use Rattle.std.proofs.Math.Seq.{take-add}
 use Rattle.std.proofs.lemmas.List.{length-append, take_at}
@@ -8,7 +8,7 @@ use Rattle.textarea_text.proofs.Columns.{encodes_cut}
 use Rattle.textarea_text.proofs.TextPlaces.{index_parted, part_rows}
 use Rattle.textarea_text.proofs.Sizes.{weight-append, weight-characters}
 
--- what the text weighs before a place
+-- the weight of the text before a position
 weight_before : (rows : List (List ℕ)) (place : Place) → IsPlaceOf rows place → weight (take (index_of (joined rows) place) (joined rows)) ≡ weight (leading (take place.0 rows)) + offset_at rows place
 unfolding part_rows
 weight_before rows place h =
@@ -20,7 +20,7 @@ weight_before rows place h =
     ap (λ n. take n (joined rows)) here ∙ ap (take (length parts.front)) parts.is ∙ take_at parts.front parts.back (length parts.front) refl in
     ap weight front ∙ weight-append (leading (take place.0 rows)) (characters line) ∙ ap (λ n. weight (leading (take place.0 rows)) + n) (weight-characters line)
 
--- symbols that stand at a place and end in its row
+-- the byte offset of the end of symbols that end in their row
 pub offset_behind : (rows : List (List ℕ)) (place to : Place) (symbols : List Symbol) → IsPlaceOf rows place → IsPlaceOf rows to → place.0 ≡ to.0 → StandsAt (joined rows) place symbols → index_of (joined rows) to ≡ index_of (joined rows) place + length symbols → offset_at rows to ≡ offset_at rows place + weight symbols
 offset_behind rows place to symbols h h' same stands ends =
     let text = joined rows in

@@ -17,17 +17,17 @@ characters_of-pushed old new c e =
     ∙ ap (λ t. encode_utf8_all (characters_of old) ++ t) (sym (append-nil (encode_utf8 c)))
     ∙ sym (encodes-append (characters_of old) (c ∷ [])))
 
--- a text that was empty
+-- the first character of an empty text
 pub characters_of-first : {Z : Type 0} (new : String Z) (c : ℕ) → string_bytes new ≡ encode_utf8 c → characters_of new ≡ c ∷ []
 characters_of-first new c e =
     chars_from_bytes (string_bytes new) (c ∷ []) (IsUtf8-string_bytes new) (e ∙ sym (append-nil (encode_utf8 c)))
 
--- the symbols of a typed text that grew: at the end if it was inserted, at the front if it was removed
+-- the symbols of a typed text that grew: at the end for an insertion, at the front for a removal
 symbols_grown : (inserts : Bool) (old new : String Global) (c : ℕ) → characters_of new ≡ characters_of old ++ c ∷ [] → symbols_in inserts (Typed new) ≡ cond inserts (symbols_in inserts (Typed old) ++ Character c ∷ []) (Character c ∷ symbols_in inserts (Typed old))
 symbols_grown true old new c e = ap characters e ∙ characters-append (characters_of old) (c ∷ [])
 symbols_grown false old new c e = ap (λ t. characters (reverse t)) e ∙ ap characters (reverse-append (characters_of old) (c ∷ []))
 
--- the grown run is the run and the edit as one change
+-- the grown run is the run and the edit as one splice
 pub grown_splice : (kept : Content) (inserts : Bool) (start to edit_start : Place) (old new : String Global) (c : ℕ) (self : Stored) (edit : Splice) → stored_of kept inserts start to ≡ self → kept ≡ Typed old → characters_of new ≡ characters_of old ++ c ∷ [] → edit.symbols ≡ Character c ∷ [] → edit.place ≡ edit_start → record { place = cond inserts start edit_start; symbols = symbols_in inserts (Typed new); inserts = inserts } ≡ merged self.splice edit
 grown_splice kept inserts start to edit_start old new c self edit view is e one at =
     by inserts ∙ ap (λ (s : Stored). merged s.splice edit) (ap (λ k. stored_of k inserts start to) (sym is) ∙ view)
@@ -81,7 +81,7 @@ pub only_more : (bs rest more : List ℕ) (c d : ℕ) → IsUtf8 bs → bs ≡ e
 only_more bs rest more c d text e e' =
     sym (ap (λ t. character_of (characters t)) (chars_past_char bs rest c text e ∙ ap (λ t. c ∷ t) (chars_past_char rest more d (IsUtf8-past_char bs rest c text e) e')))
 
--- typed text has one character where the text has, in either direction
+-- typed text has one character if the text has, in either direction
 pub only_reversed : (inserts : Bool) (cs : List ℕ) → character_of (characters (cond inserts cs (reverse cs))) ≡ character_of (characters cs)
 only_reversed true cs = refl
 only_reversed false [] = refl
@@ -96,7 +96,7 @@ only_reversed false (c ∷ d ∷ cs) = two (reverse (c ∷ d ∷ cs)) (omega (ar
     two (x ∷ []) h = absurd (omega arith)
     two (x ∷ y ∷ xs) h = refl
 
--- two pieces have a break between them
+-- two lines have a break between them
 pub only_pieces : (pieces : List (List ℕ)) → 2 ≤ length pieces → None ≡ character_of (joined pieces)
 only_pieces [] h = absurd (omega arith)
 only_pieces (first ∷ []) h = absurd (omega arith)
@@ -107,7 +107,7 @@ only_pieces (first ∷ second ∷ rest) h = by first
     by (c ∷ []) = refl
     by (c ∷ d ∷ line) = refl
 
--- ---- what is known of an edit, once its content is known
+-- ---- facts of an edit whose content is known
 
 pub symbols_as : {kept same : Content} {inserts : Bool} (start to : Place) {now : Stored} → stored_of kept inserts start to ≡ now → kept ≡ same → symbols_in inserts same ≡ now.splice.symbols
 symbols_as {inserts = inserts} start to view is = ap (symbols_in inserts) (sym is) ∙ ap (λ (s : Stored). s.splice.symbols) view
@@ -115,7 +115,7 @@ symbols_as {inserts = inserts} start to view is = ap (symbols_in inserts) (sym i
 pub pieces_as : {kept same : Content} → kept ≡ same → IfSome (pieces_in kept) (λ n. 2 ≤ n) → IfSome (pieces_in same) (λ n. 2 ≤ n)
 pieces_as is h = subst (λ k. IfSome (pieces_in k) (λ n. 2 ≤ n)) is h
 
--- the content is written again with the same symbols
+-- the content is stored again with the same symbols
 pub kept_again : {kept : Content} (inserts : Bool) (start to : Place) (c : ℕ) (new : String Global) → IsWellFormed (stored_of kept inserts start to) → kept ≡ content.Character c → characters_of new ≡ c ∷ [] → IsWellFormed (stored_of (Typed new) inserts start to)
 kept_again {kept = kept} inserts start to c new h is e =
     let same : symbols_in inserts (Typed new) ≡ symbols_in inserts kept = symbols_first inserts new c e ∙ ap (symbols_in inserts) (sym is) in
@@ -129,15 +129,15 @@ splice_again inserts start to c new view is e =
 pub spare_as : {kept : Content} (inserts : Bool) (start to : Place) (old : String Global) {now : Stored} → stored_of kept inserts start to ≡ now → kept ≡ Typed old → now.spare ≡ string_capacity old - string_len old
 spare_as inserts start to old view is = ap (λ (s : Stored). s.spare) (sym view ∙ ap (λ k. stored_of k inserts start to) is)
 
--- a character was pushed where there was room for it
+-- a character was pushed, for which there was room
 pub pushed_in_room : {kept : Content} {T E : Type 0} (inserts : Bool) (start to : Place) (old new : String Global) (c : ℕ) {now : Stored} (done : Result T E) → stored_of kept inserts start to ≡ now → kept ≡ Typed old → 4 ≤ now.spare → length (encode_utf8 c) ≤ 4 → (string_len old + length (encode_utf8 c) ≤ string_capacity old → is_ok done ≡ true) → string_bytes new ≡ cond (is_ok done) (string_bytes old ++ encode_utf8 c) (string_bytes old) → characters_of new ≡ characters_of old ++ c ∷ []
 pushed_in_room inserts start to old new c done view is room few succeeds e =
     characters_of-pushed old new c
     (e ∙ ap (λ b. cond b (string_bytes old ++ encode_utf8 c) (string_bytes old)) (succeeds (omega (arith, spare_as inserts start to old view is))))
 
--- ---- a text written backwards
+-- ---- a reversed text
 
--- what is left of the text, and what was written of it, its last character first
+-- the rest of the text, and what was written of it, its last character first
 abbrev pub WrittenBack : List ℕ → List ℕ → List ℕ → Type 0
 WrittenBack text left written = text ≡ left ++ encode_utf8_all (reverse written)
 

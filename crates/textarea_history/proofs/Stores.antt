@@ -1,4 +1,4 @@
--- A log kept as one list of edits and an index.
+-- A log stored as one list of edits and an index.
 use Rattle.std.proofs.Common.{◌≡◌, ℕ, zero, suc, ◌+◌, ◌-◌, ◌≤◌, ◌<◌, Bool, true, false, cond, ◌&&◌, ◌==◌, nat_lt, List, [], ◌∷◌, ◌++◌, length, take, drop, map, Option, Some, None, is_some, sym, ap, refl, ◌∙◌, arith, get_or, set, subst, slice_get, eqb-true, eq-eqb}
 use Rattle.std.proofs.lemmas.List.{length-take-le, length-map, length-set, length-append, get_or-take, get_or-map, get_or-set_same, get_or_at, map-set, set-get_or, take-take, drop_more, take_all, drop_all, take_more, take-append-drop, take-map, drop-map, drop-take, length-take, length-drop}
 use Rattle.std.proofs.lemmas.List.Elements.{All-set, All-push, All-same}
@@ -20,7 +20,7 @@ newest_at items index maximum run_open last edit some within e =
     ap (λ n. slice_get (take index splices) (n - 1)) size
     ∙ slice_get_read (take index splices) index (index - 1) edit.splice (sym size) before (found ∙ sym (get_or-take index splices (index - 1) edit.splice before))
 
--- an edit is written again with the same change
+-- an edit is stored again with the same splice
 pub splices_same : (items : List Stored) (index : ℕ) (edit new : Stored) → index < length items → edit ≡ get_or items index edit → new.splice ≡ edit.splice → map splice_in (set items index new) ≡ map splice_in items
 splices_same items index edit new within e same =
     map-set splice_in items index new
@@ -65,7 +65,7 @@ joining items index maximum run last now newest_edit edit log store view read e 
           place = same_place (place_after newest_edit.splice) (place_before edit) (left_of _ _ (right_of (is_same_direction newest_edit.splice.inserts edit.inserts) _ continues_it));
         }
 
--- where there is room, the newest edit of an open run can grow
+-- if there is room, the newest edit of an open run can grow
 pub room_to_grow : (items : List Stored) (index : ℕ) (run : Option ℕ) (free : ℕ) (newest_edit : Stored) (edge : ℕ) → run ≡ Some edge → index ≡ length items → 0 < index → newest_edit ≡ get_or items (index - 1) newest_edit → 0 < room_at items run free → 4 ≤ newest_edit.spare
 room_to_grow items index run free newest_edit edge is whole some read room =
     by (nat_lt newest_edit.spare 4) refl (subst (λ (o : Option Stored). 0 < cond (nat_lt (spare_in o) 4) 0 free) (last_read items index newest_edit whole some read) (subst (λ (r : Option ℕ). 0 < room_at items r free) is room))
@@ -115,7 +115,7 @@ store_joined items index maximum run newest_edit new edit c store j is grows for
       );
     }
 
--- the log of a store, with a typed edit joined to the newest one
+-- the log of a store after a typed edit joined the newest one
 pub log_joined : (items : List Stored) (index maximum : ℕ) (run : Option ℕ) (last now : ℕ) (newest_edit new : Stored) (edit : Splice) (log : Log) → IsStore items index maximum run → Joining items index run newest_edit edit → newest_edit ≡ get_or items (index - 1) newest_edit → log_at (map splice_in items) index maximum (is_some run) last ≡ log → new.splice ≡ merged newest_edit.splice edit → log_at (map splice_in (set items (index - 1) new)) index maximum true now ≡ with_done log (done_joined log edit) true now
 log_joined items index maximum run last now newest_edit new edit log store j read view is =
     let splices = map splice_in items in
@@ -139,7 +139,7 @@ log_joined items index maximum run last now newest_edit new edit log store j rea
     ∙ ap (λ (u : List Splice). record { done = done_joined old edit; undone = u; maximum = maximum; run_open = true; last = now }) undone
     ∙ ap (λ (l : Log). with_done l (done_joined l edit) true now) view
 
--- whether a typed edit joins, where a run is open and the pause was short
+-- whether a typed edit joins, if a run is open and the pause was short
 pub joins_is : (items : List Stored) (index maximum : ℕ) (run : Option ℕ) (last now edge c : ℕ) (newest_edit : Stored) (edit : Splice) (coalesce : Bool) (log : Log) → IsStore items index maximum run → run ≡ Some edge → typed_character edit coalesce ≡ Some c → nat_lt (now - last) pause ≡ true → newest_edit ≡ get_or items (index - 1) newest_edit → log_at (map splice_in items) index maximum (is_some run) last ≡ log → continues newest_edit.splice edit ≡ joins log edit coalesce now
 joins_is items index maximum run last now edge c newest_edit edit coalesce log store is typed soon read view =
     let whole = subst (RunIs items index) is store.run_is in
@@ -158,7 +158,7 @@ pub run_some : (items : List Stored) (index : ℕ) (run : Option ℕ) → RunIs 
 run_some items index None h e = absurd (let no : false ≡ true = e in cc)
 run_some items index (Some edge) h e = (h.0, h.1)
 
--- the newest edit of an open run grows
+-- the newest edit of an open run can grow
 newest_run : (items : List Stored) (index edge : ℕ) (edit : Stored) → RunIs items index (Some edge) → edit ≡ get_or items (index - 1) edit → IsRun edit edge
 newest_run items index edge edit run_is read =
     subst (λ (o : Option Stored). IfSome o (λ s. IsRun s edge)) (last_read items index edit run_is.0 (omega (arith, run_is.0, run_is.1)) read) run_is.2
@@ -167,7 +167,7 @@ pub newest_grows : (items : List Stored) (index : ℕ) (run : Option ℕ) (edit 
 newest_grows items index None edit run_is is_open read = absurd (let no : false ≡ true = is_open in cc)
 newest_grows items index (Some edge) edit run_is is_open read = (newest_run items index edge edit run_is read).grows
 
--- it is written again as the same change
+-- it is stored again with the same splice
 run_ready : (items : List Stored) (index : ℕ) (run : Option ℕ) (edit new : Stored) → RunIs items index run → edit ≡ get_or items (index - 1) edit → new.splice ≡ edit.splice → new.grows ≡ true → RunIs (set items (index - 1) new) index run
 run_ready items index None edit new run_is read same grows = tt
 run_ready items index (Some edge) edit new run_is read same grows =
@@ -191,11 +191,11 @@ store_ready items index maximum run edit new store read same grows formed =
       run_is = run_ready items index run edit new store.run_is read same grows;
     }
 
--- the same edits are as good
+-- an equal list is a store too
 pub store_same : (items now : List Stored) (index maximum : ℕ) (run : Option ℕ) → now ≡ items → IsStore items index maximum run → IsStore now index maximum run
 store_same items now index maximum run same store = subst (λ (t : List Stored). IsStore t index maximum run) (sym same) store
 
--- room, once the newest edit can grow
+-- there is room once the newest edit can grow
 pub room_ready : (items : List Stored) (index : ℕ) (run : Option ℕ) (free : ℕ) (new : Stored) → index ≡ length items → 0 < length items → 0 < free → 4 ≤ new.spare → 0 < room_at (set items (index - 1) new) run free
 room_ready items index None free new whole some room ready = room
 room_ready items index (Some edge) free new whole some room ready =
@@ -210,9 +210,9 @@ room_ready items index (Some edge) free new whole some room ready =
     by true e = grind (arith, nat_tests)
     by false e = room
 
--- ---- a place for one edit more
+-- ---- room for one more edit
 
--- the oldest edit goes where the history is full and has a done one
+-- the oldest edit is dropped if the history is full and has a done one
 pub place_made : (items kept_items : List Stored) (index kept_index maximum : ℕ) (run_open : Bool) (last : ℕ) (log : Log) → index ≤ length items → log_at (map splice_in items) index maximum run_open last ≡ log → kept_items ≡ take kept_index (cond (length items == maximum) (drop (index - kept_index) items) items) → kept_index ≡ cond (length items == maximum) (index - 1) index → log_at (map splice_in kept_items) kept_index maximum false last ≡ record log { done = kept log; undone = []; run_open = false }
 place_made items kept_items index kept_index maximum run_open last log within view is at =
     let splices = map splice_in items in
@@ -275,7 +275,7 @@ place_made_rest items kept_items index maximum run_open last log within view fre
         (is ∙ ap (λ n. take index (drop n items)) start ∙ ap (λ b. take index (cond b (drop (index - index) items) items)) (sym test))
         (down ∙ ap (λ b. cond b (index - 1) index) (sym test))
 
--- ---- one edit more
+-- ---- one more edit
 
 pub typed_is : (edit : Splice) (coalesce : Bool) (typed : Option ℕ) → typed ≡ typed_character edit coalesce → IfSome typed (λ c. edit.symbols ≡ Character c ∷ [])
 typed_is edit coalesce None e = tt
@@ -310,7 +310,7 @@ store_appended items new_items index maximum run typed was edit store none below
       subst (λ (o : Option Stored). IfSome o (λ s. IsRun s c)) (sym read) (record { grows = grows; edge_is = edge_of_one edit.splice c (ap (λ (s : Splice). s.symbols) same ∙ one) }),
     )
 
--- the same log, of fields that were written
+-- the same log from equal fields
 pub log_at_same : {P : Log} (splices : List Splice) (index new_index maximum new_maximum last new_last : ℕ) → new_index ≡ index → new_maximum ≡ maximum → new_last ≡ last → log_at splices index maximum false last ≡ P → log_at splices new_index new_maximum false new_last ≡ P
 log_at_same splices index new_index maximum new_maximum last new_last e e' e'' h =
     ap (λ n. log_at splices n new_maximum false new_last) e ∙ ap (λ n. log_at splices index n false new_last) e' ∙ ap (λ n. log_at splices index maximum false n) e'' ∙ h
@@ -329,17 +329,17 @@ next_at items index maximum run_open last edit log within e view =
     ∙ ap (λ (t : List Splice). slice_get t 0) (drop_more splices index edit.splice (omega (arith, length-map items splice_in)))
     ∙ ap (λ (s : Splice). Some s) (sym read)
 
--- no edit is undone
+-- no edit is undone if the index is at the end
 pub next_none : (items : List Stored) (index maximum : ℕ) (run_open : Bool) (last : ℕ) → index ≡ length items → next (log_at (map splice_in items) index maximum run_open last) ≡ None
 next_none items index maximum run_open last e =
     ap (λ (t : List Splice). slice_get t 0) (drop_all index (map splice_in items) (omega (arith, length-map items splice_in)))
 
--- a log with a newest change has an edit before the index
+-- a log with a newest edit has one before the index
 pub newest_within : (items : List Stored) (index maximum : ℕ) (run_open : Bool) (last : ℕ) (log : Log) → log_at (map splice_in items) index maximum run_open last ≡ log → IsSome (newest log) → 0 < index
 newest_within items zero maximum run_open last log view some = let no : false ≡ true = subst (λ (l : Log). IsSome (newest l)) (sym view) some in cc
 newest_within items (suc index) maximum run_open last log view some = omega arith
 
--- a log with a next change has an edit at the index
+-- a log with a next edit has one at the index
 pub next_within : (items : List Stored) (index maximum : ℕ) (run_open : Bool) (last : ℕ) (log : Log) → index ≤ length items → log_at (map splice_in items) index maximum run_open last ≡ log → IsSome (next log) → index < length items
 next_within items index maximum run_open last log within view some = by (nat_lt index (length items)) refl
   where
@@ -350,7 +350,7 @@ next_within items index maximum run_open last log within view some = by (nat_lt 
         let whole : index ≡ length items = omega arith in
         let no : false ≡ true = subst (λ (o : Option Splice). IsSome o) (next_none items index maximum run_open last whole) (subst (λ (l : Log). IsSome (next l)) (sym view) some) in cc
 
--- the newest change is taken back
+-- the newest edit is undone
 pub stepped_back : (items : List Stored) (index maximum : ℕ) (run_open : Bool) (last : ℕ) (log : Log) → index ≤ length items → log_at (map splice_in items) index maximum run_open last ≡ log → 0 < index → (splice : Splice) → newest log ≡ Some splice → log_at (map splice_in items) (index - 1) maximum false last ≡ taken_back log splice
 stepped_back items index maximum run_open last log within view some splice e =
     let splices = map splice_in items in
@@ -368,7 +368,7 @@ stepped_back items index maximum run_open last log within view some splice e =
     ∙ ap (λ (u : List Splice). record { done = take (length (take index splices) - 1) (take index splices); undone = u; maximum = maximum; run_open = false; last = last }) undone
     ∙ ap (λ (l : Log). taken_back l splice) view
 
--- the change that was taken back last is made again
+-- the edit that was undone last is redone
 pub stepped_forward : (items : List Stored) (index maximum : ℕ) (run_open : Bool) (last : ℕ) (log : Log) → index < length items → log_at (map splice_in items) index maximum run_open last ≡ log → (splice : Splice) → next log ≡ Some splice → log_at (map splice_in items) (index + 1) maximum false last ≡ made_again log splice
 stepped_forward items index maximum run_open last log within view splice e =
     let splices = map splice_in items in
@@ -383,7 +383,7 @@ stepped_forward items index maximum run_open last log within view splice e =
     ∙ ap (λ (u : List Splice). record { done = take index splices ++ splice ∷ []; undone = u; maximum = maximum; run_open = false; last = last }) undone
     ∙ ap (λ (l : Log). made_again l splice) view
 
--- done and undone together are the edits of the store
+-- the done and undone edits are those of the store
 pub bounded_log : (items : List Stored) (index maximum : ℕ) (run_open : Bool) (last : ℕ) (log : Log) → length items ≤ maximum → log_at (map splice_in items) index maximum run_open last ≡ log → length log.done + length log.undone ≤ maximum
 bounded_log items index maximum run_open last log bounded view =
     let splices = map splice_in items in

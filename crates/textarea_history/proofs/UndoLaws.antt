@@ -1,4 +1,4 @@
--- Changes one after another, and what takes back a run and the edit that joins it.
+-- Splices one after another, and the undo of a run with the edit that joins it.
 use Rattle.std.proofs.Common.{◌≡◌, ◌<◌, arith, Bool, true, false, not, List, [], ◌∷◌, ◌++◌, length, drop, sym, ap, refl, ◌∙◌, subst}
 use Rattle.std.proofs.lemmas.List.{append_assoc, length-append, take-append-drop}
 use Rattle.textarea_history.specs.Prelude.{Symbol, Place, IsPlace, StandsAt, end, inserted, removed, Splice, Fits, applied, inverse, place_before, place_after, CanApply, CanTakeBack, applied_all, merged}
@@ -22,7 +22,7 @@ CanApply-last text (change ∷ changes) splice can fits = (can.0, CanApply-last 
 
 -- ---- a run and the edit that joins it
 
--- taking back the two as one change fits where taking back each did, and leads to the same text
+-- undoing the two as one splice fits if undoing each does, and leads to the same text
 pub record Merges (text : List Symbol) (run edit : Splice) : Type 0 where
   pub fits : Fits (applied text edit) (inverse (merged run edit))
   pub back : applied (applied text edit) (inverse (merged run edit)) ≡ applied text (inverse run)
@@ -43,7 +43,7 @@ held text place symbols h stands =
       ends = parts.ends;
     }
 
--- the text with its parts grouped the other way, and where the first two end
+-- the text, grouped the other way, and where its first two lists end
 behind : (front symbols : List Symbol) (place to : Place) → end (0, 0) front ≡ place → end place symbols ≡ to → end (0, 0) (front ++ symbols) ≡ to
 behind front symbols place to e e' = end-append (0, 0) front symbols ∙ ap (λ (p : Place). end p symbols) e ∙ e'
 
@@ -88,7 +88,7 @@ merges text run edit back fits same meets = by run.inserts edit.inserts same run
     by true false same p q s c back fits meets = absurd cc
     by false true same p q s c back fits meets = absurd cc
 
--- so a log whose changes can be taken back is one after an edit has joined its newest change
+-- so if the edits of a log can be undone, they can be after an edit joins the newest one
 pub CanTakeBack-merged : (text : List Symbol) (run edit : Splice) (rest : List Splice) → CanTakeBack text (run ∷ rest) → Fits text edit → edit.inserts ≡ run.inserts → place_after run ≡ place_before edit → CanTakeBack (applied text edit) (merged run edit ∷ rest)
 CanTakeBack-merged text run edit rest can fits same meets =
     let m = merges text run edit can.0 fits same meets in

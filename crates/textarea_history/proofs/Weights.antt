@@ -1,10 +1,10 @@
--- The bytes that the symbols of an edit take.
+-- The bytes of an edit's symbols.
 use Rattle.std.proofs.Common.{◌≡◌, ◌<◌, ◌+◌, ◌-◌, List, [], ◌∷◌, length, take, drop, Bool, true, false, cond, sym, ap, ◌∙◌, arith, get_or, reverse, String, string_len}
 use Rattle.std.proofs.lemmas.List.{take_all}
 use Rattle.textarea_history.specs.Prelude.{characters, characters_of, text_of, size_of, weight}
 use Rattle.textarea_text.proofs.Sizes.{weight_of_line, weight_of_text, weight-reverse}
 
--- pieces, of which the first was taken off
+-- the lines of a fragment without the first
 pub pieces_weight : {Z : Type 0} (pieces : List (String Z)) (first : String Z) → 0 < length pieces → first ≡ get_or pieces 0 first → weight (text_of pieces) ≡ string_len first + size_of (take (length pieces - 1) (drop 1 pieces))
 pieces_weight [] first some e = absurd (omega arith)
 pieces_weight (piece ∷ rest) first some e =
@@ -12,7 +12,7 @@ pieces_weight (piece ∷ rest) first some e =
     ∙ ap (λ s. string_len s + size_of rest) (sym e)
     ∙ ap (λ t. string_len first + size_of t) (sym (take_all (length (piece ∷ rest) - 1) rest (omega arith)))
 
--- typed text takes the same in either direction
+-- typed text has the same bytes in either direction
 pub typed_weight : {Z : Type 0} (inserts : Bool) (text : String Z) → weight (characters (cond inserts (characters_of text) (reverse (characters_of text)))) ≡ string_len text
 typed_weight true text = weight_of_line text
 typed_weight false text = weight-reverse (characters_of text) ∙ weight_of_line text

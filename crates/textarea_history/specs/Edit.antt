@@ -1,4 +1,4 @@
--- An edit: what it inserts or removes, and between which places.
+-- An edit: what it inserts or removes, and between which positions.
 use Rattle.std.specs.Prelude.{◌≡◌, ℕ, ◌<◌, ◌≤◌, ◌-◌, Bool, true, false, cond, List, [], ◌∷◌, length, reverse, Option, Some, None, IfSome, string_len, string_capacity}
 use Rattle.textarea_text.specs.Text.{Symbol, Character, Break, characters, characters_of, joined, lines_of}
 use Rattle.textarea_text.specs.Place.{Place, end}
@@ -8,8 +8,8 @@ use Rattle.textarea_history.specs.declared.edit.EditKind.TheVariants.{InsertChar
 use Rattle.textarea_history.specs.declared.edit.Content.{Content}
 use Rattle.textarea_history.specs.declared.edit.Content.TheVariants as content
 
--- the symbols that an edit of the kind inserts or removes: one character, one break, the characters of a text
--- (a line feed in it is a character), or pieces with a break between each two
+-- the symbols that an edit of the kind inserts or removes: one character, one break, the characters
+-- of a text (a line feed in it is a character), or lines with a break between each two
 abbrev pub symbols_of : EditKind → List Symbol
 symbols_of (InsertChar c) = Character c ∷ []
 symbols_of (DeleteChar c) = Character c ∷ []
@@ -30,14 +30,14 @@ inserts_of (DeleteStr s) = false
 inserts_of (InsertChunk pieces) = true
 inserts_of (DeleteChunk pieces) = false
 
--- how many pieces a chunk has
+-- the number of lines of a fragment
 abbrev pub pieces_of : EditKind → Option ℕ
 pieces_of (InsertChunk pieces) = Some (length pieces.items)
 pieces_of (DeleteChunk pieces) = Some (length pieces.items)
 pieces_of kind = None
 
--- a copy of a kind is of the same variant, with the same character, the characters of the same text, or those of the
--- same pieces one by one
+-- a copy of a kind is of the same variant, with the same character, or the same characters in its
+-- text or in each of its lines
 abbrev pub IsCopyOfKind : EditKind → EditKind → Type 0
 IsCopyOfKind (InsertChar c) (InsertChar copy) = copy ≡ c
 IsCopyOfKind (DeleteChar c) (DeleteChar copy) = copy ≡ c
@@ -49,8 +49,8 @@ IsCopyOfKind (InsertChunk pieces) (InsertChunk copy) = lines_of copy.items ≡ l
 IsCopyOfKind (DeleteChunk pieces) (DeleteChunk copy) = lines_of copy.items ≡ lines_of pieces.items
 IsCopyOfKind kind copy = ⊥
 
--- the splice, of the cursor's places before and after it: at the first where it inserts, and at the second where it
--- removes
+-- the splice, from the cursor's positions before and after it: an insertion is at the first one, a
+-- removal at the second
 abbrev pub splice_of : EditKind → Place → Place → Splice
 splice_of kind before after = record {
   place = cond (inserts_of kind) before after;
@@ -58,12 +58,12 @@ splice_of kind before after = record {
   inserts = inserts_of kind;
 }
 
--- the place that is handed in as the end of the symbols
+-- the position that is passed as the end of the symbols
 abbrev pub end_of_kind : EditKind → Place → Place → Place
 end_of_kind kind before after = cond (inserts_of kind) after before
 
--- an edit as others see it: its splice, the place handed in as the end of the splice's symbols, the number of a
--- chunk's pieces, and how a run of typing can grow in it
+-- an edit as others see it: its splice, the position passed as the end of its symbols, the number
+-- of lines of a fragment, and how a run of typing can grow in it
 pub record Stored : Type 0 where
   pub splice : Splice
   pub end : Place
@@ -71,34 +71,34 @@ pub record Stored : Type 0 where
   pub grows : Bool
   pub spare : ℕ
 
--- an edit is well formed where it has symbols, where a chunk has at least two pieces (so that it has a break), and
--- where the places handed in are the two ends of its symbols
+-- an edit is well formed if it has symbols, if a fragment has at least two lines (and so a break),
+-- and if the positions passed are the two ends of its symbols
 pub record IsWellFormed (edit : Stored) : Type 0 where
   pub some : 0 < length edit.splice.symbols
   pub pieces : IfSome edit.pieces (λ n. 2 ≤ n)
   pub ends : edit.end ≡ end edit.splice.place edit.splice.symbols
 
--- the splice in a direction of its own: an edit's splice as it is made, and as it is taken back
+-- the splice with its own direction: as the edit is made, or undone
 abbrev pub directed : Splice → Bool → Splice
 directed splice inserts = record splice { inserts = inserts }
 
--- the cursor's places before and after the edit, as they were handed in
+-- the cursor's positions before and after the edit, as they were passed
 abbrev pub before_of : Stored → Place
 before_of edit = cond edit.splice.inserts edit.splice.place edit.end
 
 abbrev pub after_of : Stored → Place
 after_of edit = cond edit.splice.inserts edit.end edit.splice.place
 
--- a copy of an edit is the same in all that others see of it, but for the memory that it has to grow
+-- a copy of an edit is the same to others, except for the memory that it has to grow
 pub record IsCopyOfEdit (edit copy : Stored) : Type 0 where
   pub splice : copy.splice ≡ edit.splice
   pub end : copy.end ≡ edit.end
   pub pieces : copy.pieces ≡ edit.pieces
   pub grows : copy.grows ≡ edit.grows
 
--- ---- as an `Edit` keeps it
+-- ---- as an `Edit` stores it
 
--- the symbols, of an edit that inserts or one that removes: what was typed stands in the order of typing
+-- the symbols, for an insertion or a removal: typed text is stored in the order of typing
 abbrev pub symbols_in : Bool → Content → List Symbol
 symbols_in inserts (content.Character c) = Character c ∷ []
 symbols_in inserts (content.Text s) = characters (characters_of s)
@@ -110,13 +110,13 @@ abbrev pub pieces_in : Content → Option ℕ
 pieces_in (content.Chunk pieces) = Some (length pieces.items)
 pieces_in other = None
 
--- whether a run can be made of it
+-- whether it can grow as a run
 abbrev pub grows_of : Content → Bool
 grows_of (content.Character c) = true
 grows_of (content.Typed s) = true
 grows_of other = false
 
--- by how many bytes the run can grow without memory
+-- the number of bytes by which the run can grow without allocating
 abbrev pub spare_of : Content → ℕ
 spare_of (content.Typed s) = string_capacity s - string_len s
 spare_of other = 0
@@ -130,7 +130,7 @@ stored_of kept inserts start to = record {
   spare = spare_of kept;
 }
 
--- a copy of a content has the same symbols, whichever way they go
+-- a copy of a content has the same symbols in either direction
 pub record IsCopyOfContent (kept copy : Content) : Type 0 where
   pub symbols : (inserts : Bool) → symbols_in inserts copy ≡ symbols_in inserts kept
   pub pieces : pieces_in copy ≡ pieces_in kept

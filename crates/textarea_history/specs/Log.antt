@@ -1,4 +1,4 @@
--- What a history holds, whichever way it is kept.
+-- What a history holds, independent of how it is stored.
 use Rattle.std.specs.Prelude.{◌≡◌, Some, None, ℕ, ◌+◌, ◌-◌, ◌*◌, ◌==◌, ◌&&◌, ◌||◌, nat_lt, Bool, true, false, if◌then◌else◌, List, [], ◌∷◌, ◌++◌, length, take, drop, Option, option_map, is_some, slice_get, String}
 use Rattle.std.specs.Char.{is_whitespace}
 use Rattle.textarea_text.specs.Text.{Symbol, Character, Break, text_of}
@@ -7,8 +7,8 @@ use Rattle.textarea_text.specs.Splice.{Splice, applied, inverse, place_before, p
 use Rattle.textarea_text.specs.Words.{class_of, is_same}
 use Rattle.textarea_history.specs.Run.{character_of, merged}
 
--- the changes made, the newest last; those taken back, the next to be made again first; how many it holds at most;
--- whether the newest change is a run of typing that may go on; and the moment of the last change, in nanoseconds
+-- the done edits, the newest last; the undone ones, the next to redo first; their greatest number;
+-- whether the newest edit is an open run of typing; and the time of the last edit, in nanoseconds
 pub record Log : Type 0 where
   pub done : List Splice
   pub undone : List Splice
@@ -21,18 +21,18 @@ empty_log maximum = record { done = []; undone = []; maximum = maximum; run_open
 
 -- ---- a run of typing
 
--- an edit is typed if the caller says so and it has one character
+-- the character of an edit that counts as typed: with `coalesce`, and of one character
 abbrev pub typed_character : Splice → Bool → Option ℕ
 typed_character edit coalesce = if coalesce then character_of edit.symbols else None
 
 abbrev pub is_typed : Splice → Bool → Bool
 is_typed edit coalesce = is_some (typed_character edit coalesce)
 
--- the symbol by which a run last grew: its last one if it inserts, and its first one if it removes
+-- the symbol by which a run last grew: its last one for an insertion, its first one for a removal
 abbrev pub edge_of : Splice → Option Symbol
 edge_of run = slice_get run.symbols (if run.inserts then length run.symbols - 1 else 0)
 
--- a character goes on with a run if it is whitespace, or of the class of the run's edge
+-- a character continues a run if it is whitespace, or of the class of the run's edge
 abbrev pub goes_on : Option Symbol → Option ℕ → Bool
 goes_on edge None = false
 goes_on None (Some c) = is_whitespace c
@@ -46,7 +46,7 @@ is_same_direction false other = if other then false else true
 abbrev pub is_same_place : Place → Place → Bool
 is_same_place first second = (first.0 == second.0) && (first.1 == second.1)
 
--- the edit goes on where the run ended
+-- the edit continues the run where it ended
 abbrev pub continues : Splice → Splice → Bool
 continues run edit =
     is_same_direction run.inserts edit.inserts
@@ -62,7 +62,7 @@ abbrev pub is_empty : List Splice → Bool
 is_empty [] = true
 is_empty (splice ∷ rest) = false
 
--- the change to take back next
+-- the edit to undo next
 abbrev pub newest : Log → Option Splice
 newest log = slice_get log.done (length log.done - 1)
 
@@ -70,19 +70,19 @@ newest log = slice_get log.done (length log.done - 1)
 abbrev pub pause : ℕ
 pause = 500 * 1_000_000
 
--- the edit joins the newest change: it is typed, the run is open, nothing is undone, less than the pause went by, and it
--- goes on
+-- the edit joins the newest one: it is typed, the run is open, nothing is undone, less than the
+-- pause has passed, and it continues the run
 abbrev pub joins : Log → Splice → Bool → ℕ → Bool
 joins log edit coalesce now =
     (is_typed edit coalesce && log.run_open)
     && (is_empty log.undone && (nat_lt (now - log.last) pause && continues_newest (newest log) edit))
 
--- the newest change, grown by the edit
+-- the newest edit, extended by this one
 abbrev pub grown : Option Splice → Splice → Splice
 grown None edit = edit
 grown (Some run) edit = merged run edit
 
--- the done changes that stay when one more is recorded
+-- the done edits that stay when one more is recorded
 abbrev pub kept : Log → List Splice
 kept log = if length log.done + length log.undone == log.maximum then drop 1 log.done else log.done
 
@@ -95,7 +95,7 @@ done_appended log edit = kept log ++ edit ∷ []
 abbrev pub done_after : Log → Splice → Bool → List Splice
 done_after log edit joined = if joined then done_joined log edit else done_appended log edit
 
--- the log with these done changes, after one recorded at the moment
+-- the log with these done edits, after one is recorded at the time `now`
 abbrev pub with_done : Log → List Splice → Bool → ℕ → Log
 with_done log done run_open now = record { done = done; undone = []; maximum = log.maximum; run_open = run_open; last = now }
 
@@ -106,18 +106,18 @@ recorded log edit coalesce now =
 
 -- ---- undo and redo
 
--- the newest change was taken back
+-- the log after the newest edit is undone
 abbrev pub taken_back : Log → Splice → Log
 taken_back log splice = record log { done = take (length log.done - 1) log.done; undone = splice ∷ log.undone; run_open = false }
 
--- the change to make again next, and the log after it
+-- the edit to redo next, and the log after that
 abbrev pub next : Log → Option Splice
 next log = slice_get log.undone 0
 
 abbrev pub made_again : Log → Splice → Log
 made_again log splice = record log { done = log.done ++ splice ∷ []; undone = drop 1 log.undone; run_open = false }
 
--- what a history holds, with how many more edits it can take without memory
+-- what a history holds, and the number of edits that it can record without allocating
 pub record Kept : Type 0 where
   pub log : Log
   pub room : ℕ
@@ -133,7 +133,7 @@ pub record Logged : Type 0 where
 abbrev pub logged_of : {Z : Type 0} → List (String Z) → Log → Logged
 logged_of lines log = record { text = text_of lines; log = log }
 
--- the newest edit is taken back, if there is one
+-- the text and its log after the newest edit is undone, if there is one
 abbrev pub undone_by : Option Splice → Logged → Logged
 undone_by None logged = logged
 undone_by (Some splice) logged = record { text = applied logged.text (inverse splice); log = taken_back logged.log splice }
@@ -141,7 +141,7 @@ undone_by (Some splice) logged = record { text = applied logged.text (inverse sp
 abbrev pub undone : Logged → Logged
 undone logged = undone_by (newest logged.log) logged
 
--- the edit that was taken back last is made again, if there is one
+-- the text and its log after the edit that was undone last is redone, if there is one
 abbrev pub redone_by : Option Splice → Logged → Logged
 redone_by None logged = logged
 redone_by (Some splice) logged = record { text = applied logged.text splice; log = made_again logged.log splice }
@@ -149,12 +149,12 @@ redone_by (Some splice) logged = record { text = applied logged.text splice; log
 abbrev pub redone : Logged → Logged
 redone logged = redone_by (next logged.log) logged
 
--- one undo, with the place where the cursor goes: where it stood before the edit; none where there is no edit
+-- one undo, and the cursor after it: where it was before the edit; none without an edit
 pub record Undoes (old new : Logged) (place : Option Place) : Type 0 where
   pub is_undone : new ≡ undone old
   pub cursor : place ≡ option_map place_before (newest old.log)
 
--- one redo: the cursor goes where the edit had left it
+-- one redo, and the cursor after it: where the edit had left it
 pub record Redoes (old new : Logged) (place : Option Place) : Type 0 where
   pub is_redone : new ≡ redone old
   pub cursor : place ≡ option_map place_after (next old.log)

@@ -1,9 +1,9 @@
--- A run of typing: what may be part of it, and what it is once an edit more has joined it.
+-- A run of typing: the character of an edit that can be in it, and the run with one more edit.
 use Rattle.std.specs.Prelude.{ℕ, List, [], ◌∷◌, ◌++◌, Option, Some, None, if◌then◌else◌}
 use Rattle.textarea_text.specs.Text.{Symbol, Character}
 use Rattle.textarea_text.specs.Splice.{Splice}
 
--- the character, where the symbols are just one and a character
+-- the character, if it is the only symbol
 abbrev pub character_of : List Symbol → Option ℕ
 character_of (Character c ∷ []) = Some c
 character_of symbols = None

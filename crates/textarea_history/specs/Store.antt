@@ -1,4 +1,4 @@
--- How a history keeps its log: one list of edits with an index, and the character by which an open run last grew.
+-- How a history stores its log: one list of edits, an index, and the edge of an open run.
 use Rattle.std.specs.Prelude.{◌≡◌, ◌<◌, ◌≤◌, ◌-◌, ℕ, Bool, true, cond, nat_lt, List, length, take, drop, Option, Some, None, slice_get, IfSome, All}
 use Rattle.textarea_text.specs.Text.{Character}
 use Rattle.textarea_text.specs.Splice.{Splice}
@@ -21,7 +21,7 @@ abbrev pub spare_in : Option Stored → ℕ
 spare_in None = 0
 spare_in (Some edit) = edit.spare
 
--- an open run of which the newest edit cannot grow without memory leaves no room
+-- an open run whose newest edit cannot grow without allocating leaves no room
 abbrev pub room_at : List Stored → Option ℕ → ℕ → ℕ
 room_at items None free = free
 room_at items (Some edge) free = cond (nat_lt (spare_in (slice_get items (length items - 1))) 4) 0 free
@@ -36,7 +36,7 @@ RunIs items index (Some edge) =
     (index ≡ length items) × (0 < length items)
     × IfSome (slice_get items (length items - 1)) (λ edit. IsRun edit edge)
 
--- each edit is well formed, done and undone edits together are at most the maximum, and an open run is the newest edit
+-- each edit is well formed, there are at most `maximum` of them, and an open run is the newest edit
 pub record IsStore (items : List Stored) (index maximum : ℕ) (run : Option ℕ) : Type 0 where
   pub sound : All IsWellFormed items
   pub within : index ≤ length items

@@ -1,4 +1,4 @@
-//! One edit of the lines: made between two places, and lent as a change that makes it or takes it back.
+//! Edits of lines, each between two positions, and the changes that make or undo them.
 mod change;
 mod run;
 
@@ -10,8 +10,8 @@ use std::alloc::AllocError;
 use std::marker::Model;
 use textarea_text::util::Pos;
 
-/// What an edit inserts or removes: a character, a line break, a text within a line, or a chunk of at least two
-/// pieces with a line break between each two.
+/// What an edit inserts or removes: a character, a line break, a text within a line, or a fragment
+/// of at least two lines.
 #[derive(Drop)]
 pub enum EditKind {
     InsertChar(char),
@@ -29,7 +29,7 @@ impl Clone for EditKind {
 
     ghost is_clone = { λ kind copy. IsCopyOfKind kind copy };
 
-    /// The same kind, or out of memory for its text or pieces.
+    /// Returns a copy, or out of memory.
     fn clone(&self) -> Result<EditKind, AllocError> {
         match self {
             EditKind::InsertChar(c) => Ok(EditKind::InsertChar(*c)),
@@ -44,8 +44,8 @@ impl Clone for EditKind {
     }
 }
 
-/// What is inserted or removed. `Typed` has the characters in the order of typing: those that
-/// Backspace removed stand last first, so that a run of either direction grows at the end.
+/// What an edit inserts or removes. `Typed` has the characters in the order of typing, which for
+/// Backspace is the reverse of the text's, so that a run of either direction grows at the end.
 #[derive(Drop)]
 enum Content {
     Character(char),
@@ -71,7 +71,7 @@ impl Clone for Content {
     }
 }
 
-/// One edit. The content stands from the start to the end, once it is inserted or before it is removed.
+/// One edit. Its content is between the start and the end, after an insertion or before a removal.
 #[derive(Drop)]
 pub struct Edit {
     content: Content,
@@ -95,7 +95,7 @@ impl Clone for Edit {
 
     ghost is_clone = { λ edit copy. IsCopyOfEdit edit copy };
 
-    /// The same edit, or out of memory for its text.
+    /// Returns a copy, or out of memory.
     fn clone(&self) -> Result<Edit, AllocError> {
         Ok(Edit {
             content: self.content.clone()?,
@@ -109,8 +109,7 @@ impl Clone for Edit {
 impl Edit {
     ghost use Rattle.textarea_history.specs.Edit.{IsWellFormed, after_of, before_of, pieces_of, splice_of, end_of_kind, stored_of};
 
-    /// An edit between the cursor's positions before and after it. Their byte offsets are for the caller: no rule
-    /// reads them.
+    /// Creates an edit from the cursor's positions before and after it. Ignores their byte offsets.
     pub fn new(kind: EditKind, before: Pos, after: Pos) -> Self
         ensures splice { result.splice
             ≡ splice_of kind (before.row, before.col) (after.row, after.col) }
@@ -121,7 +120,7 @@ impl Edit {
         Edit::between(kind, (before.row, before.col), (after.row, after.col))
     }
 
-    /// An edit between the cursor's places, as (row, column), before and after it.
+    /// Creates an edit from the cursor's positions, as (row, column), before and after it.
     pub fn between(kind: EditKind, before: (usize, usize), after: (usize, usize)) -> Self
         ensures splice { result.splice ≡ splice_of kind before after }
         ensures end { result.end ≡ end_of_kind kind before after }
@@ -161,7 +160,7 @@ impl Edit {
         }
     }
 
-    /// The cursor's (row, column) before the edit.
+    /// Returns the cursor's (row, column) before the edit.
     pub fn cursor_before(&self) -> (usize, usize)
         ensures place { result ≡ before_of self.now }
         ensures end { IsWellFormed self.now → result ≡ place_before self.now.splice }
@@ -169,7 +168,7 @@ impl Edit {
         if self.inserts { self.start } else { self.end }
     }
 
-    /// The cursor's (row, column) after the edit.
+    /// Returns the cursor's (row, column) after the edit.
     pub fn cursor_after(&self) -> (usize, usize)
         ensures place { result ≡ after_of self.now }
         ensures end { IsWellFormed self.now → result ≡ place_after self.now.splice }
@@ -177,7 +176,7 @@ impl Edit {
         if self.inserts { self.end } else { self.start }
     }
 
-    /// The edit as it was made, or is made again.
+    /// Returns the change that makes the edit, or redoes it.
     pub fn change(&self) -> Change<'_>
         requires { IsWellFormed self.now }
         ensures { result ≡ self.now.splice }
@@ -188,7 +187,7 @@ impl Edit {
         }
     }
 
-    /// The edit as it is taken back.
+    /// Returns the change that undoes the edit.
     pub fn inverse(&self) -> Change<'_>
         requires { IsWellFormed self.now }
         ensures { result ≡ inverse self.now.splice }
@@ -199,7 +198,7 @@ impl Edit {
         }
     }
 
-    /// Makes the edit on lines that it fits.
+    /// Makes the edit on lines that it fits. Out of memory leaves them unchanged.
     pub fn redo(&self, lines: &mut Vec<String>) -> Result<(), AllocError>
         requires well_formed { IsWellFormed self.now }
         requires fits { FitsLines lines.old.items self.now.splice }
@@ -211,7 +210,7 @@ impl Edit {
         self.change().apply(lines)
     }
 
-    /// Takes the edit back on lines that its inverse fits.
+    /// Undoes the edit on lines that its inverse fits. Out of memory leaves them unchanged.
     pub fn undo(&self, lines: &mut Vec<String>) -> Result<(), AllocError>
         requires well_formed { IsWellFormed self.now }
         requires fits { FitsLines lines.old.items (inverse self.now.splice) }

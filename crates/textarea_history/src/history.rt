@@ -1,4 +1,4 @@
-//! The edits that were made and taken back, with a greatest number, and runs of typing that grow in place.
+//! The done and undone edits, up to a greatest number, and runs of typing that grow in place.
 pub mod laws;
 
 ghost use Rattle.std.specs.Prelude.{drop, ◌≡◌, ◌<◌, ◌≤◌, ◌+◌, length, OnOk, OnErr, IfOk, IfSome, IsSome, IsOk, MatchOption, Some, ◌∷◌, [], vec_len, true, false};
@@ -14,8 +14,8 @@ use textarea_text::word::CharKind;
 /// The pause after which typing begins a new run, in nanoseconds.
 const PAUSE: u128 = 500_000_000;
 
-/// The edits are kept in one queue: those before the index were made, those from it on were taken
-/// back. While a run is open, `run` is the character by which the newest edit last grew.
+/// All edits are in one queue: the done ones before the index, the undone ones from it on. While a
+/// run is open, `run` is the character by which the newest edit last grew.
 #[derive(Drop)]
 pub struct History {
     items: VecDeque<Edit>,
@@ -47,7 +47,7 @@ impl Model for History {
 impl Clone for History {
     ghost is_clone = { λ history copy. copy.log ≡ history.log };
 
-    /// A history with the same edits, done and undone, or out of memory for them.
+    /// Returns a history with the same edits, done and undone, or out of memory.
     fn clone(&self) -> Result<History, AllocError> {
         Ok(History {
             items: self.items.clone()?,
@@ -60,7 +60,7 @@ impl Clone for History {
 }
 
 impl History {
-    /// A history without edits, which keeps at most that many, done and undone together.
+    /// Creates a history without edits, for at most `max_items`, done and undone together.
     pub fn new(alloc: Global, max_items: usize) -> Self
         ensures { result.log ≡ empty_log max_items }
     {
@@ -73,7 +73,7 @@ impl History {
         }
     }
 
-    /// How many edits are kept at most.
+    /// Returns the greatest number of edits, done and undone together.
     pub fn max_items(&self) -> usize
         ensures value { result ≡ self.now.log.maximum }
         ensures bound { length self.now.log.done + length self.now.log.undone ≤ result }
@@ -81,14 +81,14 @@ impl History {
         self.max_items
     }
 
-    /// Ends the run, if one is open.
+    /// Ends the run of typing, if one is open.
     pub fn break_run(&mut self)
         ensures { self.new.log ≡ record self.old.log { run_open = false } }
     {
         self.run = None;
     }
 
-    /// Records the edit, as one typed with coalescing on or not.
+    /// Records the edit. With `coalesce` one of a single character is typed, and can join a run.
     pub fn push(&mut self, edit: Edit, coalesce: bool, now: Duration) -> Result<(), AllocError>
         requires { IsWellFormed edit }
         ensures ok { OnOk result (self.new.log
@@ -100,7 +100,7 @@ impl History {
         Ok(())
     }
 
-    /// Makes room for one more edit, so that `put` takes no memory.
+    /// Makes room for one more edit, so that `put` does not allocate.
     pub fn reserve(&mut self) -> Result<(), AllocError>
         ensures same { self.new.log ≡ self.old.log }
         ensures ok { OnOk result (0 < self.new.room) }
@@ -113,7 +113,7 @@ impl History {
         Ok(())
     }
 
-    /// Records the edit, for which there is room.
+    /// Records the edit as `push` does, in the room that `reserve` makes.
     pub fn put(&mut self, edit: Edit, coalesce: bool, now: Duration)
         requires well_formed { IsWellFormed edit }
         requires room { 0 < self.old.room }
@@ -129,7 +129,7 @@ impl History {
         }
     }
 
-    /// Whether the edit joins the newest one.
+    /// Returns whether the edit joins the newest one.
     fn joins(&self, edit: &Edit, coalesce: bool, now: Duration) -> bool
         requires { IsWellFormed edit.now }
         ensures { result ≡ joins self.now.log edit.now.splice coalesce (as_nanos now) }
@@ -144,7 +144,7 @@ impl History {
         now.saturating_sub(self.last).as_nanos() < PAUSE && continues(newest, edge, edit, c)
     }
 
-    /// Grows the newest edit by the typed one, which joins it.
+    /// Extends the newest edit by the typed one, which joins it.
     fn join(&mut self, edit: &Edit, now: Duration)
         requires well_formed { IsWellFormed edit.now }
         requires room { 0 < self.old.room }
@@ -178,7 +178,7 @@ impl History {
         self.last = now;
     }
 
-    /// Lets the undone edits go, and the oldest one where the history is full.
+    /// Drops the undone edits, and also the oldest done one if the history is full.
     fn make_place(&mut self)
         requires room { 0 < self.old.room }
         requires some { 0 < self.old.log.maximum }
@@ -195,7 +195,7 @@ impl History {
         self.run = None;
     }
 
-    /// The newest done edit, which `undo` takes back next.
+    /// Returns the newest done edit, which `undo` undoes next.
     pub fn newest(&self) -> Option<&Edit>
         ensures edit { MatchOption result (newest self.now.log ≡ None)
             (λ edit. newest self.now.log ≡ Some edit.now.splice) }
@@ -207,7 +207,7 @@ impl History {
         Some(&self.items[self.index - 1])
     }
 
-    /// The edit that was undone last, which `redo` makes again next.
+    /// Returns the edit that was undone last, which `redo` redoes next.
     pub fn next(&self) -> Option<&Edit>
         ensures edit { MatchOption result (next self.now.log ≡ None)
             (λ edit. next self.now.log ≡ Some edit.now.splice) }
@@ -219,7 +219,7 @@ impl History {
         Some(&self.items[self.index])
     }
 
-    /// Moves the newest done edit, which was taken back, to the undone ones, and ends the run.
+    /// Moves the newest done edit, which was undone, to the undone ones, and ends the run.
     pub fn step_back(&mut self)
         requires { IsSome (newest self.old.log) }
         ensures { (splice : Splice) → newest self.old.log ≡ Some splice →
@@ -229,7 +229,7 @@ impl History {
         self.run = None;
     }
 
-    /// Moves the edit that was undone last, which was made again, to the done ones, and ends the run.
+    /// Moves the edit that was undone last, and was redone, to the done ones, and ends the run.
     pub fn step_forward(&mut self)
         requires { IsSome (next self.old.log) }
         ensures { (splice : Splice) → next self.old.log ≡ Some splice →
@@ -239,7 +239,8 @@ impl History {
         self.run = None;
     }
 
-    /// Takes back the newest edit, and says where the cursor goes; with nothing to take back nothing changes.
+    /// Undoes the newest edit, if there is one, and returns the cursor. Out of memory changes
+    /// nothing.
     pub fn undo(&mut self, lines: &mut Vec<String>) -> Result<Option<(usize, usize)>, AllocError>
         requires { IfSome (newest self.old.log)
             (λ splice. FitsLines lines.old.items (inverse splice)) }
@@ -260,8 +261,8 @@ impl History {
         Ok(Some(back))
     }
 
-    /// Makes again the edit that was undone last, and says where the cursor goes; with nothing to make again nothing
-    /// changes.
+    /// Redoes the edit that was undone last, if there is one, and returns the cursor. Out of memory
+    /// changes nothing.
     pub fn redo(&mut self, lines: &mut Vec<String>) -> Result<Option<(usize, usize)>, AllocError>
         requires { IfSome (next self.old.log) (FitsLines lines.old.items) }
         ensures ok { IfOk result (Redoes (logged_of lines.old.items self.old.log)
@@ -282,7 +283,6 @@ impl History {
     }
 }
 
-/// Lets the oldest edit go, if there is one.
 fn drop_oldest(items: &mut VecDeque<Edit>)
     ensures items { items.new.items ≡ drop 1 items.old.items }
     ensures capacity { deque_capacity items.new ≡ deque_capacity items.old }
@@ -290,7 +290,7 @@ fn drop_oldest(items: &mut VecDeque<Edit>)
     items.pop_front();
 }
 
-// The character, where the edit counts as typed: with coalescing on, and of one character.
+// The character of an edit that counts as typed: with `coalesce`, and of just one character.
 fn typed_character(edit: &Edit, coalesce: bool) -> Option<char>
     requires { IsWellFormed edit.now }
     ensures { result ≡ typed_character edit.now.splice coalesce }
@@ -298,7 +298,7 @@ fn typed_character(edit: &Edit, coalesce: bool) -> Option<char>
     if coalesce { edit.character() } else { None }
 }
 
-// Whether the typed edit of the character goes on where this run, grown last by `edge`, ended.
+// Whether the typed edit of `c` continues this run, which last grew by `edge`.
 fn continues(run: &Edit, edge: char, edit: &Edit, c: char) -> bool
     requires run { IsWellFormed run.now }
     requires edit { IsWellFormed edit.now }

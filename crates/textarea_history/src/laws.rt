@@ -1,15 +1,15 @@
-//! Laws of edits, each the contract of a function without a body.
+//! Laws of edits, each stated as the contract of a function without a body.
 ghost use Rattle.std.specs.Prelude.{◌≡◌, ◌<◌, ℕ, List, length};
 ghost use Rattle.textarea_history.specs.Prelude.{Symbol, joined, lines, Splice, Fits, IsTakenBack};
 
-/// `Edit::undo` after `Edit::redo` gives the same text: wherever an edit fits, its inverse fits the text after it, and
-/// brings the text back.
+/// `Edit::undo` after `Edit::redo` gives back the text: if an edit fits a text, its inverse fits
+/// the text after it, and gives back the first one.
 pub fn undo_takes_back()
     ensures { (text : List Symbol) (splice : Splice) →
         Fits text splice → IsTakenBack text splice }
 {}
 
-/// A text has one list of lines, so lines that hold the same text are the same lines.
+/// A text has one list of lines, so lines with the same text are the same lines.
 pub fn lines_are_the_text()
     ensures { (rows : List (List ℕ)) → 0 < length rows → lines (joined rows) ≡ rows }
 {}

@@ -1,10 +1,10 @@
-//! Texts read backwards, and texts of one character.
+//! Reversed texts, and texts of one character.
 ghost use Rattle.std.specs.Prelude.{◌≡◌, reverse, string_bytes, IfOk};
 ghost use Rattle.textarea_history.specs.Prelude.{chars, characters, character_of};
 
 use std::alloc::{AllocError, Global};
 
-/// The characters of the text, the last one first.
+/// Returns the text with its characters in reverse order.
 pub fn reverse_text(alloc: Global, text: &str) -> Result<String, AllocError>
     ensures { IfOk result (λ s. chars (string_bytes s) ≡ reverse (chars text.now)) }
 {
@@ -15,7 +15,7 @@ pub fn reverse_text(alloc: Global, text: &str) -> Result<String, AllocError>
     Ok(result_text)
 }
 
-/// The character of a text that has just one.
+/// Returns the character of a text that has just one.
 pub fn only_character(text: &str) -> Option<char>
     ensures { result ≡ character_of (characters (chars text.now)) }
 {

@@ -1,4 +1,4 @@
--- Lines with their rows, after some of them gave place to others.
+-- Lines with their rows, after some of them are replaced.
 use Rattle.std.proofs.lemmas.Grind.{common_steps}
 use Rattle.std.proofs.Common.{◌≡◌, ℕ, ◌+◌, ◌-◌, ◌≤◌, ◌<◌, Bool, true, false, cond, List, length, sym, ap, ◌∙◌, arith, String}
 use Rattle.std.proofs.lemmas.List.{length-map}
@@ -30,7 +30,7 @@ pub text_replaced : {Z : Type 0} (items new : List (String Z)) (row count : ℕ)
 text_replaced items new row count some =
     ap joined (map-replaced characters_of items new row count ∙ ap (λ t. replaced t row count (lines_of new)) (sym (lines_held items some)))
 
--- as an exchange leaves them
+-- the lines before and after a replacement
 pub record Replacing {Z : Type 0} (old now new : List (String Z)) (row count : ℕ) : Type 0 where
   pub some : 0 < length old
   pub now_is : now ≡ replaced old row count new
@@ -58,9 +58,9 @@ pub layout_replaced : {Z : Type 0} (settings : LayoutSettings) (old now new : Li
 layout_replaced settings old now new row count n before after first rows h n_is layout =
     cc (text_now old now new row count h, count_held old h.some, length-map new characters_of)
 
--- ---- an edit
+-- ---- a change
 
--- a replacement that makes a splice of the lines is the splice of the text
+-- a replacement that makes a splice of the lines makes it of the text
 pub made : (laid : LaidOut) (items lent : List (String Global)) (replacement : Replacement) (splice : Splice) → 0 < length items → text_of items ≡ laid.text → lent ≡ items → IsReplacementFor lent splice replacement → replaced_in laid replacement.row replacement.count (lines_of replacement.lines.items) ≡ applied_to laid splice
 made laid items lent replacement splice some is lent_is h = grind (arith, common_steps, text_replaced, length-map)
 
@@ -75,12 +75,12 @@ size_made items text size after splice stored is fits after_is =
 
 -- ---- all lines
 
--- some lines, all of which were cut
+-- some lines, all of which are wrapped
 pub laid_new : {Z : Type 0} (settings : LayoutSettings) (items lent : List (String Z)) (old count : ℕ) (rows : List RowsView) → 0 < length items → lent ≡ items → count ≡ old + length lent → ticks_of rows ≡ ticks_behind old (length lent) → seen settings items count rows ≡ laid_out_anew settings old (text_of items)
 laid_new settings items lent old count rows some lent_is counted ticks =
     cc (count_held items some)
 
--- how lines are cut before and after other settings
+-- how lines are wrapped under old and new settings
 pub record Reviewing {Z : Type 0} (old settings : LayoutSettings) (items : List (String Z)) (count : ℕ) (rows : List RowsView) (laid : LaidOut) (before after : Wrapping) : Type 0 where
   pub some : 0 < length items
   pub is : seen old items count rows ≡ laid
@@ -91,7 +91,7 @@ pub test_is : {Z : Type 0} (old settings : LayoutSettings) (items : List (String
 test_is old settings items count rows laid before after h =
     rw (← h.is, count_held items h.some, h.after_is, h.before_is)
 
--- where the lines are cut as before, their rows stay right: those of wrapped lines as they are, others at the new tab stops
+-- if lines are wrapped as before, their rows remain right: those of whole lines at other tab stops
 pub holds_wrapped : {Z : Type 0} (old settings : LayoutSettings) (items : List (String Z)) (size : ℕ) (map : MapView) → is_wrapped settings ≡ true → is_same (wrapping_for settings (length items)) map.wrapping ≡ true → HoldsRows old items size map → HoldsRows settings items size map
 holds_wrapped old settings items size map wrapped same k =
     record { stored = k.stored; wrapping_is = kept_wrapped settings (length items) map.wrapping wrapped same; laid_out = k.laid_out }

@@ -1,4 +1,4 @@
--- Which lines a splice, another width and other settings cut, and that the count never falls.
+-- The lines that a splice, another width and other settings wrap; the count never decreases.
 use Rattle.std.proofs.lemmas.Grind.{common_steps}
 use Rattle.std.proofs.Common.{◌≡◌, ◌≢◌, ◌⊎◌, inl, inr, ℕ, ◌+◌, ◌-◌, ◌==◌, ◌≤◌, Bool, true, false, cond, List, [], ◌∷◌, Option, None, Some, length, ap, refl, sym, subst, ◌∙◌, ⊎_elim, le_trans, arith, eq-eqb}
 use Rattle.std.proofs.lemmas.Bool.{eqb-true}
@@ -18,7 +18,7 @@ use Rattle.textarea_lines.proofs.Splicing.{count_spliced, splices_lines}
 
 -- ---- splices
 
--- the layout after a splice of so many lines, by whether the lines are cut as before
+-- the layout after a splice, by whether lines are wrapped as before
 abbrev layout_if : Bool → LaidOut → Splice → ℕ → Layout
 layout_if b laid splice after = cond b (some_cut laid.layout splice.place.0 (lines_going splice) (lines_coming splice)) (all_cut laid.layout.settings laid.layout.count after)
 
@@ -26,11 +26,11 @@ settings_if : (b : Bool) (laid : LaidOut) (splice : Splice) (after : ℕ) → (l
 settings_if true laid splice after = refl
 settings_if false laid splice after = refl
 
--- how many lines there are after it
+-- the number of lines after it
 abbrev count_of : LaidOut → Splice → ℕ
 count_of laid splice = length (lines laid.text) - lines_going splice + lines_coming splice
 
--- whether the lines are cut as before
+-- whether lines are wrapped as before
 abbrev stays : LaidOut → Splice → Bool
 stays laid splice = is_same (wrapping_for laid.layout.settings (count_of laid splice)) (wrapping_for laid.layout.settings (length (lines laid.text)))
 

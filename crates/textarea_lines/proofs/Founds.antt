@@ -1,4 +1,4 @@
--- The place of a text that was found last, as the lines change.
+-- The stored position of the last in-place change, as the lines change.
 use Rattle.std.proofs.Common.{◌≡◌, ℕ, ◌<◌, List, length, String, sym, ap, refl, ◌∙◌, arith, subst}
 use Rattle.std.proofs.lemmas.List.{length-map}
 use Rattle.textarea_text.specs.declared.util.Pos.{Pos}
@@ -7,11 +7,11 @@ use Rattle.textarea_text.specs.Place.{Place, IsPlaceOf}
 use Rattle.textarea_text.specs.Text.{characters_of, lines_of}
 use Rattle.textarea_lines.specs.Stored.{IsFound}
 
--- a position
+-- a position with its offset
 abbrev pub pos : Place → ℕ → Pos
 pos place offset = record { row = place.0; col = place.1; offset = offset }
 
--- a place whose bytes are known
+-- a position whose offset is known
 pub found_at : {Z : Type 0} (items : List (String Z)) (found : Pos) (place start : Place) (offset : ℕ) → found ≡ pos place offset → place ≡ start → IsPlaceOf (lines_of items) start → offset ≡ offset_at (lines_of items) start → IsFound items found
 found_at items found place start offset is same h e =
     subst (IsFound items) (sym is)
@@ -20,7 +20,6 @@ found_at items found place start offset is same h e =
       offset = e ∙ ap (offset_at (lines_of items)) (sym same);
     })
 
--- the first place
 pub found_first : {Z : Type 0} (items : List (String Z)) (found : Pos) → found ≡ pos (0, 0) 0 → 0 < length items → IsFound items found
 found_first items found is some =
     found_at items found (0, 0) (0, 0) 0 is refl (omega (arith, some, length-map items characters_of), omega arith) refl

@@ -1,4 +1,4 @@
--- Rows of lines and their ticks, as lines give place to others.
+-- Rows of lines and their ticks, as lines are replaced.
 use Rattle.std.proofs.lemmas.Grind.{common_steps}
 use Rattle.std.proofs.Common.{◌≡◌, ℕ, ◌+◌, List, [], ◌++◌, length, take, drop, map, ap, ◌∙◌, arith, String}
 use Rattle.std.proofs.lemmas.List.{append_assoc, append-nil, drop_all, map-append, take-map, drop-map}
@@ -9,16 +9,16 @@ use Rattle.textarea_screen_map.specs.declared.layout.Wrapping.{Wrapping}
 use Rattle.textarea_screen_map.specs.Layout.{AreRowsOf, ticks_behind}
 use Rattle.textarea_screen_map.proofs.Layouts.{ticks_append}
 
--- ---- items that take the place of others
+-- ---- items that are replaced
 
 pub map-replaced : {X Y : Type 0} (f : X → Y) (items new : List X) (row count : ℕ) → map f (replaced items row count new) ≡ replaced (map f items) row count (map f new)
 map-replaced f items new row count = simp (map-append, take-map, drop-map)
 
--- all items give place
+-- all items are replaced
 pub replaced_whole : {X : Type 0} (items new : List X) (n : ℕ) → length items ≡ n → replaced items 0 n new ≡ new
 replaced_whole items new n e = ap (λ t. new ++ t) (drop_all (0 + n) items (omega arith)) ∙ append-nil new
 
--- rows that were cut in three steps: above, of the new lines, and below
+-- rows that were wrapped in three steps: above, of the new lines, and below
 pub rows_together : {Z : Type 0} (w : Wrapping) (items new above lent below : List (String Z)) (row count : ℕ) (rows : List RowsView) → above ≡ take row items → lent ≡ new → below ≡ drop (row + count) items → AreRowsOf w ((lines_of above ++ lines_of lent) ++ lines_of below) rows → AreRowsOf w (lines_of (replaced items row count new)) rows
 rows_together w items new above lent below row count rows a l b k =
     simp (map-append, ← a, ← l, ← b) (simp append_assoc at k)

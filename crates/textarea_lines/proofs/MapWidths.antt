@@ -1,6 +1,6 @@
--- The width of the map settles how lines are cut, in one mode and with the same tab stops.
+-- The width of the map determines how lines are wrapped, in one mode and with the same tab stops.
 use Rattle.std.proofs.lemmas.Grind.{common_steps}
-use Rattle.std.proofs.Common.{arith, ◌≡◌, ◌≢◌, ℕ, ◌==◌, ◌&&◌, ◌||◌, Bool, true, false, cond, not, Option, None, Some, ap, ap₂, refl, sym, ◌∙◌}
+use Rattle.std.proofs.Common.{arith, ◌≡◌, ◌≢◌, ℕ, ◌==◌, ◌&&◌, ◌||◌, Bool, true, false, cond, not, Option, None, Some, ap, refl, ◌∙◌}
 use Rattle.std.proofs.lemmas.Bool.{and_parts, eqb-true}
 use Rattle.textarea_wrap.specs.Layout.{columns_for_rows, line_number_columns}
 use Rattle.textarea_wrap.specs.declared.wrap.WrapMode.{WrapMode}
@@ -11,7 +11,7 @@ use Rattle.textarea_lines.specs.Cuts.{width_for}
 use Rattle.textarea_lines.specs.Wrappings.{cut_at_width, is_same, is_same_mode, whole_lines, wrapping_for, wraps}
 use Rattle.textarea_lines.proofs.PutSettings.{same_cut}
 
--- how lines are cut where the map has this width
+-- how lines are wrapped if the map has this width
 abbrev cut_by : WrapMode → ℕ → Option ℕ → Wrapping
 cut_by m tab_len None = record { mode = mode.None; width = 1; tab_len = tab_len }
 cut_by m tab_len (Some width) = record { mode = m; width = width; tab_len = tab_len }
@@ -19,7 +19,7 @@ cut_by m tab_len (Some width) = record { mode = m; width = width; tab_len = tab_
 abbrev settings_of : WrapMode → ℕ → Bool → ℕ → LayoutSettings
 settings_of m tab_len numbers width = record { mode = m; tab_len = tab_len; line_numbers = numbers; inner_width = width }
 
--- the width and the wrapping, where it is known whether the inner area has no column
+-- the width and the wrapping, by whether the inner area has no column
 abbrev width_if : Bool → LayoutSettings → ℕ → Option ℕ
 width_if none settings n = cond none None (columns_for_rows settings.mode settings.inner_width (line_number_columns settings.line_numbers n))
 
@@ -37,7 +37,7 @@ cut_so false mode.WordOrGlyph tab_len numbers width n = refl
 pub wrapping_by_width : (settings : LayoutSettings) (n : ℕ) → wrapping_for settings n ≡ cut_by settings.mode settings.tab_len (width_for settings n)
 wrapping_by_width settings n = cut_so (settings.inner_width == 0) settings.mode settings.tab_len settings.line_numbers settings.inner_width n
 
--- of two settings with one mode and the same tab stops, at the same width of the map, the wrapping is one
+-- two settings with one mode, the same tab stops and the same width of the map have one wrapping
 pub same_wrapping : (one other : LayoutSettings) (n k : ℕ) → one.mode ≡ other.mode → one.tab_len ≡ other.tab_len → width_for one n ≡ width_for other k → wrapping_for one n ≡ wrapping_for other k
 same_wrapping one other n k m t w = grind (arith, common_steps, wrapping_by_width one n, wrapping_by_width other k)
 
@@ -45,7 +45,7 @@ pub same_test : (one other : LayoutSettings) (n k : ℕ) → one.mode ≡ other.
 same_test one other n k m t w =
     ap (λ (x : Wrapping). is_same x (wrapping_for other k)) (same_wrapping one other n k m t w) ∙ same_cut (wrapping_for other k)
 
--- and lines that are cut in the same way are cut at the same width
+-- lines that are wrapped in the same way have the same width
 same_some : (m : WrapMode) (tab_len width other : ℕ) → (is_same_mode m m && (not (wraps m) || ((width == other) && (tab_len == tab_len)))) ≡ true → wraps m ≡ true → width ≡ other
 same_some m tab_len width other e wrapped = grind (arith, common_steps, and_parts, eqb-true)
 

@@ -1,6 +1,6 @@
--- How many visual rows lines have in all at a width: as they are cut, as they were measured last, and anew.
+-- The number of visual rows at a width: of the current rows, as measured last, and from scratch.
 use Rattle.std.proofs.lemmas.Grind.{common_steps}
-use Rattle.std.proofs.Common.{arith, ◌≡◌, ◌∙◌, ℕ, true, List, length, String, Option, Some, ap, subst, sym}
+use Rattle.std.proofs.Common.{arith, ◌≡◌, ◌∙◌, ℕ, true, List, length, String, Option, Some}
 use Rattle.std.specs.Option.{IfSome}
 use Rattle.textarea_text.specs.Text.{lines, lines_of}
 use Rattle.textarea_screen_map.specs.declared.layout.Wrapping.{Wrapping}
@@ -14,7 +14,7 @@ use Rattle.textarea_lines.specs.Wrappings.{cut_at_width, is_same, wrapping_for}
 use Rattle.textarea_lines.proofs.SameCuts.{AreRowsOf-same}
 use Rattle.textarea_lines.proofs.Stores.{count_held, lines_held, right_rows, seen}
 
--- lines that are lent to be measured at a width, and how they are cut as they stand
+-- borrowed lines that are measured at a width, and how they are wrapped now
 pub record Measuring {Z : Type 0} (settings : LayoutSettings) (items lent : List (String Z)) (size count inner_width : ℕ) (map : MapView) (laid : LaidOut) (wrapping now : Wrapping) : Type 0 where
   pub held : HoldsRows settings items size map
   pub is : seen settings items count map.rows ≡ laid
@@ -22,26 +22,26 @@ pub record Measuring {Z : Type 0} (settings : LayoutSettings) (items lent : List
   pub wrapping_is : wrapping ≡ cut_at_width settings inner_width (length lent)
   pub now_is : now ≡ wrapping_for settings (length lent)
 
--- what was counted of the lines that are lent is so of the text's
+-- what is counted of the borrowed lines is true of the text
 pub counted_in_text : {Z : Type 0} (settings : LayoutSettings) (items lent : List (String Z)) (size count inner_width : ℕ) (map : MapView) (laid : LaidOut) (wrapping now : Wrapping) (n : ℕ) → Measuring settings items lent size count inner_width map laid wrapping now → IsRowCount wrapping (lines_of lent) n → IsRowCount (cut_at_width laid.layout.settings inner_width (length (lines laid.text))) (lines laid.text) n
 counted_in_text settings items lent size count inner_width map laid wrapping now n m h =
     rw (← m.is, count_held items m.held.stored.some, lines_held items m.held.stored.some, ← m.lent_is, ← m.wrapping_is) h
 
--- where the lines are cut so as they stand, their rows are those that are kept
+-- if the lines are already wrapped in that way, their rows are the stored ones
 pub counted_as_kept : {Z : Type 0} (settings : LayoutSettings) (items lent : List (String Z)) (size count inner_width : ℕ) (map : MapView) (laid : LaidOut) (wrapping now : Wrapping) (n : ℕ) → Measuring settings items lent size count inner_width map laid wrapping now → is_same wrapping now ≡ true → n ≡ row_total map.rows → IsRowCount wrapping (lines_of lent) n
 counted_as_kept settings items lent size count inner_width map laid wrapping now n m same e =
     (map.rows, AreRowsOf-same wrapping now (lines_of lent) map.rows same (rw (m.now_is, m.lent_is) (right_rows settings items size map m.held)), e)
 
--- whether they are cut so as they stand, of the text and of the lines that are lent
+-- whether they are already wrapped in that way, of the text and of the borrowed lines
 pub same_as_kept : {Z : Type 0} (settings : LayoutSettings) (items lent : List (String Z)) (size count inner_width : ℕ) (map : MapView) (laid : LaidOut) (wrapping now : Wrapping) → Measuring settings items lent size count inner_width map laid wrapping now → is_same (cut_at_width laid.layout.settings inner_width (length (lines laid.text))) (wrapping_of laid) ≡ is_same wrapping now
 same_as_kept settings items lent size count inner_width map laid wrapping now m =
     rw (m.wrapping_is, m.now_is, m.lent_is, ← m.is, count_held items m.held.stored.some)
 
--- where they were cut so when they were measured, the count is the one of that time
+-- if they were measured last in that way, the number is that of the last time
 pub counted_as_measured : {Z : Type 0} (items lent : List (String Z)) (wrapping : Wrapping) (kept : Option Measured) (last : Measured) → lent ≡ items → is_same wrapping last.wrapping ≡ true → kept ≡ Some last → IfSome kept (λ was. IsRowCount was.wrapping (lines_of items) was.rows) → IsRowCount wrapping (lines_of lent) last.rows
 counted_as_measured items lent wrapping kept last lent_is same is h = grind (arith, common_steps, AreRowsOf-same)
 
--- what was counted of the text's lines, cut so
+-- the number of rows of the text's lines, wrapped in that way
 pub counted_anew : {Z : Type 0} (settings : LayoutSettings) (items lent : List (String Z)) (size count inner_width : ℕ) (map : MapView) (laid : LaidOut) (wrapping now : Wrapping) (n : ℕ) → Measuring settings items lent size count inner_width map laid wrapping now → IsRowCount wrapping (lines laid.text) n → IsRowCount (cut_at_width laid.layout.settings inner_width (length (lines laid.text))) (lines laid.text) n
 counted_anew settings items lent size count inner_width map laid wrapping now n m h =
     grind (arith, common_steps, lines_held items m.held.stored.some, counted_in_text)

@@ -1,4 +1,4 @@
--- Rows that are prepared while the old ones stand: of some lines, or of all.
+-- Rows that are prepared beside the current ones: of some lines, or of all.
 use Rattle.std.proofs.lemmas.Grind.{common_steps}
 use Rattle.std.proofs.Common.{arith, ◌≡◌, ℕ, ◌+◌, ◌-◌, true, false, List, length, String, Result, Ok, Err, Global, refl, sym, ap, ◌∙◌}
 use Rattle.std.specs.Result.{IfOk, OnOk}
@@ -31,7 +31,7 @@ rows_of_all : (now after : Wrapping) (lines : List (List ℕ)) (n at number : �
 rows_of_all now after lines n at number rows cut others size is k at_is number_is others_is =
     rw (← is, at_is, number_is, others_is, replaced_whole rows cut n size) k
 
--- ---- what clauses see of them
+-- ---- what contracts see of them
 
 abbrev screen_at : LayoutSettings → ℕ → List ℕ → Layout
 screen_at settings count ticks = record { settings = settings; count = count; ticks = ticks }
@@ -46,7 +46,7 @@ screen_of_all settings old count n row going coming size at number rows cut othe
 
 -- ---- what is ready
 
--- where the lines are cut as before, the rows of those that come
+-- if lines are wrapped as before, the rows of the new lines
 pub some_ready : (settings : LayoutSettings) (lines lent : List (String Global)) (old now : MapView) (new : Replacement) (count after : ℕ) (wrapping : Wrapping) (r : Result PreparedRows AllocError) → CanReplace settings lines old new → now.rows ≡ old.rows → lent ≡ new.lines.items → wrapping ≡ wrapping_for settings (count_after (length lines) new) → is_same wrapping old.wrapping ≡ true →
     IfOk r (IsReady now) → IfOk r (λ p. p.row ≡ new.row) → IfOk r (λ p. p.count ≡ new.count) → IfOk r (λ p. p.wrapping ≡ wrapping) → IfOk r (λ p. AreRowsOf wrapping (lines_of lent) (rows_in p.rows)) → IfOk r (λ p. ticks_of (rows_in p.rows) ≡ ticks_behind count (length lent)) → OnOk r (after ≡ count + length lent) →
     IfOk r (AreReadyRows settings lines now new count after)
@@ -59,7 +59,7 @@ some_ready settings lines lent old now new count after wrapping (Ok p) can stay 
       layout = screen_of_some settings count after (length lines) new.row new.count _ (length lent) p.row p.count now.rows (rows_in p.rows) (rows_in p.rows) (rw (← w_is, ← can.wrapping) same) counted (ap length is ∙ sym new.lines.ok.0) ticks row number refl;
     }
 
--- and else the rows of all lines
+-- otherwise the rows of all lines
 pub all_ready : (settings : LayoutSettings) (lines : List (String Global)) (old now : MapView) (new : Replacement) (count after : ℕ) (wrapping : Wrapping) (r : Result PreparedRows AllocError) → CanReplace settings lines old new → now.rows ≡ old.rows → wrapping ≡ wrapping_for settings (count_after (length lines) new) → is_same wrapping old.wrapping ≡ false →
     (cut : List RowsView) → AreRowsOf wrapping (lines_after lines new) cut → ticks_of cut ≡ ticks_behind count (count_after (length lines) new) → after ≡ count + count_after (length lines) new →
     IfOk r (IsReady now) → IfOk r (λ p. p.row ≡ 0) → IfOk r (λ p. p.count ≡ length lines) → IfOk r (λ p. p.wrapping ≡ wrapping) → IfOk r (λ p. rows_in p.rows ≡ cut) →

@@ -1,4 +1,4 @@
--- Lines that are cut in one way are cut in the other, where both ways are the same.
+-- If two ways to wrap are the same, lines wrapped in one are wrapped in the other.
 use Rattle.std.proofs.lemmas.Grind.{common_steps}
 use Rattle.std.proofs.Common.{arith, ◌≡◌, ℕ, Bool, true, false, ◌==◌, not, cond, List, ap, sym, ◌∙◌, refl}
 use Rattle.std.proofs.lemmas.Bool.{and_parts, eqb-true}
@@ -30,7 +30,7 @@ the_wrapping m width tab_len = record { mode = m; width = width; tab_len = tab_l
 wrapping_is : (m m' : WrapMode) (width width' tab_len tab_len' : ℕ) → m ≡ m' → width ≡ width' → tab_len ≡ tab_len' → the_wrapping m width tab_len ≡ the_wrapping m' width' tab_len'
 wrapping_is m m' width width' tab_len tab_len' a b c = cc
 
--- where lines are wrapped, they are cut in the same way by one wrapping alone
+-- lines that are wrapped are wrapped in the same way only by the same wrapping
 same_wrapping : (one other : Wrapping) → wraps one.mode ≡ true → is_same one other ≡ true → other ≡ one
 same_wrapping one other wrapped e =
     let parts = and_parts _ _ e in
@@ -40,7 +40,7 @@ same_wrapping one other wrapped e =
     let tab_len = eqb-true one.tab_len other.tab_len numbers.1 in
     wrapping_is other.mode one.mode other.width one.width other.tab_len one.tab_len (sym mode_is) (sym width) (sym tab_len)
 
--- rows of lines that are cut in one way are those of the same lines cut in the other
+-- rows of lines that are wrapped in one way are their rows in the other
 pub AreRowsOf-same : (one other : Wrapping) (lines : List (List ℕ)) (rows : List RowsView) → is_same one other ≡ true → AreRowsOf other lines rows → AreRowsOf one lines rows
 AreRowsOf-same one other lines rows e h = by (wraps one.mode) refl
   where
@@ -50,7 +50,7 @@ AreRowsOf-same one other lines rows e h = by (wraps one.mode) refl
         let none = unwrapped one.mode whole in
         whole_anywhere other one lines rows (sym (same_mode one.mode other.mode (and_parts _ _ e).0) ∙ none) none h
 
--- settings under which lines are wrapped, and are cut in the same way
+-- settings under which lines are wrapped, in the same way as before
 pub kept_wrapped : (settings : LayoutSettings) (n : ℕ) (before : Wrapping) → is_wrapped settings ≡ true → is_same (wrapping_for settings n) before ≡ true → before ≡ wrapping_for settings n
 kept_wrapped settings n before wrapped same = grind (arith, common_steps, same_wrapping, and_parts)
 

@@ -1,4 +1,4 @@
--- The rows of all lines before and after a splice that leaves how they are cut.
+-- The rows of all lines before and after a splice that doesn't change how lines are wrapped.
 use Rattle.std.proofs.Common.{◌≡◌, ℕ, suc, zero, ◌+◌, ◌<◌, ◌≤◌, List, [], ◌∷◌, length, take, drop, map, ap, refl, sym, subst, ◌∙◌, arith}
 use Rattle.std.proofs.lemmas.List.{drop-map, length-map, take-map}
 use Rattle.std.specs.List.{AllByRecursion, range_with_len}
@@ -21,7 +21,7 @@ OneMap = (wrapping : Wrapping) (lines : List (List ℕ)) (rows others : List Row
 abbrev tick_of : RowsView → ℕ
 tick_of rows = rows.tick
 
--- ticks that begin behind a number are above it
+-- ticks that begin after a number are above it
 above_all : (count first size : ℕ) (rows : List RowsView) → count < first → ticks_of rows ≡ range_with_len first size → AllByRecursion (λ (r : RowsView). count < r.tick) rows
 above_all count first size [] less e = tt
 above_all count first zero (r ∷ rows) less e = absurd cc

@@ -1,4 +1,4 @@
--- The lines of a text after a splice: those that it touches give place to others, and all above and below them stay.
+-- The lines of a text after a splice: those that it touches are replaced, and all others unchanged.
 use Rattle.std.proofs.lemmas.Grind.{common_steps}
 use Rattle.std.proofs.Common.{◌≡◌, ℕ, ◌+◌, ◌-◌, ◌<◌, ◌≤◌, Bool, true, false, List, [], ◌∷◌, ◌++◌, length, take, drop, get_or, ap, refl, sym, ◌∙◌, arith}
 use Rattle.std.proofs.Math.Seq.{drop-append-add, drop-append_seam, take-append_seam}
@@ -14,7 +14,7 @@ use Rattle.textarea_text.proofs.Splices.{lines-joined}
 use Rattle.textarea_text.proofs.StringRows.{changed_by_none, rows_replaced, stands_until}
 use Rattle.textarea_text.proofs.Touching.{breaks_of-append, breaks_of-characters, end_row}
 
--- ---- items that give place to others
+-- ---- items that are replaced
 
 pub take-replaced : {X : Type 0} (items new : List X) (start count : ℕ) → start ≤ length items → take start (replaced items start count new) ≡ take start items
 take-replaced items new start count within =
@@ -34,14 +34,14 @@ middle-replaced items new start count coming within long =
 
 -- ---- lines that a splice touches
 
--- the lines after a splice: so many take the place of so many from its row on
+-- the lines after a splice, which replace lines from its row on
 pub record SplicesLines (text : List Symbol) (splice : Splice) : Type 0 where
   pub new : List (List ℕ)
   pub coming : length new ≡ lines_coming splice
   pub within : splice.place.0 + lines_going splice ≤ length (lines text)
   pub lines_are : lines (applied text splice) ≡ replaced (lines text) splice.place.0 (lines_going splice) new
 
--- a text has a line more than breaks
+-- a text has one line more than breaks
 as_long : (c : ℕ) (rows : List (List ℕ)) (n : ℕ) → length rows ≡ n + 1 → length (on_first c rows) ≡ n + 1
 as_long c [] n e = absurd (omega arith)
 as_long c (line ∷ rest) n e = e
@@ -51,7 +51,7 @@ length-lines [] = refl
 length-lines (Character c ∷ text) = as_long c (lines text) (breaks_of text) (length-lines text)
 length-lines (Break ∷ text) = omega (arith, length-lines text)
 
--- between two places of the text
+-- between two positions of the text
 lines_between : (text : List Symbol) (start to : Place) (symbols : List Symbol) → IsPlaceOf (lines text) start → IsPlaceOf (lines text) to → (new : List (List ℕ)) × (length new ≡ breaks_of symbols + 1) × (lines (changed text start to symbols) ≡ take start.0 (lines text) ++ (new ++ drop (to.0 + 1) (lines text)))
 lines_between text start to symbols h h' =
     let rows = lines text in
@@ -87,6 +87,6 @@ spliced false text place symbols h allowed =
 pub splices_lines : (text : List Symbol) (splice : Splice) → Fits text splice → SplicesLines text splice
 splices_lines text splice fits = spliced splice.inserts text splice.place splice.symbols fits.is_place fits.allowed
 
--- how many lines there are then
+-- the number of lines after it
 pub count_spliced : (text : List Symbol) (splice : Splice) → Fits text splice → length (lines (applied text splice)) ≡ length (lines text) - lines_going splice + lines_coming splice
 count_spliced text splice fits = grind (arith, common_steps, splices_lines text splice fits, length-replaced)

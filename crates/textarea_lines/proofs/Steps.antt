@@ -1,6 +1,6 @@
--- From a place of a text as it is laid out one place, or none, is found one visual row up or down.
+-- A cursor moves to one position or none, up or down, in a text with its layout.
 use Rattle.std.proofs.lemmas.Grind.{common_steps}
-use Rattle.std.proofs.Common.{◌≡◌, ℕ, List, Option, None, Some, MatchOption, String, length, ap, refl, arith, subst}
+use Rattle.std.proofs.Common.{◌≡◌, ℕ, List, Option, None, Some, MatchOption, String, ap, refl, arith}
 use Rattle.std.specs.Option.{IfSome}
 use Rattle.textarea_text.specs.Place.{Place, IsPlaceOf}
 use Rattle.textarea_text.specs.Text.{lines, lines_of}
@@ -12,27 +12,27 @@ use Rattle.textarea_screen_map.specs.Seen.{IsAbove, IsBelow, IsInFirstRow, IsInL
 use Rattle.textarea_lines.specs.declared.settings.LayoutSettings.{LayoutSettings}
 use Rattle.textarea_lines.specs.Stored.{HoldsRows}
 use Rattle.textarea_lines.specs.Rows.{IsLaidOutAs, OfRows}
-use Rattle.textarea_lines.specs.Layout.{LaidOut, wrapping_of}
+use Rattle.textarea_lines.specs.Layout.{LaidOut}
 use Rattle.textarea_lines.proofs.Stores.{in_text, laid_out_as, seen, tab_len_of}
 
--- ---- steps, and places from which there is none, in rows at some tab stops
+-- ---- steps, and positions without a step, in rows at some tab stops
 
--- a place from which there is no step, and a step from one place to another
+-- a position without a step, and a step from one position to another
 abbrev pub Edge : Type 1
 Edge = ℕ → List (List ℕ) → List RowsView → Place → Type 0
 
 abbrev pub Step : Type 1
 Step = ℕ → List (List ℕ) → List RowsView → Place → Place → Type 0
 
--- a place is seen in one visual row at one column
+-- a position is in one visual row at one column
 abbrev pub IsSeenOnce : Type 0
 IsSeenOnce = (wrapping : Wrapping) (lines : List (List ℕ)) (rows : List RowsView) (place seen other : Place) → AreRowsOf wrapping lines rows → IsVisualPosition wrapping.tab_len lines rows place seen → IsVisualPosition wrapping.tab_len lines rows place other → seen ≡ other
 
--- the step leads from a place to one place
+-- the step leads from a position to only one position
 abbrev pub LeadsToOne : Step → Type 0
 LeadsToOne Goes = (wrapping : Wrapping) (lines : List (List ℕ)) (rows : List RowsView) (place target other : Place) → AreRowsOf wrapping lines rows → Goes wrapping.tab_len lines rows place target → Goes wrapping.tab_len lines rows place other → target ≡ other
 
--- the step leads nowhere from such a place
+-- there is no step from such a position
 abbrev pub EndsAt : Edge → Step → Type 0
 EndsAt Ends Goes = (wrapping : Wrapping) (lines : List (List ℕ)) (rows : List RowsView) (place target : Place) → AreRowsOf wrapping lines rows → Ends wrapping.tab_len lines rows place → Goes wrapping.tab_len lines rows place target → ⊥
 
@@ -46,26 +46,26 @@ none_below once w lines rows place target kept final h =
 
 -- ---- what is found
 
--- two places are one; a place and none contradict each other
+-- two positions are equal; a position and none contradict each other
 one_found : (Nothing : Type 0) (Goes : Place → Type 0) (found other : Option Place) → ((target : Place) → Nothing → Goes target → ⊥) → ((target more : Place) → Goes target → Goes more → target ≡ more) → MatchOption found Nothing Goes → MatchOption other Nothing Goes → found ≡ other
 one_found Nothing Goes None None ends one h k = refl
 one_found Nothing Goes None (Some target) ends one h k = absurd (ends target h k)
 one_found Nothing Goes (Some target) None ends one h k = absurd (ends target k h)
 one_found Nothing Goes (Some target) (Some more) ends one h k = ap Some (one target more h k)
 
--- what the rows of a text as it is laid out say is found from a place
+-- the result of a look-up from a position, in the rows of a text with its layout
 abbrev pub Finds : Edge → Step → LaidOut → Place → Option Place → Type 0
 Finds Ends Goes laid place found = OfRows laid (λ (rows : List RowsView). MatchOption found (Ends laid.layout.settings.tab_len (lines laid.text) rows place) (Goes laid.layout.settings.tab_len (lines laid.text) rows place))
 
 pub finds_once : (Ends : Edge) (Goes : Step) (laid : LaidOut) (place : Place) (found other : Option Place) → ((rows others : List RowsView) → IsLaidOutAs laid rows → IsLaidOutAs laid others → rows ≡ others) → EndsAt Ends Goes → LeadsToOne Goes → Finds Ends Goes laid place found → Finds Ends Goes laid place other → found ≡ other
 finds_once Ends Goes laid place found other one_list ends one h k = grind (arith, common_steps, tab_len_of, one_found)
 
--- of a target that is a place, both facts alone
+-- of a target with two facts, each fact
 targets : {X : Type 0} (o : Option X) (P : Type 0) (Q R : X → Type 0) → MatchOption o P (λ x. Q x × R x) → IfSome o Q × MatchOption o P R
 targets None P Q R h = (tt, h)
 targets (Some x) P Q R h = h
 
--- what the map finds in the lines that are lent
+-- what the map finds in the borrowed lines
 pub found_in_text : {Z : Type 0} (Ends : Edge) (Goes : Step) (settings : LayoutSettings) (items lent : List (String Z)) (size count : ℕ) (map : MapView) (laid : LaidOut) (place : Place) (found : Option Place) → HoldsRows settings items size map → lent ≡ items → seen settings items count map.rows ≡ laid → MatchOption found (Ends map.wrapping.tab_len (lines_of lent) map.rows place) (λ target. IsPlaceOf (lines_of lent) target × Goes map.wrapping.tab_len (lines_of lent) map.rows place target) → IfSome found (IsPlaceOf (lines laid.text)) × Finds Ends Goes laid place found
 found_in_text Ends Goes settings items lent size count map laid place found held lent_is is h =
     let tab_len = laid.layout.settings.tab_len in

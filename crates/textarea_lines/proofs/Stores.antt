@@ -1,4 +1,4 @@
--- Lines that are stored: how far a place can be, when the text is empty, and their size after a change.
+-- Stored lines: limits of positions, when the text is empty, and the size after a change.
 use Rattle.std.proofs.lemmas.Grind.{common_steps}
 use Rattle.std.proofs.Common.{◌≡◌, ℕ, zero, suc, ◌+◌, ◌<◌, ◌≤◌, true, false, cond, List, [], ◌∷◌, length, sym, ap, refl, ◌∙◌, arith, get_or, subst, String, string_bytes, encode_utf8_all}
 use Rattle.std.proofs.lemmas.Str.{IsUtf8-string_bytes, length-le-encodes, encodes-chars}
@@ -20,7 +20,7 @@ use Rattle.textarea_lines.specs.Rows.{IsLaidOutAs}
 use Rattle.textarea_lines.specs.Layout.{LaidOut}
 use Rattle.textarea_lines.specs.Stored.{IsStored, HoldsRows}
 
--- ---- places
+-- ---- positions
 
 -- a line's bytes are part of the size
 pub bytes_in_size : {Z : Type 0} (items : List (String Z)) (row : ℕ) → row < length items → length (encode_utf8_all (get_or (lines_of items) row [])) + 1 ≤ size_of items
@@ -32,7 +32,7 @@ pub small_place : {Z : Type 0} (items : List (String Z)) (size : ℕ) (place : P
 small_place items size place stored h =
     grind (arith, common_steps, rows_place items place stored.some h, row_within, length-le-size_of items, length-le-encodes (get_or (lines_of items) place.0 []), bytes_in_size)
 
--- ---- the lines of the text are those that are kept
+-- ---- the lines of the text are the stored ones
 
 pub lines_held : {Z : Type 0} (items : List (String Z)) → 0 < length items → lines (text_of items) ≡ lines_of items
 lines_held items some = lines-joined (lines_of items) (omega (arith, length-map items characters_of))
@@ -40,11 +40,11 @@ lines_held items some = lines-joined (lines_of items) (omega (arith, length-map 
 pub count_held : {Z : Type 0} (items : List (String Z)) → 0 < length items → length (lines (text_of items)) ≡ length items
 count_held items some = ap length (lines_held items some) ∙ length-map items characters_of
 
--- what clauses see of some lines with their rows
+-- what contracts see of some lines with their rows
 abbrev pub seen : {Z : Type 0} → LayoutSettings → List (String Z) → ℕ → List RowsView → LaidOut
 seen settings items count rows = record { text = text_of items; layout = record { settings = settings; count = count; ticks = ticks_of rows } }
 
--- the rows that are kept, cut as the settings say
+-- the stored rows, wrapped by the settings
 pub right_rows : {Z : Type 0} (settings : LayoutSettings) (items : List (String Z)) (size : ℕ) (map : MapView) → HoldsRows settings items size map → AreRowsOf (wrapping_for settings (length items)) (lines_of items) map.rows
 right_rows settings items size map h = subst (λ (w : Wrapping). AreRowsOf w (lines_of items) map.rows) h.wrapping_is h.laid_out
 
@@ -62,12 +62,12 @@ tab_len_of settings n =
 pub tab_len_kept : {Z : Type 0} (settings : LayoutSettings) (items : List (String Z)) (size : ℕ) (map : MapView) → HoldsRows settings items size map → map.wrapping.tab_len ≡ settings.tab_len
 tab_len_kept settings items size map h = ap (λ (w : Wrapping). w.tab_len) h.wrapping_is ∙ tab_len_of settings (length items)
 
--- a place of the text is one of the lines that are lent
+-- a position of the text is one of the borrowed lines
 pub place_in_lent : {Z : Type 0} (settings : LayoutSettings) (items lent : List (String Z)) (size count : ℕ) (map : MapView) (laid : LaidOut) (place : Place) → HoldsRows settings items size map → lent ≡ items → seen settings items count map.rows ≡ laid → IsPlace laid.text place → IsPlaceOf (lines_of lent) place
 place_in_lent settings items lent size count map laid place h lent_is is there =
     rw lent_is (rows_place items place h.stored.some (rw (← is) at there))
 
--- what is so of the lines that are lent, at the map's tab stops, is so of the text's
+-- what is true of the borrowed lines, at the map's tab stops, is true of the text's lines
 pub in_text : {Z : Type 0} (settings : LayoutSettings) (items lent : List (String Z)) (size count : ℕ) (map : MapView) (laid : LaidOut) (Fact : ℕ → List (List ℕ) → Type 0) → HoldsRows settings items size map → lent ≡ items → seen settings items count map.rows ≡ laid → Fact map.wrapping.tab_len (lines_of lent) → Fact laid.layout.settings.tab_len (lines laid.text)
 in_text settings items lent size count map laid Fact held lent_is is h =
     grind (arith, common_steps, lines_held items held.stored.some, tab_len_kept settings items size map held)

@@ -1,6 +1,6 @@
--- Lines that aren't wrapped, and an edit inside one of them.
+-- Lines that aren't wrapped, and a change inside one of them.
 use Rattle.std.proofs.lemmas.Grind.{common_steps}
-use Rattle.std.proofs.Common.{◌≡◌, ℕ, zero, suc, ◌+◌, ◌-◌, ◌<◌, ◌≤◌, Bool, true, false, cond, List, [], ◌∷◌, ◌++◌, length, take, drop, get_or, encode_utf8_all, sym, ap, refl, ◌∙◌, arith, subst, String, Result, Ok, Err, is_ok}
+use Rattle.std.proofs.Common.{◌≡◌, ℕ, zero, suc, ◌+◌, ◌-◌, ◌<◌, ◌≤◌, Bool, true, false, cond, List, [], ◌∷◌, ◌++◌, length, take, drop, get_or, encode_utf8_all, sym, ap, refl, ◌∙◌, arith, String, Result, Ok, Err, is_ok}
 use Rattle.std.specs.Result.{IsOk}
 use Rattle.std.proofs.lemmas.List.{get_or-append_right, length-map, length-take-le}
 use Rattle.textarea_util.specs.Limit.{size_limit}
@@ -60,7 +60,7 @@ total_next (r ∷ rows) (suc i) within =
     let next : suc i + 1 ≡ suc (i + 1) = omega arith in
     ap (λ n. row_total (take n (r ∷ rows))) next ∙ omega (arith, total_next rows i (omega arith))
 
--- a row that takes the place of one row
+-- one row is replaced by one row
 pub size_of_one : (rows new : List RowsView) (cut : RowsView) (row bytes : ℕ) → new ≡ cut ∷ [] → line_bytes cut.ranges ≡ bytes → (bytes + 1 ≡ size_total new) × (size_total (replaced rows row 1 new) ≡ size_total (take row rows) + (bytes + 1) + size_total (drop (row + 1) rows))
 size_of_one rows new cut row bytes is e =
     grind (arith, common_steps, size_total-append (take row rows) (new ++ drop (row + 1) rows), size_total-append new (drop (row + 1) rows))
@@ -73,13 +73,13 @@ pub pushed : {T E X : Type 0} (r : Result T E) (old new : List X) (x : X) → ne
 pushed (Ok v) old new x e h none = e ∙ ap (λ t. t ++ x ∷ []) none
 pushed (Err v) old new x e h none = absurd cc
 
--- ---- an edit inside one line
+-- ---- a change inside one line
 
 -- settings under which lines aren't wrapped, with these tab stops
 abbrev pub plain : ℕ → LayoutSettings
 plain tab_len = record { mode = mode.None; tab_len = tab_len; line_numbers = false; inner_width = 0 }
 
--- where lines aren't wrapped, only the map's tab stops are the settings'
+-- without wrapping, the map's wrapping differs only in the tab stops
 pub whole_kept : {Z : Type 0} (settings : LayoutSettings) (items : List (String Z)) (size : ℕ) (map : MapView) → HoldsRows settings items size map → is_wrapped settings ≡ false → map.wrapping ≡ whole_lines (plain map.wrapping.tab_len)
 whole_kept settings items size map h whole =
     by map.wrapping (h.wrapping_is ∙ whole_is settings (length items) whole)
@@ -87,7 +87,7 @@ whole_kept settings items size map h whole =
     by : (w : Wrapping) → w ≡ whole_lines settings → w ≡ whole_lines (plain w.tab_len)
     by w is = is ∙ ap (λ (n : ℕ). whole_lines (plain n)) (sym (ap (λ (v : Wrapping). v.tab_len) is))
 
--- an edit without a break was made in lines that aren't wrapped
+-- a change without a break, in lines that aren't wrapped
 pub record Inside {Z : Type 0} (settings : LayoutSettings) (old now lent : List (String Z)) (size after : ℕ) (map : MapView) (splice : Splice) (row : ℕ) : Type 0 where
   pub holds : HoldsRows settings old size map
   pub whole : is_wrapped settings ≡ false
@@ -108,7 +108,7 @@ inside_rows : {Z : Type 0} (settings : LayoutSettings) (old now lent : List (Str
 inside_rows settings old now lent size after map splice row h =
     rw (whole_is settings (length old) h.whole) at (right_rows settings old size map h.holds)
 
--- there are as many lines
+-- the number of lines is unchanged
 as_many : {Z : Type 0} (settings : LayoutSettings) (old now lent : List (String Z)) (size after : ℕ) (map : MapView) (splice : Splice) (row : ℕ) → Inside settings old now lent size after map splice row → length now ≡ length old
 as_many settings old now lent size after map splice row h =
     grind (arith, common_steps, inside_line settings old now lent size after map splice row h, length-map old characters_of, length-map now characters_of, length-replaced)
@@ -120,17 +120,17 @@ inside_stored settings old now lent size after map splice row h = record {
   limit = h.limit;
 }
 
--- the bytes and the lines, where one line takes the place of another
+-- the bytes and the lines, when one line is replaced
 weight_replaced : (lines : List (List ℕ)) (row : ℕ) (line : List ℕ) → weight (following (replaced lines row 1 (line ∷ []))) ≡ weight (following (take row lines)) + line_size line + weight (following (drop (row + 1) lines))
 weight_replaced lines row line =
     grind (arith, common_steps, following-append (take row lines) (line ∷ drop (row + 1) lines), weight-append (following (take row lines)) (following (line ∷ drop (row + 1) lines)), weight-append (characters line) (following (drop (row + 1) lines)), weight-characters line)
 
--- the line that is lent is the one that came
+-- the borrowed line is the new one
 line_lent : {Z : Type 0} (settings : LayoutSettings) (old now lent : List (String Z)) (size after : ℕ) (map : MapView) (splice : Splice) (row : ℕ) (h : Inside settings old now lent size after map splice row) → get_or (lines_of lent) row [] ≡ (inside_line settings old now lent size after map splice row h).line
 line_lent settings old now lent size after map splice row h =
     grind (arith, common_steps, inside_line settings old now lent size after map splice row h, length-take-le, get_or-append_right)
 
--- the line can be cut
+-- the line can be wrapped
 pub can_cut : {Z : Type 0} (settings : LayoutSettings) (old now lent : List (String Z)) (size after : ℕ) (map : MapView) (splice : Splice) (row : ℕ) → Inside settings old now lent size after map splice row → CanStayWhole lent map.rows row
 can_cut settings old now lent size after map splice row h =
     let line = inside_line settings old now lent size after map splice row h in
@@ -163,7 +163,7 @@ holds_inside settings old now lent size after map new splice row tick h k same =
           (AreRowsOf-replaced (whole_lines settings) (lines_of old) (line.line ∷ []) map.rows (k.cut ∷ []) row 1 right (cut, tt));
     }
 
--- where lines aren't wrapped, one line is cut
+-- without wrapping, one line is wrapped again
 recut_one : (layout : Layout) (n row going coming : ℕ) → is_wrapped layout.settings ≡ false → going ≡ 1 → coming ≡ 1 → after_replacement layout n row going coming ≡ some_cut layout row 1 1
 recut_one layout n row going coming whole one one' = rw (whole, one, one')
 

@@ -1,4 +1,4 @@
--- Lines that are lent with their rows, and lines at an inner width that is prepared.
+-- Lines that are borrowed with their rows, and lines at a prepared inner width.
 use Rattle.std.proofs.lemmas.Grind.{common_steps}
 use Rattle.std.proofs.Common.{arith, ◌≡◌, ℕ, ◌+◌, ◌<◌, ◌≤◌, Bool, true, false, cond, List, Option, Some, None, length, sym, ap, ◌∙◌, refl, subst, String}
 use Rattle.std.specs.Option.{IfSome}
@@ -20,12 +20,12 @@ use Rattle.textarea_lines.proofs.Changes.{Reviewing, holds_whole, holds_wrapped,
 use Rattle.textarea_lines.proofs.SameCuts.{kept_whole, kept_wrapped}
 use Rattle.textarea_lines.proofs.Stores.{count_held, laid_out_as, lines_held, seen, tab_len_of}
 
--- lines are held with these rows, and that is what clauses see of them
+-- the lines are stored with these rows, and contracts see them so
 pub record Holds {Z : Type 0} (settings : LayoutSettings) (items : List (String Z)) (size count : ℕ) (map : MapView) (laid : LaidOut) : Type 0 where
   pub rows : HoldsRows settings items size map
   pub is : seen settings items count map.rows ≡ laid
 
--- ---- lines that are lent
+-- ---- borrowed lines
 
 pub is_lent : {Z : Type 0} (settings : LayoutSettings) (items lent : List (String Z)) (size count : ℕ) (map : MapView) (laid : LaidOut) → Holds settings items size count map laid → lent ≡ items → IsLent lent map
 is_lent settings items lent size count map laid h is =
@@ -41,9 +41,9 @@ is_view settings items lent size count map laid h lent_is =
       rows = laid_out_as settings items size count map laid h.rows h.is;
     }
 
--- ---- lines that are cut anew
+-- ---- lines that are wrapped from scratch
 
--- lines that are lent are cut: so the text is, and each line once
+-- if borrowed lines are wrapped, the text is, and each line once
 pub whole_cut : {Z : Type 0} (settings : LayoutSettings) (items lent : List (String Z)) (count now : ℕ) (rows : List RowsView) (map : MapView) (laid : LaidOut) (wrapping : Wrapping) → 0 < length items → seen settings items count rows ≡ laid → lent ≡ items → map.wrapping ≡ wrapping → AreRowsOf map.wrapping (lines_of lent) map.rows → ticks_of map.rows ≡ ticks_behind count (length lent) → now ≡ count + length lent → IsWholeCut laid wrapping (record { map = map; count = now })
 whole_cut settings items lent count now rows map laid wrapping some is lent_is wrapping_is right ticks counted =
     let same : lines laid.text ≡ lines_of lent = ap (λ (l : LaidOut). lines l.text) (sym is) ∙ lines_held items some ∙ ap lines_of (sym lent_is) in
@@ -56,7 +56,7 @@ whole_cut settings items lent count now rows map laid wrapping some is lent_is w
       count = counted ∙ ap (λ n. n + length lent) count_is ∙ ap (λ n. laid.layout.count + n) many;
     }
 
--- they are cut for settings under which they are cut in another way
+-- they are wrapped for settings that change how they are wrapped
 pub cut_for : {Z : Type 0} (old settings : LayoutSettings) (items : List (String Z)) (count : ℕ) (rows : List RowsView) (laid : LaidOut) (before after : Wrapping) (cut : CutAnew) → Reviewing old settings items count rows laid before after → is_same after before ≡ false → IsWholeCut laid after cut → IsCutFor laid settings cut
 cut_for old settings items count rows laid before after cut h differs whole =
     let same : lines laid.text ≡ lines_of items = ap (λ (l : LaidOut). lines l.text) (sym h.is) ∙ lines_held items h.some in
@@ -66,18 +66,18 @@ cut_for old settings items count rows laid before after cut h differs whole =
       whole = subst (λ (w : Wrapping). IsWholeCut laid w cut) (h.after_is ∙ ap (wrapping_for settings) many) whole;
     }
 
--- rows that are kept beside those that stand are all lines of the text, cut
+-- the cached rows are all lines of the text, wrapped
 whole_kept : {Z : Type 0} (settings : LayoutSettings) (items : List (String Z)) (count : ℕ) (rows : List RowsView) (laid : LaidOut) (wrapping : Wrapping) (next : Option CutAnew) (cut : CutAnew) → 0 < length items → seen settings items count rows ≡ laid → next ≡ Some cut → IfSome next (IsNextCut count items) → cut.map.wrapping ≡ wrapping → IsWholeCut laid wrapping cut
 whole_kept settings items count rows laid wrapping next cut some is there kept wrapping_is =
     grind (arith, common_steps, whole_cut settings items items count cut.count rows cut.map laid wrapping some is)
 
--- and so are those that are taken of them
+-- and so are those that are taken from the cache
 pub whole_taken : {Z : Type 0} (settings : LayoutSettings) (items : List (String Z)) (count : ℕ) (rows : List RowsView) (laid : LaidOut) (wrapping : Wrapping) (next taken : Option CutAnew) → 0 < length items → seen settings items count rows ≡ laid → IfSome next (IsNextCut count items) → IfSome taken (λ cut. next ≡ Some cut) → IfSome taken (λ cut. cut.map.wrapping ≡ wrapping) → IfSome taken (IsWholeCut laid wrapping)
 whole_taken settings items count rows laid wrapping next None some is kept there wrapping_is = tt
 whole_taken settings items count rows laid wrapping next (Some cut) some is kept there wrapping_is =
     whole_kept settings items count rows laid wrapping next cut some is there kept wrapping_is
 
--- all lines of the text, cut, can be kept beside those that stand
+-- all lines of the text, wrapped, can be cached
 pub next_cut : {Z : Type 0} (settings : LayoutSettings) (items : List (String Z)) (count : ℕ) (rows : List RowsView) (laid : LaidOut) (wrapping : Wrapping) (cut : CutAnew) → 0 < length items → seen settings items count rows ≡ laid → IsWholeCut laid wrapping cut → IsNextCut count items cut
 next_cut settings items count rows laid wrapping cut some is whole =
     let same : lines laid.text ≡ lines_of items = ap (λ (l : LaidOut). lines l.text) (sym is) ∙ lines_held items some in
@@ -89,7 +89,7 @@ next_cut settings items count rows laid wrapping cut some is whole =
       count_is = whole.count ∙ ap (λ n. n + length (lines laid.text)) count_is ∙ ap (λ n. count + n) many;
     }
 
--- they are held with their new rows
+-- they are stored with their new rows
 pub holds_cut : {Z : Type 0} (old settings : LayoutSettings) (items : List (String Z)) (size count : ℕ) (map : MapView) (laid : LaidOut) (cut : CutAnew) → Holds old items size count map laid → IsCutFor laid settings cut → Holds settings items size cut.count cut.map (laid_out_with laid settings)
 holds_cut old settings items size count map laid cut h k =
     let same : lines laid.text ≡ lines_of items = ap (λ (l : LaidOut). lines l.text) (sym h.is) ∙ lines_held items h.rows.stored.some in
@@ -105,9 +105,9 @@ holds_cut old settings items size count map laid cut h k =
           ∙ ap (λ (b : Bool). cond b (record { text = laid.text; layout = record { settings = settings; count = laid.layout.count; ticks = laid.layout.ticks } }) (laid_out_anew settings laid.layout.count laid.text)) (sym k.differs);
     }
 
--- ---- lines that are cut as before
+-- ---- lines that are wrapped as before
 
--- at the same tab stops, lines that are cut in the same way are cut by one wrapping
+-- at the same tab stops, lines that are wrapped in the same way have one wrapping
 kept_at : (old settings : LayoutSettings) (n : ℕ) (before : Wrapping) → settings.tab_len ≡ old.tab_len → before ≡ wrapping_for old n → is_same (wrapping_for settings n) before ≡ true → before ≡ wrapping_for settings n
 kept_at old settings n before tab is same = by (is_wrapped settings) refl
   where
@@ -118,7 +118,7 @@ kept_at old settings n before tab is same = by (is_wrapped settings) refl
     by true wrapped = kept_wrapped settings n before wrapped same
     by false whole = sym stops ∙ kept_whole old settings n before is whole same
 
--- as they stand, and as they are kept
+-- of the text, and of the stored lines
 stays_same : {Z : Type 0} (old settings : LayoutSettings) (items : List (String Z)) (size count : ℕ) (map : MapView) (laid : LaidOut) → Holds old items size count map laid → stays_cut laid settings ≡ true → is_same (wrapping_for settings (length items)) map.wrapping ≡ true
 stays_same old settings items size count map laid h stays = grind (arith, common_steps, count_held items h.rows.stored.some)
 
@@ -129,7 +129,7 @@ seen_kept old settings items size count map rows laid h stays rows_are =
     ∙ ap (λ (l : LaidOut). record { text = l.text; layout = record { settings = settings; count = l.layout.count; ticks = l.layout.ticks } }) h.is
     ∙ ap (λ (b : Bool). cond b (record { text = laid.text; layout = record { settings = settings; count = laid.layout.count; ticks = laid.layout.ticks } }) (laid_out_anew settings laid.layout.count laid.text)) (sym stays)
 
--- their rows stay right: at the same tab stops, where they are wrapped, and where they are not, at the new tab stops
+-- their rows remain right: at the same tab stops if they are wrapped, otherwise at the new ones
 pub holds_kept : {Z : Type 0} (old settings : LayoutSettings) (items : List (String Z)) (size count : ℕ) (map : MapView) (laid : LaidOut) → Holds old items size count map laid → settings.tab_len ≡ old.tab_len → stays_cut laid settings ≡ true → Holds settings items size count map (laid_out_with laid settings)
 holds_kept old settings items size count map laid h tab stays =
     record {
@@ -155,9 +155,9 @@ holds_kept_whole old settings items size count map now laid h whole stays rows_a
       is = seen_kept old settings items size count map now.rows laid h stays rows_are;
     }
 
--- ---- a width that is prepared
+-- ---- a prepared width
 
--- the map of the rows at a width that is prepared, and the count there, where they are these now
+-- the map at a prepared width, and the count there
 abbrev pub map_at : Option CutAnew → MapView → MapView
 map_at None map = map
 map_at (Some cut) map = cut.map

@@ -1,4 +1,4 @@
--- What has to be ready before lines give place to others, and what is ready then.
+-- The condition of a replacement of lines, and what is prepared for it.
 use Rattle.std.specs.Prelude.{◌≡◌, ℕ, ◌+◌, ◌^◌, ◌<◌, ◌≤◌, List, String, length, vec_len}
 use Rattle.std.specs.declared.alloc.Global.{Global}
 use Rattle.textarea_text.specs.Text.{lines_of}
@@ -11,14 +11,14 @@ use Rattle.textarea_lines.specs.declared.settings.LayoutSettings.{LayoutSettings
 use Rattle.textarea_lines.specs.Layout.{after_replacement, count_after, layout_of, lines_after}
 use Rattle.textarea_lines.specs.Wrappings.{wrapping_for}
 
--- the map has right rows of the lines, cut as the settings say, and the replacement is of some of them
+-- the map has the rows of the lines, wrapped by the settings, and the replacement is within them
 pub record CanReplace (settings : LayoutSettings) (lines : List (String Global)) (map : MapView) (replacement : Replacement) : Type 0 where
   pub rows : AreRowsOf map.wrapping (lines_of lines) map.rows
   pub wrapping : map.wrapping ≡ wrapping_for settings (length lines)
   pub within : replacement.row + replacement.count ≤ length lines
   pub few : length lines + vec_len replacement.lines < 2 ^ 63
 
--- the map has room for these rows, with which it has right rows of the lines after the replacement, and the count is the one then
+-- the map has room for these rows, and with them the right rows and count after the replacement
 pub record AreReadyRows (settings : LayoutSettings) (lines : List (String Global)) (map : MapView) (replacement : Replacement) (count after : ℕ) (prepared : PreparedRows) : Type 0 where
   pub ready : IsReady map prepared
   pub wrapping : prepared.wrapping ≡ wrapping_for settings (count_after (length lines) replacement)

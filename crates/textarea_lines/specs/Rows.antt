@@ -1,4 +1,4 @@
--- The rows behind what clauses see of a text.
+-- The visual rows of a text, which contracts see only through its layout.
 use Rattle.std.specs.Prelude.{◌≡◌, ℕ, ◌+◌, ◌<◌, ◌≤◌, true, List, Option, MatchOption, String, [], ◌∷◌, encode_utf8_all, get_or, length, take, drop}
 use Rattle.std.specs.Str.{all_scalars}
 use Rattle.textarea_util.specs.Limit.{size_limit}
@@ -14,38 +14,37 @@ use Rattle.textarea_screen_map.specs.Map.{IsRowCount}
 use Rattle.textarea_screen_map.specs.Seen.{IsAbove, IsBelow, IsInFirstRow, IsInLastRow}
 use Rattle.textarea_lines.specs.Layout.{LaidOut, wrapping_at, wrapping_of}
 
--- these are right rows of the text as it stands, cut when the layout says
+-- these are the right rows of the current text, with the ticks of its layout
 pub record IsLaidOutAs (laid : LaidOut) (rows : List RowsView) : Type 0 where
   pub laid_out : AreRowsOf (wrapping_of laid) (lines laid.text) rows
   pub ticks : ticks_of rows ≡ laid.layout.ticks
 
--- the fact holds of the text's rows
+-- a fact about the text's rows
 abbrev pub OfRows : LaidOut → (List RowsView → Type 0) → Type 0
 OfRows laid Fact = (rows : List RowsView) × IsLaidOutAs laid rows × Fact rows
 
--- where a cursor goes one visual row up from a place of the text, in the rows of the text as it stands; none from the first
--- visual row
+-- where a cursor moves one visual row up from a position; none from the first visual row
 abbrev pub IsFoundAbove : LaidOut → Place → Option Place → Type 0
 IsFoundAbove laid place found = OfRows laid (λ rows. MatchOption found
     (IsInFirstRow laid.layout.settings.tab_len (lines laid.text) rows place)
     (IsAbove laid.layout.settings.tab_len (lines laid.text) rows place))
 
--- where it goes one visual row down; none from the last visual row
+-- where it moves one visual row down; none from the last visual row
 abbrev pub IsFoundBelow : LaidOut → Place → Option Place → Type 0
 IsFoundBelow laid place found = OfRows laid (λ rows. MatchOption found
     (IsInLastRow laid.layout.settings.tab_len (lines laid.text) rows place)
     (IsBelow laid.layout.settings.tab_len (lines laid.text) rows place))
 
--- the text has this many visual rows in all where it is laid out anew in an inner area of this width
+-- the number of visual rows of the text when it is wrapped in an inner area of this width
 abbrev pub IsRowCountAt : LaidOut → ℕ → ℕ → Type 0
 IsRowCountAt laid inner_width count = IsRowCount (wrapping_at laid inner_width) (lines laid.text) count
 
--- the bytes of a line, and the line itself
+-- the bytes of a line, plus one for the line itself
 abbrev pub line_size : List ℕ → ℕ
 line_size line = length (encode_utf8_all line) + 1
 
--- what has to hold of a line and of the rows that are kept, so that the line is cut as one that isn't wrapped and its one row
--- takes the place of the one that it had: with it, all lines are within the limit
+-- What a line needs so that it can be wrapped without a width, and its one row can replace the one
+-- that it had: with it, all lines are within the limit.
 pub record CanStayWhole {Z : Type 0} (lines : List (String Z)) (rows : List RowsView) (row : ℕ) : Type 0 where
   pub within : row < length lines
   pub same : length rows ≡ length lines
@@ -53,8 +52,8 @@ pub record CanStayWhole {Z : Type 0} (lines : List (String Z)) (rows : List Rows
   pub few : row_total rows ≤ size_limit
   pub size : size_total (take row rows) + line_size (get_or (lines_of lines) row []) + size_total (drop (row + 1) rows) ≤ size_limit
 
--- the line in the row, given by its characters, each of them one of Unicode's, is shorter than 2^48 bytes and was cut as one
--- that isn't wrapped, with this tick; all others keep their rows
+-- The line `row`, given by its characters, which are Unicode scalar values, is shorter than 2^48
+-- bytes and has one new row with this tick. All other lines keep their rows.
 pub record HasWholeLine (tab_len : ℕ) (line : List ℕ) (row tick : ℕ) (old new : List RowsView) : Type 0 where
   pub cut : RowsView
   pub new_is : new ≡ replaced old row 1 (cut ∷ [])

@@ -1,4 +1,4 @@
--- What holds of all lines with their rows.
+-- The invariant of lines with their rows.
 use Rattle.std.specs.Prelude.{◌≡◌, ℕ, ◌+◌, ◌-◌, ◌<◌, ◌≤◌, List, length, String, Option, IfSome, if◌then◌else◌}
 use Rattle.textarea_util.specs.Limit.{size_limit}
 use Rattle.textarea_text.specs.declared.util.Pos.{Pos}
@@ -14,35 +14,35 @@ use Rattle.textarea_lines.specs.declared.cut.Measured.{Measured}
 use Rattle.textarea_lines.specs.Wrappings.{wrapping_for}
 use Rattle.textarea_screen_map.specs.Map.{IsRowCount, MapView}
 
--- there is a line; the bytes and the lines, summed, are the size that is kept, and at most 2^48
+-- there is a line; the stored size is the bytes and the number of the lines, and at most 2^48
 pub record IsStored {Z : Type 0} (lines : List (String Z)) (size : ℕ) : Type 0 where
   pub some : 0 < length lines
   pub size_is : size ≡ size_of lines
   pub limit : size ≤ size_limit
 
--- how large lines of this size are after the splice
+-- the size of the lines after the splice
 abbrev pub size_after : ℕ → Splice → ℕ
 size_after size splice = if splice.inserts then size + weight splice.symbols else size - weight splice.symbols
 
--- the lines are stored, and the map has right rows of them as they stand, cut as the settings say
+-- the lines are stored, and the map has their right rows, wrapped by the settings
 pub record HoldsRows {Z : Type 0} (settings : LayoutSettings) (lines : List (String Z)) (size : ℕ) (map : MapView) : Type 0 where
   pub stored : IsStored lines size
   pub wrapping_is : map.wrapping ≡ wrapping_for settings (length lines)
   pub laid_out : AreRowsOf map.wrapping (lines_of lines) map.rows
 
--- the position is a place of the lines, and so many bytes of its line stand before it
+-- `found` is a position in the lines, with the number of bytes before it in its line
 pub record IsFound {Z : Type 0} (lines : List (String Z)) (found : Pos) : Type 0 where
   pub place : IsPlaceOf (lines_of lines) (found.row, found.col)
   pub offset : found.offset ≡ offset_at (lines_of lines) (found.row, found.col)
 
--- all lines are cut once more, with the next ticks of the count: rows that can take the place of those that stand
+-- all lines are wrapped again, with the next ticks: these rows can replace the current ones
 pub record IsNextCut {Z : Type 0} (count : ℕ) (lines : List (String Z)) (cut : CutAnew) : Type 0 where
   pub rows : AreRowsOf cut.map.wrapping (lines_of lines) cut.map.rows
   pub ticks : ticks_of cut.map.rows ≡ ticks_behind count (length lines)
   pub count_is : cut.count ≡ count + length lines
 
--- the rows are held; what was measured last, if it is known, is true of the lines as they stand; rows that are kept beside, if
--- there are any, are those that come next; and the place that was found last stands where it was found
+-- The rows are stored. If there is a last measurement, it is true of the current lines. If there
+-- are cached rows, they have the next ticks. The stored position is one of the lines.
 pub record KeepsRows {Z : Type 0} (settings : LayoutSettings) (lines : List (String Z)) (size : ℕ) (map : MapView) (last : Option Measured) (count : ℕ) (next : Option CutAnew) (found : Pos) : Type 0 where
   pub held : HoldsRows settings lines size map
   pub measured : IfSome last (λ measured. IsRowCount measured.wrapping (lines_of lines) measured.rows)

@@ -1,4 +1,4 @@
--- How a text of so many lines is cut into rows.
+-- How a text of a number of lines is wrapped.
 use Rattle.std.specs.Prelude.{ℕ, ◌==◌, ◌&&◌, ◌||◌, Bool, true, false, not, unwrap_or, if◌then◌else◌}
 use Rattle.textarea_wrap.specs.declared.wrap.WrapMode.{WrapMode}
 use Rattle.textarea_wrap.specs.declared.wrap.WrapMode.TheVariants as mode
@@ -17,12 +17,12 @@ wraps mode.WordOrGlyph = true
 abbrev pub is_wrapped : LayoutSettings → Bool
 is_wrapped settings = not (settings.inner_width == 0) && wraps settings.mode
 
--- One row a line. The width counts for nothing there, and is 1, so that this is one value however many lines there are.
+-- Each line is one row. The width is ignored; it is 1 for every number of lines.
 abbrev pub whole_lines : LayoutSettings → Wrapping
 whole_lines settings = record { mode = mode.None; width = 1; tab_len = settings.tab_len }
 
--- Rows in an inner area of this many columns: at the width that is left beside line numbers of so many lines, and at 1 where
--- none is left. In the mode `None`, in which each line is one row, the width is 1 as well.
+-- Rows in an inner area of this many columns: at the width beside line numbers of `line_count`
+-- lines, and at 1 if none remains. In the mode `None` each line is one row, at width 1.
 abbrev pub cut_at_width : LayoutSettings → ℕ → ℕ → Wrapping
 cut_at_width settings inner_width line_count = record {
   mode = settings.mode;
@@ -30,7 +30,7 @@ cut_at_width settings inner_width line_count = record {
   tab_len = settings.tab_len;
 }
 
--- how a text of so many lines is cut
+-- how a text of `line_count` lines is wrapped
 abbrev pub wrapping_for : LayoutSettings → ℕ → Wrapping
 wrapping_for settings line_count = if is_wrapped settings then cut_at_width settings settings.inner_width line_count else whole_lines settings
 
@@ -41,6 +41,6 @@ is_same_mode mode.Glyph mode.Glyph = true
 is_same_mode mode.WordOrGlyph mode.WordOrGlyph = true
 is_same_mode one other = false
 
--- lines are cut in the same way: in the same mode and, where it wraps, at the same width and with the same tab stops
+-- lines are wrapped in one way: in the same mode and, if it wraps, at the same width and tab stops
 abbrev pub is_same : Wrapping → Wrapping → Bool
 is_same one other = is_same_mode one.mode other.mode && (not (wraps one.mode) || ((one.width == other.width) && (one.tab_len == other.tab_len)))

@@ -1,5 +1,5 @@
-//! Rows of some lines, cut one after the other.
-ghost use Rattle.std.specs.Prelude.{◌≡◌, ◌≢◌, ◌+◌, ◌-◌, ◌^◌, ◌<◌, ◌≤◌, ◌++◌, List, ℕ, [], encode_utf8_all, get_or, length, vec_capacity, vec_len, IfNone, IfOk, IfSome, None, OnOk, Some};
+//! Wrapping of lines for a change.
+ghost use Rattle.std.specs.Prelude.{◌≡◌, ◌≢◌, ◌+◌, ◌-◌, ◌^◌, ◌<◌, ◌≤◌, ◌++◌, [], get_or, length, vec_capacity, vec_len, IfOk, None, OnOk};
 ghost use Rattle.textarea_text.specs.Text.{lines_of};
 ghost use Rattle.textarea_screen_map.specs.Layout.{AreRowsOf, ticks_behind, ticks_of};
 ghost use Rattle.textarea_blocks.specs.Blocks.{all_rows};
@@ -15,28 +15,28 @@ use textarea_screen_map::screen_map::{NewRows, PreparedRows, ScreenMap};
 use textarea_text::rows::Replacement;
 use textarea_wrap::wrap::{Rows, WrapCount, WrapMode, line_ranges};
 
-// How many rows the lines have in all where they are cut so.
+// The number of visual rows of all lines at a wrapping.
 #[derive(Clone, Copy, Debug, PartialEq, Eq)]
 pub struct Measured {
     pub wrapping: Wrapping,
     pub rows: usize,
 }
 
-// The rows of all lines, cut anew, and the count afterwards.
+// The visual rows of all lines, wrapped from scratch, and the counter after that.
 #[derive(Drop)]
 pub struct CutAnew {
     pub map: ScreenMap,
     pub count: WrapCount,
 }
 
-// Lets go of the rows that are kept, if there are any.
+// Drops the cached rows, if there are any.
 pub(crate) fn let_go(kept: &mut Option<CutAnew>)
     ensures { kept.new ≡ None }
 {
     *kept = None;
 }
 
-// The rows of all lines after the replacement: of those above it, of its lines, and of those below it.
+// Returns the rows of all lines after the replacement: above it, in it, and below it.
 fn rows_after(
     alloc: Global,
     lines: &[String],
@@ -51,6 +51,7 @@ fn rows_after(
         AreRowsOf wrapping (lines_after lines.now replacement.now) (all_rows rows.blocks)) }
     ensures ticks { IfOk result (λ rows. ticks_of (all_rows rows.blocks)
         ≡ ticks_behind count.old (count_after (length lines.now) replacement.now)) }
+    ensures never_less { count.old ≤ count.new }
 {
     let mut rows = RowBlocks::new(alloc);
     push_lines(alloc, &mut rows, &lines[..replacement.row], wrapping, count)?;
@@ -66,8 +67,8 @@ fn rows_after(
     Ok(rows)
 }
 
-// The rows for the lines after the replacement: those of its lines, or of all lines where their number changes how they are
-// cut.
+// Returns the rows to put in for the replacement: those of its lines, or of all lines if the new
+// number of lines changes how lines are wrapped.
 fn prepare_rows(
     alloc: Global,
     map: &mut ScreenMap,
@@ -81,6 +82,7 @@ fn prepare_rows(
     ensures same_wrapping { map.new.wrapping ≡ map.old.wrapping }
     ensures ready { IfOk result
         (AreReadyRows settings lines.now map.new replacement.now count.old count.new) }
+    ensures never_less { count.old ≤ count.new }
 {
     let new = replacement.lines.as_slice();
     let before = map.wrapping();
@@ -92,7 +94,7 @@ fn prepare_rows(
     map.make_room(0, lines.len(), NewRows::Many(rows), after)
 }
 
-// Cuts what has to be cut for the new lines, and makes room for them and their rows. Lines and rows stay as they are.
+// Wraps lines for the replacement and reserves room. Lines and rows don't change yet.
 pub(crate) fn make_ready(
     lines: &mut Vec<String>,
     map: &mut ScreenMap,
@@ -124,8 +126,8 @@ pub(crate) fn make_ready(
     Ok((prepared, after))
 }
 
-// Cuts a line that isn't wrapped, and puts its row in the place of the one that it had; `rows` has room for it, so this takes
-// no memory.
+// Replaces the row of a line that isn't wrapped. `rows` has room for the new row, so this allocates
+// nothing.
 pub(crate) fn put_whole_line(
     alloc: Global,
     map: &mut ScreenMap,

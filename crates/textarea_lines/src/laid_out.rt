@@ -1,4 +1,4 @@
-//! The lines of a text with their visual rows, kept line by line.
+//! The lines of a text with their visual rows.
 mod width;
 
 ghost use Rattle.std.specs.Prelude.{◌≡◌, ◌+◌, ◌-◌, ◌<◌, ◌≤◌, ◌↔◌, [], length, vec_len, false, true, IfOk, IfSome, IsOk, IsTrue, OnErr, OnOk, if◌then◌else◌};
@@ -30,10 +30,9 @@ use textarea_util::limit::within_limit;
 use textarea_wrap::wrap::WrapCount;
 pub use width::PreparedWidth;
 
-/// Lines of text, one at least, and the rows into which each is cut. A change cuts the lines that it touches, and all lines
-/// only where the number of lines changes how they are cut.
-///
-/// Rows and columns count from 0, columns in characters. A call that runs out of memory leaves all as it was.
+/// The lines of a text, at least one, with their visual rows. A change wraps the lines that it
+/// touches, or all lines if the new number of lines changes how lines are wrapped. Rows and columns
+/// count from 0, columns in characters. A call that runs out of memory changes nothing.
 #[derive(Drop)]
 pub struct LaidOutLines {
     lines: Vec<String>,
@@ -67,7 +66,7 @@ impl Model for LaidOutLines {
 impl Clone for LaidOutLines {
     ghost is_clone = { λ laid copy. copy ≡ laid };
 
-    /// The same lines with the same rows, or an error where there is no memory for them. No line is cut.
+    /// Returns the same lines with the same rows, or an error if memory runs out. Wraps no line.
     fn clone(&self) -> Result<LaidOutLines, AllocError> {
         Ok(LaidOutLines {
             lines: self.lines.clone()?,
@@ -83,8 +82,8 @@ impl Clone for LaidOutLines {
 }
 
 impl LaidOutLines {
-    /// These lines, seen under the settings; no line at all becomes one empty line. A line feed inside a line stays a
-    /// character of that line. Each line is cut once.
+    /// Returns these lines under the settings, each wrapped once. An empty list becomes one empty
+    /// line. A line feed inside a line remains a character of that line.
     pub fn new(
         alloc: Global,
         mut lines: Vec<String>,
@@ -98,7 +97,7 @@ impl LaidOutLines {
         LaidOutLines::lay_out(lines, settings, WrapCount::new())
     }
 
-    // The lines, cut anew where the count stands.
+    // Wraps all lines from scratch, each adding one to `count`.
     fn lay_out(
         lines: Vec<String>,
         settings: LayoutSettings,
@@ -123,8 +122,8 @@ impl LaidOutLines {
         })
     }
 
-    /// The lines, one at least. Their bytes and their number together are at most 2^48, so the row of a place is less than
-    /// 2^48 and its column at most that.
+    /// Returns the lines, at least one. Their bytes and their number together are at most 2^48, so
+    /// a position's row is less than 2^48, and its column is at most that.
     pub fn lines(&self) -> &[String]
         ensures value { text_of result.now ≡ self.now.text }
         ensures lines { lines_of result.now ≡ lines self.now.text }
@@ -136,26 +135,26 @@ impl LaidOutLines {
         self.lines.as_slice()
     }
 
-    /// Where all memory of the lines and their rows comes from.
+    /// Returns the allocator of the lines and their rows.
     pub fn allocator(&self) -> Global {
         *self.lines.allocator()
     }
 
-    /// What decides how the lines are cut and seen.
+    /// Returns the settings that determine how lines are wrapped.
     pub fn layout_settings(&self) -> LayoutSettings
         ensures { result ≡ self.now.layout.settings }
     {
         self.settings
     }
 
-    /// Whether the text is one empty line.
+    /// Returns whether the text is one empty line.
     pub fn is_empty(&self) -> bool
         ensures { IsTrue result ↔ (self.now.text ≡ []) }
     {
         self.lines.len() == 1 && self.lines[0].is_empty()
     }
 
-    /// The lines alone.
+    /// Returns only the lines.
     pub fn into_lines(self) -> Vec<String>
         ensures text { text_of result.items ≡ self.text }
         ensures some { 0 < vec_len result }
@@ -164,7 +163,7 @@ impl LaidOutLines {
         lines
     }
 
-    /// Holds these lines in place of the others, seen under the same settings. Each is cut once.
+    /// Replaces all lines, under the same settings. Wraps each line once.
     pub fn set_lines(&mut self, lines: Vec<String>) -> Result<(), AllocError>
         requires { 0 < vec_len lines }
         ensures ok { OnOk result (self.new
@@ -176,8 +175,8 @@ impl LaidOutLines {
         Ok(())
     }
 
-    /// Sets what decides how the lines are cut and seen. They are cut anew, each once, only where they are cut in another
-    /// way, and only then memory is taken.
+    /// Sets the layout settings. If this changes how lines are wrapped, all lines are wrapped, each
+    /// once. Otherwise this allocates nothing.
     pub fn set_layout_settings(&mut self, settings: LayoutSettings) -> Result<(), AllocError>
         ensures ok { OnOk result (self.new ≡ laid_out_with self.old settings) }
         ensures err { OnErr result (self.new ≡ self.old) }
@@ -188,14 +187,14 @@ impl LaidOutLines {
         Ok(())
     }
 
-    /// How many visual rows the lines have in all.
+    /// Returns the number of visual rows.
     pub fn row_count(&self) -> usize
         ensures { OfRows self.now (λ rows. result ≡ row_total rows) }
     {
         self.map.row_count()
     }
 
-    /// The visual row in which a place of the text is seen, and its display column there.
+    /// Returns the visual row and the display column of a position in the text.
     pub fn visual_position(&self, place: (usize, usize)) -> (usize, usize)
         requires { IsPlace self.now.text place }
         ensures { OfRows self.now (λ rows. IsVisualPosition
@@ -204,7 +203,7 @@ impl LaidOutLines {
         self.map.visual_position(self.lines.as_slice(), place)
     }
 
-    /// Where a cursor goes from a place of the text, one visual row up; none from the first visual row.
+    /// Returns where a cursor moves one visual row up; `None` in the first visual row.
     pub fn above(&self, place: (usize, usize)) -> Option<(usize, usize)>
         requires { IsPlace self.now.text place }
         ensures place { IfSome result (IsPlace self.now.text) }
@@ -213,7 +212,7 @@ impl LaidOutLines {
         self.map.above(self.lines.as_slice(), place)
     }
 
-    /// Where a cursor goes from a place of the text, one visual row down; none from the last visual row.
+    /// Returns where a cursor moves one visual row down; `None` in the last visual row.
     pub fn below(&self, place: (usize, usize)) -> Option<(usize, usize)>
         requires { IsPlace self.now.text place }
         ensures place { IfSome result (IsPlace self.now.text) }
@@ -222,10 +221,10 @@ impl LaidOutLines {
         self.map.below(self.lines.as_slice(), place)
     }
 
-    /// How many visual rows the lines would have in all in an inner area of this width, in columns. Where they are cut so as
-    /// they stand, and so always in the mode `None`, it takes no memory. What is seen of the lines stays as it is, the count
-    /// too. Rows that are cut for it are kept beside those that stand, where there is memory for them, until the lines change
-    /// or are cut in a third way.
+    /// Returns the number of visual rows in an inner area of this width, in columns. Allocates
+    /// nothing if the lines are already wrapped in that way, which they always are in the mode
+    /// `None`. The current rows and the count don't change. Rows that are wrapped for this are
+    /// cached, if memory suffices, until the lines change or are wrapped in a third way.
     pub fn rows_at_width(&mut self, inner_width: u16) -> Result<usize, AllocError>
         ensures same { self.new ≡ self.old }
         ensures rows { IfOk result (IsRowCountAt self.old inner_width) }
@@ -246,8 +245,8 @@ impl LaidOutLines {
         Ok(rows)
     }
 
-    // How many rows the lines would have in all where they are cut so. Each is cut once, and the rows are kept where there is
-    // memory for them.
+    // Returns the number of visual rows at this wrapping. Wraps each line, and caches the rows if
+    // memory suffices.
     fn measure_anew(&mut self, wrapping: Wrapping) -> Result<usize, AllocError>
         ensures same { self.new ≡ self.old }
         ensures rows { IfOk result (IsRowCount wrapping (lines self.old.text)) }
@@ -263,8 +262,8 @@ impl LaidOutLines {
         }
     }
 
-    /// The bytes of its line before a place of the text. Near the place where a change was made last in place, only what stands
-    /// between the two is walked, however long the line is.
+    /// Returns the bytes before a position in its line. Near the last in-place change, only the
+    /// text between the two positions is read, however long the line is.
     pub fn offset_of(&self, place: (usize, usize)) -> usize
         requires { IsPlace self.now.text place }
         ensures { result ≡ offset_at (lines self.now.text) place }
@@ -289,7 +288,7 @@ impl LaidOutLines {
         self.apply_by_lines(change, size)
     }
 
-    // Makes a change by new lines in the place of those that it touches; the size is that of the lines afterwards.
+    // Makes a change by replacing the lines that it touches. `size` is that of all lines then.
     fn apply_by_lines(&mut self, change: Change<'_>, size: usize) -> Result<(), AllocError>
         requires fits { Fits self.old.text change }
         requires size { size ≡ weight (applied self.old.text change) + 1 }
@@ -302,8 +301,8 @@ impl LaidOutLines {
         self.replace(replacement, size)
     }
 
-    // Makes a change inside one line in place, where lines aren't wrapped: the rest of the text is not looked at. The change
-    // takes all memory, and comes first.
+    // Makes a change inside one line in place, when lines aren't wrapped. The rest of the text
+    // isn't read. All that can run out of memory comes first.
     fn apply_inside(&mut self, change: Change<'_>, size: usize) -> Result<(), AllocError>
         requires fits { Fits self.old.text change }
         requires inside { breaks_of change.symbols ≡ 0 }
@@ -327,7 +326,7 @@ impl LaidOutLines {
         Ok(())
     }
 
-    // Puts new lines in the place of others, with their rows; the size is that of the lines afterwards. All memory is taken
+    // Replaces lines with their rows. `size` is that of all lines then. All memory is allocated
     // before the first change.
     fn replace(&mut self, replacement: Replacement, size: usize) -> Result<(), AllocError>
         requires within { replacement.row + replacement.count ≤ length (lines self.old.text) }
@@ -355,7 +354,7 @@ impl LaidOutLines {
     }
 }
 
-// How large the lines are after the change; more than the limit is out of memory.
+// Returns the size of the lines after the change. Out of memory above the limit.
 fn size_after(size: usize, change: &Change<'_>) -> Result<usize, AllocError>
     ensures size { IfOk result (λ after. after ≡ size_after size change.now) }
     ensures limit { IsOk result ↔ (size_after size change.now ≤ size_limit) }

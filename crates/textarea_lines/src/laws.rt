@@ -1,4 +1,4 @@
-//! Laws of lines with their rows, each the contract of a function that does nothing.
+//! Laws of lines with their visual rows. Each is the contract of a function without effect.
 ghost use Rattle.std.specs.Prelude.{◌≡◌, ◌<◌, ◌≤◌, ℕ, List, Option};
 ghost use Rattle.textarea_text.specs.Place.{Place};
 ghost use Rattle.textarea_text.specs.Splice.{Fits, Splice};
@@ -13,8 +13,8 @@ ghost use Rattle.textarea_lines.specs.declared.settings.LayoutSettings.{LayoutSe
 
 use textarea_screen_map::laws::{one_map, seen_once};
 
-/// A text as it is laid out has one list of right rows: what is seen of it decides all of them. So a contract
-/// that speaks of right rows, as that of `row_count`, speaks of one list.
+/// A text with its layout has only one list of right rows. So a contract that mentions right rows,
+/// such as that of `row_count`, is about that list.
 pub fn one_list_of_rows()
     ensures { (laid : LaidOut) (rows others : List RowsView) →
         IsLaidOutAs laid rows → IsLaidOutAs laid others → rows ≡ others }
@@ -22,8 +22,7 @@ pub fn one_list_of_rows()
     one_map();
 }
 
-/// What `above` and `below` find from a place of a text as it is laid out, a place or none, is settled by the text, its layout
-/// and the place.
+/// The results of `above` and `below` depend only on the text, its layout and the position.
 pub fn one_place_up_and_down()
     ensures above { (laid : LaidOut) (place : Place) (found other : Option Place) →
         IsFoundAbove laid place found → IsFoundAbove laid place other → found ≡ other }
@@ -34,7 +33,7 @@ pub fn one_place_up_and_down()
     seen_once();
 }
 
-/// A text as it is laid out is lent in one way.
+/// A text with its layout has only one view.
 pub fn one_view()
     ensures { (laid : LaidOut) (view other : LentRows) →
         IsViewOf laid view → IsViewOf laid other → view ≡ other }
@@ -42,15 +41,15 @@ pub fn one_view()
     one_list_of_rows();
 }
 
-/// A text that is laid out for an inner area of a column or more is cut as it is measured for one of that width.
+/// Setting an inner width of at least one column wraps lines as measuring at that width does.
 pub fn cut_as_measured()
     ensures { (laid : LaidOut) (inner_width : ℕ) → 0 < inner_width →
         wrapping_of (laid_out_with laid (at_width laid inner_width))
         ≡ wrapping_at laid inner_width }
 {}
 
-/// A text that is laid out with settings stays the same text and has these settings then, and laid out with the settings that it
-/// has, it stays as it is: nothing is cut.
+/// Other settings don't change the text, and are its settings then. Setting the current settings
+/// changes nothing and wraps nothing.
 pub fn settings_stay()
     ensures text { (laid : LaidOut) (settings : LayoutSettings) →
         (laid_out_with laid settings).text ≡ laid.text }
@@ -59,9 +58,10 @@ pub fn settings_stay()
     ensures again { (laid : LaidOut) → laid_out_with laid laid.layout.settings ≡ laid }
 {}
 
-/// What a splice of a text cuts. Where it leaves the width of the map, the count grows by its breaks and one if it inserts, and by
-/// one if it removes; the rows of the lines that it touches have ticks above the old count, and every other line keeps its rows,
-/// tick included. Where it changes that width, each line is cut, and the count grows by the number of lines then.
+/// The lines that a splice wraps. If it doesn't change the width of the map, the count increases by
+/// its breaks plus one if it inserts, and by one if it removes. The rows of the lines that it
+/// touches have ticks above the old count, and all other lines keep their rows, tick included. If
+/// it changes that width, each line is wrapped, and the count increases by the new number of lines.
 pub fn splices_cut()
     ensures { (laid : LaidOut) (splice : Splice) → Fits laid.text splice →
         IsSpliced laid splice (applied_to laid splice) }
@@ -69,9 +69,9 @@ pub fn splices_cut()
     one_map();
 }
 
-/// What else cuts lines. Another inner width cuts each line where it changes the width of the map, other settings where they cut
-/// lines in another way, and other lines that take the place of all always: the count grows by the number of lines then. Where
-/// lines are cut as before, count and ticks stay.
+/// The other calls that wrap lines. Another inner width wraps each line if it changes the width of
+/// the map, other settings if they change how lines are wrapped, and replacing all lines always.
+/// The count then increases by the number of lines. Otherwise count and ticks don't change.
 pub fn settings_cut()
     ensures width { (laid : LaidOut) (inner_width : ℕ) →
         IsWidened laid (laid_out_with laid (at_width laid inner_width)) }
@@ -81,7 +81,7 @@ pub fn settings_cut()
         CutsAllLines laid (laid_out_anew laid.layout.settings laid.layout.count text) }
 {}
 
-/// Whatever is cut, the count never falls.
+/// The count never decreases.
 pub fn count_never_falls()
     ensures splices { (old new : LaidOut) (splices : List Splice) → AreSpliced old splices new →
         old.layout.count ≤ new.layout.count }

@@ -1,4 +1,4 @@
-//! What decides how the lines of a text are cut into rows, besides the lines.
+//! Settings that determine how the lines of a text are wrapped.
 ghost use Rattle.std.specs.Prelude.{◌≡◌};
 ghost use Rattle.textarea_lines.specs.Wrappings.{cut_at_width, is_same, is_wrapped, wrapping_for};
 
@@ -6,8 +6,8 @@ use textarea_screen_map::layout::Wrapping;
 use textarea_wrap::layout::LayoutMetrics;
 use textarea_wrap::wrap::WrapMode;
 
-/// How lines are cut and seen: the mode, the columns between tab stops, whether each line has its number beside it, and the
-/// columns of the inner area, line numbers included. At an inner width of 0 lines aren't wrapped.
+/// How lines are wrapped: the mode, the columns between tab stops, whether lines have line numbers,
+/// and the columns of the inner area, line numbers included. With 0 columns no line is wrapped.
 #[derive(Clone, Copy, Debug, PartialEq, Eq)]
 pub struct LayoutSettings {
     pub mode: WrapMode,
@@ -16,14 +16,14 @@ pub struct LayoutSettings {
     pub inner_width: u16,
 }
 
-/// Whether lines are wrapped. Where they aren't, each line is one row.
+/// Returns whether lines are wrapped. If not, each line is one row.
 pub fn is_wrapped(settings: LayoutSettings) -> bool
     ensures { result ≡ is_wrapped settings }
 {
     settings.inner_width != 0 && settings.mode != WrapMode::None
 }
 
-/// How a text of so many lines is cut. Line numbers take columns away, one more for each digit more.
+/// Returns how a text of `line_count` lines is wrapped. Each digit of line numbers takes a column.
 pub fn wrapping_for(settings: LayoutSettings, line_count: usize) -> Wrapping
     ensures { result ≡ wrapping_for settings line_count }
 {
@@ -37,8 +37,8 @@ pub fn wrapping_for(settings: LayoutSettings, line_count: usize) -> Wrapping
     }
 }
 
-/// How a text of so many lines would be cut in an inner area of this width, in columns; where line numbers leave none, as in
-/// one of one column.
+/// Returns how a text of `line_count` lines would be wrapped in an inner area of this width, in
+/// columns. If line numbers leave no column, the width is 1.
 pub fn wrapping_at(settings: LayoutSettings, inner_width: u16, line_count: usize) -> Wrapping
     ensures { result ≡ cut_at_width settings inner_width line_count }
 {
@@ -55,7 +55,7 @@ pub fn wrapping_at(settings: LayoutSettings, inner_width: u16, line_count: usize
     }
 }
 
-/// Whether lines are cut in the same way under both: where the mode wraps, the width and the tab stops count too.
+/// Returns whether both wrap lines alike. Width and tab stops matter only if the mode wraps.
 pub fn is_same(one: Wrapping, other: Wrapping) -> bool
     ensures { result ≡ is_same one other }
 {

@@ -1,4 +1,4 @@
--- The course of inputs behind others.
+-- The course of inputs after others.
 use Rattle.std.proofs.Common.{◌≡◌, ℕ, ◌+◌, Bool, true, false, List, [], ◌∷◌, ◌++◌, ap, refl, sym, ◌∙◌, append_assoc, append-nil, arith}
 use Rattle.std.proofs.lemmas.Bool.{false≢true}
 use Rattle.textarea_data.specs.declared.input.Input.{Input}
@@ -7,7 +7,7 @@ use Rattle.textarea_modal.specs.Course.{Course, before, course, stays, unless}
 use Rattle.textarea_modal.specs.Table.{Step, step}
 use Rattle.textarea_modal.specs.declared.mode.Mode.{Mode}
 
--- the later course behind the earlier one
+-- the later course after the earlier one
 abbrev pub joined : Course → Course → Course
 joined earlier later = record {
   calls = earlier.calls ++ later.calls;
@@ -35,7 +35,7 @@ goes_on : (quits : Bool) (mode : Mode) (earlier : Course) → (unless quits mode
 goes_on true mode earlier goes = absurd (false≢true (sym goes))
 goes_on false mode earlier goes = refl
 
--- behind inputs none of which quits the others go on
+-- if no earlier input quits, the later inputs follow
 pub course-append : (mode : Mode) (earlier later : List Input) → (course mode earlier).quits ≡ false → course mode (earlier ++ later) ≡ joined (course mode earlier) (course (course mode earlier).mode later)
 course-append mode [] later goes = same_course _ _ _ _ _ _ refl (omega arith)
 course-append mode (input ∷ earlier) later goes =
@@ -48,14 +48,14 @@ unless_same : (quits : Bool) (this : Step) (whole part : Course) → (unless qui
 unless_same true this whole part ends same = refl
 unless_same false this whole part ends same = ap (before this) (same ends)
 
--- behind an input that quits none is used
+-- no input is used after one that quits
 pub course-end : (mode : Mode) (earlier later : List Input) → (course mode earlier).quits ≡ true → course mode (earlier ++ later) ≡ course mode earlier
 course-end mode [] later ends = absurd (false≢true ends)
 course-end mode (input ∷ earlier) later ends =
     let this = step mode input in
     unless_same this.quits this (course this.mode (earlier ++ later)) (course this.mode earlier) ends (course-end this.mode earlier later)
 
--- the course of an input of this step alone
+-- the course of one input with this step
 abbrev pub alone : Step → Course
 alone this = record { calls = this.calls; mode = this.mode; taken = 1; quits = this.quits }
 
@@ -65,7 +65,7 @@ before_none true this is =
 before_none false this is =
     rw is (same_course _ _ this.mode _ _ false (append-nil this.calls) (omega arith))
 
--- the course of inputs and one more
+-- the course of inputs and one more input
 pub course-more : (mode : Mode) (earlier : List Input) (input : Input) → (course mode earlier).quits ≡ false → course mode (earlier ++ input ∷ []) ≡ joined (course mode earlier) (alone (step (course mode earlier).mode input))
 course-more mode earlier input goes =
     let this = step (course mode earlier).mode input in

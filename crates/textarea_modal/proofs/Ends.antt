@@ -1,4 +1,4 @@
--- How a run of inputs goes on by one input, and how it ends.
+-- The continuation of a run of inputs by one input, and its end.
 use Rattle.std.proofs.Common.{◌≡◌, ℕ, ◌+◌, ◌<◌, Bool, true, false, List, [], ◌∷◌, ◌++◌, take, drop, length, get_or, ap, sym, subst, ◌∙◌, arith, length-append}
 use Rattle.std.proofs.lemmas.List.{append_assoc, take-append-drop, take_more}
 use Rattle.textarea_data.specs.declared.input.Input.{Input}
@@ -11,7 +11,7 @@ use Rattle.textarea_modal.specs.declared.mode.Mode.{Mode}
 use Rattle.textarea_modal.proofs.Courses.{alone, course-append, course-end, course-more, joined}
 use Rattle.textarea_modal.proofs.Runs.{made_behind, refused_behind}
 
--- an input more, whose calls are all made, and which may quit
+-- one more input, whose calls are all made, and which may quit
 pub finishes_more : (old mid new : State) (from mode to : Mode) (earlier : List Input) (input : Input) (taken : ℕ) (quits : Bool) → Finishes old from earlier mid mode taken false → AllMade mid (step mode input).calls new → to ≡ (step mode input).mode → quits ≡ (step mode input).quits → Finishes old from (earlier ++ input ∷ []) new to (taken + 1) quits
 finishes_more old mid new from mode to earlier input taken quits so_far made to_is quits_is =
     let this = step (course from earlier).mode input in
@@ -25,7 +25,7 @@ finishes_more old mid new from mode to earlier input taken quits so_far made to_
       quit = quits_is ∙ ap (λ (m : Mode). (step m input).quits) so_far.mode ∙ ap (λ (c : Course). c.quits) (sym all);
     }
 
--- behind an input that quits none is used
+-- no input is used after one that quits
 pub finishes_at_quit : (old new : State) (from to : Mode) (earlier later : List Input) (taken : ℕ) → Finishes old from earlier new to taken true → Finishes old from (earlier ++ later) new to taken true
 finishes_at_quit old new from to earlier later taken so_far =
     let all : course from earlier ≡ course from (earlier ++ later) = sym (course-end from earlier later (sym so_far.quit)) in
@@ -36,14 +36,14 @@ finishes_at_quit old new from to earlier later taken so_far =
       quit = so_far.quit ∙ ap (λ (c : Course). c.quits) all;
     }
 
--- the inputs up to an index, the one there and those behind it
+-- the inputs up to an index, the input there, and the inputs after it
 pub inputs_split : (inputs : List Input) (index : ℕ) (input : Input) → index < length inputs → take index inputs ++ get_or inputs index input ∷ drop (index + 1) inputs ≡ inputs
 inputs_split inputs index input within =
     sym (append_assoc (take index inputs) (get_or inputs index input ∷ []) (drop (index + 1) inputs))
     ∙ ap (λ (l : List Input). l ++ drop (index + 1) inputs) (sym (take_more inputs index input within))
     ∙ take-append-drop (index + 1) inputs
 
--- a call of the input there is refused
+-- a call of the input there runs out of memory
 pub runs_out : (old mid new : State) (from mode : Mode) (inputs : List Input) (input : Input) (index taken : ℕ) → index < length inputs → Finishes old from (take index inputs) mid mode taken false → OneRefused mid (step mode (get_or inputs index input)).calls new → RunsOut old from inputs new mode index
 runs_out old mid new from mode inputs input index taken within so_far refused =
     let earlier = take index inputs in

@@ -1,4 +1,4 @@
--- Runs of calls that draw nothing, one behind another.
+-- Runs of calls that draw nothing, one after another.
 use Rattle.std.proofs.Common.{◌≡◌, lit<, ℕ, ◌+◌, ◌<◌, true, false, List, [], ◌∷◌, ◌++◌, map, take, length, get_or, slice_get, Some, OnErr, Result, Ok, Err, ap, refl, sym, subst, ◌∙◌, arith, length-append}
 use Rattle.std.proofs.Math.Seq.{take-append-add}
 use Rattle.std.proofs.lemmas.List.{append-nil, map-append, take-append-le, get_or-append-add, get_or_append_left}
@@ -28,7 +28,7 @@ use Rattle.textarea_modal.specs.Runs.{AllMade, OneRefused, RefusedAt}
 
 -- ---- calls that draw nothing
 
--- the call leaves the buffer as it is, made or refused
+-- the call leaves the buffer unchanged, whether it is made or runs out of memory
 pub record DrawsNothing (call : Call) : Type 0 where
   pub made : (state : State) (buffer : Buffer) → IsShown call state buffer buffer
   pub refused : (buffer : Buffer) → IsSpared call buffer buffer
@@ -56,7 +56,7 @@ draws_nothing (key.Set asked) = draws_nothing_of (call_of_setting asked) (settin
 draws_nothing (key.SearchForward at_cursor) = draws_nothing_of (call.SearchForward at_cursor) refl
 draws_nothing (key.SearchBack at_cursor) = draws_nothing_of (call.SearchBack at_cursor) refl
 
--- ---- one call more
+-- ---- ---- one more call
 
 pub on_err : {T E P : Type 0} (result : Result T E) → P → OnErr result P
 on_err (Ok value) holds = tt
@@ -70,14 +70,14 @@ on_err_weaker (Err error) weaker holds = weaker holds
 pub none_made : (state : State) → AllMade state [] state
 none_made state = record { answers = []; run = λ buffer. (refl, refl) }
 
--- the calls before this one were made, and then it was
+-- the calls before this one were made, and then this one
 pub made_more : (old mid new : State) (calls : List Call) (index : ℕ) (call : Call) (answer : Answer) → index < length calls → call ≡ get_or calls index call → AllMade old (take index calls) mid → IsAnswer mid call (said answer) → IsBehind mid call (said answer) new → DrawsNothing call → AllMade old (take (index + 1) calls) new
 made_more old mid new calls index call answer within is_call so_far answered behind nothing = record {
   answers = so_far.answers ++ answer ∷ [];
   run = λ buffer. leads_more old mid new buffer buffer buffer calls so_far.answers index call answer within is_call (so_far.run buffer) (record { answered = answered; behind = behind; drawn = nothing.made new buffer });
 }
 
--- or it was refused
+-- the calls before this one were made, and this one ran out of memory
 pub refused_here : (old mid new : State) (calls : List Call) (index : ℕ) (call : Call) → index < length calls → call ≡ get_or calls index call → AllMade old (take index calls) mid → Refused mid call new → DrawsNothing call → OneRefused old calls new
 refused_here old mid new calls index call within is_call so_far refused nothing = record {
   index = index;
@@ -96,7 +96,7 @@ refused_here old mid new calls index call within is_call so_far refused nothing 
   };
 }
 
--- ---- runs behind runs
+-- ---- ---- runs after runs
 
 Leads-behind : (old mid new : State) (buffer screen shown : Buffer) (calls later : List Call) (answers others : List Said) → Leads old buffer calls answers mid screen → Leads mid screen later others new shown → Leads old buffer (calls ++ later) (answers ++ others) new shown
 Leads-behind old mid new buffer screen shown [] later [] others earlier rest =
@@ -111,14 +111,14 @@ leads_behind old mid new buffer calls later answers others earlier rest =
     subst (λ (all : List Said). Leads old buffer (calls ++ later) all new buffer) (sym (map-append said answers others))
     (Leads-behind old mid new buffer buffer buffer calls later (map said answers) (map said others) earlier rest)
 
--- calls were made behind others
+-- calls were made after others
 pub made_behind : (old mid new : State) (calls later : List Call) → AllMade old calls mid → AllMade mid later new → AllMade old (calls ++ later) new
 made_behind old mid new calls later earlier rest = record {
   answers = earlier.answers ++ rest.answers;
   run = λ buffer. leads_behind old mid new buffer calls later earlier.answers rest.answers (earlier.run buffer) (rest.run buffer);
 }
 
--- the call that stands at an index behind others, whatever comes after them all
+-- the call at an index of the later calls, whatever follows them
 call_behind : (calls later rest : List Call) (index : ℕ) (call : Call) → index < length later → slice_get later index ≡ Some call → slice_get (calls ++ (later ++ rest)) (length calls + index) ≡ Some call
 call_behind calls later rest index call within here =
     let all = calls ++ (later ++ rest) in
@@ -144,7 +144,7 @@ stops_behind old mid new buffer calls later rest answers others index within ear
   spared = stopped.spared;
 }
 
--- a call was refused behind others, whatever would have come after it
+-- a call after others ran out of memory, whatever follows it
 pub refused_behind : (old mid new : State) (calls later rest : List Call) (index : ℕ) → AllMade old calls mid → RefusedAt mid later index new → RefusedAt old (calls ++ (later ++ rest)) (length calls + index) new
 refused_behind old mid new calls later rest index earlier refused = record {
   within = omega (arith, refused.within, length-append calls (later ++ rest), length-append later rest);
@@ -152,7 +152,7 @@ refused_behind old mid new calls later rest index earlier refused = record {
   run = λ buffer. stops_behind old mid new buffer calls later rest earlier.answers refused.answers index refused.within (earlier.run buffer) (refused.run buffer);
 }
 
--- a call was made, and then one of others was refused
+-- a call was made, and then one of others ran out of memory
 pub one_refused_behind : (old mid new : State) (first : Call) (later : List Call) → AllMade old (first ∷ []) mid → OneRefused mid later new → OneRefused old (first ∷ later) new
 one_refused_behind old mid new first later earlier one = record {
   index = length (first ∷ []) + one.index;
@@ -160,7 +160,7 @@ one_refused_behind old mid new first later earlier one = record {
       (refused_behind old mid new (first ∷ []) later [] one.index earlier one.refused);
 }
 
--- a move alone
+-- a single move
 pub moved : (old new : State) (cursor_move : CursorMove) → IsBehind old (call.Move cursor_move) Done new → AllMade old (call.Move cursor_move ∷ []) new
 moved old new cursor_move behind =
     let made = call.Move cursor_move in

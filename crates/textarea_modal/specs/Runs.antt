@@ -1,4 +1,4 @@
--- Runs of a modal editor: the runs of the calls of its inputs.
+-- Runs of a modal editor, as runs of the calls of its inputs.
 use Rattle.std.specs.Prelude.{◌≡◌, ◌≤◌, ◌<◌, ℕ, ◌+◌, Bool, true, false, List, length, take, None}
 use Rattle.textarea_data.specs.declared.input.Input.{Input}
 use Rattle.textarea_screen.specs.declared.screen.buffer.Buffer.{Buffer}
@@ -11,30 +11,30 @@ use Rattle.textarea_modal.specs.declared.mode.Mode.{Mode}
 use Rattle.textarea_modal.specs.declared.modal.ModalStop.{ModalStop}
 use Rattle.textarea_modal.specs.declared.modal.ModalStop.TheVariants.{End, Quit, Memory}
 
--- the run of all calls gives some answers and leads to the new state. Whatever buffer the run has, it stays as it is
+-- the run of all the calls has some results, ends in the new state, and leaves any buffer unchanged
 pub record AllMade (old : State) (calls : List Call) (new : State) : Type 0 where
   pub answers : List Answer
   pub run : (buffer : Buffer) → Run old buffer calls answers None new buffer
 
--- the run of the calls is refused at this index, one of theirs, and leaves the new state
+-- the run ends at the call of this index, which runs out of memory and leaves the new state
 pub record RefusedAt (old : State) (calls : List Call) (index : ℕ) (new : State) : Type 0 where
   pub within : index < length calls
   pub answers : List Answer
   pub run : (buffer : Buffer) → StopsAt old buffer calls answers index new buffer
 
--- the run of the calls is refused at one of them
+-- the run ends at one of the calls, which runs out of memory
 pub record OneRefused (old : State) (calls : List Call) (new : State) : Type 0 where
   pub index : ℕ
   pub refused : RefusedAt old calls index new
 
--- the run of the inputs' calls comes to its end, and mode, number and reason are those of the table
+-- the inputs' calls are all made; mode, number of used inputs and reason are those of the table
 pub record Finishes (old : State) (from : Mode) (inputs : List Input) (new : State) (to : Mode) (taken : ℕ) (quits : Bool) : Type 0 where
   pub made : AllMade old (course from inputs).calls new
   pub mode : to ≡ (course from inputs).mode
   pub number : taken ≡ (course from inputs).taken
   pub quit : quits ≡ (course from inputs).quits
 
--- the run of the inputs' calls is refused at a call of the input of this index: none before it quit, and the mode is that before it
+-- a call of the input at this index runs out of memory; the mode is the one before the input
 pub record RunsOut (old : State) (from : Mode) (inputs : List Input) (new : State) (to : Mode) (taken : ℕ) : Type 0 where
   pub within : taken < length inputs
   pub none_quit : (course from (take taken inputs)).quits ≡ false
@@ -44,7 +44,7 @@ pub record RunsOut (old : State) (from : Mode) (inputs : List Input) (new : Stat
   pub ahead : index < length (course from (take (taken + 1) inputs)).calls
   pub refused : RefusedAt old (course from inputs).calls index new
 
--- the inputs lead from one state and mode to another, where so many are used and this is the reason
+-- the outcome of the inputs from a state and a mode: state, mode, number of used inputs, reason
 abbrev pub EndsAs : State → Mode → List Input → State → Mode → ℕ → ModalStop → Type 0
 EndsAs old from inputs new to taken End = Finishes old from inputs new to taken false
 EndsAs old from inputs new to taken Quit = Finishes old from inputs new to taken true

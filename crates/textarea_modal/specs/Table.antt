@@ -1,6 +1,7 @@
--- The keys of a modal editor, mode by mode: which calls on the text area a key makes, one after another, the mode behind them, and
--- whether it quits. What is held is written as in the tables of the text area's own keys: `plain` neither Ctrl nor Alt, `ctrl` Ctrl
--- and not Alt, `any` whatever is. Shift is free.
+-- The keys of a modal editor in each mode: the calls on the text area that a key makes, in order,
+-- the mode after them, and whether it quits. Modifiers are written as in the text area's key
+-- tables: `plain` is neither Ctrl nor Alt, `ctrl` is Ctrl only, `any` is any of them. Shift is
+-- ignored.
 use Rattle.std.specs.Prelude.{◌≡◌, ℕ, Bool, true, false, ◌&&◌, List, [], ◌∷◌, ◌++◌, codes, find, Option, Some, None}
 use Rattle.std.specs.Option.{option_map}
 use Rattle.textarea_data.specs.declared.input.Input.{Input}
@@ -19,36 +20,36 @@ use Rattle.textarea_modal.specs.declared.mode.Op.TheVariants.{Delete, Yank, Chan
 
 -- ---- steps
 
--- what a key comes to: its calls, the mode behind them, and whether it quits
+-- what a key does: its calls, the mode after them, and whether it quits
 pub record Step : Type 0 where
   pub calls : List Call
   pub mode : Mode
   pub quits : Bool
 
--- these calls, and then that mode
+-- these calls, and then this mode
 abbrev pub goes : List Call → Mode → Step
 goes calls mode = record { calls = calls; mode = mode; quits = false }
 
--- no call, and the end
+-- no call, and the end of the run
 abbrev pub quits_from : Mode → Step
 quits_from mode = record { calls = []; mode = mode; quits = true }
 
--- ---- rows
+-- ---- ---- cases
 
--- whether a key is one of these, where Ctrl and Alt are held or not
+-- whether a key, with Ctrl and Alt held or not, is one of these inputs
 abbrev pub fits : Key → Bool → Bool → Inputs → Bool
 fits asked with_ctrl with_alt (held, keys) = is_held held with_ctrl with_alt && has keys asked
 
--- some keys, and the step of each
+-- keys, and the step that they all have
 abbrev pub Row : Type 0
 Row = Inputs × Step
 
--- the step of the row, or else this one
+-- the step of the case, or else this step
 abbrev pub step_in : Option Row → Step → Step
 step_in None other = other
 step_in (Some row) other = row.1
 
--- the step of a key by its row, the only one that has it, or else this step
+-- the step of a key by its case, which is the only one that has the key, or else this step
 unfoldable pub step_by : List Row → Step → Key → Bool → Bool → Step
 step_by rows other asked with_ctrl with_alt =
     step_in (find (λ row. fits asked with_ctrl with_alt row.0) rows) other
@@ -72,23 +73,23 @@ motions =
     ∷ (chars plain (codes "G"), move.Bottom)
     ∷ []
 
--- the move of a key that is a motion
+-- the move of a key, if it is a motion
 unfoldable pub motion_of : Key → Bool → Bool → Option CursorMove
 motion_of asked with_ctrl with_alt =
     option_map (λ row. row.1) (find (λ row. fits asked with_ctrl with_alt row.0) motions)
 
--- the step of a motion, by its move, or else that of another key
+-- the step of a motion, by its move, or else this step
 abbrev pub step_over : Option CursorMove → (CursorMove → Step) → Step → Step
 step_over (Some cursor_move) by_move other = by_move cursor_move
 step_over None by_move other = other
 
--- a motion in a mode that stays
+-- a motion that doesn't change the mode
 abbrev pub move_in : Mode → CursorMove → Step
 move_in mode cursor_move = goes (call.Move cursor_move ∷ []) mode
 
 -- ---- Normal
 
--- the keys that are no motions
+-- the keys that are not motions
 unfoldable pub normal : List Row
 normal =
     (chars plain (codes "i"), goes [] Insert)
@@ -117,7 +118,7 @@ normal =
 
 -- ---- Visual
 
--- the keys that are no motions
+-- the keys that are not motions
 unfoldable pub visual : List Row
 visual =
     (chars plain (codes "dx"), goes (call.Cut ∷ []) Normal)
@@ -135,28 +136,28 @@ letter Delete = codes "d"
 letter Yank = codes "y"
 letter Change = codes "c"
 
--- what an operator makes of what is selected
+-- the call of an operator on the selection
 abbrev pub takes : Op → Call
 takes Delete = call.Cut
 takes Yank = call.Copy
 takes Change = call.Cut
 
--- the mode behind it
+-- the mode after an operator
 abbrev pub mode_behind : Op → Mode
 mode_behind Delete = Normal
 mode_behind Yank = Normal
 mode_behind Change = Insert
 
--- what an operator does behind these calls
+-- these calls, and then an operator
 abbrev pub operates : Op → List Call → Step
 operates op calls = goes (calls ++ takes op ∷ []) (mode_behind op)
 
--- the moves over what an operator takes: WordEnd stops before a word's last character, so one more goes behind it
+-- the moves over an operator's text; WordEnd stops before a word's last character: one more
 abbrev pub moves_over : CursorMove → List Call
 moves_over move.WordEnd = call.Move move.WordEnd ∷ call.Move move.Forward ∷ []
 moves_over cursor_move = call.Move cursor_move ∷ []
 
--- the keys that are no motions: an operator's own letter stands for the whole line
+-- the keys that are not motions: the operator's own letter means the whole line
 abbrev pub operator : Op → List Row
 operator op =
     (chars plain (letter op), operates op (call.Move move.Head ∷ call.StartSelection ∷ call.Move move.End ∷ []))
@@ -164,7 +165,7 @@ operator op =
 
 -- ---- Insert
 
--- the keys that aren't handed on
+-- the keys that are not passed to the text area
 unfoldable pub insert : List Row
 insert =
     (one any key.Esc, goes [] Normal)
@@ -173,43 +174,43 @@ insert =
 
 -- ---- all modes
 
--- what a key comes to in Normal
+-- the step of a key in Normal
 abbrev pub step_in_normal : Key → Bool → Bool → Step
 step_in_normal asked with_ctrl with_alt =
     step_over (motion_of asked with_ctrl with_alt) (move_in Normal)
     (step_by normal (goes [] Normal) asked with_ctrl with_alt)
 
--- in Visual
+-- the step of a key in Visual
 abbrev pub step_in_visual : Key → Bool → Bool → Step
 step_in_visual asked with_ctrl with_alt =
     step_over (motion_of asked with_ctrl with_alt) (move_in Visual)
     (step_by visual (goes [] Visual) asked with_ctrl with_alt)
 
--- behind an operator: a motion that it goes over, or its own letter, or else that nothing is selected any more
+-- after an operator: a motion, the operator's own letter, or else the end of the selection
 abbrev pub step_behind : Op → Key → Bool → Bool → Step
 step_behind op asked with_ctrl with_alt =
     step_over (motion_of asked with_ctrl with_alt) (λ cursor_move. operates op (moves_over cursor_move))
     (step_by (operator op) (goes (call.CancelSelection ∷ []) Normal) asked with_ctrl with_alt)
 
--- the call of the text area's own keys, of an input like this one
+-- the call that passes an input to the text area
 abbrev pub handed_on : Input → Call
 handed_on input = call.Input (record { ref_ptr = (0, 0); now = input })
 
--- an input that is handed on
+-- the step that passes an input to the text area
 abbrev pub handing_on : Input → Step
 handing_on input = goes (handed_on input ∷ []) Insert
 
--- in Insert: what is in no row is handed on
+-- the step of an input in Insert: an input without a case is passed to the text area
 abbrev pub step_in_insert : Input → Step
 step_in_insert input = step_by insert (handing_on input) input.key input.ctrl input.alt
 
--- what an input comes to in a mode
+-- the step of an input in a mode
 abbrev pub step : Mode → Input → Step
 step Normal input = step_in_normal input.key input.ctrl input.alt
 step Visual input = step_in_visual input.key input.ctrl input.alt
 step (Operator op) input = step_behind op input.key input.ctrl input.alt
 step Insert input = step_in_insert input
 
--- the input is handed on, which is so in Insert alone
+-- the input is passed to the text area, which happens only in Insert
 abbrev pub IsHandedOn : Mode → Input → Type 0
 IsHandedOn mode input = (mode ≡ Insert) × (step mode input ≡ handing_on input)

@@ -1,4 +1,4 @@
-//! A modal editor on the calls of a text area: what each key does in each mode, by one table, and runs of keys.
+//! A modal editor on a text area: a table of what each key does in each mode, and runs of keys.
 #![tactic(auto)]
 
 pub mod modal;

@@ -1,4 +1,4 @@
-//! A modal editor, and runs of inputs.
+//! A modal editor, and its runs of inputs.
 ghost use Rattle.std.specs.Prelude.{◌≡◌, IfOk, OnErr, OnOk};
 ghost use Rattle.textarea_modal.specs.Runs.{AllMade, EndsAs, OneRefused};
 ghost use Rattle.textarea_modal.specs.Table.{step};
@@ -20,20 +20,20 @@ pub enum ModalStop {
     End,
     /// An input quit.
     Quit,
-    /// A call answered out of memory.
+    /// A call ran out of memory.
     Memory,
 }
 
-/// How a run of inputs ended.
+/// The end of a run of inputs.
 #[derive(Clone, Copy, Debug, PartialEq, Eq)]
 pub struct ModalEnd {
-    /// How many inputs were used, one that quit included; where memory ran out, the index of the input whose call was refused.
+    /// The number of used inputs, including one that quit, but not one whose call failed.
     pub taken: usize,
     /// Why it ended.
     pub stop: ModalStop,
 }
 
-/// A modal editor: it takes keys for a text area, whose calls it makes. It keeps its mode alone, and takes no memory.
+/// A modal editor: it makes calls on a text area. It stores only its mode, and allocates nothing.
 #[derive(Clone, Copy, Debug, PartialEq, Eq)]
 pub struct Modal {
     mode: Mode,
@@ -50,25 +50,24 @@ impl Model for Modal {
 }
 
 impl Modal {
-    /// A modal editor in Normal.
+    /// Returns a modal editor in Normal.
     pub fn new() -> Modal
         ensures { result ≡ Mode.Normal }
     {
         Modal { mode: Mode::Normal }
     }
 
-    /// The mode.
     pub fn mode(&self) -> Mode
         ensures { result ≡ self.now }
     {
         self.mode
     }
 
-    /// Takes the inputs one after another, up to the first that quits or has a call that runs out of memory: it makes the calls
-    /// that the table has for the input in the present mode, and goes into the mode behind it.
+    /// Takes the inputs one after another, until one quits or a call runs out of memory. Each input
+    /// makes the calls that the table has in the current mode, and enters the table's mode.
     ///
-    /// The text area is then that of the run of those calls, up to the one that was refused, if there is one. Where one is
-    /// refused, the mode is that before its input.
+    /// The text area is then in the state after those calls, up to the one that failed, if one did.
+    /// If a call failed, the mode is the one before its input.
     pub fn run(&mut self, area: &mut TextArea<'_>, inputs: &[Input]) -> ModalEnd
         ensures { EndsAs area.old self.old inputs.now area.new self.new result.taken result.stop }
     {
@@ -95,7 +94,7 @@ impl Modal {
         }
     }
 
-    // Takes one input: makes its calls, goes into the mode behind it, and says whether it quits.
+    // Takes one input: makes its calls, enters the mode after them, and returns whether it quits.
     fn take(&mut self, area: &mut TextArea<'_>, input: &Input) -> Result<bool, AllocError>
         ensures ok { OnOk result
             (AllMade area.old (step self.old input.now).calls area.new) }

@@ -1,25 +1,25 @@
 //! The modes of a modal editor.
 
-/// What an operator does with the text that a motion goes over.
+/// What an operator does with the text that a motion covers.
 #[derive(Clone, Copy, Debug, PartialEq, Eq)]
 pub enum Op {
-    /// It cuts it.
+    /// Cuts the text.
     Delete,
-    /// It copies it.
+    /// Copies the text.
     Yank,
-    /// It cuts it, and what is written then takes its place.
+    /// Cuts the text, and enters Insert, so that typed text replaces it.
     Change,
 }
 
-/// What keys stand for.
+/// The mode, which decides what keys do.
 #[derive(Clone, Copy, Debug, PartialEq, Eq)]
 pub enum Mode {
-    /// For moves and commands.
+    /// Keys are moves and commands.
     Normal,
-    /// For text.
+    /// Keys insert text.
     Insert,
-    /// For moves that select, and for what is done with what is selected.
+    /// Keys are moves that select, and commands on the selection.
     Visual,
-    /// For the motion that an operator waits for.
+    /// The next key is the motion of this operator.
     Operator(Op),
 }

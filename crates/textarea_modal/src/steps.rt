@@ -1,4 +1,4 @@
-//! What each key comes to in each mode.
+//! What each key does in each mode.
 ghost use Rattle.std.specs.Prelude.{◌≡◌, ◌∷◌, [], true, false, map, MatchOption};
 ghost use Rattle.textarea_calls.specs.declared.call.Call.TheVariants as call;
 ghost use Rattle.textarea_data.specs.declared.cursor.CursorMove.TheVariants.{End, Forward, Head};
@@ -45,12 +45,12 @@ const REDO: KeyCall = KeyCall::Edit(Edit::Redo);
 const DELETE_NEXT_CHAR: KeyCall = KeyCall::Edit(Edit::DeleteNextChar);
 
 const DELETE_TO_LINE_END: KeyCall = KeyCall::Edit(Edit::DeleteLineByEnd);
-// For a match other than at the cursor.
+// Search for another match than one at the cursor.
 const NEXT_MATCH: KeyCall = KeyCall::SearchForward(false);
 
 const PREVIOUS_MATCH: KeyCall = KeyCall::SearchBack(false);
 
-/// What an input comes to in a mode, or none where it is handed on to the text area, in Insert.
+/// Returns what an input does in a mode, or none where it is passed to the text area, in Insert.
 pub fn step(mode: Mode, input: &Input) -> Option<Step>
     ensures { MatchOption result (IsHandedOn mode input.now)
         (λ made. shown made ≡ step mode input.now) }
@@ -64,7 +64,7 @@ pub fn step(mode: Mode, input: &Input) -> Option<Step>
     }
 }
 
-// The move of a key that is a motion.
+// The move of a key, if it is a motion.
 #[tactic(auto, unfolding(crate::specs::Table::motions, crate::specs::Table::motion_of))]
 fn motion(key: Key, ctrl: bool, alt: bool) -> Option<CursorMove>
     ensures { result ≡ motion_of key ctrl alt }
@@ -75,7 +75,7 @@ fn motion(key: Key, ctrl: bool, alt: bool) -> Option<CursorMove>
     }
 }
 
-// The move of a character that is a motion.
+// The move of a character, if it is a motion.
 #[tactic(auto, unfolding(crate::specs::Table::motions, crate::specs::Table::motion_of))]
 fn motion_by(character: char) -> Option<CursorMove>
     ensures { result ≡ motion_of (Char character) false false }
@@ -98,7 +98,7 @@ fn motion_by(character: char) -> Option<CursorMove>
     }
 }
 
-// What a key comes to in Normal.
+// What a key does in Normal.
 #[tactic(auto, unfolding(crate::specs::Table::normal, crate::specs::Table::step_by))]
 fn in_normal(key: Key, ctrl: bool, alt: bool) -> Step
     ensures { shown result ≡ step_in_normal key ctrl alt }
@@ -113,7 +113,7 @@ fn in_normal(key: Key, ctrl: bool, alt: bool) -> Step
     }
 }
 
-// What a character that is no motion comes to in Normal.
+// What a character does in Normal, if it is not a motion.
 #[tactic(auto, unfolding(crate::specs::Table::normal, crate::specs::Table::step_by))]
 fn by_character(character: char) -> Step
     ensures { shown result ≡ step_by normal (goes [] mode.Normal) (Char character) false false }
@@ -147,7 +147,7 @@ fn by_character(character: char) -> Step
     }
 }
 
-// What a character with Ctrl comes to in Normal.
+// What a character with Ctrl does in Normal.
 #[tactic(auto, unfolding(crate::specs::Table::normal, crate::specs::Table::step_by))]
 fn by_character_with_ctrl(character: char) -> Step
     ensures { shown result ≡ step_by normal (goes [] mode.Normal) (Char character) true false }
@@ -160,7 +160,7 @@ fn by_character_with_ctrl(character: char) -> Step
     }
 }
 
-// What a key comes to in Visual.
+// What a key does in Visual.
 #[tactic(auto, unfolding(crate::specs::Table::visual, crate::specs::Table::step_by))]
 fn in_visual(key: Key, ctrl: bool, alt: bool) -> Step
     ensures { shown result ≡ step_in_visual key ctrl alt }
@@ -179,7 +179,7 @@ fn in_visual(key: Key, ctrl: bool, alt: bool) -> Step
     }
 }
 
-// What a key comes to behind an operator.
+// What a key does after an operator.
 #[tactic(auto, unfolding(crate::specs::Table::step_by))]
 fn behind_operator(op: Op, key: Key, ctrl: bool, alt: bool) -> Step
     ensures { shown result ≡ step_behind op key ctrl alt }
@@ -197,7 +197,7 @@ fn behind_operator(op: Op, key: Key, ctrl: bool, alt: bool) -> Step
     }
 }
 
-// What a motion comes to behind an operator: `WordEnd` stops before a word's last character, so one more goes behind it.
+// What a motion does after an operator. `WordEnd` stops before a word's last character: one more.
 fn over_motion(op: Op, cursor_move: CursorMove) -> Step
     ensures { shown result ≡ operates op (moves_over cursor_move) }
 {
@@ -207,7 +207,7 @@ fn over_motion(op: Op, cursor_move: CursorMove) -> Step
     }
 }
 
-// A motion, these calls, and then that mode.
+// A step of a motion, these calls, and then this mode.
 fn moves(cursor_move: CursorMove, calls: &'static [KeyCall], mode: Mode) -> Step
     ensures { shown result ≡ goes (call.Move cursor_move ∷ map call_of calls.now) mode }
 {
@@ -219,7 +219,7 @@ fn moves(cursor_move: CursorMove, calls: &'static [KeyCall], mode: Mode) -> Step
     }
 }
 
-// What an operator makes of what is selected.
+// The call of an operator on the selection.
 fn taking(op: Op) -> &'static [KeyCall]
     ensures { map call_of result.now ≡ takes op ∷ [] }
 {
@@ -229,7 +229,7 @@ fn taking(op: Op) -> &'static [KeyCall]
     }
 }
 
-// One character more, and then what an operator makes of what is selected.
+// A move by one more character, and the call of an operator on the selection.
 fn one_more(op: Op) -> &'static [KeyCall]
     ensures { map call_of result.now ≡ call.Move Forward ∷ takes op ∷ [] }
 {
@@ -239,7 +239,7 @@ fn one_more(op: Op) -> &'static [KeyCall]
     }
 }
 
-// The whole line, and then what an operator makes of it.
+// The selection of the whole line, and the call of an operator on it.
 fn over_line(op: Op) -> &'static [KeyCall]
     ensures { map call_of result.now
         ≡ call.Move Head ∷ call.StartSelection ∷ call.Move End ∷ takes op ∷ [] }
@@ -250,7 +250,7 @@ fn over_line(op: Op) -> &'static [KeyCall]
     }
 }
 
-// The mode behind what an operator did.
+// The mode after an operator.
 fn mode_behind(op: Op) -> Mode
     ensures { result ≡ mode_behind op }
 {
@@ -260,7 +260,7 @@ fn mode_behind(op: Op) -> Mode
     }
 }
 
-// What an input comes to in Insert, or none where it is handed on.
+// What an input does in Insert, or none where it is passed to the text area.
 #[tactic(auto, unfolding(crate::specs::Table::insert, crate::specs::Table::step_by))]
 fn in_insert(input: &Input) -> Option<Step>
     ensures { MatchOption result (step_in_insert input.now ≡ handing_on input.now)

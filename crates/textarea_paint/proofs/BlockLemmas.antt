@@ -1,4 +1,4 @@
--- The cells of a block's sides, corners and title.
+-- The cells of a block's borders, corners and title.
 use Rattle.std.proofs.lemmas.Grind.{common_steps}
 use Rattle.std.proofs.Common.{◌≡◌, ℕ, ◌+◌, ◌-◌, ◌<◌, ◌≤◌, min, Bool, true, false, cond, eqb, ◌&&◌, List, refl, ap, ap₂, ◌∙◌, arith}
 use Rattle.std.proofs.lemmas.Bool.Decides.{nat_tests}
@@ -24,9 +24,9 @@ pub Changes-in_area : {a b c : Buffer} (area : Rect) (f g h : Change) → Change
     ((x y : ℕ) (cell : ShownCell) → g x y (f x y cell) ≡ h x y cell) → Changes a c (in_area area h)
 Changes-in_area area f g h first second same = grind (arith, common_steps, Changes-then, cond-then)
 
--- ---- the cells of a rectangle inside of the area
+-- ---- the cells of a rectangle inside the area
 
--- it is one of so many from the first on
+-- one of `count` numbers from the first on
 abbrev pub IsAmong : ℕ → ℕ → ℕ → Type 0
 IsAmong first count at = (first ≤ at) × (at < first + count)
 
@@ -40,7 +40,7 @@ one_column : (area part : Rect) (at : ℕ) → part.x ≡ at → part.width ≡ 
     contains part x y ≡ (contains area x y && eqb x at)
 one_column area part at is_x is_width is_y is_height left right x y = grind (arith, nat_tests)
 
--- one column, cut where the screen ends
+-- one column, limited by the end of the screen
 pub contains-column : (area part : Rect) (at : ℕ) → part.x ≡ at → part.width ≡ min 1 (65535 - at) → part.y ≡ area.y → part.height ≡ min area.height (65535 - area.y) →
     IsAmong area.x area.width at → (x y : ℕ) → contains part x y ≡ (contains area x y && eqb x at)
 contains-column area part at is_x is_width is_y is_height among =
@@ -66,7 +66,7 @@ pub contains-cell : (area part : Rect) (at_x at_y : ℕ) → part.x ≡ at_x →
 contains-cell area part at_x at_y is_x is_width is_y is_height column row =
     one_cell area part at_x at_y is_x (omega (arith, area.right, column.1)) is_y (omega (arith, area.bottom, row.1)) column.0 column.1 row.0 row.1
 
--- ---- a side or a corner
+-- ---- a border or a corner
 
 bordered : (inside drawn part test : Bool) (f g : ShownCell → ShownCell) (cell : ShownCell) → part ≡ (inside && test) →
     cond (drawn && part) (g (cond inside (f cell) cell)) (cond inside (f cell) cell) ≡ cond inside (cond (drawn && test) (g (f cell)) (f cell)) cell
@@ -74,12 +74,12 @@ bordered true drawn part test f g cell is = rw is refl
 bordered false true part test f g cell is = rw is refl
 bordered false false part test f g cell is = refl
 
--- none of them yet
+-- none of them is drawn yet
 pub Changes-begun : (buffer : Buffer) (area : Rect) → Changes buffer buffer (in_area area (λ x y cell. cell))
 Changes-begun buffer area =
     Changes-none buffer (in_area area (λ x y cell. cell)) (λ x y cell. elim (contains area x y) as (λ b. cond b cell cell ≡ cell) [ true ↦ refl | false ↦ refl ])
 
--- one more of them
+-- one more of them is drawn
 pub Changes-border : {a b c : Buffer} {drawn : Bool} {text : List ℕ} (area part : Rect) (done : Change) (drawn' : Bool) (test : ℕ → ℕ → Bool) (text' : List ℕ) (style : Style) →
     Changes a b (in_area area done) → Changes b c (λ x y cell. cond (drawn && contains part x y) (with_symbol text style cell) cell) → drawn ≡ drawn' → text ≡ text' →
     ((x y : ℕ) → contains part x y ≡ (contains area x y && test x y)) →
@@ -99,7 +99,7 @@ pub is_before_column-outside : (area : Rect) (row column x y : ℕ) → area.y �
     is_before_column area.x row column x y ≡ false
 is_before_column-outside area row column x y first last left outside = grind (arith, nat_tests)
 
--- of two areas' common cells none is outside of the first
+-- a cell outside of one area is not common to it and another
 pub common-outside : (area other common : Rect) → ((x y : ℕ) → contains common x y ≡ (contains area x y && contains other x y)) → (x y : ℕ) → contains area x y ≡ false →
     contains common x y ≡ false
 common-outside area other common is x y outside = is x y ∙ ap (λ b. b && contains other x y) outside

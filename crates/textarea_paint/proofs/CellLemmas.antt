@@ -1,4 +1,4 @@
--- The cells of a row, cluster by cluster.
+-- The cells of a row, drawn cluster by cluster.
 use Rattle.std.proofs.Common.{◌≡◌, ℕ, ◌+◌, ◌-◌, ◌<◌, ◌≤◌, min, max, Bool, true, false, cond, eqb, ◌&&◌, List, [], ◌∷◌, Option, None, Some, refl, ap, ◌∙◌, arith}
 use Rattle.std.specs.List.{find}
 use Rattle.std.proofs.lemmas.Bool.Decides.{nat_tests}
@@ -20,16 +20,16 @@ pub record IsBetween (row from to x y : ℕ) : Type 0 where
   pub behind : from ≤ x
   pub before : x < to
 
--- a cell of an area stands left of its right edge
+-- a cell of an area is left of its right edge
 pub contains_right : (area : Rect) (x y : ℕ) → contains area x y ≡ true → x < area.x + area.width
 contains_right area x y inside = grind (arith, nat_tests)
 
 covers_parts : (column : ℕ) (placed : Placed) → covers column placed ≡ true → (placed.start ≤ column) × (column < placed.start + columns_of placed.text)
 covers_parts column placed h = (grind (arith, nat_tests), grind (arith, nat_tests))
 
--- ---- one cluster in front of others
+-- ---- one cluster before others
 
--- a column before the first cluster is taken by none
+-- no cluster takes a column before the first cluster
 find-before : (column start : ℕ) (clusters : List Cluster) → column < start → find (covers column) (place_from start clusters) ≡ None
 find-before column start [] before = refl
 find-before column start (cluster ∷ clusters) before = grind (arith, nat_tests, find-before column (start + columns_of cluster.text) clusters (omega arith))
@@ -39,13 +39,13 @@ covered-then : (cells : RowCells) (left column : ℕ) (here : Bool) (placed : Pl
 covered-then cells left column true placed behind cell none = rw (none refl) refl
 covered-then cells left column false placed behind cell none = refl
 
--- a change of these cells alone, after another
+-- a change of only these cells, after another one
 pub cond-then : (inside : Bool) (f g both : ShownCell → ShownCell) (cell : ShownCell) → g (f cell) ≡ both cell →
     cond inside (g (cond inside (f cell) cell)) (cond inside (f cell) cell) ≡ cond inside (both cell) cell
 cond-then true f g both cell same = same
 cond-then false f g both cell same = refl
 
--- a cluster, and then those behind it, are the row of all
+-- a row is its first cluster and then the others
 pub row_change-cons : (cells : RowCells) (left start : ℕ) (cluster : Cluster) (clusters : List Cluster) (x y : ℕ) (cell : ShownCell) →
     row_change cells left (place_from (start + columns_of cluster.text) clusters) x y (row_change cells left (placed_at start cluster ∷ []) x y cell)
     ≡ row_change cells left (place_from start (cluster ∷ clusters)) x y cell
@@ -60,7 +60,7 @@ row_change-cons cells left start cluster clusters x y cell =
     (covered-then cells left column (covers column (placed_at start cluster)) (placed_at start cluster) behind cell
     (λ here. find-before column (start + columns_of cluster.text) clusters (covers_parts column (placed_at start cluster) here).1))
 
--- no cluster leaves the cells as they are
+-- without clusters the cells are unchanged
 pub row_change-nil : (cells : RowCells) (left x y : ℕ) (cell : ShownCell) → row_change cells left [] x y cell ≡ cell
 unfolding row_change
 row_change-nil cells left x y cell = elim (is_in_cells cells x y) as (λ inside. cond inside cell cell ≡ cell) [ true ↦ refl | false ↦ refl ]
@@ -70,7 +70,7 @@ cond-none : (cells : RowCells) (left column : ℕ) (inside : Bool) (found : Opti
 cond-none cells left column true found cell none = rw (none refl) refl
 cond-none cells left column false found cell none = refl
 
--- and so do clusters that stand behind the column which the cell shows
+-- so they are if all clusters start after the column that the cell shows
 pub row_change-past : (cells : RowCells) (left start : ℕ) (clusters : List Cluster) (x y : ℕ) (cell : ShownCell) →
     (cells.x ≤ x → x < cells.x + cells.width → left + (x - cells.x) < start) →
     row_change cells left (place_from start clusters) x y cell ≡ cell
@@ -79,24 +79,24 @@ row_change-past cells left start clusters x y cell past =
     cond-none cells left (left + (x - cells.x)) (is_in_cells cells x y) (find (covers (left + (x - cells.x))) (place_from start clusters)) cell
     (λ inside. find-before (left + (x - cells.x)) start clusters (past (grind (arith, nat_tests)) (grind (arith, nat_tests))))
 
--- cells that are not of the row stay
+-- cells outside of the row are unchanged
 pub row_change-outside : (cells : RowCells) (left : ℕ) (row : List Placed) (x y : ℕ) (cell : ShownCell) → is_in_cells cells x y ≡ false → row_change cells left row x y cell ≡ cell
 unfolding row_change
 row_change-outside cells left row x y cell outside = cond-false _ _ _ outside
 
 -- ---- one cluster
 
--- where a cluster of so many columns is drawn: `hidden` of them are not shown, and `shown` of the others
+-- where a cluster is drawn: `hidden` of its columns are not shown, and `shown` of the others are
 pub record IsDrawnAt (cells : RowCells) (pen : Pen) (columns hidden shown : ℕ) : Type 0 where
   pub left_of : hidden ≡ min columns pen.hidden
   pub inside : shown ≡ min (columns - hidden) ((cells.x + cells.width) - pen.x)
 
 module _ (cells : RowCells) (pen : Pen) (left column hidden shown : ℕ) (cluster : Cluster) (at : IsPenAt cells left column pen) (drawn : IsDrawnAt cells pen (columns_of cluster.text) hidden shown) where
-  -- the cells that are drawn are those whose columns the cluster takes
+  -- the drawn cells are those whose columns the cluster takes
   drawn_test : (x y : ℕ) → is_between cells.y pen.x (pen.x + shown) x y ≡ (is_in_cells cells x y && covers (left + (x - cells.x)) (placed_at column cluster))
   drawn_test x y = grind (arith, nat_tests, at.hidden, at.x, drawn.left_of, drawn.inside)
 
-  -- it is whole where all of its columns are drawn
+  -- the cluster is whole if all of its columns are drawn
   drawn_whole : (x y : ℕ) → is_between cells.y pen.x (pen.x + shown) x y ≡ true → eqb shown (columns_of cluster.text) ≡ is_whole cells left (placed_at column cluster)
   drawn_whole x y h = grind (arith, nat_tests, at.hidden, at.x, drawn.left_of, drawn.inside)
 
@@ -112,7 +112,7 @@ cond-one cells left column placed test true true symbol cell is same = cond-true
 cond-one cells left column placed test true false symbol cell is same = cond-false test _ _ is
 cond-one cells left column placed test false here symbol cell is same = cond-false test _ _ is
 
--- what is drawn is the row of this cluster alone
+-- the result is the row of only this cluster
 pub row_change-one : (cells : RowCells) (pen : Pen) (left column hidden shown : ℕ) (cluster : Cluster) → IsPenAt cells left column pen →
     IsDrawnAt cells pen (columns_of cluster.text) hidden shown → (x y : ℕ) (cell : ShownCell) →
     cond (is_between cells.y pen.x (pen.x + shown) x y) (with_symbol (symbol_of (eqb shown (columns_of cluster.text)) (eqb x pen.x) cluster.text) cluster.style cell) cell
@@ -129,18 +129,18 @@ row_change-one cells pen left column hidden shown cluster at drawn x y cell =
 
 -- ---- one column after another
 
--- the cells up to a column, and then that of the column
+-- the cells up to a column, and then the cell of that column
 pub between_more : (row first from at : ℕ) (whole : Bool) (text symbol : List ℕ) (style : Style) (x y : ℕ) (cell : ShownCell) → from ≤ at → symbol ≡ symbol_of whole (eqb at first) text →
     cond (eqb x at && eqb y row) (with_symbol symbol style (cond (is_between row from at x y) (with_symbol (symbol_of whole (eqb x first) text) style cell) cell))
     (cond (is_between row from at x y) (with_symbol (symbol_of whole (eqb x first) text) style cell) cell)
     ≡ cond (is_between row from (at + 1) x y) (with_symbol (symbol_of whole (eqb x first) text) style cell) cell
 between_more row first from at whole text symbol style x y cell begun is = grind (arith, nat_tests)
 
--- of the cells between two columns those that an area has
+-- those cells between two columns that an area has
 pub between_clipped : (area : Rect) (row from to first last at x y : ℕ) → first ≡ max from area.x → last ≡ min to (area.x + area.width) → first ≤ at → last ≤ at → at ≤ max first last →
     contains area x y ≡ true → is_between row first at x y ≡ is_between row from to x y
 between_clipped area row from to first last at x y is_first is_last begun ended exact inside = grind (arith, nat_tests)
 
--- cells before a column that stands between two others are between these
+-- the cells before a column between two others are between those two
 pub between_narrower : (row from to first at x y : ℕ) → from ≤ first → at ≤ to → is_between row from to x y ≡ false → is_between row first at x y ≡ false
 between_narrower row from to first at x y left right outside = grind (arith, nat_tests)

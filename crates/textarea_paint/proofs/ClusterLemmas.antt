@@ -1,4 +1,4 @@
--- The clusters that are left as texts and spans are taken.
+-- The grapheme clusters that are left after texts and spans are taken.
 use Rattle.std.proofs.Common.{◌≡◌, ℕ, true, List, [], ◌∷◌, ◌≤◌, length, map, refl, ap}
 use Rattle.std.proofs.lemmas.List.{append-nil}
 use Rattle.std.proofs.lemmas.List.Elements.{All-tail}
@@ -25,20 +25,20 @@ content_bytes-shown (Owned text) = refl
 span_clusters-shown : (base : Style) (span : Span) → span_clusters base (shown_span span) ≡ map (in_style (patched base span.style)) (graphemes true (text_bytes span.content))
 span_clusters-shown base span = ap (λ bytes. map (in_style (patched base span.style)) (graphemes true bytes)) (content_bytes-shown span.content)
 
--- a cluster was taken, and what stands behind it stays
+-- a cluster is taken, and the clusters after it are left
 pub clusters_left-text : (old new : LineClusters) (text : List ℕ) → graphemes_left old.texts ≡ text ∷ graphemes_left new.texts → new.style ≡ old.style → new.base ≡ old.base →
     new.behind.now ≡ old.behind.now → iter_rest new.spans ≡ iter_rest old.spans → clusters_left old ≡ in_style old.style text ∷ clusters_left new
 unfolding clusters_left
 clusters_left-text old new text taken style base behind spans = rw (taken, style, base, behind, spans) refl
 
--- the first cluster of what stands behind those that are cut was taken
+-- the first cluster of the text after the split one is taken
 pub clusters_left-plain : (old new : LineClusters) (text : List ℕ) → graphemes_left old.texts ≡ [] → graphemes_left new.texts ≡ [] →
     graphemes true old.behind.now ≡ text ∷ graphemes true new.behind.now → new.style ≡ old.style → new.base ≡ old.base → iter_rest new.spans ≡ iter_rest old.spans →
     clusters_left old ≡ in_style old.style text ∷ clusters_left new
 unfolding clusters_left
 clusters_left-plain old new text none none' taken style base spans = rw (none, none', taken, style, base, spans) refl
 
--- what stands behind those that are cut is cut too
+-- the text after the split one is split too
 pub clusters_left-cut : (old new : LineClusters) → graphemes_left old.texts ≡ [] → graphemes_left new.texts ≡ graphemes true old.behind.now → new.behind.now ≡ [] →
     new.style ≡ old.style → new.base ≡ old.base → iter_rest new.spans ≡ iter_rest old.spans → clusters_left old ≡ clusters_left new
 unfolding clusters_left
@@ -53,12 +53,12 @@ unfolding clusters_left
 clusters_left-span old new span none behind none' taken base style text =
     rw (none, behind, graphemes-nil, none', taken, base, style, text, span_clusters-shown old.base span) refl
 
--- the texts of a span are all taken, and there is no other
+-- the texts of a span are all taken, and there is no other span
 pub clusters_left-none : (s : LineClusters) → graphemes_left s.texts ≡ [] → s.behind.now ≡ [] → iter_rest s.spans ≡ [] → clusters_left s ≡ []
 unfolding clusters_left
 clusters_left-none s none behind spans = rw (none, behind, graphemes-nil, spans) refl
 
--- no span is begun
+-- no span is begun yet
 pub clusters_left-new : (s : LineClusters) (style : Style) (line : Line) → graphemes_left s.texts ≡ [] → s.behind.now ≡ [] → iter_rest s.spans ≡ line.spans.items →
     s.base ≡ patched style line.style → clusters_left s ≡ row_clusters style (shown_line line)
 unfolding clusters_left

@@ -1,4 +1,4 @@
--- The longest front of clusters whose widths sum to at most the room.
+-- The longest prefix of grapheme clusters whose widths sum to at most the room.
 use Rattle.std.proofs.Common.{◌≡◌, ℕ, zero, suc, ◌-◌, ◌<◌, ◌≤◌, nat_le, Bool, true, false, List, [], ◌∷◌, length, take, inl, inr, refl, sym, ap, subst, arith}
 use Rattle.std.proofs.lemmas.Bool.{cases_lt}
 use Rattle.std.proofs.lemmas.Bool.Decides.{nat_tests}
@@ -9,22 +9,22 @@ use Rattle.textarea_paint.specs.Clusters.{Cluster}
 use Rattle.textarea_paint.specs.Columns.{columns_of}
 use Rattle.textarea_paint.specs.Row.{IsLongestFront, front_within, longest_front, row_width}
 
--- a cluster that finds room is in front of the longest front of the others
+-- a cluster that fits is followed by the longest prefix of the others
 pub front-fits : (room most : ℕ) (cluster : Cluster) (clusters : List Cluster) → columns_of cluster.text ≤ room →
     longest_front room (suc most) (cluster ∷ clusters) ≡ cluster ∷ longest_front (room - columns_of cluster.text) most clusters
 front-fits room zero cluster clusters fits = grind (arith, nat_tests, sum_by-cons (λ (c : Cluster). columns_of c.text) cluster [])
 front-fits room (suc most) cluster clusters fits =
     grind (arith, nat_tests, front-fits room most cluster clusters fits, sum_by-cons (λ (c : Cluster). columns_of c.text) cluster (take (suc most) clusters))
 
--- a cluster that finds none ends the row
+-- a cluster that does not fit ends the row
 pub front-full : (room most : ℕ) (cluster : Cluster) (clusters : List Cluster) → room < columns_of cluster.text → longest_front room most (cluster ∷ clusters) ≡ []
 front-full room zero cluster clusters full = refl
 front-full room (suc most) cluster clusters full =
     grind (arith, nat_tests, front-full room most cluster clusters full, sum_by-cons (λ (c : Cluster). columns_of c.text) cluster (take most clusters))
 
--- ---- it is the longest
+-- ---- the prefix is the longest
 
--- the longest of the fronts of at most so many clusters
+-- the longest of the prefixes of at most `most` clusters
 record IsLongestUpTo (room most : ℕ) (clusters front : List Cluster) : Type 0 where
   is_front : front ≡ take (length front) clusters
   fits : row_width front ≤ room

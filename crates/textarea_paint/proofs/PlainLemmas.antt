@@ -1,7 +1,7 @@
--- Printable ASCII: before another such character, and at a text's end, each one is a cluster by itself, and what stands behind it is
--- cut as if it began the text.
+-- Printable ASCII: before another such character, and at the end of a text, each one is a grapheme
+-- cluster by itself, and the text after it is split as if it were a text of its own.
 use Rattle.std.proofs.lemmas.Grind.{common_steps}
-use Rattle.std.proofs.Common.{◌≡◌, ℕ, ◌<◌, Bool, true, false, cond, not, ◌&&◌, ◌||◌, ◌==◌, leb, ltb, unwrap_or, List, [], ◌∷◌, ◌++◌, map, take, drop, Option, None, Some, IsSome, IfSome, IsCharBoundary, refl, sym, ap, ap₂, ◌∙◌, arith}
+use Rattle.std.proofs.Common.{◌≡◌, ℕ, ◌<◌, Bool, true, false, cond, not, ◌&&◌, ◌||◌, ◌==◌, leb, ltb, List, [], ◌∷◌, ◌++◌, map, take, drop, Option, None, Some, IsSome, IfSome, IsCharBoundary, refl, sym, ap, ap₂, ◌∙◌, arith}
 use Rattle.std.proofs.lemmas.Bool.{cond-true}
 use Rattle.std.proofs.lemmas.Bool.Decides.{nat_tests}
 use Rattle.std.proofs.lemmas.Str.{IsUtf8-drop, chars_past_char, encode_ascii}
@@ -16,12 +16,12 @@ use Rattle.ucd_table.proofs.TrieCheck.{all_below, all_below-at}
 use Rattle.unicode_segmentation.specs.Emoji.{is_extended_pictographic}
 use Rattle.unicode_segmentation.specs.GraphemeClusterBreak.{grapheme_cluster_break, grapheme_cluster_break_number}
 use Rattle.unicode_segmentation.specs.IndicConjunctBreak.{indic_conjunct_break, indic_conjunct_break_number}
-use Rattle.unicode_segmentation.specs.Grapheme.{graphemes, is_grapheme_break, break_by_pair, ends_in_linker, ends_in_pictograph, ends_in_half_flag, is_consonant, is_extend, is_regional, is_zwj}
+use Rattle.unicode_segmentation.specs.Grapheme.{graphemes, is_grapheme_break, ends_in_linker, ends_in_pictograph, ends_in_half_flag, is_extend, is_regional}
 use Rattle.unicode_segmentation.specs.Segments.{prepend, cut, segments}
 use Rattle.unicode_segmentation.proofs.Computing.{unicode_segmentation}
 use Rattle.unicode_segmentation.proofs.GraphemeLemmas.{is_grapheme_break-others}
 
--- ---- what the tables give
+-- ---- the tables
 
 abbrev has_no_part : ℕ → Bool
 has_no_part c = (grapheme_cluster_break_number (grapheme_cluster_break c) == 12) && (indic_conjunct_break_number (indic_conjunct_break c) == 3) && not (is_extended_pictographic c)
@@ -33,7 +33,7 @@ all_pass : all_below passes 127 ≡ true
 unfolding unicode_segmentation
 all_pass = refl
 
--- the character takes part in none of the rules that join
+-- no rule that joins characters applies to this one
 record IsPlain (c : ℕ) : Type 0 where
   other : grapheme_cluster_break c ≡ Other
   no_conjunct : indic_conjunct_break c ≡ conjunct.None
@@ -49,7 +49,7 @@ plain c printable =
       no_picture = grind (arith, nat_tests);
     }
 
--- ---- what stands behind such a character is cut without a look at it
+-- ---- the text after such a character is split without regard to it
 
 module _ (c : ℕ) (is_plain : IsPlain c) where
   linker-first : (xs : List ℕ) → ends_in_linker (map indic_conjunct_break (xs ++ c ∷ [])) ≡ ends_in_linker (map indic_conjunct_break xs)
@@ -117,7 +117,7 @@ graphemes-only c utf8 printable =
     ap (λ cs. map encode_utf8_all (cut (is_grapheme_break true) [] cs [])) only
     ∙ cut-only c (ap (λ front. front ++ []) encoded) ∙ ap (λ rest. (c ∷ []) ∷ rest) (sym graphemes-nil)
 
--- the text is split behind its first character
+-- the text is split after its first character
 pub split-plain : {X : Type 0} (r : Option X) (front back : X → List ℕ) (text : List ℕ) → IsUtf8 text → BeginsPlain text →
     (IsSome r → IsCharBoundary text 1) → IfSome r (λ x. front x ≡ take 1 text) → IfSome r (λ x. back x ≡ drop 1 text) →
     IfSome r (λ x. graphemes true text ≡ front x ∷ graphemes true (back x))

@@ -1,4 +1,4 @@
--- What a row of cells makes of the cells of an area.
+-- The effect of drawing a row of cells, for an area.
 use Rattle.std.proofs.lemmas.Grind.{common_steps}
 use Rattle.std.proofs.Common.{◌≡◌, ◌≢◌, ◌≤◌, ℕ, Bool, true, false, cond, ◌&&◌, List, refl, sym, ap, ap₂, ◌∙◌, arith}
 use Rattle.std.proofs.lemmas.Bool.{cond-false}
@@ -18,7 +18,7 @@ use Rattle.textarea_paint.specs.Row.{cells_of_row, first_shown, fitting, placed_
 use Rattle.textarea_paint.specs.declared.paint.row.RowArea.{RowArea}
 use Rattle.textarea_paint.proofs.CellLemmas.{row_change-outside}
 
--- a row of which an area and another have cells together, of which `seen` is the first, and one of which they have none
+-- rows that an area shares with another, the first of them being `seen`, and rows that it doesn't
 abbrev pub Meets : Rect → Rect → Rect → Type 0
 Meets area other seen = (x y : ℕ) → contains seen x y ≡ (contains area x y && contains other x y)
 
@@ -51,14 +51,14 @@ row_start-within Left width clusters = omega arith
 row_start-within Center width clusters = omega arith
 row_start-within Right width clusters = omega arith
 
--- ---- cells of a row
+-- ---- the cells of a row
 
--- an area and another have cells of this row together
+-- the area and another have cells of this row in common
 module _ (rows : RowArea) (other seen : Rect) (row : ℕ) (meets : Meets rows.area other seen) (here : contains seen seen.x row ≡ true) where
   in_row : (x y : ℕ) → is_in_cells (cells_of_row rows.area row) x y ≡ is_in_row rows.area row x y
   in_row x y = let in_area = meets seen.x row in grind (arith, nat_tests)
 
-  -- what the cells of the row make of a cell is what the row of the area does
+  -- the change of the row's cells is the change of the area's row
   pub shown_row : {old new : Buffer} (line : ShownLine) (left : ℕ) (placed : List Placed) → first_shown rows.alignment rows.left ≡ left →
       placed_row rows.alignment rows.area.width (row_clusters rows.style line) ≡ placed →
       Changes old new (row_change (cells_of_row rows.area row) left placed) → Changes old new (row_cell rows row line)

@@ -1,6 +1,6 @@
--- A row that is drawn cluster by cluster, and the clusters that fit it.
+-- A row that is drawn cluster by cluster, and the grapheme clusters that fit it.
 use Rattle.std.proofs.lemmas.Grind.{common_steps}
-use Rattle.std.proofs.Common.{◌≡◌, ℕ, suc, ◌+◌, ◌-◌, ◌<◌, ◌≤◌, min, List, [], ◌∷◌, length, filter, refl, sym, ap, ◌∙◌, arith}
+use Rattle.std.proofs.Common.{◌≡◌, ℕ, ◌+◌, ◌-◌, ◌<◌, ◌≤◌, min, List, [], ◌∷◌, filter, refl, sym, ap, ◌∙◌, arith}
 use Rattle.std.proofs.lemmas.Bool.Decides.{nat_tests}
 use Rattle.std.proofs.lemmas.List.Sums.{sum_by-cons}
 use Rattle.textarea_screen.specs.Buffer.{area_of, Changes, KeepsOutside}
@@ -15,9 +15,9 @@ use Rattle.textarea_paint.specs.declared.paint.cells.RowCells.{RowCells}
 use Rattle.textarea_paint.proofs.FrontLemmas.{front-fits, front-full}
 use Rattle.textarea_paint.proofs.CellLemmas.{contains_right, row_change-cons, row_change-nil, row_change-past, row_change-outside}
 
--- ---- a row that is drawn so far
+-- ---- a row that is partly drawn
 
--- the buffer was `old`, and is `now`; the clusters `ahead` are still to be drawn where the pen stands, and then the row is
+-- the buffer was `old` and is `now`; drawing the clusters `ahead` at the pen completes the row
 pub record IsDrawing (cells : RowCells) (left : ℕ) (row : List Placed) (old now : Buffer) (pen : Pen) (ahead : List Cluster) : Type 0 where
   pub column : ℕ
   pub at : IsPenAt cells left column pen
@@ -46,7 +46,7 @@ drawing_next {cells} {left} {row} {old} {now} {next} {pen} {moved} {ahead} {behi
       (λ x y cell outside. row_change-outside cells left (placed_at d.column cluster ∷ []) x y cell outside));
 }
 
--- a cluster is left out, with those that are still to be drawn the same
+-- a cluster is left out, and the clusters still to be drawn are the same
 pub drawing_same : {cells : RowCells} {left : ℕ} {row : List Placed} {old now : Buffer} {pen : Pen} {ahead : List Cluster} (behind : List Cluster) →
     IsDrawing cells left row old now pen ahead → ahead ≡ behind → IsDrawing cells left row old now pen behind
 drawing_same {cells} {left} {row} {old} {now} {pen} {ahead} behind d same = rw (← same) d
@@ -56,7 +56,7 @@ pub drawing_end : {cells : RowCells} {left : ℕ} {row : List Placed} {old now :
 drawing_end {cells} {left} {row} {old} {now} {pen} {ahead} d none =
     d.rest now (rw none (Changes-none now (row_change cells left []) (λ x y cell. row_change-nil cells left x y cell)))
 
--- the pen stands at the end of the cells, or of those of the buffer
+-- the pen is at the end of the cells, or of those that the buffer has
 pub drawing_past : {cells : RowCells} {left : ℕ} {row : List Placed} {old now : Buffer} {pen : Pen} {ahead : List Cluster} → IsDrawing cells left row old now pen ahead →
     min (cells.x + cells.width) ((area_of old).x + (area_of old).width) ≤ pen.x → Changes old now (row_change cells left row)
 drawing_past {cells} {left} {row} {old} {now} {pen} {ahead} d past =
@@ -68,7 +68,7 @@ drawing_past {cells} {left} {row} {old} {now} {pen} {ahead} d past =
 
 -- ---- the clusters that fit
 
--- those that are still to be drawn where there is room for so many columns
+-- the clusters still to be drawn, if there is room for `room` columns
 abbrev pub fitting_ahead : ℕ → ℕ → List Cluster → List Cluster
 fitting_ahead width room clusters = front_within room (filter (is_narrow width) clusters)
 
@@ -76,7 +76,7 @@ pub fitting_ahead-wide : (width room : ℕ) (cluster : Cluster) (clusters : List
     fitting_ahead width room (cluster ∷ clusters) ≡ fitting_ahead width room clusters
 fitting_ahead-wide width room cluster clusters wide = grind (arith, nat_tests)
 
--- a cluster that is no wider than the area stays
+-- a cluster that is no wider than the area is not left out
 narrow_stays : (width : ℕ) (cluster : Cluster) (clusters : List Cluster) → columns_of cluster.text ≤ width →
     filter (is_narrow width) (cluster ∷ clusters) ≡ cluster ∷ filter (is_narrow width) clusters
 narrow_stays width cluster clusters narrow = grind (arith, nat_tests)
@@ -91,7 +91,8 @@ fitting_ahead-fits width room cluster clusters narrow fits = grind (arith, commo
 
 -- ---- their columns
 
--- so many columns are left of `width` behind the clusters that were looked at; those `ahead` and the ones before take as many as all
+-- `room` of the `width` columns are left after the clusters already measured; these and the
+-- clusters `ahead` take the columns of the row
 pub record IsMeasuring (width : ℕ) (row : List Cluster) (room : ℕ) (ahead : List Cluster) : Type 0 where
   pub bound : room ≤ width
   pub sum : (width - room) + row_width (fitting_ahead width room ahead) ≡ row_width (fitting width row)

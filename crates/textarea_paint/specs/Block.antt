@@ -1,4 +1,4 @@
--- What a block makes of the cells of an area.
+-- A block's effect on the cells of an area.
 use Rattle.std.specs.Prelude.{ℕ, ◌+◌, ◌-◌, Bool, ◌&&◌, ◌==◌, List, [], ◌∷◌, ◌++◌, Option, None, Some, encode_utf8, if◌then◌else◌}
 use Rattle.textarea_screen.specs.Block.{ShownBlock, has_border, left_side, top_side, right_side, bottom_side}
 use Rattle.textarea_screen.specs.Buffer.{Change}
@@ -16,16 +16,16 @@ use Rattle.textarea_paint.specs.declared.paint.cells.RowCells.{RowCells}
 
 -- ---- changes of an area
 
--- a change of the area's cells alone
+-- a change of only the area's cells
 abbrev pub in_area : Rect → Change → Change
 in_area area change x y cell = if contains area x y then change x y cell else cell
 
--- one change after another, each over what the ones before it made
+-- changes one after the other, each of the result of those before it
 abbrev pub in_turn : List Change → Change
 in_turn [] x y cell = cell
 in_turn (change ∷ changes) x y cell = in_turn changes x y (change x y cell)
 
--- a text in a style, put into the cells that pass the test, if it is drawn
+-- if it is drawn, a text in a style in each cell that passes the test
 abbrev pub drawn_where : Bool → (ℕ → ℕ → Bool) → List ℕ → Style → Change
 drawn_where is_drawn test text style x y cell = if is_drawn && test x y then with_symbol text style cell else cell
 
@@ -43,13 +43,13 @@ on_right area x y = x == area.x + area.width - 1
 abbrev pub on_bottom : Rect → ℕ → ℕ → Bool
 on_bottom area x y = y == area.y + area.height - 1
 
--- the cells of two sides
+-- the cells that are on both sides
 abbrev pub on_both : (ℕ → ℕ → Bool) → (ℕ → ℕ → Bool) → ℕ → ℕ → Bool
 on_both side other x y = side x y && other x y
 
--- ---- what is drawn
+-- ---- the drawing
 
--- the sides, in this order: left, top, right, bottom
+-- the borders of the sides, in this order: left, top, right, bottom
 abbrev pub side_changes : Borders → Style → Rect → List Change
 side_changes borders style area =
     drawn_where (has_border borders left_side) (on_left area) (encode_utf8 0x2502) style
@@ -57,7 +57,7 @@ side_changes borders style area =
     ∷ drawn_where (has_border borders right_side) (on_right area) (encode_utf8 0x2502) style
     ∷ drawn_where (has_border borders bottom_side) (on_bottom area) (encode_utf8 0x2500) style ∷ []
 
--- the corners of sides that are both drawn, in this order: bottom right, top right, bottom left, top left
+-- the corners of two drawn sides, in this order: bottom right, top right, bottom left, top left
 abbrev pub corner_changes : Borders → Style → Rect → List Change
 corner_changes borders style area =
     drawn_where (has_border borders right_side && has_border borders bottom_side) (on_both (on_right area) (on_bottom area)) (encode_utf8 0x2518) style
@@ -65,7 +65,7 @@ corner_changes borders style area =
     ∷ drawn_where (has_border borders left_side && has_border borders bottom_side) (on_both (on_left area) (on_bottom area)) (encode_utf8 0x2514) style
     ∷ drawn_where (has_border borders left_side && has_border borders top_side) (on_both (on_left area) (on_top area)) (encode_utf8 0x250C) style ∷ []
 
--- the cells of the top row between the left and the right side, where these are drawn
+-- the cells of the top row between the left and the right border, where these are drawn
 abbrev pub title_cells : Borders → Rect → RowCells
 title_cells borders area = record {
   x = area.x + inset_of (has_border borders left_side) 0;
@@ -73,7 +73,7 @@ title_cells borders area = record {
   width = area.width - inset_of (has_border borders left_side) 0 - inset_of (has_border borders right_side) 0;
 }
 
--- the title, from its first column on, with no style under its own
+-- the title from its first column on, with no style under its own
 abbrev pub title_row : Option ShownLine → RowCells → Change
 title_row None cells x y cell = cell
 title_row (Some title) cells x y cell = row_change cells 0 (place_from 0 (row_clusters empty_style title)) x y cell
@@ -81,12 +81,12 @@ title_row (Some title) cells x y cell = row_change cells 0 (place_from 0 (row_cl
 abbrev pub title_change : ShownBlock → Rect → Change
 title_change block area = title_row block.title (title_cells block.borders area)
 
--- the block's style, then its sides, its corners, and its title
+-- the block's style, then its borders, its corners and its title
 abbrev pub block_changes : ShownBlock → Rect → List Change
 block_changes block area =
     (λ x y cell. styled block.style cell)
     ∷ side_changes block.borders block.border_style area ++ corner_changes block.borders block.border_style area ++ title_change block area ∷ []
 
--- what a block makes of a cell, drawn over an area; one outside of the area stays
+-- a cell after a block is drawn over an area; a cell outside of the area is unchanged
 unfoldable pub block_cell : ShownBlock → Rect → Change
 block_cell block area = in_area area (in_turn (block_changes block area))

@@ -1,4 +1,4 @@
--- Clusters that stand in a row, and the cells that show the row from one of its columns on.
+-- Grapheme clusters in a row, and the cells that show the row from one of its columns on.
 use Rattle.std.specs.Prelude.{◌≡◌, ℕ, ◌≤◌, ◌+◌, ◌-◌, min, Bool, ◌&&◌, ◌==◌, nat_lt, nat_le, List, [], ◌∷◌, Option, None, Some, if◌then◌else◌}
 use Rattle.std.specs.List.{find}
 use Rattle.textarea_screen.specs.Buffer.{Change}
@@ -11,7 +11,7 @@ use Rattle.textarea_paint.specs.declared.paint.cells.RowCells.{RowCells}
 
 -- ---- the row
 
--- a cluster whose first column is the column `start` of the row
+-- a cluster that starts at the column `start` of the row
 pub record Placed : Type 0 where
   pub text : List ℕ
   pub style : Style
@@ -20,35 +20,35 @@ pub record Placed : Type 0 where
 abbrev pub placed_at : ℕ → Cluster → Placed
 placed_at start cluster = record { text = cluster.text; style = cluster.style; start = start }
 
--- the clusters one after another, the first at the column `start`: each stands at the sum of the widths before it
+-- clusters one after another from the column `start` on: each starts where the last one ends
 abbrev pub place_from : ℕ → List Cluster → List Placed
 place_from start [] = []
 place_from start (cluster ∷ clusters) = placed_at start cluster ∷ place_from (start + columns_of cluster.text) clusters
 
--- the cluster takes the column; one of no columns takes none
+-- whether the cluster takes the column; a cluster of no columns takes none
 abbrev pub covers : ℕ → Placed → Bool
 covers column placed = nat_le placed.start column && nat_lt column (placed.start + columns_of placed.text)
 
 -- ---- the cells
 
--- the cell in column x and row y stands in this row, from the column `from` up to the column `to`
+-- whether the cell in column x and row y is in this row, from column `from` up to column `to`
 abbrev pub is_between : ℕ → ℕ → ℕ → ℕ → ℕ → Bool
 is_between row from to x y = (y == row) && (nat_le from x && nat_lt x to)
 
--- it is one of these cells
+-- whether it is one of these cells
 abbrev pub is_in_cells : RowCells → ℕ → ℕ → Bool
 is_in_cells cells = is_between cells.y cells.x (cells.x + cells.width)
 
--- the column is one of the cells', or the one behind them
+-- the column of one of the cells, or the one after them
 abbrev pub IsWithin : RowCells → ℕ → Type 0
 IsWithin cells x = (cells.x ≤ x) × (x ≤ cells.x + cells.width)
 
--- no edge of the cells cuts the cluster, where they show the row from the column `left` on
+-- whether no edge of the cells cuts the cluster, if they show the row from the column `left` on
 abbrev pub is_whole : RowCells → ℕ → Placed → Bool
 is_whole cells left placed = nat_le left placed.start && nat_le (placed.start + columns_of placed.text) (left + cells.width)
 
--- what a cluster leaves in a column that it takes: its text in its first column and the empty text in the others, or a blank in
--- each where an edge cuts it
+-- the text that a cluster puts into a column that it takes: its own text in its first column and
+-- the empty text in the others, or a blank in each if an edge cuts the cluster
 abbrev pub symbol_of : Bool → Bool → List ℕ → List ℕ
 symbol_of whole first text = if whole then (if first then text else []) else 32 ∷ []
 
@@ -60,14 +60,14 @@ abbrev pub covered : RowCells → ℕ → ℕ → Option Placed → ShownCell �
 covered cells left column None cell = cell
 covered cells left column (Some placed) cell = with_symbol (symbol_in cells left placed column) placed.style cell
 
--- what a row makes of a cell: of one of these cells by the cluster that takes the column which it shows, of another nothing
+-- a cell after a row is drawn: one of these cells gets its column's cluster, if any; others none
 unfoldable pub row_change : RowCells → ℕ → List Placed → Change
 row_change cells left row x y cell =
     if is_in_cells cells x y then covered cells left (left + (x - cells.x)) (find (covers (left + (x - cells.x))) row) cell else cell
 
 -- ---- the pen
 
--- the pen stands at the column of the row: left of the cells, in one of them, or at their end where it is past that
+-- the pen is at the column of the row: left of the cells, in them, or at their end if it is past it
 pub record IsPenAt (cells : RowCells) (left column : ℕ) (pen : Pen) : Type 0 where
   pub hidden : pen.hidden ≡ left - column
   pub x : pen.x ≡ cells.x + min (column - left) cells.width

@@ -1,4 +1,4 @@
--- The clusters of a line.
+-- The grapheme clusters of a line.
 use Rattle.std.specs.Prelude.{ℕ, ◌≤◌, true, List, map, length, All}
 use Rattle.std.specs.List.{flat_map}
 use Rattle.unicode_segmentation.specs.Grapheme.{graphemes}
@@ -8,7 +8,7 @@ use Rattle.textarea_screen.specs.Text.ShownContent.{Lent, Held}
 use Rattle.textarea_screen.specs.declared.screen.cell.TheConstants.{INLINE_BYTES}
 use Rattle.textarea_screen.specs.declared.screen.style.Style.{Style}
 
--- a cluster by its bytes, in a style
+-- a grapheme cluster, by its bytes, in a style
 pub record Cluster : Type 0 where
   pub text : List ℕ
   pub style : Style
@@ -16,19 +16,19 @@ pub record Cluster : Type 0 where
 abbrev pub in_style : Style → List ℕ → Cluster
 in_style style text = record { text = text; style = style }
 
--- the bytes of a text, whoever owns it
+-- the bytes of a text, borrowed or owned
 abbrev pub content_bytes : ShownContent → List ℕ
 content_bytes (Lent bytes) = bytes
 content_bytes (Held bytes) = bytes
 
--- the extended grapheme clusters of a span, in its style patched over the one given
+-- the extended grapheme clusters (UAX #29) of a span, in its style patched over the given one
 abbrev pub span_clusters : Style → ShownSpan → List Cluster
 span_clusters style span = map (in_style (patched style span.style)) (graphemes true (content_bytes span.content))
 
--- the clusters of a line, span after span, in its style patched over the one given and theirs over both
+-- the clusters of a line; its style is under that of each span, and the given one under both
 abbrev pub row_clusters : Style → ShownLine → List Cluster
 row_clusters style line = flat_map (span_clusters (patched style line.style)) line.spans
 
--- each cluster lies in a cell that shows it
+-- each cluster is short enough to be stored in its cell
 abbrev pub AreInline : List Cluster → Type 0
 AreInline clusters = All (λ cluster. length cluster.text ≤ INLINE_BYTES) clusters

@@ -1,4 +1,4 @@
--- What the iterator over the clusters of a line has left.
+-- The grapheme clusters that an iterator over a line has left.
 use Rattle.std.specs.Prelude.{true, List, ◌++◌, map}
 use Rattle.std.specs.List.{flat_map}
 use Rattle.std.specs.Slice.Iter.{iter_rest}
@@ -12,7 +12,7 @@ use Rattle.textarea_paint.specs.declared.paint.clusters.StyledCluster.{StyledClu
 abbrev pub styled_cluster : StyledCluster → Cluster
 styled_cluster cluster = record { text = cluster.text.now; style = cluster.style }
 
--- the clusters of the span that is begun, first those that are cut already, and then those of the spans behind it
+-- the clusters left of the current span, those already split first, and of the following spans
 unfoldable pub clusters_left : LineClusters → List Cluster
 clusters_left s =
     map (in_style s.style) (graphemes_left s.texts ++ graphemes true s.behind.now) ++ flat_map (span_clusters s.base) (map shown_span (iter_rest s.spans))

@@ -12,52 +12,52 @@ use Rattle.textarea_paint.specs.Columns.{columns_of}
 use Rattle.textarea_paint.specs.declared.paint.cells.RowCells.{RowCells}
 use Rattle.textarea_paint.specs.declared.paint.row.RowArea.{RowArea}
 
--- ---- the clusters that are drawn in the middle or at the right
+-- ---- the grapheme clusters that are drawn in the middle or at the right
 
--- the columns of clusters together
+-- the sum of the clusters' columns
 abbrev pub row_width : List Cluster → ℕ
 row_width clusters = sum_by (λ cluster. columns_of cluster.text) clusters
 
--- the longest front of the clusters, of at most so many of them, whose widths sum to at most the room
+-- the longest prefix of at most `most` clusters whose widths sum to at most the room
 abbrev pub longest_front : ℕ → ℕ → List Cluster → List Cluster
 longest_front room zero clusters = []
 longest_front room (suc most) clusters =
     if nat_le (row_width (take (suc most) clusters)) room then take (suc most) clusters else longest_front room most clusters
 
--- the longest front of all
+-- the longest prefix of the clusters whose widths sum to at most the room
 abbrev pub front_within : ℕ → List Cluster → List Cluster
 front_within room clusters = longest_front room (length clusters) clusters
 
--- a front of the clusters whose widths sum to at most the room, and the longest one
+-- a prefix of the clusters whose widths sum to at most the room, and the longest such prefix
 pub record IsLongestFront (room : ℕ) (clusters front : List Cluster) : Type 0 where
   pub is_front : front ≡ take (length front) clusters
   pub fits : row_width front ≤ room
   pub longest : (count : ℕ) → count ≤ length clusters → row_width (take count clusters) ≤ room → count ≤ length front
 
--- the cluster is no wider than the area
+-- whether the cluster is no wider than the area
 abbrev pub is_narrow : ℕ → Cluster → Bool
 is_narrow width cluster = nat_le (columns_of cluster.text) width
 
--- of the clusters that are no wider than the area, the longest front whose widths sum to at most the area's
+-- of the clusters no wider than the area, the longest prefix whose widths sum to at most the area's
 abbrev pub fitting : ℕ → List Cluster → List Cluster
 fitting width clusters = front_within width (filter (is_narrow width) clusters)
 
--- ---- where they stand
+-- ---- their columns
 
--- how many columns behind the left edge of an area of so many columns a line begins: none at the left, else as many as leave
--- the clusters that are drawn in the middle, both halves rounded down, or at the right
+-- the number of columns between the left edge of an area and the start of a line: 0 at the left,
+-- else that which centers the drawn clusters, both halves rounded down, or aligns them at the right
 abbrev pub row_start : Alignment → ℕ → List Cluster → ℕ
 row_start Left width clusters = 0
 row_start Center width clusters = width / 2 - row_width (fitting width clusters) / 2
 row_start Right width clusters = width - row_width (fitting width clusters)
 
--- the clusters that stand in the row
+-- the clusters that are in the row
 abbrev pub taken : Alignment → ℕ → List Cluster → List Cluster
 taken Left width clusters = clusters
 taken Center width clusters = fitting width clusters
 taken Right width clusters = fitting width clusters
 
--- the clusters of a line as they stand in a row of so many columns
+-- the clusters of a line with their columns in a row of `width` columns
 abbrev pub placed_row : Alignment → ℕ → List Cluster → List Placed
 placed_row alignment width clusters = place_from (row_start alignment width clusters) (taken alignment width clusters)
 
@@ -70,7 +70,7 @@ first_shown Right left = 0
 abbrev pub cells_of_row : Rect → ℕ → RowCells
 cells_of_row area y = record { x = area.x; y = y; width = area.width }
 
--- what a line makes of a cell, drawn in row y of an area
+-- a cell after a line is drawn in row y of an area
 unfoldable pub row_cell : RowArea → ℕ → ShownLine → Change
 row_cell rows y line column row cell = if is_in_row rows.area y column row
     then row_change (cells_of_row rows.area y) (first_shown rows.alignment rows.left)

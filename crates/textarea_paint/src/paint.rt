@@ -1,4 +1,4 @@
-//! What is drawn into the cells of a buffer.
+//! Functions that draw into the cells of a buffer.
 
 pub mod block;
 mod cells;

@@ -24,11 +24,11 @@ order_case = refl
 pub rejected_case : rejected_of abc (in_order tried) ≡ rejected (part 0 1 1) Empty ∷ rejected (part 0 1 3) OverlapsPrevious ∷ rejected (part 0 2 4) ColumnOutOfBounds ∷ rejected (part 1 0 1) RowOutOfBounds ∷ []
 rejected_case = refl
 
--- the empty one is refused as that, though its row doesn't exist either
+-- an empty range is rejected as empty, even if its row doesn't exist
 pub empty_first_case : rejected_of abc (part 7 5 5 ∷ []) ≡ rejected (part 7 5 5) Empty ∷ []
 empty_first_case = refl
 
--- it starts behind its end in a row that doesn't exist
+-- it starts after its end in a row that doesn't exist
 pub row_second_case : rejected_of abc (part 7 5 4 ∷ []) ≡ rejected (part 7 5 4) RowOutOfBounds ∷ []
 row_second_case = refl
 
@@ -36,11 +36,11 @@ row_second_case = refl
 pub touching_case : rejected_of abc (part 0 0 1 ∷ part 0 1 3 ∷ []) ≡ []
 touching_case = refl
 
--- a range that is rejected doesn't reject others: 1..3 overlaps 0..2, and 2..3 only that one
+-- a rejected range rejects no others: 1..3 overlaps 0..2, and 2..3 only that one
 pub behind_rejected_case : rejected_of abc (part 0 0 2 ∷ part 0 1 3 ∷ part 0 2 3 ∷ []) ≡ rejected (part 0 1 3) OverlapsPrevious ∷ []
 behind_rejected_case = refl
 
--- ranges that start at one place keep their order
+-- ranges with the same start keep their order
 pub tie_case : in_order (part 0 1 3 ∷ part 0 0 1 ∷ part 0 1 2 ∷ []) ≡ part 0 0 1 ∷ part 0 1 3 ∷ part 0 1 2 ∷ []
 tie_case = refl
 
@@ -58,7 +58,7 @@ hit_cases = refl
 pub widened_cases : (widened (part 0 5 10 ∷ part 1 0 4 ∷ []) (0, 7) (1, 2) ∷ widened bracket (0, 6) (0, 7) ∷ []) ≡ ((0, 5), (1, 4)) ∷ ((0, 5), (0, 10)) ∷ []
 widened_cases = refl
 
--- ---- ranges that go with the text
+-- ---- ranges that move with their text
 
 abbrev pub insertion : ℕ → ℕ → List Symbol → Splice
 insertion row column symbols = record { place = (row, column); symbols = symbols; inserts = true }
@@ -66,32 +66,32 @@ insertion row column symbols = record { place = (row, column); symbols = symbols
 abbrev pub removal : ℕ → ℕ → List Symbol → Splice
 removal row column symbols = record { place = (row, column); symbols = symbols; inserts = false }
 
--- `oh` and a break before `hi [[a]] x`: the range is in the row below, and its columns are those of before
+-- `oh` and a break before `hi [[a]] x`: the range is in the row below, at the same columns
 pub break_before_case : moved_ranges (part 0 3 8 ∷ []) (insertion 0 0 (Character 111 ∷ Character 104 ∷ Break ∷ [])) ≡ part 1 3 8 ∷ []
 unfolding moved_ranges
 break_before_case = refl
 
--- a break inside the line: the range behind it starts its row
+-- a break inside the line: the range after it starts its row
 pub break_inside_case : moved_ranges (part 0 3 8 ∷ part 1 0 2 ∷ []) (insertion 0 3 (Break ∷ [])) ≡ part 1 0 5 ∷ part 2 0 2 ∷ []
 unfolding moved_ranges
 break_inside_case = refl
 
--- a character between two ranges that touch: the first stays, the second goes along
+-- a character between two ranges that touch: the first stays, the second moves
 pub between_case : moved_ranges (part 0 0 5 ∷ part 0 5 10 ∷ []) (insertion 0 5 (Character 45 ∷ [])) ≡ part 0 0 5 ∷ part 0 6 11 ∷ []
 unfolding moved_ranges
 between_case = refl
 
--- what is inserted strictly inside of a range drops it
+-- an insertion strictly inside a range drops it
 pub inside_case : moved_ranges (part 0 0 5 ∷ part 0 5 10 ∷ []) (insertion 0 6 (Character 45 ∷ [])) ≡ part 0 0 5 ∷ []
 unfolding moved_ranges
 inside_case = refl
 
--- the break between two lines goes: the range of the second one stands behind the first line's two characters
+-- a break is removed: the second line's range is after the first line's two characters
 pub joined_case : moved_ranges (part 0 0 2 ∷ part 1 1 3 ∷ part 2 0 4 ∷ []) (removal 0 2 (Break ∷ [])) ≡ part 0 0 2 ∷ part 0 3 5 ∷ part 1 0 4 ∷ []
 unfolding moved_ranges
 joined_case = refl
 
--- a range that is taken whole is dropped, as is one of which a character goes; one that is only touched stays
+-- a range removed whole, or that loses a character, is dropped; one that is only touched stays
 pub taken_case : moved_ranges (part 0 0 2 ∷ part 0 2 4 ∷ part 0 4 7 ∷ part 0 7 9 ∷ []) (removal 0 2 (Character 97 ∷ Character 98 ∷ Character 99 ∷ [])) ≡ part 0 0 2 ∷ part 0 4 6 ∷ []
 unfolding moved_ranges
 taken_case = refl

@@ -1,11 +1,11 @@
--- A list whose elements are replaced or dropped in place: those that are left close up at its front.
+-- A list whose elements are replaced or dropped in place: those that are left move to its front.
 use Rattle.std.proofs.Common.{◌≡◌, ◌≤◌, ◌<◌, ℕ, ◌+◌, List, [], ◌∷◌, ◌++◌, length, take, drop, get_or, filter_map, Option, Some, None, All, sym, ap, ◌∙◌, arith, subst}
 use Rattle.std.proofs.Math.ListN.{set, length-set}
 use Rattle.std.proofs.lemmas.List.{append_assoc, drop_more, drop-set-lt, take_more_set}
 use Rattle.std.proofs.lemmas.List.Elements.{All-tail}
 use Rattle.std.specs.List.{cons_option}
 
--- what the list holds of those that are left, so far and behind the index
+-- the elements that are left, up to the index and from there on
 abbrev pub Closes : {X : Type 0} → (X → Option X) → List X → ℕ → ℕ → List X → Type 0
 Closes f xs kept index all = take kept xs ++ filter_map f (drop index xs) ≡ all
 
@@ -28,7 +28,7 @@ pub all_behind : {X : Type 0} (P : X → Type 0) (xs : List X) (index : ℕ) (d 
 all_behind P xs index d within all =
     All-tail P (get_or xs index d) (drop (index + 1) xs) (subst (All P) (drop_more xs index d within) all)
 
--- how far the closing up has come at the index
+-- the state of the list at the index
 abbrev pub Closing : {X : Type 0} → (X → Option X) → (X → Type 0) → List X → ℕ → ℕ → List X → Type 0
 Closing f P xs kept index all =
     (kept ≤ index) × (length xs ≡ length all) × All P (drop index xs) × Closes f xs kept index (filter_map f all)

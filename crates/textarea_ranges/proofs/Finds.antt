@@ -1,9 +1,9 @@
--- What `find` tells of a list: the element that it finds stands in it and passes, and where it finds none, none passes.
+-- The results of `find`: an element that is in the list and passes, or none if none passes.
 use Rattle.std.proofs.Common.{◌≡◌, ℕ, zero, suc, ◌<◌, Bool, true, false, List, [], ◌∷◌, length, get_or, find, Some, None, inl, inr, arith, suc-le-suc, le_of_suc-le-suc}
 use Rattle.std.proofs.lemmas.Bool.Decides.{nat_tests}
 use Rattle.std.proofs.lemmas.Bool.{cases_Bool}
 
--- the element stands in the list and passes the test
+-- the element is in the list and passes the test
 pub record Found {X : Type 0} (test : X → Bool) (xs : List X) (x : X) : Type 0 where
   pub index : ℕ
   pub within : index < length xs

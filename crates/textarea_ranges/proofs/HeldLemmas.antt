@@ -1,4 +1,4 @@
--- A place that is moved out of ranges, and a removal that is widened over them.
+-- A position that is moved out of ranges, and a removal that is widened over them.
 use Rattle.std.proofs.Common.{◌≡◌, ℕ, ◌<◌, ◌⊎◌, inl, inr, Bool, true, List, length, get_or, find, Option, Some, None, All, Contains, MatchOption, refl, sym, ap, subst, ◌∙◌, arith}
 use Rattle.std.proofs.lemmas.Bool.{cases_lt}
 use Rattle.std.proofs.lemmas.List.{get_or_default}
@@ -8,7 +8,7 @@ use Rattle.textarea_ranges.specs.Prelude.{Place, IsBefore, IsPlaceOf, IsUpTo, At
 use Rattle.textarea_data.specs.declared.range.AtomicDeleteDirection.TheVariants.{Backward as DeleteBackward, Forward as DeleteForward}
 use Rattle.textarea_ranges.proofs.Finds.{Found, Found-find, fails-find}
 
--- ---- the test of a range that strictly holds a place
+-- ---- the test of a range that strictly contains a position
 
 pub IsInside-is_inside : (place : Place) (range : AtomicRange) → is_inside place range ≡ true → IsInside place range
 IsInside-is_inside place range h = (grind (arith, nat_tests), grind (arith, nat_tests), grind (arith, nat_tests))
@@ -18,7 +18,7 @@ is_inside-IsInside place range h = grind (arith, nat_tests)
 
 -- ---- two ranges of a valid list
 
--- they are one, or share no character
+-- they are the same, or share no character
 pub apart : (rows : List (List ℕ)) (ranges : List AtomicRange) → AreValid rows ranges → (j k : ℕ) (d : AtomicRange) → j < length ranges → k < length ranges → (j ≡ k) ⊎ AreDisjoint (get_or ranges j d) (get_or ranges k d)
 apart rows ranges valid j k d j_within k_within =
     elim (cases_lt j k) [
@@ -38,7 +38,7 @@ border_own : (range : AtomicRange) (bias : AtomicCursorBias) → IsInside (borde
 border_own range Backward h = omega arith
 border_own range Forward h = omega arith
 
--- ---- a place that is moved out
+-- ---- a position that is moved out
 
 outside_of : (rows : List (List ℕ)) (ranges : List AtomicRange) (place : Place) (bias : AtomicCursorBias) → AreValid rows ranges → (found : Option AtomicRange) → inside ranges place ≡ found → All (λ range. ¬ IsInside (border_or found place bias) range) ranges
 outside_of rows ranges place bias valid None e k d within h =
@@ -55,7 +55,7 @@ outside_of rows ranges place bias valid (Some range) e k d within h =
       | inr disjoint ↦ border_apart range (get_or ranges k d) bias part.1 (subst (λ (r : AtomicRange). AreDisjoint r (get_or ranges k d)) (found.at d) disjoint) h
     ]
 
--- the place is strictly inside no range
+-- the position is strictly inside no range
 pub outside-moved_out : (rows : List (List ℕ)) (ranges : List AtomicRange) (place : Place) (bias : AtomicCursorBias) → AreValid rows ranges → All (λ range. ¬ IsInside (moved_out ranges place bias) range) ranges
 outside-moved_out rows ranges place bias valid = outside_of rows ranges place bias valid (inside ranges place) refl
 
@@ -69,13 +69,13 @@ place_of_found rows ranges place bias valid h (Some range) e =
     let found = Found-find (is_inside place) ranges range e in
     place_of_border rows range bias (subst (IsPart rows) (found.at range) (valid.parts found.index range found.within))
 
--- a place of the rows stays one
+-- a position of the lines stays one
 pub IsPlaceOf-moved_out : (rows : List (List ℕ)) (ranges : List AtomicRange) (place : Place) (bias : AtomicCursorBias) → AreValid rows ranges → IsPlaceOf rows place → IsPlaceOf rows (moved_out ranges place bias)
 IsPlaceOf-moved_out rows ranges place bias valid h = place_of_found rows ranges place bias valid h (inside ranges place) refl
 
 -- ---- a removal that is widened
 
--- ends that are strictly inside no range leave none in half
+-- if no end is strictly inside a range, the range is taken whole or not at all
 pub taken : (from to : Place) (range : AtomicRange) → ¬ IsInside from range → ¬ IsInside to range → IsWithin from to range ⊎ IsBeside from to range
 taken from to range from_out to_out = grind (arith, nat_tests)
 
@@ -88,7 +88,7 @@ before_up_to one two three h k = (omega arith, λ same. omega arith)
 never : (one other : Place) → IsBefore one other → IsUpTo other one → ⊥
 never one other h k = grind (arith, nat_tests)
 
--- what is beside a removal does not overlap it
+-- a range beside a removal does not overlap it
 not_beside : (from to : Place) (range : AtomicRange) → Overlaps from to range → IsBeside from to range → ⊥
 not_beside from to range h (inl up) = never (range_start range) to h.0 up
 not_beside from to range h (inr up) = never from (range_end range) h.1 up
@@ -116,14 +116,14 @@ ends_of ranges to (Some range) e =
     let held = IsInside-is_inside to range (Found-find (is_inside to) ranges range e).passes in
     (omega arith, λ same. omega arith)
 
--- an end of a removal that is strictly inside a range makes the two overlap
+-- a removal with an end strictly inside a range overlaps it
 overlaps_at_start : (from to : Place) (range : AtomicRange) → IsUpTo from to → IsInside from range → Overlaps from to range
 overlaps_at_start from to range up h = grind (arith, nat_tests)
 
 overlaps_at_end : (from to : Place) (range : AtomicRange) → IsUpTo from to → IsInside to range → Overlaps from to range
 overlaps_at_end from to range up h = grind (arith, nat_tests)
 
--- a removal that holds another one, and takes each range whole or not at all, takes those whole that the other one overlaps
+-- what a removal overlaps, a larger one takes whole if it takes each range whole or not at all
 taken_over : (ranges : List AtomicRange) (from to first last : Place) (test : AtomicRange → Bool) (range : AtomicRange) → IsUpTo first from → IsUpTo to last → TakesWhole ranges first last → Found test ranges range → Overlaps from to range → IsWithin first last range
 taken_over ranges from to first last test range starts ends whole found overlap = grind (arith, nat_tests)
 
@@ -157,7 +157,7 @@ IsWidened-widened rows ranges from to valid up =
       least = λ first last before behind all. (least_start ranges from to first last up before behind all (inside ranges from) refl, least_end ranges from to first last up before behind all (inside ranges to) refl);
     }
 
--- ---- what is found
+-- ---- the range that is found
 
 pub IsHit-is_hit : (place : Place) (direction : AtomicDeleteDirection) (range : AtomicRange) → is_hit place direction range ≡ true → IsHit place direction range
 IsHit-is_hit place DeleteBackward range h = (grind (arith, nat_tests), grind (arith, nat_tests), grind (arith, nat_tests))
@@ -167,7 +167,7 @@ pub is_hit-IsHit : (place : Place) (direction : AtomicDeleteDirection) (range : 
 is_hit-IsHit place DeleteBackward range h = grind (arith, nat_tests)
 is_hit-IsHit place DeleteForward range h = grind (arith, nat_tests)
 
--- two ranges of a valid list that hold one character are the same
+-- two ranges of a valid list that share a character are the same
 same_range : (rows : List (List ℕ)) (ranges : List AtomicRange) (one other : AtomicRange) → AreValid rows ranges → Contains ranges one → Contains ranges other → ¬ AreDisjoint one other → one ≡ other
 same_range rows ranges one other valid in_one in_other share =
     elim (apart rows ranges valid in_one.0 in_other.0 one in_one.1 in_other.1) [
@@ -185,7 +185,7 @@ hit_shares : (place : Place) (direction : AtomicDeleteDirection) (one other : At
 hit_shares place DeleteBackward one other h k apart = grind (arith, nat_tests)
 hit_shares place DeleteForward one other h k apart = grind (arith, nat_tests)
 
--- a search whose test stands for a fact of a range
+-- a search whose test decides a fact of a range
 module _ (test : AtomicRange → Bool) (Holds : AtomicRange → Type 0) (holds : (range : AtomicRange) → test range ≡ true → Holds range) (passes : (range : AtomicRange) → Holds range → test range ≡ true) (ranges : List AtomicRange) where
   found_cases : (found : Option AtomicRange) → find test ranges ≡ found → MatchOption found (All (λ range. ¬ Holds range) ranges) (λ range. Contains ranges range × Holds range)
   found_cases None e = λ k d within h.
@@ -202,7 +202,7 @@ module _ (test : AtomicRange → Bool) (Holds : AtomicRange → Type 0) (holds :
       let found = found_cases (Some other) e in
       ap Some (same_range rows ranges other range valid found.0 within (share other range found.1 h))
 
--- the range that strictly holds a place, or none of the list; and a valid list has no other
+-- the range that strictly contains a position, or none of the list; a valid list has no other
 pub MatchOption-inside : (ranges : List AtomicRange) (place : Place) → MatchOption (inside ranges place) (All (λ range. ¬ IsInside place range) ranges) (λ range. Contains ranges range × IsInside place range)
 MatchOption-inside ranges place = found_cases (is_inside place) (IsInside place) (IsInside-is_inside place) (is_inside-IsInside place) ranges (inside ranges place) refl
 
@@ -210,7 +210,7 @@ pub inside-only : (rows : List (List ℕ)) (ranges : List AtomicRange) (place : 
 inside-only rows ranges place range valid within h =
     only_found (is_inside place) (IsInside place) (IsInside-is_inside place) (is_inside-IsInside place) ranges rows range valid (inside_shares place) within h (inside ranges place) refl
 
--- the same of the range that is hit
+-- the same for the range at a position
 pub MatchOption-hit : (ranges : List AtomicRange) (place : Place) (direction : AtomicDeleteDirection) → MatchOption (hit ranges place direction) (All (λ range. ¬ IsHit place direction range) ranges) (λ range. Contains ranges range × IsHit place direction range)
 MatchOption-hit ranges place direction = found_cases (is_hit place direction) (IsHit place direction) (IsHit-is_hit place direction) (is_hit-IsHit place direction) ranges (hit ranges place direction) refl
 

@@ -10,7 +10,7 @@ filter-kept test x xs h = cond-true _ _ _ h
 pub filter-dropped : {X : Type 0} (test : X → Bool) (x : X) (xs : List X) → test x ≡ false → filter test (x ∷ xs) ≡ filter test xs
 filter-dropped test x xs h = cond-false _ _ _ h
 
--- what holds of each element holds of the first that passes
+-- a fact of each element is one of the first that passes
 pub first_kept : {X : Type 0} (P : X → Type 0) (test : X → Bool) (ys : List X) (x : X) (rest : List X) → AllByRecursion P ys → filter test ys ≡ x ∷ rest → P x
 first_kept P test [] x rest all e = absurd cc
 first_kept {X} P test (y ∷ ys) x rest all e =
@@ -26,7 +26,7 @@ pub each_both : {X : Type 0} (P Q R : X → Type 0) → ((x : X) → P x → Q x
 each_both P Q R both [] p q = tt
 each_both P Q R both (x ∷ xs) p q = (both x p.0 q.0, each_both P Q R both xs p.1 q.1)
 
--- the relation holds between each element and each later one
+-- the relation of each element to each later one
 abbrev pub EachLater : {X : Type 0} → (X → X → Type 0) → List X → Type 0
 EachLater R [] = Unit {0}
 EachLater R (x ∷ xs) = AllByRecursion (R x) xs × EachLater R xs

@@ -1,4 +1,4 @@
--- Where atomic ranges go with the text that they stand in.
+-- Where atomic ranges move with their text.
 use Rattle.std.proofs.Common.{◌≡◌, ◌≤◌, ◌<◌, ℕ, ◌+◌, ◌-◌, ◌⊎◌, ◌↔◌, inl, inr, Bool, true, false, List, [], ◌∷◌, ◌++◌, length, take, drop, filter_map, nat_eq, Option, Some, None, sym, ap, refl, ◌∙◌, arith, subst}
 use Rattle.std.proofs.lemmas.Bool.{cases_Bool}
 use Rattle.std.proofs.lemmas.Bool.Decides.{nat_tests}
@@ -12,7 +12,7 @@ use Rattle.textarea_ranges.proofs.Lists.{AllPairs-later, EachLater, each_both, l
 use Rattle.textarea_ranges.proofs.OrderLemmas.{in_order-sorted, sorted-in_order}
 use Rattle.textarea_ranges.proofs.Sorts.{NotBefore}
 
--- ---- a range as a part of the flat text
+-- ---- a range in the flat text
 
 pub record Segment (text : List Symbol) (range : AtomicRange) : Type 0 where
   pub front : List Symbol
@@ -47,7 +47,7 @@ filled [] = ([], [], refl)
 filled (Character c ∷ text) = let found = filled text in (c ∷ found.0, found.1, ap (on_first c) found.2)
 filled (Break ∷ text) = ([], lines text, refl)
 
--- characters that stand in a text are a part of the line in which they begin
+-- characters in a text that are a range of the line in which they begin
 pub record Stands (text : List Symbol) (range : AtomicRange) (cs : List ℕ) : Type 0 where
   pub part : IsPart (lines text) range
   pub is : covered (lines text) range ≡ cs
@@ -96,7 +96,7 @@ stands text front back cs range e starts ends some =
 
 -- ---- the two ways in which a range is left
 
--- it stays, or goes along
+-- it stays, or moves
 pub data Left (splice : Splice) (old new : AtomicRange) : Type 0 where
   StaysThere : IsUpTo (range_end old) splice.place → new ≡ old → Left splice old new
   GoesOn : IsUpTo (place_before splice) (range_start old) → new ≡ shifted_range (place_before splice) (place_after splice) old → Left splice old new
@@ -114,11 +114,11 @@ left splice old new e =
       ]
     ]
 
--- both ends of a range that goes along move alike
+-- both ends of a range that moves are moved alike
 shifted_ends : (old new : Place) (row start to : ℕ) → IsUpTo old (row, start) → (shifted old new (row, start + to)).1 ≡ (shifted old new (row, start)).1 + to
 shifted_ends old new row start to h = grind (arith, nat_tests)
 
--- ---- a range that is left covers the same
+-- ---- a range that is left covers the same characters
 
 pub covers_the_same : (text : List Symbol) (splice : Splice) (old new : AtomicRange) → Fits text splice → IsPart (lines text) old → moved_range splice old ≡ Some new → CoversTheSame text (applied text splice) old new
 covers_the_same text splice old new h part e = by_cases (left splice old new e)
@@ -190,7 +190,7 @@ later_left {X} P R Q f keeps (x ∷ xs) all later =
 
 -- ---- two ranges that are left
 
--- the splice's start comes before both ends of what changes
+-- the splice's start is at or before both ends of what changes
 starts_by : (inserts : Bool) (place : Place) (symbols : List Symbol) → IsUpTo place (place_before (record { place = place; symbols = symbols; inserts = inserts })) × IsUpTo place (place_after (record { place = place; symbols = symbols; inserts = inserts }))
 starts_by true place symbols = (end_from place [], end_from place symbols)
 starts_by false place symbols = (end_from place symbols, end_from place [])
@@ -198,7 +198,7 @@ starts_by false place symbols = (end_from place symbols, end_from place [])
 starts : (splice : Splice) → IsUpTo splice.place (place_before splice) × IsUpTo splice.place (place_after splice)
 starts splice = starts_by splice.inserts splice.place splice.symbols
 
--- a range that goes along stands in the new place's row, by columns behind it, or below it, by rows behind it
+-- a moved range is in the new position's row with moved columns, or below it with a moved row
 record InRow (old new : Place) (range there : AtomicRange) : Type 0 where
   pub row_was : range.row ≡ old.0
   pub from : old.1 ≤ range.start_col
@@ -219,12 +219,12 @@ goes_cases old new range ordered h =
       | inr below ↦ inr (record { row_was = grind (arith, nat_tests); row = grind (arith, nat_tests); start = grind (arith, nat_tests); to = grind (arith, nat_tests) })
     ]
 
--- one that stays ends before one that goes along starts
+-- a range that stays ends before one that moves starts
 stays_before : (start old new : Place) (one other there : AtomicRange) → IsUpTo start new → IsUpTo (range_end one) start → InRow old new other there ⊎ BelowRow old new other there → IsUpTo (range_end one) (range_start there)
 stays_before start old new one other there up stays (inl h) = (omega (arith, up.0, stays.0, h.row), λ same. omega (arith, up.0, up.1, stays.0, stays.1, h.row, h.start, h.from, same))
 stays_before start old new one other there up stays (inr h) = (omega (arith, up.0, stays.0, h.row, h.row_was), λ same. absurd (omega (arith, up.0, stays.0, h.row, h.row_was, same)))
 
--- two that go along share no character, and stay in order
+-- two ranges that move share no character, and stay in order
 go_apart : (old new : Place) (one other there away : AtomicRange) → AreDisjoint one other → InRow old new one there ⊎ BelowRow old new one there → InRow old new other away ⊎ BelowRow old new other away → AreDisjoint there away
 go_apart old new one other there away apart (inl h) (inl k) same =
     elim (apart (omega (arith, h.row_was, k.row_was))) [ inl before ↦ inl (omega (arith, h.to, k.start, before)) | inr behind ↦ inr (omega (arith, k.to, h.start, behind)) ]
@@ -239,7 +239,7 @@ go_in_order old new one other there away up (inl h) (inr k) = (omega (arith, h.r
 go_in_order old new one other there away up (inr h) (inl k) = absurd (omega (arith, up.0, h.row_was, k.row_was))
 go_in_order old new one other there away up (inr h) (inr k) = (omega (arith, h.row, k.row, up.0), λ same. omega (arith, h.start, k.start, h.row, k.row, same, up.1))
 
--- what holds of two ranges holds of what is left of them
+-- facts of two ranges are also facts of what is left of them
 module _ (splice : Splice) (one other there away : AtomicRange) (one_some : one.start_col < one.end_col) (other_some : other.start_col < other.end_col) where
   go_one : IsUpTo (place_before splice) (range_start one) → there ≡ shifted_range (place_before splice) (place_after splice) one → InRow (place_before splice) (place_after splice) one there ⊎ BelowRow (place_before splice) (place_after splice) one there
   go_one up same = subst (λ (r : AtomicRange). InRow (place_before splice) (place_after splice) one r ⊎ BelowRow (place_before splice) (place_after splice) one r) (sym same) (goes_cases (place_before splice) (place_after splice) one (omega arith) up)

@@ -38,7 +38,7 @@ pub same-in_order : (ranges : List AtomicRange) → IsPermutation ranges (in_ord
 same-in_order [] = IsPermutation-refl []
 same-in_order (range ∷ rest) = IsPermutation-trans (range ∷ rest) (range ∷ in_order rest) (insert_among range (in_order rest)) (IsPermutation-cons range rest (in_order rest) (same-in_order rest)) (same_put range (in_order rest))
 
--- the sort that std makes gives the same list
+-- the standard library's sort gives the same list
 pub in_order-sorted : (ranges ordered : List AtomicRange) → EachLater (NotBefore is_before) ordered → IsStableBy is_before ranges ordered → ordered ≡ in_order ranges
 in_order-sorted ranges ordered sorted stable =
     same_sorted is_before order_of_ranges ordered (in_order ranges) sorted (sorted-in_order ranges) (λ z. stable-in_order ranges z ∙ sym (stable z))
@@ -49,7 +49,7 @@ IsInOrder-in_order ranges = record { same = same-in_order ranges; sorted = IsSor
 pub in_order-IsInOrder : (ranges ordered : List AtomicRange) → IsInOrder ranges ordered → ordered ≡ in_order ranges
 in_order-IsInOrder ranges ordered h = in_order-sorted ranges ordered (later-IsSortedBy is_before order_of_ranges ordered h.sorted) h.stable
 
--- ranges that are in order stay as they are
+-- ordered ranges stay the same
 pub AreInOrder-in_order : (ranges : List AtomicRange) → AreInOrder (in_order ranges)
 AreInOrder-in_order ranges = sym (in_order-sorted (in_order ranges) (in_order ranges) (sorted-in_order ranges) (λ z. refl))
 

@@ -1,4 +1,4 @@
--- A list is accepted exactly if it is valid; and the list of the rejected, range by range.
+-- A list is accepted exactly if it is valid; and the list of rejected ranges, range by range.
 use Rattle.std.proofs.Common.{◌≡◌, ◌≢◌, ◌↔◌, ℕ, ◌+◌, ◌<◌, ◌≤◌, List, [], ◌∷◌, ◌++◌, Option, Some, None, refl, sym, ap, ◌∙◌, inl, inr, arith, subst, zero-le, drop, get_or, length, String}
 use Rattle.std.proofs.lemmas.Bool.Decides.{nat_tests}
 use Rattle.std.proofs.lemmas.List.{append_assoc, drop_more, get_or_past, length-map}
@@ -10,13 +10,13 @@ use Rattle.textarea_ranges.proofs.OrderLemmas.{AreInOrder-in_order, each-in_orde
 
 -- ---- lines
 
--- the row behind the last line, and each one behind it, has no characters
+-- no row after the last line has characters
 pub no_columns : (lines : List (String Global)) (row : ℕ) → length lines ≤ row → 0 ≡ length (line_of (lines_of lines) row)
 no_columns lines row past = sym (ap length (get_or_past (lines_of lines) row [] (omega (arith, past, length-map lines characters_of))))
 
 -- ---- one range
 
--- the range has no reason to be rejected: it is a part of a line, and starts where the row is free or behind that
+-- the range is not rejected: it is within a line, and starts at or after the row's free column
 record Suits (rows : List (List ℕ)) (last : Option AtomicRange) (range : AtomicRange) : Type 0 where
   part : IsPart rows range
   behind : free_from last range.row ≤ range.start_col
@@ -30,7 +30,7 @@ reason-Suits rows last range suits = grind (arith, nat_tests)
 free_from-same : (last : AtomicRange) (row : ℕ) → last.row ≡ row → free_from (Some last) row ≡ last.end_col
 free_from-same last row same = grind (arith, nat_tests)
 
--- ---- ranges in order, behind the last valid one
+-- ---- ordered ranges, after the last valid one
 
 abbrev AllSuit : List (List ℕ) → Option AtomicRange → List AtomicRange → Type 0
 AllSuit rows last [] = Unit {0}
@@ -50,11 +50,11 @@ none_rejected-suit rows last (range ∷ rest) suit =
     ap (λ (o : Option AtomicRangeRejectReason). with_reason range o ++ rejected_behind rows (last_valid last range o) rest) (reason-Suits rows last range suit.0)
     ∙ none_rejected-suit rows (Some range) rest suit.1
 
--- what the order says of two ranges
+-- rows and starts of ordered ranges
 not_before_parts : (one other : AtomicRange) → NotBefore is_before one other → (one.row ≤ other.row) × (one.row ≡ other.row → one.start_col ≤ other.start_col)
 not_before_parts one other h = (grind (arith, nat_tests), λ same. grind (arith, nat_tests))
 
--- the one range ends by the start of the other where they are of one row
+-- the one range ends at or before the other's start, if they are in one row
 abbrev EndsBy : AtomicRange → AtomicRange → Type 0
 EndsBy one other = one.row ≡ other.row → one.end_col ≤ other.start_col
 
@@ -131,7 +131,7 @@ none_rejected-valid rows ranges valid =
 pub accepted_if_valid : (rows : List (List ℕ)) (ranges : List AtomicRange) → (rejected_of rows (in_order ranges) ≡ []) ↔ AreValid rows ranges
 accepted_if_valid rows ranges = (λ h. valid_from_in_order rows ranges (valid-none_rejected rows ranges h), λ valid. none_rejected-valid rows ranges (valid-in_order rows ranges valid))
 
--- ---- the outcomes
+-- ---- the two results of `validate`
 
 pub AreAccepted-in_order : (rows : List (List ℕ)) (given held : List AtomicRange) (rejected : List RejectedAtomicRange) → held ≡ in_order given → rejected ≡ rejected_of rows held → rejected ≡ [] → AreAccepted rows given held
 AreAccepted-in_order rows given held rejected order listed none =
@@ -143,7 +143,7 @@ AreRefused-in_order rows given held rejected order listed some =
     let all : rejected ≡ rejected_of rows (in_order given) = listed ∙ ap (rejected_of rows) order in
     record { listed = all; some = some; invalid = λ valid. some (all ∙ (accepted_if_valid rows given).1 valid) }
 
--- those listed up to a range of the list, and those that the rest gives behind it, are all; so they are with this one told
+-- the rejected ranges up to a range and those of the rest are all, also with this range judged
 pub listed_on : (rows : List (List ℕ)) (ranges : List AtomicRange) (index : ℕ) (none : AtomicRange) (last after : Option AtomicRange) (items new all : List RejectedAtomicRange) → index < length ranges → items ++ rejected_behind rows last (drop index ranges) ≡ all → new ≡ items ++ with_reason (get_or ranges index none) (reason rows last (get_or ranges index none)) → after ≡ last_valid last (get_or ranges index none) (reason rows last (get_or ranges index none)) → new ++ rejected_behind rows after (drop (index + 1) ranges) ≡ all
 listed_on rows ranges index none last after items new all within old listed is =
     let range = get_or ranges index none in

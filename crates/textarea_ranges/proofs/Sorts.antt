@@ -1,4 +1,4 @@
--- Sorts that keep the order of elements that tie: there is one result, and an insertion one by one gives it.
+-- Stable sorts: there is one result, and inserting one by one gives it.
 use Rattle.std.proofs.Common.{◌≡◌, ℕ, zero, suc, ◌+◌, Bool, true, false, cond, List, [], ◌∷◌, get_or, filter, refl, sym, subst, ◌∙◌, inl, inr, arith, suc-le-suc, zero-le}
 use Rattle.std.proofs.lemmas.Bool.{cases_Bool}
 use Rattle.std.proofs.lemmas.Bool.Decides.{nat_tests}
@@ -9,7 +9,7 @@ use Rattle.std.specs.Cmp.{IsStrictWeakOrder}
 use Rattle.std.specs.List.Sorted.{IsSortedBy, IsStableBy, ties}
 use Rattle.textarea_ranges.proofs.Lists.{EachLater, filter-kept, first_kept}
 
--- no later element comes before an earlier one
+-- the second element does not come before the first
 abbrev pub NotBefore : {X : Type 0} → (X → X → Bool) → X → X → Type 0
 NotBefore lt x y = lt y x ≡ false
 
@@ -38,7 +38,7 @@ ties_from lt x y p q = rw (p, q) refl
 ties_itself : {X : Type 0} (lt : X → X → Bool) → IsStrictWeakOrder lt → (x : X) → ties lt x x ≡ true
 ties_itself lt o x = ties_from lt x x (not_before_itself lt o x) (not_before_itself lt o x)
 
--- the first of a sorted list comes before no element of the other list
+-- the first of a sorted list does not come before the first of the other
 first_not_before : {X : Type 0} (lt : X → X → Bool) → IsStrictWeakOrder lt → (x y : X) (xs ys : List X) → EachLater (NotBefore lt) (y ∷ ys) → filter (ties lt x) (y ∷ ys) ≡ filter (ties lt x) (x ∷ xs) → lt x y ≡ false
 first_not_before lt o x y xs ys later e =
     first_kept (NotBefore lt y) (ties lt x) (y ∷ ys) x (filter (ties lt x) xs) (not_before_itself lt o y, later.0) (e ∙ filter-kept (ties lt x) x xs (ties_itself lt o x))
@@ -46,7 +46,7 @@ first_not_before lt o x y xs ys later e =
 filter-tails : {X : Type 0} (test : X → Bool) (x y : X) (xs ys : List X) → x ≡ y → filter test (y ∷ ys) ≡ filter test (x ∷ xs) → filter test ys ≡ filter test xs
 filter-tails test x y xs ys same e = grind (arith, nat_tests)
 
--- two sorted lists in which elements that tie stand alike are the same list
+-- two sorted lists with ties in the same order are the same list
 pub same_sorted : {X : Type 0} (lt : X → X → Bool) → IsStrictWeakOrder lt → (xs ys : List X) → EachLater (NotBefore lt) xs → EachLater (NotBefore lt) ys → IsStableBy lt xs ys → xs ≡ ys
 same_sorted lt o [] [] p q stable = refl
 same_sorted lt o [] (y ∷ ys) p q stable =
@@ -66,12 +66,12 @@ same_sorted {X} lt o (x ∷ xs) (y ∷ ys) p q stable =
 
 -- ---- an insertion
 
--- an element that is put behind those that come before it
+-- the list with an element inserted after those that come before it
 abbrev pub put : {X : Type 0} → (X → X → Bool) → X → List X → List X
 put lt x [] = x ∷ []
 put lt x (y ∷ ys) = cond (lt y x) (y ∷ put lt x ys) (x ∷ y ∷ ys)
 
--- what holds of the element and of each in the list holds of each in the new list
+-- a fact of the element and of each in the list is one of each in the new list
 pub each_put : {X : Type 0} (P : X → Type 0) (lt : X → X → Bool) (x : X) (ys : List X) → P x → AllByRecursion P ys → AllByRecursion P (put lt x ys)
 each_put P lt x [] h all = (h, tt)
 each_put {X} P lt x (y ∷ ys) h all =
@@ -80,7 +80,7 @@ each_put {X} P lt x (y ∷ ys) h all =
       | inr here ↦ rw here (h, all)
     ]
 
--- no two neighbours of one place tie with a third, where the one comes before the other
+-- an element does not tie with two others of which one comes before the other
 no_third : {X : Type 0} (lt : X → X → Bool) → IsStrictWeakOrder lt → (x y z : X) → lt y x ≡ true → ties lt z x ≡ true → ties lt z y ≡ true → ⊥
 no_third lt o x y z before p q = grind (arith, nat_tests)
 

@@ -1,4 +1,4 @@
--- Where atomic ranges go with the text that they stand in.
+-- Where atomic ranges move with their text.
 use Rattle.std.specs.Prelude.{◌≡◌, ℕ, ◌≤◌, ◌-◌, Bool, true, false, List, filter_map, take, drop, Option, Some, None, if◌then◌else◌}
 use Rattle.textarea_util.specs.Limit.{size_limit}
 use Rattle.textarea_text.specs.Text.{Symbol, lines}
@@ -9,7 +9,7 @@ use Rattle.textarea_data.specs.declared.range.AtomicRange.{AtomicRange}
 use Rattle.textarea_ranges.specs.Held.{IsInside, Overlaps, range_end, range_start}
 use Rattle.textarea_ranges.specs.Valid.{IsPart}
 
--- the range, both ends of which go as far behind the new place as they are behind the old one
+-- the range, with both ends moved with the text after the old position to the new one
 abbrev pub shifted_range : Place → Place → AtomicRange → AtomicRange
 shifted_range old new range = record {
   row = (shifted old new (range_start range)).0;
@@ -17,8 +17,8 @@ shifted_range old new range = record {
   end_col = (shifted old new (range_end range)).1;
 }
 
--- The text changes from the start up to the old place, and what stood behind the old place stands behind the new one then. A range
--- that ends by the start stays, one that starts at the old place or behind it goes along, and any other is dropped.
+-- A text changes from the start to the old position, and the text after it moves to the new one. A
+-- range at or before the start stays, one at or after the old position moves, others are dropped.
 abbrev pub moved_by : Place → Place → Place → AtomicRange → Option AtomicRange
 moved_by start old new range =
     if is_up_to (range_end range) start then Some range
@@ -29,29 +29,30 @@ abbrev pub moved_range : Splice → AtomicRange → Option AtomicRange
 moved_range splice range =
     moved_by splice.place (place_before splice) (place_after splice) range
 
--- the same of some ranges, in their order
+-- the same for some ranges, in their order
 unfoldable pub moved_ranges : List AtomicRange → Splice → List AtomicRange
 moved_ranges ranges splice = filter_map (moved_range splice) ranges
 
--- the range starts by its end, and its row and columns are those of a text, which are at most 2^48
+-- the range starts at or before its end, and its row and columns are at most 2^48, as in any text
 pub record IsMovable (range : AtomicRange) : Type 0 where
   pub ordered : range.start_col ≤ range.end_col
   pub row : range.row ≤ size_limit
   pub column : range.end_col ≤ size_limit
 
--- ---- what holds of the ranges that are left, and of those that are dropped
+-- ---- facts of the ranges that are left, and of those that are dropped
 
--- the characters that the range covers: all of them stand in the line of its row
+-- the characters that the range covers in the line of its row
 abbrev pub covered : List (List ℕ) → AtomicRange → List ℕ
 covered rows range =
     take (range.end_col - range.start_col) (drop range.start_col (line_of rows range.row))
 
--- the new range is a part of a line of the new text, and covers the same characters there as the old one in the old text
+-- the new range is within a line of the new text, and covers the characters of the old one
 pub record CoversTheSame (text new_text : List Symbol) (old new : AtomicRange) : Type 0 where
   pub part : IsPart (lines new_text) new
   pub same : covered (lines new_text) new ≡ covered (lines text) old
 
--- a change between two places disturbs the range: it inserts strictly inside of it, or removes a character of it
+-- a splice between two positions disturbs a range: it inserts strictly inside, or removes some of
+-- it
 abbrev pub DisturbsBy : Bool → Place → Place → AtomicRange → Type 0
 DisturbsBy true place to range = IsInside place range
 DisturbsBy false place to range = Overlaps place to range

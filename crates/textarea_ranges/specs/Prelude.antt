@@ -1,4 +1,4 @@
--- The names that clauses and proofs of this crate cite, passed on from one place. Declares nothing.
+-- The names that contracts and proofs of this crate use. Declares nothing.
 pub use Rattle.std.specs.List.{AllByRecursion, cons_option}
 pub use Rattle.std.specs.declared.alloc.Global.{Global}
 pub use Rattle.textarea_util.specs.Limit.{size_limit}

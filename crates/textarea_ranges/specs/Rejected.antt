@@ -8,13 +8,13 @@ use Rattle.textarea_text.specs.Place.{line_of}
 use Rattle.textarea_ranges.specs.Order.{AreInOrder, in_order}
 use Rattle.textarea_ranges.specs.Valid.{AreValid}
 
--- the first column of the row behind the last valid range: its end where it is of that row, else 0
+-- the first free column of the row: the end of the last valid range if that is in it, else 0
 abbrev pub free_from : Option AtomicRange → ℕ → ℕ
 free_from None row = 0
 free_from (Some last) row = if last.row == row then last.end_col else 0
 
--- why the range is rejected behind the last valid range: none where it is valid too. The first test that speaks gives
--- the reason
+-- why the range is rejected after the last valid range: none if it is valid too. The first reason
+-- that applies counts
 abbrev pub reason : List (List ℕ) → Option AtomicRange → AtomicRange →
     Option AtomicRangeRejectReason
 reason rows last range =
@@ -26,18 +26,18 @@ reason rows last range =
     else (if nat_lt range.start_col (free_from last range.row) then Some OverlapsPrevious
     else None)))
 
--- the range with its reason, where there is one
+-- the range with its reason, if there is one
 abbrev pub with_reason : AtomicRange → Option AtomicRangeRejectReason → List RejectedAtomicRange
 with_reason range None = []
 with_reason range (Some reason) = record { range = range; reason = reason } ∷ []
 
--- the last valid range with this range behind it: this one, where it has no reason to be rejected
+-- the last valid range after this range: this one, if it has no reason to be rejected
 abbrev pub last_valid : Option AtomicRange → AtomicRange → Option AtomicRangeRejectReason →
     Option AtomicRange
 last_valid last range None = Some range
 last_valid last range (Some reason) = last
 
--- the rejected ranges of a list that is in order, behind the last valid range
+-- the rejected ranges of an ordered list, after the last valid range
 abbrev pub rejected_behind : List (List ℕ) → Option AtomicRange → List AtomicRange →
     List RejectedAtomicRange
 rejected_behind rows last [] = []
@@ -45,18 +45,18 @@ rejected_behind rows last (range ∷ rest) =
     let why = reason rows last range in
     with_reason range why ++ rejected_behind rows (last_valid last range why) rest
 
--- the rejected ranges of a list that is in order, in that order, each with its reason
+-- the rejected ranges of an ordered list, in that order, each with its reason
 abbrev pub rejected_of : List (List ℕ) → List AtomicRange → List RejectedAtomicRange
 rejected_of rows ranges = rejected_behind rows None ranges
 
--- the given ranges are accepted: they are held in order, they are valid, and none is rejected
+-- the ranges are accepted: they are stored in order, they are valid, and none is rejected
 pub record AreAccepted (rows : List (List ℕ)) (given held : List AtomicRange) : Type 0 where
   pub order : held ≡ in_order given
   pub sorted : AreInOrder held
   pub valid : AreValid rows held
   pub none : rejected_of rows held ≡ []
 
--- the given ranges are refused: all that are rejected are listed, which is one at least, and the given ones aren't valid
+-- the ranges are rejected: all that have a reason are listed, at least one, and they are not valid
 pub record AreRefused (rows : List (List ℕ)) (given : List AtomicRange)
     (rejected : List RejectedAtomicRange) : Type 0 where
   pub listed : rejected ≡ rejected_of rows (in_order given)

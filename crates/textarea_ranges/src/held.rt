@@ -1,11 +1,11 @@
-//! Look-ups in a list of ranges: which of them holds a place, which is hit, and what a removal takes. A place is a row and
-//! a column, from 0, the column in characters.
+//! Searches in ranges: which one contains a position, which one is at it, and what a removal takes.
+//! A position is a row and a column, both from 0, the column in characters.
 ghost use Rattle.std.specs.Prelude.{◌≡◌, ℕ, List, All};
 ghost use Rattle.textarea_ranges.specs.Prelude.{IsPlaceOf, IsUpTo, IsInside, IsWidened, border, hit, inside, is_hit, is_inside, moved_out, widened, AreValid};
 
 use textarea_data::range::{AtomicCursorBias, AtomicDeleteDirection, AtomicRange};
 
-/// The range that strictly holds the place: it starts before the place and ends behind it. None where no range does.
+/// Returns the range that strictly contains the position: it starts before it and ends after it.
 pub fn inside(ranges: &[AtomicRange], place: (usize, usize)) -> Option<AtomicRange>
     ensures { result ≡ inside ranges.now place }
 {
@@ -15,16 +15,15 @@ pub fn inside(ranges: &[AtomicRange], place: (usize, usize)) -> Option<AtomicRan
         .find(|range| is_inside(*range, place))
 }
 
-// Whether the range starts before the place and ends behind it.
 fn is_inside(range: AtomicRange, place: (usize, usize)) -> bool
     ensures { result ≡ is_inside place range }
 {
     range.row == place.0 && range.start_col < place.1 && place.1 < range.end_col
 }
 
-/// The place, moved out of the range that strictly holds it: to its start for Backward, to its end for Forward. A place
-/// that no range strictly holds stays. Where the ranges are valid for some lines, the result is strictly inside none of
-/// them, and a place of the lines where the given one is.
+/// Moves the position out of the range that strictly contains it: to its start for `Backward`, to
+/// its end for `Forward`. Any other position stays. If the ranges are valid for some lines, no
+/// range strictly contains the result, and it is a position of the lines if the given one is.
 pub fn move_out(
     ranges: &[AtomicRange],
     place: (usize, usize),
@@ -42,7 +41,7 @@ pub fn move_out(
     }
 }
 
-// The range's start for Backward, its end for Forward.
+// The range's start for `Backward`, its end for `Forward`.
 fn border(range: AtomicRange, bias: AtomicCursorBias) -> (usize, usize)
     ensures { result ≡ border range bias }
 {
@@ -52,8 +51,8 @@ fn border(range: AtomicRange, bias: AtomicCursorBias) -> (usize, usize)
     }
 }
 
-/// The range of the place's row that the direction hits: Backward one that starts before the place and ends at or behind
-/// it, Forward one that starts at or before the place and ends behind it. None where no range does.
+/// Returns the range at the position, in its row: for `Backward` one that starts before it and ends
+/// at or after it, for `Forward` one that starts at or before it and ends after it.
 pub fn hit(
     ranges: &[AtomicRange],
     place: (usize, usize),
@@ -67,7 +66,7 @@ pub fn hit(
         .find(|range| is_hit(*range, place, direction))
 }
 
-// Whether the direction hits the range from the place.
+// Whether the range is at the position in this direction.
 fn is_hit(range: AtomicRange, place: (usize, usize), direction: AtomicDeleteDirection) -> bool
     ensures { result ≡ is_hit place direction range }
 {
@@ -79,9 +78,10 @@ fn is_hit(range: AtomicRange, place: (usize, usize), direction: AtomicDeleteDire
         }
 }
 
-/// The two ends of the removal, widened: the start goes to the start of the range that strictly holds it, the end to the
-/// end of the one that strictly holds it. Where the ranges are valid for some lines and the removal starts by its end,
-/// the widened one holds each range that it overlaps, takes each range whole or not at all, and no smaller one does.
+/// Widens a removal: its start moves back and its end forward, out of the ranges that strictly
+/// contain them. If the ranges are valid for some lines and the removal starts at or before its
+/// end, the result contains each range that the removal overlaps, takes each range whole or not at
+/// all, and is the smallest that does.
 pub fn widen(
     ranges: &[AtomicRange],
     from: (usize, usize),

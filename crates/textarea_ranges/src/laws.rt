@@ -1,9 +1,9 @@
-//! Laws of ranges, each the contract of a function without a body.
+//! Laws of ranges, each stated as the contract of a function without a body.
 ghost use Rattle.std.specs.Prelude.{◌≡◌, ◌↔◌, ℕ, List, [], All, Contains, MatchOption, None, Some};
 ghost use Rattle.textarea_ranges.specs.Prelude.{Symbol, lines, Place, Fits, Splice, applied, AtomicDeleteDirection, AtomicRange, IsHit, IsInside, hit, inside, CoversTheSame, Disturbs, moved_range, moved_ranges, AreInOrder, IsInOrder, in_order, rejected_of, AreValid, IsPart};
 
-/// Ranges in order are the same ranges by row and start, those that start at one place as they stood; no other list is
-/// that; and ranges that were put in order stay as they are when they are put in order again.
+/// Ordered ranges are the same ranges by row and start, and those with the same start keep their
+/// order. No other list is so. Ordering them again changes nothing.
 pub fn one_order()
     ensures in_order { (ranges : List AtomicRange) → IsInOrder ranges (in_order ranges) }
     ensures only { (ranges ordered : List AtomicRange) →
@@ -17,8 +17,8 @@ pub fn accepted_exactly_if_valid()
         ((rejected_of rows (in_order ranges) ≡ []) ↔ AreValid rows ranges) }
 {}
 
-/// Of valid ranges at most one strictly holds a place, and at most one is hit in a direction: that one is found, wherever
-/// it stands in the list.
+/// Of valid ranges at most one strictly contains a position, and at most one is at it in a
+/// direction. That one is found, wherever it is in the list.
 pub fn only_one_is_found()
     ensures inside { (rows : List (List ℕ)) (ranges : List AtomicRange) (place : Place)
         (range : AtomicRange)
@@ -30,8 +30,8 @@ pub fn only_one_is_found()
         → IsHit place direction range → hit ranges place direction ≡ Some range }
 {}
 
-/// A range that is found stands in the list, and strictly holds the place or is hit; where none is found, none of the list
-/// does or is.
+/// A range that is found is in the list, and strictly contains the position or is at it. If none is
+/// found, no range of the list does or is.
 pub fn found_where_there_is_one()
     ensures inside { (ranges : List AtomicRange) (place : Place) → MatchOption (inside ranges place)
         (All (λ range. ¬ IsInside place range) ranges)
@@ -42,9 +42,10 @@ pub fn found_where_there_is_one()
         (λ range. Contains ranges range × IsHit place direction range) }
 {}
 
-/// Ranges go with the text: one that a splice leaves is a part of a line of the text after it, and covers the same characters
-/// as before, all in that line. Exactly the ranges are dropped that the splice disturbs, since it inserts strictly inside of
-/// them or removes a character of them. Valid ranges stay valid for the text as it stands then, and ranges in order stay so.
+/// Ranges move with the text. A range that a splice leaves is within a line of the new text, and
+/// covers the same characters. Exactly those ranges are dropped that the splice disturbs: it
+/// inserts strictly inside them or removes one of their characters. Valid ranges stay valid for the
+/// new text, and ordered ranges stay ordered.
 pub fn ranges_go_with_the_text()
     ensures covers { (text : List Symbol) (splice : Splice) (old new : AtomicRange)
         → Fits text splice → IsPart (lines text) old → moved_range splice old ≡ Some new

@@ -1,4 +1,4 @@
-//! The rules of atomic ranges, parts of a line that are edited as a whole, over lists of ranges and lines.
+//! The rules of atomic ranges, which are characters of a line that are edited as a whole.
 #![tactic(auto)]
 
 pub mod held;

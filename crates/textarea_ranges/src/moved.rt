@@ -1,13 +1,13 @@
-//! Ranges that go with the text that they stand in.
+//! Ranges that move with their text.
 ghost use Rattle.std.specs.Prelude.{◌≡◌, ◌≤◌, All, filter_map, length, take};
 ghost use Rattle.textarea_ranges.specs.Prelude.{size_limit, IsMovable, moved_by};
 
 use textarea_data::range::AtomicRange;
 use textarea_text::carried::{is_up_to, shift};
 
-/// Moves the ranges with the text, which changes from `start` up to `old`, and in which what stood behind `old` stands behind
-/// `new` then. A range that ends by `start` stays, one that starts at `old` or behind it goes along, and any other is dropped.
-/// Those that are left stay in their order. Takes no memory, and goes once over the ranges.
+/// Moves the ranges with a text that changes from `start` to `old`, and whose text after `old`
+/// moves to `new`. A range at or before `start` stays, one at or after `old` moves, others are
+/// dropped. The ranges keep their order. Goes over them once, without allocating.
 pub fn move_ranges(
     ranges: &mut Vec<AtomicRange>,
     start: (usize, usize),
@@ -22,7 +22,7 @@ pub fn move_ranges(
     ranges.truncate(kept);
 }
 
-// Moves the ranges, puts those that are left at the front, and gives their number.
+// Moves the ranges, puts those that are left at the front, and returns their number.
 fn close_up(
     ranges: &mut [AtomicRange],
     start: (usize, usize),
@@ -44,7 +44,7 @@ fn close_up(
     kept
 }
 
-// The range as it is then; none where it is dropped.
+// The moved range; none if it is dropped.
 fn moved(
     range: AtomicRange,
     start: (usize, usize),

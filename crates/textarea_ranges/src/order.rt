@@ -5,7 +5,7 @@ ghost use Rattle.textarea_ranges.specs.Order.{in_order};
 use std::alloc::AllocError;
 use textarea_data::range::AtomicRange;
 
-/// The ranges by row and start. Those that start at one place keep their order. Only out of memory does it fail.
+/// Returns the ranges by row and start, ties in their order. Fails only when out of memory.
 pub fn in_order(mut ranges: Vec<AtomicRange>) -> Result<Vec<AtomicRange>, AllocError>
     ensures { IfOk result (λ ordered. ordered.items ≡ in_order ranges.items) }
 {

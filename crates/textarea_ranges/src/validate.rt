@@ -1,4 +1,4 @@
-//! The test of a list of ranges against some lines.
+//! Validates a list of ranges against some lines.
 ghost use Rattle.std.specs.Prelude.{◌≡◌, ◌++◌, length, None, IfOk, MatchResult, OnOk};
 ghost use Rattle.textarea_ranges.specs.Prelude.{line_of, lines_of, AreAccepted, AreRefused, free_from, last_valid, reason, rejected_of, with_reason};
 
@@ -9,9 +9,10 @@ use textarea_data::range::{
 };
 use textarea_text::rows::column_count;
 
-/// The ranges by row and start, where they are valid for the lines: each holds a character at least, its row exists, it
-/// ends by its line's end, and no two of them share a character. Else the rejected ones by row and start, each with the
-/// first reason that there is; a range overlaps the last valid one of its row where it starts before that one's end.
+/// Returns the ranges by row and start if they are valid for the lines: each has a character and an
+/// existing row, ends at or before its line's end, and shares no character with another. Else
+/// returns the rejected ones by row and start, each with the first reason that applies. A range
+/// overlaps if it starts before the end of the last valid range in its row.
 pub fn validate(
     alloc: Global,
     ranges: Vec<AtomicRange>,
@@ -30,14 +31,14 @@ pub fn validate(
     }
 }
 
-// A row, and how many characters its line has: 0 where there is no such row.
+// A row, and the number of characters in its line: 0 if there is no such row.
 #[derive(Clone, Copy)]
 struct Counted {
     row: usize,
     columns: usize,
 }
 
-// The rejected ranges of those that are in order. The ranges of a row stand together, so its line is counted once.
+// The rejected ones of ordered ranges. The line of each row is counted only once.
 fn rejected_of(
     alloc: Global,
     ranges: &[AtomicRange],
@@ -48,7 +49,7 @@ fn rejected_of(
 {
     let mut rejected = Vec::new(alloc);
     let mut last = None;
-    // The row behind the last one.
+    // The row after the last one.
     let mut counted = Counted {
         row: lines.len(),
         columns: 0,
@@ -60,7 +61,7 @@ fn rejected_of(
     Ok(rejected)
 }
 
-// The row with its columns. Its line is counted where that isn't known yet.
+// The row with its columns. Its line is counted if it is not the known one.
 fn counted_row(lines: &[String], known: Counted, row: usize) -> Counted
     requires { known.columns ≡ length (line_of (lines_of lines.now) known.row) }
     ensures row { result.row ≡ row }
@@ -76,8 +77,8 @@ fn counted_row(lines: &[String], known: Counted, row: usize) -> Counted
     Counted { row, columns }
 }
 
-// Lists the range, whose line has so many columns, where it is rejected. Gives the last valid range after it: this one, where it
-// is not.
+// Lists the range if it is rejected. Its line has `columns` characters. Returns the last valid
+// range after it: this one if it is not rejected.
 fn judge(
     rejected: &mut Vec<RejectedAtomicRange>,
     last: Option<AtomicRange>,
@@ -100,7 +101,7 @@ fn judge(
     }
 }
 
-// Why the range, whose line has so many columns, is rejected behind the last valid one.
+// Why the range, whose line has `columns` characters, is rejected after the last valid one.
 fn reason(
     lines: &[String],
     columns: usize,
@@ -125,7 +126,7 @@ fn reason(
     None
 }
 
-// The first column of the row behind the last valid range: 0 where that is of another row, or there is none.
+// The row's first free column: the end of the last valid range, or 0 if that is in another row.
 fn free_from(last: Option<AtomicRange>, row: usize) -> usize
     ensures { result ≡ free_from last row }
 {

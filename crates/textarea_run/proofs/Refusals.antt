@@ -1,4 +1,4 @@
--- What a refused pattern, and refused atomic ranges, come to.
+-- The states after a rejected pattern and after rejected atomic ranges.
 use Rattle.std.proofs.Common.{◌≡◌, ◌≢◌, ℕ, List, [], ◌∷◌, Some, Result, Ok, Err, IfErr, IfOk, IsOk, true, false, refl, subst, sym}
 use Rattle.textarea_data.specs.declared.range.AtomicRange.{AtomicRange}
 use Rattle.textarea_data.specs.declared.range.RejectedAtomicRange.{RejectedAtomicRange}
@@ -12,12 +12,12 @@ use Rattle.tui_textarea.specs.Patterns.{IsToldAs}
 use Rattle.tui_textarea.specs.Said.{said}
 use Rattle.textarea_calls.specs.declared.answer.Answer.{Answer}
 
--- where ranges are rejected, none is set
+-- if ranges are rejected, none is set
 pub with_rejected : (rejected : List RejectedAtomicRange) (state : State) (ranges : List AtomicRange) → rejected ≢ [] → with_ranges_if rejected state ranges ≡ state
 with_rejected [] state ranges some = absurd (some refl)
 with_rejected (range ∷ rejected) state ranges some = refl
 
--- what is told of a pattern is what the call that sets it may answer
+-- the result of setting a pattern is one that the call may return
 pub pattern_told : {T E : Type 0} (state : State) (text : List ℕ) (outcome : Result T SearchError) (told : Result Answer E)
     → IsToldAs outcome told → (text ≡ [] → IsOk outcome) → (state.pattern ≡ Some text → IsOk outcome)
     → IfErr outcome (IsPatternFailure text) → IfErr outcome (IsCarried text)

@@ -1,4 +1,4 @@
-//! Runs of calls on a text area, with the buffer that they draw into: one call, and a list of calls.
+//! Runs of calls on a text area: one call, or a list of calls, and the buffer that they draw into.
 #![tactic(auto)]
 
 mod memory;

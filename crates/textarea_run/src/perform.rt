@@ -1,4 +1,4 @@
-//! One call made on a text area.
+//! Makes one call on a text area.
 ghost use Rattle.std.specs.Prelude.{◌≡◌, OnErr, OnOk, IfOk};
 ghost use Rattle.textarea_calls.specs.Kinds.{call_of_attempt, call_of_write};
 ghost use Rattle.textarea_calls.specs.Made.{CanBeMade};
@@ -11,14 +11,12 @@ use crate::special::answer_specially;
 use std::alloc::AllocError;
 use textarea_calls::kind::{Attempt, Kind, Write, kind_of};
 use textarea_calls::{Answer, Call};
-use textarea_data::input::Input;
 use textarea_screen::screen::Buffer;
 use tui_textarea::TextArea;
 
-/// Makes one call, and hands out its answer; that a pattern is refused is an answer. It answers out of
-/// memory only where the call may take memory in the state that the text area has, and the text area
-/// is then as a refusal of that call leaves it. A call that draws does so into the buffer, which any
-/// other call leaves as it is.
+/// Makes one call and returns its result. A rejected pattern is a result. An error means out of
+/// memory; it is returned only where the call may allocate in the text area's state, and leaves the
+/// text area as that call does when memory runs out. Only calls that draw change the buffer.
 pub fn perform(
     area: &mut TextArea<'_>,
     call: Call<'_>,
@@ -50,7 +48,7 @@ pub fn perform(
     }
 }
 
-/// Writes a character or a break, or copies what is selected.
+/// Inserts a character or a line break, or copies the selection.
 pub fn write(area: &mut TextArea<'_>, call: Write) -> Result<(), AllocError>
     ensures answer { OnOk result (IsAnswer area.old (call_of_write call) Done) }
     ensures ok { OnOk result (IsBehind area.old (call_of_write call) Done area.new) }
@@ -63,7 +61,7 @@ pub fn write(area: &mut TextArea<'_>, call: Write) -> Result<(), AllocError>
     }
 }
 
-// Makes another call that answers whether there was something to do.
+// Makes another call that returns whether there was something to do.
 fn attempt(area: &mut TextArea<'_>, call: Attempt<'_>) -> Result<bool, AllocError>
     ensures answer { IfOk result (λ done. IsAnswer area.old (call_of_attempt call.entry) (Flag done)) }
     ensures ok { IfOk result
@@ -75,19 +73,7 @@ fn attempt(area: &mut TextArea<'_>, call: Attempt<'_>) -> Result<bool, AllocErro
         Attempt::DeleteStr(count) => area.delete_str(count),
         Attempt::SearchForward(match_cursor) => area.search_forward(match_cursor),
         Attempt::SearchBack(match_cursor) => area.search_back(match_cursor),
-        Attempt::Input(input) => area.input(same(input)),
-        Attempt::InputWithoutShortcuts(input) => area.input_without_shortcuts(same(input)),
-    }
-}
-
-// An input like this one. `Input::clone` may answer out of memory, as each clone may.
-fn same(input: &Input) -> Input
-    ensures { result ≡ input.now }
-{
-    Input {
-        key: input.key,
-        ctrl: input.ctrl,
-        alt: input.alt,
-        shift: input.shift,
+        Attempt::Input(input) => area.input(*input),
+        Attempt::InputWithoutShortcuts(input) => area.input_without_shortcuts(*input),
     }
 }

@@ -1,12 +1,12 @@
-//! The text that `tascript` prints of a run that came to its end.
+//! The text that `tascript` prints of a run that made all its calls.
 use std::fmt;
 use textarea_calls::Answer;
 use textarea_calls::printing::Escaped;
 use textarea_screen::screen::{Buffer, Rect};
 use tui_textarea::TextArea;
 
-/// The end of a run, printed as a line for each answer, counted from 1, then the text area, by its
-/// lines, its cursor and its selection, and then what was drawn, if anything was.
+/// The end of a run. It prints one line per result, numbered from 1, then the lines, the cursor and
+/// the selection of the text area, and then the screen, if anything was drawn.
 #[derive(Clone, Copy)]
 pub struct Report<'a, 'b> {
     pub answers: &'a [Answer],
@@ -14,7 +14,7 @@ pub struct Report<'a, 'b> {
     pub screen: Option<Screen<'a>>,
 }
 
-/// The cells of a buffer that an area has, printed row after row.
+/// The cells of a buffer inside an area, printed one screen row after another.
 #[derive(Clone, Copy)]
 pub struct Screen<'a> {
     pub buffer: &'a Buffer,
@@ -82,7 +82,7 @@ impl fmt::Display for Screen<'_> {
     }
 }
 
-// The cells of a row from a column up to another.
+// Writes the cells of a screen row from the column `left` up to the column `right`.
 fn write_row<W: fmt::Write>(
     f: &mut fmt::Formatter<W>,
     buffer: &Buffer,

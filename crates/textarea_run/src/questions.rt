@@ -1,4 +1,4 @@
-// Calls that read where the cursor is, or what is set.
+// Calls that return the cursor's position or a setting.
 ghost use Rattle.std.specs.Prelude.{◌≡◌};
 ghost use Rattle.textarea_calls.specs.Kinds.{call_of_question};
 ghost use Rattle.tui_textarea.specs.Outcomes.{IsAnswer, IsBehind};
@@ -8,7 +8,7 @@ use textarea_calls::Answer;
 use textarea_calls::kind::Question;
 use tui_textarea::TextArea;
 
-// The answer to the question.
+// Returns the cursor's position or a setting.
 pub fn ask(area: &TextArea<'_>, call: Question) -> Answer
     ensures answer { IsAnswer area.now (call_of_question call) (said result) }
     ensures ok { IsBehind area.now (call_of_question call) (said result) area.now }

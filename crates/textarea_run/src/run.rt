@@ -1,4 +1,4 @@
-// A run: a list of calls, made one after another.
+// Makes a list of calls, one after another.
 ghost use Rattle.std.specs.Prelude.{◌≡◌, ◌≤◌, [], length, vec_capacity, All, IfOk, OnErr};
 ghost use Rattle.textarea_document.specs.Goes.{GoesUncut};
 ghost use Rattle.textarea_document.specs.Sound.{IsSound};
@@ -18,30 +18,31 @@ use tui_textarea::TextArea;
 use tui_textarea::laws::is_sound;
 use tui_textarea::outcomes::laws::ranges_go_with_each_call;
 
-/// How a run of calls ended.
+/// The end of a run of calls.
 #[derive(Drop)]
 pub struct RunEnd {
-    /// The answers of the calls that were made, in their order.
+    /// The results of the calls that were made, in their order.
     pub answers: Vec<Answer>,
-    /// The index of the call that ran out of memory and ended the run, if there is one.
+    /// The index of the call that ran out of memory and ended the run, if one did.
     pub refused: Option<usize>,
 }
 
-/// Makes the calls one after another, up to the first that runs out of memory; a call may be an input. What they draw is drawn
-/// into the buffer, which the other calls leave as it is. The calls and their answers settle the state
-/// that they lead to (`laws::one_end`).
+/// Makes the calls one after another, until one runs out of memory. A call may be an input. Calls
+/// that draw do so into the buffer; other calls don't change it. The calls and their results
+/// determine the state after them (`laws::one_end`).
 ///
 /// After any list of calls and inputs, the text, cursor, selection, yank, ranges and both history
-/// lists are those of one flat list of characters and breaks changed by nonempty splices, and the
+/// lists are those of one flat list of characters and breaks that nonempty splices change. The
 /// visual rows, measured height, drawn cells, caret and hit tests are those of a layout computed
-/// anew from text, cursor, highlights, settings, viewport and last area.
+/// from scratch from text, cursor, highlights, settings, viewport and last area.
 ///
-/// After any list of calls the ranges are those that a call of the list gave last, or without one those at the start, as they go with
-/// the text over the splices of the later calls: each that is held stems from one of these, and covers the same characters as then, all
-/// in one line; and each of these is still held, or one of those splices inserted strictly inside of it or removed a character of it.
+/// The ranges are those that a call of the list set last, or else those at the start. They follow
+/// the text through the splices of later calls: each stored range stems from one of these and
+/// covers the same characters as then, all in one line. Each of these is still stored, unless a
+/// splice inserted strictly inside of it or removed one of its characters.
 ///
-/// It asks that each `Call::SetLines` holds a line. Room for the answers is reserved first. Where that
-/// is refused, no call is made and the refused index is 0.
+/// Each `Call::SetLines` needs at least one line. Memory for the results is reserved first. If that
+/// fails, no call is made and the index of the failed call is 0.
 pub fn run(area: &mut TextArea<'_>, calls: &[Call<'_>], buffer: &mut Buffer) -> RunEnd
     requires { All CanBeMade calls.now }
     ensures led { Run area.old buffer.old calls.now result.answers.items result.refused area.new
@@ -59,7 +60,7 @@ pub fn run(area: &mut TextArea<'_>, calls: &[Call<'_>], buffer: &mut Buffer) -> 
     make_all(area, calls, buffer, answers)
 }
 
-// Makes the calls one after another, up to the first that runs out of memory. There is room for their answers.
+// Makes the calls in turn, until one runs out of memory. Memory for their results is reserved.
 fn make_all(
     area: &mut TextArea<'_>,
     calls: &[Call<'_>],
@@ -93,7 +94,7 @@ fn make_all(
     }
 }
 
-// Makes one call, over which the ranges go.
+// Makes one call. The ranges follow the text through it.
 fn make(area: &mut TextArea<'_>, call: Call<'_>, buffer: &mut Buffer) -> Result<Answer, AllocError>
     requires { CanBeMade call }
     ensures made { IfOk result (λ answer.

@@ -1,4 +1,4 @@
-//! Calls that set something, and have nothing to say.
+//! Calls that set something. They have no result.
 ghost use Rattle.std.specs.Prelude.{◌≡◌, ◌<◌, length, OnErr, OnOk, Some};
 ghost use Rattle.textarea_calls.specs.Kinds.{call_of_appearance, call_of_change, call_of_setting};
 ghost use Rattle.textarea_calls.specs.Made.{CanBeMade};
@@ -16,8 +16,8 @@ use textarea_screen::screen::{Block, Text};
 use textarea_text::given::copy_pieces;
 use tui_textarea::TextArea;
 
-/// Sets a text or a setting that may run out of memory.
-pub fn change(area: &mut TextArea<'_>, call: Change<'_>) -> Result<(), AllocError>
+/// Sets a text or a setting. Memory can run out.
+pub(crate) fn change(area: &mut TextArea<'_>, call: Change<'_>) -> Result<(), AllocError>
     requires { CanBeMade (call_of_change call) }
     ensures answer { OnOk result (IsAnswer area.old (call_of_change call.entry) Done) }
     ensures ok { OnOk result (IsBehind area.old (call_of_change call.entry) Done area.new) }
@@ -42,7 +42,7 @@ pub fn change(area: &mut TextArea<'_>, call: Change<'_>) -> Result<(), AllocErro
     }
 }
 
-// Puts a copy of the lines in the place of the old ones.
+// Replaces the lines with a copy of these lines.
 fn set_lines(
     area: &mut TextArea<'_>,
     lines: &[String],
@@ -56,7 +56,7 @@ fn set_lines(
     area.set_lines(copy_pieces(alloc, lines)?, cursor)
 }
 
-// Puts a copy of the block around the rows.
+// Sets a copy of the block as the border around the text.
 fn set_block(area: &mut TextArea<'_>, block: &Block<'static>) -> Result<(), AllocError>
     ensures ok { OnOk result
         (area.new ≡ with_surround area.old
@@ -67,7 +67,7 @@ fn set_block(area: &mut TextArea<'_>, block: &Block<'static>) -> Result<(), Allo
     Ok(())
 }
 
-// Shows a copy of the text where the text area's is empty.
+// Sets a copy of the text as the placeholder, which is drawn while the text area is empty.
 fn set_styled_placeholder(area: &mut TextArea<'_>, text: &Text<'static>) -> Result<(), AllocError>
     ensures ok { OnOk result
         (area.new ≡ with_surround area.old
@@ -78,7 +78,7 @@ fn set_styled_placeholder(area: &mut TextArea<'_>, text: &Text<'static>) -> Resu
     Ok(())
 }
 
-/// Moves, scrolls, selects, or sets what is recorded or held.
+/// Moves, scrolls, selects, clears the atomic ranges, or sets an option of tabs or of the history.
 pub fn set(area: &mut TextArea<'_>, call: Setting)
     ensures answer { IsAnswer area.old (call_of_setting call) Done }
     ensures ok { IsBehind area.old (call_of_setting call) Done area.new }
@@ -97,8 +97,8 @@ pub fn set(area: &mut TextArea<'_>, call: Setting)
     }
 }
 
-/// Sets how the text looks, or what is around it.
-pub fn set_appearance(area: &mut TextArea<'_>, call: Appearance)
+/// Sets how the text and its surroundings look.
+pub(crate) fn set_appearance(area: &mut TextArea<'_>, call: Appearance)
     ensures answer { IsAnswer area.old (call_of_appearance call) Done }
     ensures ok { IsBehind area.old (call_of_appearance call) Done area.new }
 {

@@ -1,4 +1,4 @@
-// Calls whose answers have forms of their own: about atomic ranges, a search's pattern, what is measured, hit and yanked.
+// Calls with results of their own forms: on atomic ranges, patterns, heights, hit tests and yanks.
 ghost use Rattle.std.specs.Prelude.{◌≡◌, IfOk, OnErr, OnOk};
 ghost use Rattle.textarea_calls.specs.Kinds.{call_of_special};
 ghost use Rattle.tui_textarea.specs.Calls.{ranges_answer, rejected_ranges, with_ranges_if};
@@ -7,14 +7,14 @@ ghost use Rattle.tui_textarea.specs.Patterns.{IsNewPattern, IsToldAs};
 ghost use Rattle.tui_textarea.specs.Said.{said};
 
 use crate::memory::allocator;
-use std::alloc::{AllocError, Global};
+use std::alloc::AllocError;
 use textarea_calls::Answer;
 use textarea_calls::kind::Special;
 use textarea_data::range::AtomicRange;
 use textarea_search::search::SearchError;
 use tui_textarea::TextArea;
 
-// Makes the call, and answers in its form.
+// Makes the call and returns its result.
 pub fn answer_specially(area: &mut TextArea<'_>, call: Special<'_>) -> Result<Answer, AllocError>
     ensures answer { IfOk result (λ answer. IsAnswer area.old (call_of_special call.entry) (said answer)) }
     ensures ok { IfOk result
@@ -39,7 +39,7 @@ pub fn answer_specially(area: &mut TextArea<'_>, call: Special<'_>) -> Result<An
     }
 }
 
-// Sets a copy of the ranges, or names the rejected ones.
+// Sets a copy of the ranges, or returns the rejected ones.
 fn copy_and_set_ranges(
     area: &mut TextArea<'_>,
     ranges: &[AtomicRange],
@@ -50,18 +50,11 @@ fn copy_and_set_ranges(
         (area.new ≡ with_ranges_if (rejected_ranges area.old ranges.now) area.old ranges.now) }
     ensures err { OnErr result (area.new ≡ area.old) }
 {
-    let copies = copy_ranges(allocator(area), ranges)?;
+    let copies = ranges.to_vec(allocator(area))?;
     set_ranges(area, copies)
 }
 
-// A copy of the ranges.
-fn copy_ranges(alloc: Global, ranges: &[AtomicRange]) -> Result<Vec<AtomicRange>, AllocError>
-    ensures { IfOk result (λ copies. copies.items ≡ ranges.now) }
-{
-    ranges.to_vec(alloc)
-}
-
-// Sets the ranges, or names the rejected ones.
+// Sets the ranges, or returns the rejected ones.
 fn set_ranges(area: &mut TextArea<'_>, ranges: Vec<AtomicRange>) -> Result<Answer, AllocError>
     ensures answer { IfOk result
         (λ answer. said answer ≡ ranges_answer (rejected_ranges area.old ranges.items)) }
@@ -75,7 +68,7 @@ fn set_ranges(area: &mut TextArea<'_>, ranges: Vec<AtomicRange>) -> Result<Answe
     }
 }
 
-// Sets the pattern that is searched for, or answers that it is refused.
+// Sets the search pattern, or returns that it is rejected.
 fn set_search_pattern(area: &mut TextArea<'_>, pattern: &str) -> Result<Answer, AllocError>
     ensures answer { IfOk result (λ answer. IsPatternAnswer area.old pattern.now (said answer)) }
     ensures ok { IfOk result
@@ -86,7 +79,7 @@ fn set_search_pattern(area: &mut TextArea<'_>, pattern: &str) -> Result<Answer, 
     pattern_answer(area.set_search_pattern(pattern))
 }
 
-// How it is told that a pattern was set: done, refused with an error of `regex`, or out of memory.
+// The result of setting a pattern: done, rejected with an error of `regex`, or out of memory.
 fn pattern_answer(outcome: Result<(), SearchError>) -> Result<Answer, AllocError>
     ensures { IsToldAs outcome result }
 {

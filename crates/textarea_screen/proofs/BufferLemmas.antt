@@ -1,4 +1,4 @@
--- Where the cells of a rectangle stand in the list of all of them, and what a write of one of them changes.
+-- The indices of a rectangle's cells in the list of all of them, and the effect of a write.
 use Rattle.std.proofs.lemmas.Grind.{common_steps}
 use Rattle.std.proofs.Common.{◌≡◌, ◌≢◌, ℕ, zero, suc, ◌+◌, ◌-◌, ◌*◌, ◌/◌, ◌%◌, ◌<◌, ◌≤◌, Bool, true, false, cond, eqb, leb, ltb, ◌&&◌, ◌||◌, List, [], ◌∷◌, length, get_or, set, Option, None, Some, refl, sym, ap, ap₂, ◌∙◌, ⊎_elim, arith}
 use Rattle.std.specs.List.{slice_get, All}
@@ -16,13 +16,13 @@ use Rattle.textarea_screen.specs.declared.screen.buffer.Buffer.{Buffer}
 use Rattle.textarea_screen.specs.declared.screen.cell.Cell.{Cell}
 use Rattle.textarea_screen.specs.declared.screen.rect.Rect.{Rect}
 
--- ---- places in the list of all cells
+-- ---- indices in the list of all cells
 
--- a cell of the rectangle stands before the end of the list
+-- the index of a cell of the rectangle is below the length of the list
 pub place_in-below : (area : Rect) (x y : ℕ) → contains area x y ≡ true → place_in area x y < area.height * area.width
 place_in-below area x y h = omega (arith, mul-add-lt (y - area.y) area.width (x - area.x) area.height (grind (arith, nat_tests)) (grind (arith, nat_tests)))
 
--- two cells that stand in one place are one
+-- two cells with the same index are one cell
 place_in-same : (area : Rect) (x y u v : ℕ) → contains area x y ≡ true → contains area u v ≡ true → place_in area u v ≡ place_in area x y → (u ≡ x) × (v ≡ y)
 place_in-same area x y u v h k e =
     let b : x - area.x < area.width = grind (arith, nat_tests) in
@@ -45,7 +45,7 @@ slice_get-set_other (x ∷ xs) zero (suc j) w h = refl
 slice_get-set_other (x ∷ xs) (suc i) zero w h = refl
 slice_get-set_other (x ∷ xs) (suc i) (suc j) w h = slice_get-set_other xs i j w (λ e. h (ap suc e))
 
--- a cell is changed where a test passes, and kept elsewhere
+-- a cell is changed where a test passes, and unchanged elsewhere
 changed_where : (inside here : Bool) (was is : Option ShownCell) (f : ShownCell → ShownCell) → (inside ≡ true → here ≡ true → is ≡ option_map f was) →
     (inside ≡ true → here ≡ false → is ≡ was) → cond inside is None ≡ option_map (λ c. cond here (f c) c) (cond inside was None)
 changed_where true true was is f changed kept = changed refl refl
@@ -73,7 +73,7 @@ Changes-set old new x y place f d cell h at full area items is = record {
       ∙ cell_in-set old.area old.cells.items x y u v f d cell h (omega (arith, full)) (is ∙ ap (λ n. f (shown_cell (get_or old.cells.items n d))) at);
 }
 
--- no cell of the buffer stands where it has none
+-- a write outside of the buffer's area changes no cell
 pub Changes-outside : (buffer : Buffer) (x y : ℕ) (f : ShownCell → ShownCell) → contains buffer.area x y ≡ false →
     Changes buffer buffer (λ u v c. cond (eqb u x && eqb v y) (f c) c)
 unfolding cell_at
@@ -83,7 +83,7 @@ Changes-outside buffer x y f outside = record {
       changed_where (contains buffer.area u v) (eqb u x && eqb v y) _ _ f (λ in_area here. absurd (grind (arith, nat_tests))) (λ in_area there. refl);
 }
 
--- the cell that a list has at the place of (x, y)
+-- the cell that the list has at the index of (x, y)
 pub cell_at-inside : (buffer : Buffer) (x y place : ℕ) (cell : Cell) → contains buffer.area x y ≡ true → place ≡ place_in buffer.area x y → place < length buffer.cells.items →
     cell ≡ get_or buffer.cells.items place cell → Some (shown_cell cell) ≡ cell_at buffer x y
 unfolding cell_at
@@ -108,7 +108,7 @@ cell_at-fresh buffer x y room fresh = grind (arith, common_steps, slice_get-fres
 
 -- ---- the cells of a rectangle, one after another
 
--- the cells of a row before this column, and the rows of a rectangle before this one
+-- the cells of a row before this column, and the rows of a rectangle before this row
 abbrev pub is_before_column : ℕ → ℕ → ℕ → ℕ → ℕ → Bool
 is_before_column left row column x y = eqb y row && (leb left x && ltb x column)
 

@@ -1,4 +1,4 @@
--- How changes of a buffer compose. Each lemma is over the words of specs/Buffer.antt alone, so crates above may cite it.
+-- How changes of a buffer compose. Higher crates may cite these: they use only specs/Buffer.antt.
 use Rattle.std.proofs.lemmas.Grind.{common_steps}
 use Rattle.std.proofs.Common.{arith, ◌≡◌, ℕ, Bool, true, false, cond, ◌||◌, Option, None, Some, refl, sym, ap, ◌∙◌, ⊎_elim}
 use Rattle.std.specs.Option.{option_map}
@@ -8,7 +8,7 @@ use Rattle.textarea_screen.specs.Cell.{ShownCell}
 use Rattle.textarea_screen.specs.Rect.{contains}
 use Rattle.textarea_screen.specs.declared.screen.buffer.Buffer.{Buffer}
 
--- ---- the cell at one place
+-- ---- the cell at one position
 
 option_map-same : (f : ShownCell → ShownCell) (o : Option ShownCell) → ((cell : ShownCell) → f cell ≡ cell) → option_map f o ≡ o
 option_map-same f None same = refl
@@ -36,7 +36,7 @@ Changes-none buffer change same = record {
   cells = λ x y. sym (option_map-same (change x y) (cell_at buffer x y) (same x y));
 }
 
--- one change after another is any change that does to each cell what the two do
+-- two changes one after the other are any change that has the effect of both on each cell
 pub Changes-then : {a b c : Buffer} {f g : Change} (h : Change) → Changes a b f → Changes b c g →
     ((x y : ℕ) (cell : ShownCell) → g x y (f x y cell) ≡ h x y cell) → Changes a c h
 Changes-then {a} {b} {c} {f} {g} h first second same = record {
@@ -45,14 +45,14 @@ Changes-then {a} {b} {c} {f} {g} h first second same = record {
       ∙ option_map-like (λ cell. g x y (f x y cell)) (h x y) (cell_at a x y) (same x y);
 }
 
--- the same change in other words
+-- the same change, defined otherwise
 pub Changes-as : {a b : Buffer} {f : Change} (g : Change) → Changes a b f → ((x y : ℕ) (cell : ShownCell) → f x y cell ≡ g x y cell) → Changes a b g
 Changes-as {a} {b} {f} g change same = record {
   area = change.area;
   cells = λ x y. change.cells x y ∙ option_map-like (f x y) (g x y) (cell_at a x y) (same x y);
 }
 
--- the same change in words that differ on cells which the buffer does not have
+-- the same change, defined otherwise for cells that the buffer does not have
 pub Changes-inside : {a b : Buffer} {f : Change} (g : Change) → Changes a b f →
     ((x y : ℕ) (cell : ShownCell) → contains (area_of a) x y ≡ true → f x y cell ≡ g x y cell) → Changes a b g
 Changes-inside {a} {b} {f} g change same = record {
@@ -67,7 +67,7 @@ Changes-inside {a} {b} {f} g change same = record {
       (cases_Bool (contains (area_of a) x y));
 }
 
--- a change of the cells that pass one test, and then the same of the cells that pass another
+-- a change of the cells that pass one test, and then the same change of the cells that pass another
 cond-or : (before here : Bool) (f : ShownCell → ShownCell) (cell : ShownCell) → (here ≡ true → before ≡ false) →
     cond here (f (cond before (f cell) cell)) (cond before (f cell) cell) ≡ cond (before || here) (f cell) cell
 cond-or true true f cell apart = cc (apart refl)
@@ -83,7 +83,7 @@ Changes-more f before here after first second apart both = grind (arith, common_
 
 -- ---- cells that stay
 
--- a change keeps the cells that it leaves as they are
+-- the cells that a change does not alter are unchanged
 pub KeepsOutside-from_changes : {a b : Buffer} {f : Change} (test : ℕ → ℕ → Bool) → Changes a b f →
     ((x y : ℕ) (cell : ShownCell) → test x y ≡ false → f x y cell ≡ cell) → KeepsOutside test a b
 KeepsOutside-from_changes {a} {b} {f} test change same = record {
@@ -97,14 +97,14 @@ KeepsOutside-then first second = record {
   cells = λ x y outside. second.cells x y outside ∙ first.cells x y outside;
 }
 
--- a buffer that is as it was
+-- a buffer that is unchanged
 pub KeepsOutside-same : {a b : Buffer} (test : ℕ → ℕ → Bool) → b ≡ a → KeepsOutside test a b
 KeepsOutside-same {a} {b} test same = record {
   area = ap area_of same;
   cells = λ x y _. ap (λ buffer. cell_at buffer x y) same;
 }
 
--- cells outside of more places are fewer cells
+-- if the cells outside of a test are unchanged, so are those outside of a wider one
 pub KeepsOutside-wider : {a b : Buffer} {test : ℕ → ℕ → Bool} (wider : ℕ → ℕ → Bool) → KeepsOutside test a b →
     ((x y : ℕ) → wider x y ≡ false → test x y ≡ false) → KeepsOutside wider a b
 KeepsOutside-wider wider keeps within = record {

@@ -1,4 +1,4 @@
--- What a block takes of an area, and what clauses see of a block.
+-- How much of an area a block takes, and a block as contracts see it.
 use Rattle.std.specs.Prelude.{ℕ, ◌-◌, Bool, ◌||◌, ◌==◌, Option, None, is_some}
 use Rattle.std.specs.Int.RustNames.{bit_and}
 use Rattle.std.specs.Option.{option_map}
@@ -10,7 +10,7 @@ use Rattle.textarea_screen.specs.declared.screen.block.Borders.{Borders}
 use Rattle.textarea_screen.specs.declared.screen.rect.Padding.{Padding}
 use Rattle.textarea_screen.specs.declared.screen.style.Style.{Style}
 
--- the block with no side, no padding and no title, in empty styles
+-- the block with no border, no padding and no title, in empty styles
 abbrev pub plain_block : Block
 plain_block = record {
   borders = record { 0 = 0 };
@@ -33,11 +33,11 @@ bottom_side = 4
 abbrev pub left_side : ℕ
 left_side = 8
 
--- whether the side of this bit is in the set
+-- whether the set has the side of this bit
 abbrev pub has_border : Borders → ℕ → Bool
 has_border borders side = bit_and borders.0 side == side
 
--- a block, its title as it is shown
+-- a block whose title is compared by its text and styles
 pub record ShownBlock : Type 0 where
   pub borders : Borders
   pub padding : Padding
@@ -54,8 +54,8 @@ shown_block block = record {
   border_style = block.border_style;
 }
 
--- the columns at the left and the right, and the rows at the top and the bottom, that a block takes; a title stands in the
--- top row, with a top side or without
+-- the columns at the left and the right, and the rows at the top and the bottom, that a block
+-- takes; a title takes the top row, with a top border or without
 abbrev pub left_inset : ShownBlock → ℕ
 left_inset block = inset_of (has_border block.borders left_side) block.padding.left
 
@@ -68,7 +68,7 @@ top_inset block = inset_of (has_border block.borders top_side || is_some block.t
 abbrev pub bottom_inset : ShownBlock → ℕ
 bottom_inset block = inset_of (has_border block.borders bottom_side) block.padding.bottom
 
--- the columns that are left inside of a block of this width, and the rows inside of one of this height; not below 0
+-- the columns inside a block of this width, and the rows inside one of this height; at least 0
 abbrev pub inner_width : ShownBlock → ℕ → ℕ
 inner_width block width = width - left_inset block - right_inset block
 

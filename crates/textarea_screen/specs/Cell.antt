@@ -1,4 +1,4 @@
--- What clauses see of a cell, and what a style makes of one.
+-- A cell as contracts see it, and a style that is applied to it.
 use Rattle.std.specs.Prelude.{ℕ, List, [], ◌∷◌, Some, string_bytes, unwrap_or}
 use Rattle.textarea_screen.specs.Modifier.{union_of, difference_of}
 use Rattle.textarea_screen.specs.declared.screen.cell.Cell.{Cell}
@@ -16,7 +16,7 @@ pub record ShownCell : Type 0 where
   pub bg : Color
   pub modifier : Modifier
 
--- the bytes of a cell's text, wherever they lie
+-- the bytes of a cell's text, stored in the cell or not
 abbrev pub cell_text : CellText → List ℕ
 cell_text (Inline text) = text.bytes
 cell_text (Owned text) = string_bytes text
@@ -28,7 +28,7 @@ shown_cell cell = record { symbol = cell_text cell.text; fg = cell.fg; bg = cell
 abbrev pub fresh_cell : ShownCell
 fresh_cell = record { symbol = 32 ∷ []; fg = Reset; bg = Reset; modifier = record { 0 = 0 } }
 
--- the cell in a style: its colours where the style sets them, and its modifiers, first added to and then taken from
+-- the cell with a style applied: colours that are set, then modifiers added, then removed
 abbrev pub styled : Style → ShownCell → ShownCell
 styled style cell = record cell {
   fg = unwrap_or style.fg cell.fg;
@@ -36,10 +36,10 @@ styled style cell = record cell {
   modifier = difference_of (union_of cell.modifier style.add_modifier) style.sub_modifier;
 }
 
--- the cell in a style, with another text
+-- the cell with a style applied and another text
 abbrev pub with_symbol : List ℕ → Style → ShownCell → ShownCell
 with_symbol text style cell = record (styled style cell) { symbol = text }
 
--- the style that sets the cell's colours, and adds its modifiers
+-- the style that sets the cell's colours and adds its modifiers
 abbrev pub style_of : ShownCell → Style
 style_of cell = record { fg = Some cell.fg; bg = Some cell.bg; add_modifier = cell.modifier; sub_modifier = record { 0 = 0 } }

@@ -1,6 +1,6 @@
--- What a block takes of an area at one side.
+-- How much of an area a block takes at one side.
 use Rattle.std.specs.Prelude.{ℕ, ◌+◌, Bool, if◌then◌else◌}
 
--- one row or column where something is drawn there, and the padding
+-- one row or column for a border or a title, and the padding
 abbrev pub inset_of : Bool → ℕ → ℕ
 inset_of is_taken padding = (if is_taken then 1 else 0) + padding

@@ -1,5 +1,5 @@
--- What clauses see of styled text. A `String` that clauses see whole has a capacity and a place in memory too, which no
--- reader of a text asks for. So texts are compared as they are shown: by their bytes, by whether they are lent, and by style.
+-- Styled text as contracts see it. A `String` also has a capacity and an address, which no reader
+-- needs. So texts are compared by their bytes, by whether they are borrowed, and by their styles.
 use Rattle.std.specs.Prelude.{ℕ, List, map, string_bytes}
 use Rattle.textarea_screen.specs.declared.screen.style.Style.{Style}
 use Rattle.textarea_screen.specs.declared.screen.text.Line.{Line}
@@ -13,12 +13,12 @@ abbrev pub text_bytes : SpanText → List ℕ
 text_bytes (Borrowed text) = text.now
 text_bytes (Owned text) = string_bytes text
 
--- the text is lent from elsewhere
+-- the text is borrowed
 abbrev pub IsBorrowed : SpanText → Type 0
 IsBorrowed (Borrowed text) = Unit {0}
 IsBorrowed (Owned text) = ⊥
 
--- a text as it is shown: its bytes, and whether they are lent
+-- the bytes of a text, and whether it is borrowed or owned
 pub data ShownContent : Type 0 where
   Lent : List ℕ → ShownContent
   Held : List ℕ → ShownContent

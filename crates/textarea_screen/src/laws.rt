@@ -1,12 +1,11 @@
-//! What the constants and the defaults are, each the contract of a function that does nothing or
-//! reads them.
+//! The values of constants and defaults, as contracts of functions that at most read them.
 ghost use Rattle.std.specs.Prelude.{◌≡◌, ◌+◌};
 ghost use Rattle.textarea_screen.specs.Block.{top_side, right_side, bottom_side, left_side};
 
 use crate::screen::cell::INLINE_BYTES;
 use crate::screen::{Alignment, Borders, Color, Modifier, Padding, Position};
 
-/// The sides of a block are a bit each; no side is no bit, and all sides are these four bits.
+/// Each side of a block is one bit. `NONE` has no bit, and `ALL` has all four.
 pub fn borders_are_bits()
     ensures none { Borders.NONE ≡ record { 0 = 0 } }
     ensures top { Borders.TOP ≡ record { 0 = top_side } }
@@ -16,7 +15,7 @@ pub fn borders_are_bits()
     ensures all { Borders.ALL ≡ record { 0 = top_side + right_side + bottom_side + left_side } }
 {}
 
-/// The modifiers are a bit each, in this order.
+/// Each modifier is one bit, in this order.
 pub fn modifiers_are_bits()
     ensures bold { Modifier.BOLD ≡ record { 0 = 1 } }
     ensures dim { Modifier.DIM ≡ record { 0 = 2 } }
@@ -29,14 +28,14 @@ pub fn modifiers_are_bits()
     ensures crossed_out { Modifier.CROSSED_OUT ≡ record { 0 = 256 } }
 {}
 
-/// No free column or row; and the bytes that lie in a cell.
+/// The constants `ZERO` and `INLINE_BYTES`.
 pub fn other_constants()
     ensures zero { Padding.ZERO ≡ record { left = 0; right = 0; top = 0; bottom = 0 } }
     ensures inline_bytes { INLINE_BYTES ≡ 24 }
 {}
 
-/// The defaults that are derived: the left alignment, the terminal's own colour, the empty sets of sides and of modifiers, no free
-/// column or row, and the first column and the first row.
+/// The derived defaults: left alignment, the terminal's own colour, empty sets of sides and of
+/// modifiers, no padding, and the position of column 0 and row 0.
 pub fn defaults() -> (Alignment, Color, Borders, Modifier, Padding, Position)
     ensures alignment { result.0 ≡ Alignment.Left }
     ensures color { result.1 ≡ Color.Reset }

@@ -1,5 +1,4 @@
-//! What a terminal shows, as plain data: colours, styles, lines of styled text, rectangles with
-//! borders, and the cells on which text is drawn.
+//! Plain data of a terminal's screen: colours, styles, styled text, rectangles, blocks, cells.
 #![tactic(auto)]
 
 pub mod laws;

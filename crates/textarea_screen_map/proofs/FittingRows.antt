@@ -1,4 +1,4 @@
--- The columns of a visual row at which a cursor can stand, where the clusters of the lines fit the width and anyhow.
+-- The greatest column of a cursor in a row, if grapheme clusters fit the width and in general.
 use Rattle.std.proofs.lemmas.Grind.{common_steps}
 use Rattle.std.proofs.Common.{◌≡◌, ◌≢◌, ℕ, zero, suc, ◌+◌, ◌-◌, ◌^◌, ◌<◌, ◌≤◌, inl, inr, max, Bool, true, false, List, [], ◌∷◌, ◌++◌, length, take, drop, get_or, sym, ap, refl, ◌∙◌, arith, subst, encode_utf8_all, if◌then◌else◌}
 use Rattle.std.proofs.lemmas.Bool.{cases_lt}
@@ -43,7 +43,7 @@ some_tab : (t : ℕ) → 0 < t → t ≡ max t 1
 some_tab t h = omega (arith, h)
 
 module _ (w : Wrapping) (lines : List (List ℕ)) (rows : List RowsView) (h : AreRowsOf w lines rows) where
-  -- where lines are wrapped, and their clusters fit the width
+  -- for lines that are wrapped, whose clusters fit the width
   pub greatest_within : (row : ℕ) → w.mode ≢ mode.None → 0 < w.tab_len → HaveFittingClusters w.tab_len (max w.width 1) lines → row < row_total rows → greatest_column w.tab_len (row_at lines rows row) ≤ max w.width 1
   greatest_within row wraps tabs all below =
       let found = line_of rows row below in
@@ -75,7 +75,7 @@ module _ (w : Wrapping) (lines : List (List ℕ)) (rows : List RowsView) (h : Ar
             (last_within w.tab_len (max w.width 1) cut.texts found.number within (last ∙ size))))
       ]
 
-  -- anyhow: a line has fewer than 2^48 bytes
+  -- in general: a line has fewer than 2^48 bytes
   pub greatest_few : (row : ℕ) → w.tab_len < 2 ^ 8 → row < row_total rows → greatest_column w.tab_len (row_at lines rows row) < 2 ^ 56
   greatest_few row tabs below =
       let text = (row_at lines rows row).text in

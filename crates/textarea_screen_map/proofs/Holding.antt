@@ -1,4 +1,4 @@
--- Rows of one line that follow each other, and the row that holds an offset.
+-- Consecutive rows of one line, and the row of an offset.
 use Rattle.std.proofs.Common.{◌≡◌, ℕ, zero, suc, ◌+◌, ◌<◌, ◌≤◌, inl, inr, max, List, [], ◌∷◌, length, take, get_or, sym, ap, refl, ◌∙◌, arith, subst, encode_utf8_all, String, string_bytes}
 use Rattle.std.proofs.lemmas.Bool.{cases_lt}
 use Rattle.std.proofs.lemmas.List.{length-append}
@@ -27,7 +27,7 @@ next_range at (t ∷ u ∷ rest) (suc k) within =
     let step : suc k + 1 ≡ suc (k + 1) = omega arith in
     ap (λ n. (range_at (ranges_from at (t ∷ u ∷ rest)) n).0) step ∙ next_range (at + length t) (u ∷ rest) k (omega arith)
 
--- the last row ends where the line does
+-- the last row ends at the line's end
 pub last_range : (at : ℕ) (texts : List (List ℕ)) (k : ℕ) → k + 1 ≡ length (ranges_from at texts) → (range_at (ranges_from at texts) k).1 ≡ at + length (concat texts)
 last_range at [] k last = absurd (omega arith)
 last_range at (t ∷ []) zero last = omega (arith, length-append t [])
@@ -45,7 +45,7 @@ first_range : (at : ℕ) (texts : List (List ℕ)) → 0 < length texts → (ran
 first_range at [] some = absurd (omega arith)
 first_range at (t ∷ texts) some = refl
 
--- a line has a row, and the first begins where the line does
+-- a line has a row, and the first begins at the line's start
 pub some_rows : (mode : WrapMode) (tab_len width : ℕ) (line : List ℕ) (ranges : List (ℕ × ℕ)) → IsWrapped mode tab_len width line ranges → 0 < length ranges
 some_rows mode tab_len width line ranges h =
     omega (arith, some_texts mode tab_len width line h.texts h.cut h.joined, length-ranges_from 0 h.texts, ap length h.ranges_are)
@@ -61,15 +61,15 @@ ends zero (suc (suc n)) offset end within before last = omega (arith, before (om
 ends (suc row) (suc n) offset end within before last =
     ends row n offset end (omega arith) (λ h. before (omega (arith, h))) (λ e. last (omega (arith, e)))
 
--- The row of a line that an offset in bytes belongs to: it lies from the row's first byte on and before its end. In the line's
--- last row it may lie at the end too.
+-- The row of a line that a byte offset belongs to: the offset is at or after the row's first byte
+-- and before its end. In the last row of the line it may also be at the end.
 pub record HoldsOffset (ranges : List (ℕ × ℕ)) (row offset : ℕ) : Type 0 where
   pub within : row < length ranges
   pub from : (range_at ranges row).0 ≤ offset
   pub to : offset ≤ (range_at ranges row).1
   pub before_next : row + 1 < length ranges → offset < (range_at ranges row).1
 
--- the last row that begins at an offset or before it holds it
+-- an offset belongs to the last row that begins at or before it
 pub holds_offset : (mode : WrapMode) (tab_len width : ℕ) (line : List ℕ) (ranges : List (ℕ × ℕ)) (row offset : ℕ) → IsWrapped mode tab_len width line ranges → offset ≤ length line → row < length ranges → (range_at ranges row).0 ≤ offset → (row + 1 < length ranges → offset < (range_at ranges (row + 1)).0) → HoldsOffset ranges row offset
 holds_offset mode tab_len width line ranges row offset h inside within from next =
     let before : row + 1 < length ranges → offset < (range_at ranges row).1 =
@@ -106,7 +106,7 @@ pub bytes_of_line : {Z : Type 0} (items : List (String Z)) (i : ℕ) (line : Str
 bytes_of_line items i line text within read same =
     same ∙ sym (encodes-chars (string_bytes line) (IsUtf8-string_bytes line)) ∙ ap encode_utf8_all (sym (line_at items i line within read))
 
--- ---- a row and an offset as the code has them
+-- ---- a row and an offset as in the code
 
 pub cut_of : (w : Wrapping) (lines : List (List ℕ)) (rows : List RowsView) (i : ℕ) (ranges : List (ℕ × ℕ)) → ranges ≡ ranges_at rows i → AreRowsOf w lines rows → i < length lines → IsWrapped w.mode w.tab_len (max w.width 1) (encode_utf8_all (get_or lines i [])) ranges
 cut_of w lines rows i ranges e h within =
@@ -116,7 +116,7 @@ pub offset_within : {Z : Type 0} (line : String Z) (text : List ℕ) (column off
 offset_within line text column offset same e =
     omega (arith, e, ap length same, ap (λ (t : List ℕ). length (encode_utf8_all (take column (chars t)))) same, length_cut (string_bytes line) column (IsUtf8-string_bytes line))
 
--- a row that isn't its line's last has a byte
+-- a row that isn't its line's last is not empty
 one_row_of_none : (mode : WrapMode) (tab_len width : ℕ) (line : List ℕ) (texts : List (List ℕ)) → line ≡ [] → AreRowTexts mode tab_len width line texts → length texts ≡ 1
 one_row_of_none mode tab_len width [] texts e cut = ap length cut
 one_row_of_none mode tab_len width (byte ∷ line) texts e cut = absurd (omega (arith, ap length e))

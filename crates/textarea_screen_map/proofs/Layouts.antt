@@ -1,4 +1,4 @@
--- Rows of lines, taken apart and put together.
+-- Rows of lines, split and joined.
 use Rattle.std.proofs.lemmas.Grind.{common_steps}
 use Rattle.std.proofs.Common.{map, ap₂, ◌≡◌, ℕ, zero, suc, ◌+◌, ◌<◌, max, List, [], ◌∷◌, ◌++◌, length, take, drop, get_or, ap, refl, ◌∙◌, arith, encode_utf8_all, String, string_bytes}
 use Rattle.std.proofs.lemmas.List.{append_assoc, length-map, map-append, take_more}
@@ -42,7 +42,7 @@ length-AreRowsOf w [] (r ∷ rows) h = absurd h
 length-AreRowsOf w (line ∷ lines) [] h = absurd h
 length-AreRowsOf w (line ∷ lines) (r ∷ rows) h = ap suc (length-AreRowsOf w lines rows h.1)
 
--- some lines and their rows give place to others and theirs
+-- some lines and their rows are replaced
 pub AreRowsOf-replaced : (w : Wrapping) (lines new : List (List ℕ)) (rows others : List RowsView) (start count : ℕ) → AreRowsOf w lines rows → AreRowsOf w new others → AreRowsOf w (replaced lines start count new) (replaced rows start count others)
 AreRowsOf-replaced w lines new rows others start count h k =
     AreRowsOf-append w (take start lines) (new ++ drop (start + count) lines) (take start rows) (others ++ drop (start + count) rows) (AreRowsOf-take w start lines rows h)
@@ -68,7 +68,7 @@ range_append first (suc size) more =
     let sum : suc size + more ≡ suc (size + more) = omega arith in
     rw (start, sum, range_append (first + 1) size more)
 
--- some calls more
+-- some more calls
 pub ticks_append : (count size more : ℕ) → ticks_behind count size ++ ticks_behind (count + size) more ≡ ticks_behind count (size + more)
 ticks_append count size more =
     let start : count + size + 1 ≡ count + 1 + size = omega arith in rw (start, range_append (count + 1) size more)
@@ -78,7 +78,7 @@ pub ticks_more : (before after : List RowsView) (cut : RowsView) (ticks : List �
 ticks_more before after cut ticks count i is e tick =
     rw (is, map-append (λ (r : RowsView). r.tick) before (cut ∷ []), e, append_assoc, tick, ticks_append count i 1)
 
--- two maps of the same lines, where a line has one right cutting
+-- two maps of the same lines, when a line has one right list of rows
 pub ranges_same : (w : Wrapping) (lines : List (List ℕ)) (rows others : List RowsView) → ((line : List ℕ) (ranges more : List (ℕ × ℕ)) → IsWrapped w.mode w.tab_len (max w.width 1) line ranges → IsWrapped w.mode w.tab_len (max w.width 1) line more → ranges ≡ more) → AreRowsOf w lines rows → AreRowsOf w lines others → map (λ (r : RowsView). r.ranges) rows ≡ map (λ (r : RowsView). r.ranges) others
 ranges_same w [] [] [] one h k = refl
 ranges_same w [] (r ∷ rows) others one h k = absurd h
@@ -88,7 +88,7 @@ ranges_same w (line ∷ lines) (r ∷ rows) [] one h k = absurd k
 ranges_same w (line ∷ lines) (r ∷ rows) (s ∷ others) one h k =
     ap₂ ◌∷◌ (one (encode_utf8_all line) r.ranges s.ranges h.0.cut k.0.cut) (ranges_same w lines rows others one h.1 k.1)
 
--- where lines aren't wrapped, neither the width nor the tab stops count
+-- without wrapping, the rows depend on neither the width nor the tab stops
 pub whole_anyhow : (tab_len width other_tab_len other_width : ℕ) (line : List ℕ) (ranges : List (ℕ × ℕ)) → IsWrapped mode.None tab_len width line ranges → IsWrapped mode.None other_tab_len other_width line ranges
 whole_anyhow tab_len width other_tab_len other_width [] ranges h =
     record { texts = h.texts; cut = h.cut; joined = h.joined; ranges_are = h.ranges_are; placed = h.placed }

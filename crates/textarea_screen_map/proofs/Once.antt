@@ -1,4 +1,4 @@
--- A place is seen in one visual row, since the rows of a line are apart.
+-- A position is in only one visual row, since the rows of a line don't overlap.
 use Rattle.std.proofs.Common.{ap₂, ◌≡◌, ℕ, zero, suc, ◌+◌, ◌<◌, ◌≤◌, inl, inr, false, List, [], ◌∷◌, length, take, get_or, sym, ap, ◌∙◌, arith}
 use Rattle.std.proofs.lemmas.Bool.{cases_lt}
 use Rattle.textarea_text.specs.Place.{Place}
@@ -26,7 +26,7 @@ ranges_apart at (t ∷ texts) k zero less h = absurd (omega arith)
 ranges_apart at (t ∷ texts) zero (suc j) less h = begins_later (at + length t) texts j (omega arith)
 ranges_apart at (t ∷ texts) (suc k) (suc j) less h = ranges_apart (at + length t) texts k j (omega arith) (omega arith)
 
--- of two rows of a line the later one begins where the other ends or behind it
+-- of two rows of a line, the later one begins at or after the end of the other
 apart : (w : Wrapping) (lines : List (List ℕ)) (rows : List RowsView) (a b : ℕ) (p : IsCutOut lines rows a) (q : IsCutOut lines rows b) → AreRowsOf w lines rows → q.line ≡ p.line → p.number < q.number → ((row_at lines rows a).first + length (row_at lines rows a).text ≤ (row_at lines rows b).first) × ((row_at lines rows a).is_last ≡ false)
 apart w lines rows a b p q h same less =
     let line = get_or lines p.line [] in

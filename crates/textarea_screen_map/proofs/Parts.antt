@@ -1,4 +1,4 @@
--- The characters of a line before a row, in it and behind it.
+-- The characters of a line before a row, in it and after it.
 use Rattle.std.proofs.Common.{◌≡◌, ℕ, ◌+◌, ◌-◌, ◌<◌, ◌≤◌, inl, inr, true, List, ◌++◌, length, take, drop, sym, ap, refl, ◌∙◌, arith, encode_utf8_all}
 use Rattle.std.proofs.lemmas.List.{append_assoc, drop-drop, drop_at, length-append, length-drop, length-take-le, take-append-drop, take-append-le, take_at}
 use Rattle.std.proofs.Math.Seq.{take-add}
@@ -71,7 +71,7 @@ pub row_within : (line : List ℕ) (range : ℕ × ℕ) (p : Parts line range) �
 row_within line range p =
     omega (arith, ap length p.whole, length-append p.front (p.text ++ p.rest), length-append p.text p.rest)
 
--- an offset from the row's first byte on is that of a column from the row's first one on
+-- an offset at or after the row's first byte is that of a column at or after the row's first one
 pub column_from : (line : List ℕ) (range : ℕ × ℕ) (p : Parts line range) (column : ℕ) → column ≤ length line → range.0 ≤ offset_in line column → length p.front ≤ column
 column_from line range p column within from =
     elim (cases_lt column (length p.front)) [
@@ -93,7 +93,7 @@ column_before line range p column before =
       | inr more ↦ absurd (omega (arith, offsets_ordered line (length p.front + length p.text) column more, p.ends, before))
     ]
 
--- the text from the row's first byte up to the offset of a column holds the row's characters before that column
+-- the text from the row's first byte to a column's offset is the row's characters before it
 pub characters_between : (line : List ℕ) (range : ℕ × ℕ) (p : Parts line range) (column : ℕ) (slice : List ℕ) → length p.front ≤ column → column ≤ length p.front + length p.text → IsUtf8 slice → slice ≡ take (offset_in line column - range.0) (drop range.0 (encode_utf8_all line)) → chars slice ≡ take (column - length p.front) p.text
 characters_between line range p column slice from to valid is =
     let index = column - length p.front in

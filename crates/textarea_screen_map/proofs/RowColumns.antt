@@ -1,4 +1,4 @@
--- The display columns of the places of a row.
+-- The display columns of the positions in a row.
 use Rattle.std.proofs.lemmas.Grind.{common_steps}
 use Rattle.std.proofs.Common.{◌≡◌, ℕ, ◌+◌, ◌-◌, ◌<◌, ◌≤◌, ◌⊎◌, inl, inr, max, cond, nat_eq, true, false, List, [], ◌∷◌, length, take, drop, get_or, sym, ap, subst, ◌∙◌, arith}
 use Rattle.std.proofs.Math.Seq.{take-add}
@@ -12,11 +12,11 @@ use Rattle.textarea_screen_map.specs.Rows.{column_at}
 use Rattle.textarea_screen_map.specs.Seen.{HasNoZeroWidth, LeadsTo}
 use Rattle.textarea_screen_map.proofs.Holding.{all_at}
 
--- columns never fall along a row
+-- columns never decrease along a row
 pub column_at-le : (tab_len : ℕ) (text : List ℕ) (i j : ℕ) → i ≤ j → column_at tab_len text i ≤ column_at tab_len text j
 column_at-le tab_len text i j h = grind (arith, common_steps, end_column-after, end_column-append, take-add i (j - i) text)
 
--- the column behind a character
+-- the column after a character
 pub column_at-more : (tab_len : ℕ) (text : List ℕ) (i d : ℕ) → i < length text → column_at tab_len text (i + 1) ≡ column_after (max tab_len 1) (column_at tab_len text i) (get_or text i d)
 column_at-more tab_len text i d h =
     ap (end_column (max tab_len 1) 0) (take_more text i d h) ∙ end_column-append (max tab_len 1) 0 (take i text) (get_or text i d ∷ [])
@@ -30,14 +30,14 @@ column_after-more t x c some (inl e) =
 column_after-more t x c some (inr wide) =
     elim (nat_eq c 9) as (λ is_tab. x < cond is_tab (next_stop t x) (x + plain_width c)) [ true ↦ stop-more t x some | false ↦ omega arith ]
 
--- where each character has a column, they grow
+-- if each character has a column, they increase
 pub column_at-less : (tab_len : ℕ) (text : List ℕ) (i j : ℕ) → HasNoZeroWidth text → i < j → j ≤ length text → column_at tab_len text i < column_at tab_len text j
 column_at-less tab_len text i j all h within =
     omega (arith, column_at-le tab_len text (i + 1) j (omega arith), column_at-more tab_len text i 0 (omega arith), column_after-more (max tab_len 1) (column_at tab_len text i) (get_or text i 0) (omega arith) (all_at (λ c. (c ≡ 9) ⊎ (0 < plain_width c)) text i 0 all (omega arith)))
 
 -- ---- the walk over a row's characters
 
--- the character that is left first
+-- the first of the characters that remain
 pub passed : (cs rest : List ℕ) (n c : ℕ) → n ≤ length cs → drop n cs ≡ c ∷ rest → (n < length cs) × (get_or cs n 0 ≡ c) × (drop (n + 1) cs ≡ rest)
 passed cs rest n c within e =
     let below : n < length cs = omega (arith, length-drop n cs, ap length e) in

@@ -1,4 +1,4 @@
--- How large lines are by their rows, and that they have no more rows than that.
+-- The size of lines by their rows, and the number of their rows, which is no larger.
 use Rattle.std.proofs.lemmas.Grind.{common_steps}
 use Rattle.std.proofs.Common.{◌≡◌, ℕ, ◌+◌, ◌-◌, ◌<◌, ◌≤◌, inl, inr, max, List, [], ◌∷◌, ◌++◌, length, take, drop, ap, refl, ◌∙◌, arith, subst, encode_utf8_all, String}
 use Rattle.std.proofs.lemmas.Bool.{cases_lt}
@@ -17,7 +17,7 @@ use Rattle.textarea_blocks.specs.Sums.{line_bytes, row_total, size_total}
 use Rattle.textarea_wrap.proofs.FewestRowLemmas.{length-ranges_from}
 use Rattle.textarea_screen_map.proofs.Holding.{last_range, some_rows}
 
--- rows that aren't empty are no more than their bytes
+-- there are no more rows than bytes, if no row is empty
 rows_within : (line : List ℕ) (at : ℕ) (texts : List (List ℕ)) → (line ≡ [] → ⊥) → AllByRecursion (IsRowRange line) (ranges_from at texts) → length (ranges_from at texts) ≤ length (concat texts)
 rows_within line at [] some h = omega arith
 rows_within line at (t ∷ texts) some h =
@@ -26,7 +26,7 @@ rows_within line at (t ∷ texts) some h =
       | inr none ↦ absurd (some (h.0.nonempty (omega (arith, none))))
     ]
 
--- the rows of a line end where the line does, and are no more than its bytes and itself
+-- the rows of a line end at the line's end, and are at most its bytes plus one
 pub size_of_line : (mode : WrapMode) (tab_len width : ℕ) (line : List ℕ) (ranges : List (ℕ × ℕ)) → IsWrapped mode tab_len width line ranges → (line_bytes ranges ≡ length line) × (length ranges ≤ length line + 1)
 size_of_line mode tab_len width line ranges h =
     let some = some_rows mode tab_len width line ranges h in
@@ -40,7 +40,7 @@ size_of_line mode tab_len width line ranges h =
     few (byte ∷ line) texts ranges is cut joined placed =
         omega (arith, ap length is, ap length joined, rows_within (byte ∷ line) 0 texts (λ e. absurd (omega (arith, ap length e))) (subst (AllByRecursion (IsRowRange (byte ∷ line))) is placed))
 
--- lines are as large as their rows say, and have no more rows than that
+-- lines have the size that their rows give, and no more rows than that
 pub size_of_lines : (w : Wrapping) (lines : List (List ℕ)) (rows : List RowsView) → AreRowsOf w lines rows → (size_total rows ≡ weight (following lines)) × (row_total rows ≤ size_total rows)
 size_of_lines w [] [] h = (refl, omega arith)
 size_of_lines w [] (r ∷ rows) h = absurd h
@@ -48,7 +48,7 @@ size_of_lines w (line ∷ lines) [] h = absurd h
 size_of_lines w (line ∷ lines) (r ∷ rows) h =
     grind (arith, common_steps, size_of_line w.mode w.tab_len (max w.width 1) (encode_utf8_all line) r.ranges h.0.cut, size_of_lines w lines rows h.1, weight-append (characters line) (following lines), weight-characters line)
 
--- the same of lines as they are kept
+-- the same for lines as they are stored
 pub size_of_items : {Z : Type 0} (w : Wrapping) (items : List (String Z)) (rows : List RowsView) → AreRowsOf w (lines_of items) rows → (size_total rows ≡ size_of items) × (row_total rows ≤ size_of items)
 size_of_items w items rows h = grind (arith, common_steps, size_of_lines w (lines_of items) rows h, weight_of_following items)
 
@@ -56,7 +56,7 @@ size_of_items w items rows h = grind (arith, common_steps, size_of_lines w (line
 pub size_of_take : {Z : Type 0} (items : List (String Z)) (n : ℕ) → size_of (take n items) ≤ size_of items
 size_of_take items n = omega (arith, size_of-append (take n items) (drop n items), ap size_of (take-append-drop n items))
 
--- where there is a line there is a row
+-- if there is a line, there is a row
 pub some_row : (w : Wrapping) (lines : List (List ℕ)) (rows : List RowsView) → AreRowsOf w lines rows → 0 < length lines → 0 < row_total rows
 some_row w [] rows h some = absurd (omega (arith, some))
 some_row w (line ∷ lines) [] h some = absurd h

@@ -1,6 +1,6 @@
--- From a place to its visual row and column, and back.
+-- From a position to its visual row and column, and back.
 use Rattle.std.proofs.lemmas.Grind.{common_steps}
-use Rattle.std.proofs.Common.{ap₂, ◌≡◌, ℕ, ◌+◌, ◌-◌, ◌<◌, ◌≤◌, inl, inr, min, false, true, Bool, cond, List, [], length, get_or, sym, ap, refl, subst, ◌∙◌, arith}
+use Rattle.std.proofs.Common.{ap₂, ◌≡◌, ℕ, ◌+◌, ◌-◌, ◌<◌, ◌≤◌, inl, inr, min, false, true, Bool, cond, List, [], length, sym, ap, refl, subst, ◌∙◌, arith}
 use Rattle.std.proofs.lemmas.Bool.{cases_lt}
 use Rattle.std.proofs.Math.Seq.{take-length}
 use Rattle.textarea_util.specs.Limit.{size_limit}
@@ -15,13 +15,13 @@ use Rattle.textarea_screen_map.specs.Seen.{HasNoZeroWidth, IsPlaceAt, IsPlaceNea
 use Rattle.textarea_screen_map.proofs.RowColumns.{column_at-le, column_at-less}
 use Rattle.textarea_screen_map.proofs.VisualRows.{row_count, row_of}
 
--- a place of the row, and at its column or before it
+-- a position in the row, at or before its column
 pub leads_within : (t : ℕ) (text : List ℕ) (column index : ℕ) → LeadsTo t text column index → (index ≤ length text) × (column_at t text index ≤ column)
 leads_within t text column index (inl h) = (h.0, omega (arith, h.1))
 leads_within t text column index (inr (inl h)) = (omega (arith, h.0), omega (arith, h.1))
 leads_within t text column index (inr (inr h)) = (omega (arith, h.0), omega (arith, h.1))
 
--- no place before it is at the column or behind it
+-- all positions before it are before the column
 before_it : (t : ℕ) (text : List ℕ) (column index k : ℕ) → LeadsTo t text column index → k < index → column_at t text k < column
 before_it t text column index k (inl h) below =
     elim (cases_lt (column_at t text k) column) [
@@ -31,7 +31,7 @@ before_it t text column index k (inl h) below =
 before_it t text column index k (inr (inl h)) below = omega (arith, h.1, column_at-le t text k index (omega arith))
 before_it t text column index k (inr (inr h)) below = omega (arith, h.1, column_at-le t text k index (omega arith))
 
--- a place behind one whose column is reached or covered isn't led to
+-- no column leads to a position after one that it reaches or covers
 not_behind : (t : ℕ) (text : List ℕ) (column index other : ℕ) → LeadsTo t text column index → LeadsTo t text column other → index < other → ⊥
 not_behind t text column index other (inl h) k less = absurd (omega (arith, h.1, before_it t text column other index k less))
 not_behind t text column index other (inr (inl h)) k less =
@@ -45,7 +45,7 @@ leads_to_one t text column index other h k =
       | inr more ↦ elim (cases_lt other index) [ inl less ↦ absurd (not_behind t text column other index k h less) | inr most ↦ omega (arith, more, most) ]
     ]
 
--- where each character has a column, a place is what its own column leads to
+-- if each character has a column, a position's own column leads to it
 leads_back : (t : ℕ) (text : List ℕ) (index : ℕ) → HasNoZeroWidth text → index ≤ length text → LeadsTo t text (column_at t text index) index
 leads_back t text index all within =
     inl (within, refl, λ k below e. absurd (omega (arith, e, column_at-less t text k index all below within)))
@@ -102,7 +102,7 @@ seen_near w lines rows seen place h p =
     let found = seen_there w lines rows (seen.0, min seen.1 greatest) place h p (omega arith) in
     (found.0, omega (arith, found.1), found.2)
 
--- the place that the code finds, from the row's line, its first column and its characters
+-- the position that the code finds, from the row's line, first column and characters
 pub place_found : (w : Wrapping) (lines : List (List ℕ)) (rows : List RowsView) (seen : Place) (line first index : ℕ) (text : List ℕ) → AreRowsOf w lines rows → seen.0 < row_total rows → line ≡ (row_at lines rows seen.0).line → first ≡ (row_at lines rows seen.0).first → text ≡ (row_at lines rows seen.0).text → LeadsTo w.tab_len text seen.1 index → (first + index < size_limit) × IsPlaceAt w.tab_len lines rows seen (line, first + index)
 place_found w lines rows seen line first index text h below line_is first_is text_is leads =
     let there : seen.0 < length (visual_rows lines rows) = omega (arith, below, row_count w lines rows h) in
@@ -118,7 +118,7 @@ place_found w lines rows seen line first index text h below line_is first_is tex
       },
     )
 
--- ---- where a place is seen
+-- ---- visual positions
 
 pub seen_row : (w : Wrapping) (lines : List (List ℕ)) (rows : List RowsView) (place seen : Place) → AreRowsOf w lines rows → IsVisualPosition w.tab_len lines rows place seen → seen.0 < row_total rows
 seen_row w lines rows place seen h s = omega (arith, s.row, row_count w lines rows h)
@@ -126,7 +126,7 @@ seen_row w lines rows place seen h s = omega (arith, s.row, row_count w lines ro
 abbrev greatest_by : Bool → ℕ → VisualRow → ℕ
 greatest_by b t row = cond b (display_end_column t 0 row.text) (column_at t row.text (length row.text - 1))
 
--- in a row that is its line's last a place stands at its end or before it, in another before its last character or at it
+-- a position in a row is at or before the row's greatest cursor column
 column_within : (t : ℕ) (row : VisualRow) (index : ℕ) (b : Bool) → row.is_last ≡ b → index ≤ length row.text → (row.is_last ≡ false → index < length row.text) → column_at t row.text index ≤ greatest_by b t row
 column_within t row index true e within before =
     subst (λ (text : List ℕ). column_at t row.text index ≤ display_end_column t 0 text) (take-length row.text) (column_at-le t row.text index (length row.text) within)

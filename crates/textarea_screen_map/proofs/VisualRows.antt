@@ -1,4 +1,4 @@
--- The visual rows of all lines, each found by its line and its number there.
+-- The visual rows of all lines, each found by its line and its index there.
 use Rattle.std.proofs.Common.{◌≡◌, ℕ, zero, suc, ◌+◌, ◌-◌, ◌<◌, ◌≤◌, inl, inr, true, false, nat_eq, Bool, List, [], ◌∷◌, length, take, drop, get_or, sym, ap, refl, ◌∙◌, arith, encode_utf8_all, String, string_bytes}
 use Rattle.std.proofs.lemmas.Bool.{cases_lt}
 use Rattle.std.proofs.lemmas.List.{get_or-append-add, get_or_append_left, length-append, length-map}
@@ -21,7 +21,7 @@ use Rattle.textarea_screen_map.proofs.Holding.{bytes_of_line, cut_at, holds_offs
 use Rattle.textarea_screen_map.proofs.Layouts.{length-AreRowsOf}
 use Rattle.textarea_screen_map.proofs.Parts.{Parts, characters_between, column_before, column_from, column_to, parts_of, row_within}
 
--- the row is the one of this number in a line
+-- the row has this index in its line
 pub record IsNumbered (row : VisualRow) (number : ℕ) (line : List ℕ) (ranges : List (ℕ × ℕ)) (k : ℕ) : Type 0 where
   pub line_is : row.line ≡ number
   pub start_is : row.start ≡ (range_at ranges k).0
@@ -84,7 +84,7 @@ row_numbered w lines rows i k h within there =
     let number : 0 + i ≡ i = omega arith in
     rw number at (row_of_lines w 0 lines rows i k none h within there)
 
--- the line of a visual row, and the row's number there
+-- the line of a visual row, and the row's index there
 pub record IsRowOfLine (rows : List RowsView) (row : ℕ) : Type 0 where
   pub line : ℕ
   pub number : ℕ
@@ -102,7 +102,7 @@ line_of (r ∷ rows) row h =
           record { line = suc found.line; number = found.number; within = omega (arith, found.within); there = found.there; row_is = omega (arith, later, found.row_is) }
     ]
 
--- a visual row as the part of its line that it is
+-- a visual row as a range of its line
 pub record IsCutOut (lines : List (List ℕ)) (rows : List RowsView) (row : ℕ) : Type 0 where
   pub line : ℕ
   pub number : ℕ
@@ -139,8 +139,8 @@ cut_out w lines rows row h below =
       more = number.more;
     }
 
--- What is known of a visual row: its line is there, and holds its characters, of which there are few; and a row that isn't its
--- line's last has one.
+-- Facts about a visual row: its line exists and contains its characters, whose number is limited,
+-- and a row that isn't its line's last is not empty.
 pub record IsRowOfLines (lines : List (List ℕ)) (row : VisualRow) : Type 0 where
   pub within : row.line < length lines
   pub inside : row.first + length row.text ≤ length (get_or lines row.line [])
@@ -151,7 +151,7 @@ some_from_bytes : (cs : List ℕ) → 0 < length (encode_utf8_all cs) → 0 < le
 some_from_bytes [] h = absurd (omega arith)
 some_from_bytes (c ∷ cs) h = omega arith
 
--- a row that isn't its line's last has one behind it
+-- a row that isn't its line's last is followed by another
 more_rows : (is_last : Bool) (number size : ℕ) → number < size → (number + 1 ≡ size → is_last ≡ true) → is_last ≡ false → number + 1 < size
 more_rows is_last number size there last e =
     elim (cases_lt (number + 1) size) [ inl more ↦ more | inr most ↦ absurd (cc (last (omega (arith, there, most)), e)) ]
@@ -178,7 +178,7 @@ rows_below [] i k within there = absurd (omega arith)
 rows_below (r ∷ rows) zero k within there = omega arith
 rows_below (r ∷ rows) (suc i) k within there = omega (arith, rows_below rows i k (omega arith) there)
 
--- a place is seen in the last row of its line that begins at its offset or before it
+-- a position is in the last row of its line that begins at or before its offset
 pub seen_in : (w : Wrapping) (lines : List (List ℕ)) (rows : List RowsView) (place : Place) (k offset first column : ℕ) (slice : List ℕ) → AreRowsOf w lines rows → IsPlaceOf lines place → k < length (ranges_at rows place.0) → (range_at (ranges_at rows place.0) k).0 ≤ offset → (k + 1 < length (ranges_at rows place.0) → offset < (range_at (ranges_at rows place.0) (k + 1)).0) → offset ≡ offset_in (get_or lines place.0 []) place.1 → offset ≤ length (encode_utf8_all (get_or lines place.0 [])) → first ≡ row_total (take place.0 rows) → IsUtf8 slice → slice ≡ take (offset - (range_at (ranges_at rows place.0) k).0) (drop (range_at (ranges_at rows place.0) k).0 (encode_utf8_all (get_or lines place.0 []))) → column ≡ display_end_column w.tab_len 0 (chars slice) → (first + k < row_total rows) × IsVisualPosition w.tab_len lines rows place (first + k, column)
 seen_in w lines rows place k offset first column slice h is_place there from next offset_is short first_is valid slice_is column_is =
     let line = get_or lines place.0 [] in
@@ -211,7 +211,7 @@ seen_in w lines rows place k offset first column slice h is_place there from nex
       },
     )
 
--- ---- a visual row as the code has it
+-- ---- a visual row as in the code
 
 pub row_shown : (row : VisualRow) (line start first : ℕ) (text : List ℕ) (is_last : Bool) → line ≡ row.line → start ≡ row.start → first ≡ row.first → text ≡ row.text → is_last ≡ row.is_last → record { line = line; start = start; first = first; text = text; is_last = is_last } ≡ row
 row_shown row line start first text is_last l s f t e = rw (l, s, f, t, e) refl
@@ -254,7 +254,7 @@ text_of_row w lines rows row line number ranges text h within there row_is range
       last_is = last_row (row_at lines rows row) number (length (ranges_at rows line)) there numbered.last numbered.more;
     }
 
--- the same from the line and the row that are found, and from the lines that are lent
+-- the same, from the line and the row that are found, and from the borrowed lines
 pub record IsFoundRow {Z : Type 0} (items : List (String Z)) (rows : List RowsView) (row line number : ℕ) (ranges : List (ℕ × ℕ)) (text : List ℕ) : Type 0 where
   pub within : line < length items
   pub there : number < length ranges

@@ -1,4 +1,4 @@
--- What is lent of lines with the rows that a map keeps of them.
+-- Lines that are borrowed with their rows in a map.
 use Rattle.std.specs.Prelude.{◌<◌, ◌≤◌, List, String, ℕ, length}
 use Rattle.textarea_util.specs.Limit.{size_limit}
 use Rattle.textarea_text.specs.Size.{size_of}
@@ -8,17 +8,17 @@ use Rattle.textarea_screen_map.specs.Layout.{AreRowsOf}
 use Rattle.textarea_screen_map.specs.Map.{MapView}
 use Rattle.textarea_screen_map.specs.declared.layout.Wrapping.{Wrapping}
 
--- lines, each by its characters, how they are cut, and the rows of each
+-- lines, each by its characters, how they are wrapped, and the rows of each
 pub record LentRows : Type 0 where
   pub lines : List (List ℕ)
   pub wrapping : Wrapping
   pub rows : List RowsView
 
--- what clauses see of lines that are lent with a map
+-- what contracts see of lines that are borrowed with a map
 abbrev pub lent_rows : {Z : Type 0} → List (String Z) → MapView → LentRows
 lent_rows lines map = record { lines = lines_of lines; wrapping = map.wrapping; rows = map.rows }
 
--- there is a line; bytes and lines together are at most 2^48; and the map has right rows of the lines
+-- there is a line; bytes and lines together are at most 2^48; and the map has the rows of the lines
 pub record IsLent {Z : Type 0} (lines : List (String Z)) (map : MapView) : Type 0 where
   pub some : 0 < length lines
   pub limit : size_of lines ≤ size_limit

@@ -1,4 +1,4 @@
--- Rows that are to take the place of others in a screen map.
+-- Rows that will replace others in a screen map.
 use Rattle.std.specs.Prelude.{◌≡◌, ℕ, ◌+◌, ◌<◌, ◌≤◌, List, length, vec_len}
 use Rattle.textarea_util.specs.Replaced.{replaced}
 use Rattle.textarea_wrap.specs.RowsView.{RowsView}
@@ -9,24 +9,24 @@ use Rattle.textarea_blocks.specs.Blocks.{BlocksView, FitsInBlock, IsEdge, all_ro
 use Rattle.textarea_blocks.specs.Sums.{IsWithinLimit, row_total, size_total}
 use Rattle.textarea_screen_map.specs.Map.{MapView}
 
--- rows that are to be put in, in order
+-- the new rows, in order
 abbrev pub rows_in : NewRows → List RowsView
 rows_in (new.Few rows) = rows.items
 rows_in (new.Many rows) = all_rows rows.blocks
 
--- all rows after a preparation has taken its place among these
+-- all rows after prepared rows replaced some of these
 abbrev pub rows_with : List RowsView → PreparedRows → List RowsView
 rows_with rows prepared = replaced rows prepared.row prepared.count (rows_in prepared.rows)
 
--- There is room in the blocks, which hold all these rows, for rows in the place of those of `count` lines from `row` on: for a
--- few in the block of the first of these lines, which is there, and for many where a block begins with it, or behind the last
--- one, beside all blocks.
+-- The blocks, with `all` rows, have room to replace those of the `count` lines from `row` on: for
+-- few lines, room in the block of the line `row`, which exists; for many, a block that begins at
+-- `row`, or `row` after all lines, and room for more blocks.
 abbrev pub HasRoom : List RowsView → BlocksView → ℕ → ℕ → NewRows → Type 0
 HasRoom all blocks row count (new.Few rows) = (row < length all) × FitsInBlock blocks row count (vec_len rows)
 HasRoom all blocks row count (new.Many rows) = IsEdge blocks.blocks row × (length rows.blocks ≤ blocks.more)
 
--- The rows can be put into the map without memory: they take the place of those of lines that are there, there is room for
--- them, their number and the size of their lines are known, and the map is within the limit afterwards.
+-- The rows can be put into the map without allocation: the replaced lines exist, there is room, the
+-- numbers are right, and the map is within the limit afterwards.
 pub record IsReady (map : MapView) (prepared : PreparedRows) : Type 0 where
   pub within : prepared.row + prepared.count ≤ length map.rows
   pub room : HasRoom map.rows map.room prepared.row prepared.count prepared.rows

@@ -1,10 +1,10 @@
--- The visual rows of some lines, one below the other, and the columns of their characters.
+-- The visual rows of lines, in order, and the columns of their characters.
 use Rattle.std.specs.Prelude.{ℕ, ◌+◌, ◌-◌, Bool, true, false, List, [], ◌∷◌, ◌++◌, length, take, drop, get_or, chars, encode_utf8_all, if◌then◌else◌}
 use Rattle.textarea_wrap.specs.Columns.{display_end_column}
 use Rattle.textarea_wrap.specs.RowsView.{RowsView}
 
--- A row as it is seen: the number of its line, the bytes of that line before it, the column of that line at which it begins, its
--- characters, and whether it is its line's last row.
+-- A visual row: the number of its line, the bytes of that line before it, the column of that line
+-- at which it begins, its characters, and whether it is the last row of its line.
 pub record VisualRow : Type 0 where
   pub line : ℕ
   pub start : ℕ
@@ -12,7 +12,7 @@ pub record VisualRow : Type 0 where
   pub text : List ℕ
   pub is_last : Bool
 
--- the row of a line of characters that has these bytes of it
+-- the row that is this byte range of a line, given by its characters
 abbrev pub row_between : ℕ → List ℕ → ℕ × ℕ → Bool → VisualRow
 row_between number line range is_last = record {
   line = number;
@@ -22,13 +22,12 @@ row_between number line range is_last = record {
   is_last = is_last;
 }
 
--- the rows of one line
 abbrev pub rows_of_line : ℕ → List ℕ → List (ℕ × ℕ) → List VisualRow
 rows_of_line number line [] = []
 rows_of_line number line (range ∷ []) = row_between number line range true ∷ []
 rows_of_line number line (range ∷ next ∷ ranges) = row_between number line range false ∷ rows_of_line number line (next ∷ ranges)
 
--- the rows of lines of which the first has this number
+-- the rows of lines, when the first line has this number
 abbrev pub rows_from : ℕ → List (List ℕ) → List RowsView → List VisualRow
 rows_from number [] rows = []
 rows_from number (line ∷ lines) [] = []
@@ -38,21 +37,21 @@ rows_from number (line ∷ lines) (rows ∷ rest) = rows_of_line number line row
 unfoldable pub visual_rows : List (List ℕ) → List RowsView → List VisualRow
 visual_rows lines rows = rows_from 0 lines rows
 
--- a visual row by its number; there is an empty one where there is none of this number
+-- the visual row of this number, or an empty one if there is none
 unfoldable pub row_at : List (List ℕ) → List RowsView → ℕ → VisualRow
 row_at lines rows row = get_or (visual_rows lines rows) row (record { line = 0; start = 0; first = 0; text = []; is_last = true })
 
 -- ---- columns
 
--- the display column of the place of a row that has so many of its characters before it
+-- the display column of the position after the first `index` characters of a row
 abbrev pub column_at : ℕ → List ℕ → ℕ → ℕ
 column_at tab_len text index = display_end_column tab_len 0 (take index text)
 
--- the display width of a row: the column behind all its characters, whitespace that hangs over included
+-- the column after all characters of a row, with whitespace that hangs over
 abbrev pub row_width : ℕ → VisualRow → ℕ
 row_width tab_len row = display_end_column tab_len 0 row.text
 
--- the greatest display column of a row at which a cursor can stand: in its line's last row the row's width, otherwise the column
--- at which its last character begins, since behind that character the next row begins
+-- The greatest display column of a row at which a cursor can be: in the last row of a line the
+-- row's width, otherwise where its last character begins, since the row's end is in the next row.
 abbrev pub greatest_column : ℕ → VisualRow → ℕ
 greatest_column tab_len row = if row.is_last then row_width tab_len row else column_at tab_len row.text (length row.text - 1)

@@ -1,9 +1,9 @@
--- A visual row as the look-up gives it.
+-- A visual row as the look-up returns it.
 use Rattle.std.specs.Prelude.{◌≡◌, ℕ, List, [], length, take, chars, encode_utf8_all, slice_index_or}
 use Rattle.textarea_screen_map.specs.Rows.{VisualRow}
 use Rattle.textarea_screen_map.specs.declared.screen_map.look_up.RowText.{RowText}
 
--- the visual row that these texts show: it begins behind what stands before it in its line, byte by byte and character by character
+-- the visual row that these texts are: it begins after `before`, in bytes and in characters
 abbrev pub shown_row : RowText → VisualRow
 shown_row row = record {
   line = row.line;
@@ -13,6 +13,6 @@ shown_row row = record {
   is_last = row.is_last;
 }
 
--- what the row has before it is the text of its line up to it, byte by byte, and not only a text of that length
+-- `before` is the text of the line before the row, and not only a text of that length
 abbrev pub HasFrontOfLine : List (List ℕ) → RowText → Type 0
 HasFrontOfLine lines row = row.before.now ≡ take (length row.before.now) (encode_utf8_all (slice_index_or lines row.line []))

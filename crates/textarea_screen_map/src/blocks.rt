@@ -1,4 +1,4 @@
-//! Lines that are cut, with their rows in blocks.
+//! Wrapping of lines, with their visual rows in blocks.
 ghost use Rattle.std.specs.Prelude.{◌≡◌, ◌+◌, ◌≤◌, ◌++◌, ℕ, List, length, OnOk};
 ghost use Rattle.textarea_text.specs.Text.{lines_of};
 ghost use Rattle.textarea_blocks.specs.Blocks.{all_rows};
@@ -9,11 +9,11 @@ use std::alloc::{AllocError, Global};
 pub use textarea_blocks::blocks::RowBlocks;
 use textarea_wrap::wrap::WrapCount;
 
-/// How many lines a block has that is cut from lines in one piece, but for a last one.
+/// The number of lines in each block of newly wrapped lines, except for the last block.
 pub const BLOCK: usize = 768;
 
-/// Cuts the lines, and puts their rows behind all others, in blocks of 768 lines and a last one. Each line adds one to `count`.
-/// More than 2^48 lines or rows are out of memory.
+/// Wraps the lines and appends their rows, in blocks of 768 lines and a last one. Each line adds
+/// one to `count`. More than 2^48 lines or rows are out of memory.
 pub fn push_lines(
     alloc: Global,
     blocks: &mut RowBlocks,

@@ -1,4 +1,4 @@
-//! The display columns of the characters of one row.
+//! The display columns of the characters of one visual row.
 ghost use Rattle.std.specs.Prelude.{◌≡◌, ◌-◌, ◌<◌, chars, length, if◌then◌else◌};
 ghost use Rattle.textarea_util.specs.Limit.{size_limit};
 ghost use Rattle.textarea_wrap.specs.Columns.{display_end_column};
@@ -8,7 +8,7 @@ ghost use Rattle.textarea_screen_map.specs.Seen.{LeadsTo};
 use textarea_text::rows::{byte_offset, column_count};
 use textarea_wrap::wrap::columns::{display_column_behind, display_column_behind_text};
 
-/// The display column at which the last character of a row begins; 0 for an empty row.
+/// Returns the display column at which the last character of a row begins; 0 for an empty row.
 pub fn last_character_column(text: &str, tab_len: u8) -> usize
     requires { length text.now < size_limit }
     ensures { result ≡ column_at tab_len (chars text.now) (length (chars text.now) - 1) }
@@ -17,8 +17,8 @@ pub fn last_character_column(text: &str, tab_len: u8) -> usize
     display_column_behind_text(&text[..byte_offset(text, last)], 0, tab_len)
 }
 
-/// The greatest display column of a row at which a cursor can stand: the row's width in its line's last row, else the display
-/// column of its last character.
+/// Returns the greatest display column of a row at which a cursor can be: the row's width in the
+/// last row of its line, else the display column of the row's last character.
 pub fn greatest_cursor_column(text: &str, is_last: bool, tab_len: u8) -> usize
     requires { length text.now < size_limit }
     ensures { result ≡ (if is_last then display_end_column tab_len 0 (chars text.now)
@@ -31,8 +31,8 @@ pub fn greatest_cursor_column(text: &str, is_last: bool, tab_len: u8) -> usize
     }
 }
 
-/// How many characters of a row stand before the place that a display column leads back to: the first place at that column, else
-/// the character that covers it, else the row's end.
+/// Returns the number of characters of a row before the position for a display column: the first
+/// position at that column, else the character that covers it, else the row's end.
 pub fn character_at_column(text: &str, column: usize, tab_len: u8) -> usize
     requires { length text.now < size_limit }
     ensures { LeadsTo tab_len (chars text.now) column result }

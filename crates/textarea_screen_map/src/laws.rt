@@ -1,4 +1,4 @@
-//! Laws of the map, each the contract of a function that does nothing.
+//! Laws of the map. Each is the contract of a function without effect.
 ghost use Rattle.std.specs.Prelude.{◌≡◌, ◌≢◌, ◌<◌, ◌≤◌, ◌^◌, ℕ, List, map, max};
 ghost use Rattle.textarea_text.specs.Place.{IsPlaceOf, Place};
 ghost use Rattle.textarea_text.specs.Size.{weight};
@@ -15,7 +15,7 @@ ghost use Rattle.textarea_screen_map.specs.Seen.{HasNoZeroWidth, IsAbove, IsBelo
 
 use textarea_wrap::laws::one_cutting;
 
-/// A place whose visual row has no character of display width 0 is found again from that row and its display column.
+/// A position's visual row and column lead back to it, if the row has no zero-width characters.
 pub fn found_again()
     ensures { (tab_len : ℕ) (lines : List (List ℕ)) (rows : List RowsView)
         (place seen found : Place) →
@@ -24,8 +24,8 @@ pub fn found_again()
         IsPlaceAt tab_len lines rows seen found → found ≡ place }
 {}
 
-/// A visual row and a display column lead back to a place of the lines. Where the column is at most the row's greatest cursor
-/// column, that place is seen in that row, at that column or before it.
+/// A visual row and a display column lead to a position of the lines. If the column is at most the
+/// row's greatest cursor column, that position is in that visual row, at or before that column.
 pub fn seen_where_looked_up()
     ensures place { (wrapping : Wrapping) (lines : List (List ℕ)) (rows : List RowsView)
         (seen place : Place) →
@@ -42,8 +42,8 @@ pub fn seen_where_looked_up()
         IsSeenUpTo wrapping.tab_len lines rows seen place }
 {}
 
-/// A place is seen in one of the visual rows of the lines, of which there are as many as the lines have together, and there at a
-/// column at which a cursor can stand: at most the row's greatest cursor column.
+/// The visual row of a position is less than the number of visual rows of all lines. Its display
+/// column is one at which a cursor can be: at most the row's greatest cursor column.
 pub fn seen_within()
     ensures row { (wrapping : Wrapping) (lines : List (List ℕ)) (rows : List RowsView)
         (place seen : Place) →
@@ -54,7 +54,7 @@ pub fn seen_within()
         seen.1 ≤ greatest_column tab_len (row_at lines rows seen.0) }
 {}
 
-/// A visual row and a display column lead back to one place.
+/// A visual row and a display column lead to only one position.
 pub fn one_place()
     ensures { (tab_len : ℕ) (lines : List (List ℕ)) (rows : List RowsView)
         (seen place other : Place) →
@@ -62,7 +62,7 @@ pub fn one_place()
         place ≡ other }
 {}
 
-/// A place is seen in one visual row at one column, and a cursor goes from it to one place up and to one place down.
+/// A position has one visual position. A cursor moves from it to one position up and one down.
 pub fn seen_once()
     ensures seen { (wrapping : Wrapping) (lines : List (List ℕ)) (rows : List RowsView)
         (place seen other : Place) →
@@ -78,7 +78,7 @@ pub fn seen_once()
         IsBelow wrapping.tab_len lines rows place other → target ≡ other }
 {}
 
-/// Lines have the same rows in each map of them at one wrapping, line by line.
+/// All maps of the same lines at one wrapping have the same rows, line by line.
 pub fn one_map()
     ensures { (wrapping : Wrapping) (lines : List (List ℕ)) (rows others : List RowsView) →
         AreRowsOf wrapping lines rows → AreRowsOf wrapping lines others →
@@ -87,7 +87,7 @@ pub fn one_map()
     one_cutting();
 }
 
-/// Lines that are cut so have one number of rows.
+/// Lines at one wrapping have only one number of visual rows.
 pub fn one_row_count()
     ensures { (wrapping : Wrapping) (lines : List (List ℕ)) (count other : ℕ) →
         IsRowCount wrapping lines count → IsRowCount wrapping lines other → count ≡ other }
@@ -95,8 +95,8 @@ pub fn one_row_count()
     one_cutting();
 }
 
-/// Lines have no more rows than bytes and lines together, and the map reckons their size from their rows: so of right rows
-/// the limit on bytes and lines says the one on rows.
+/// Lines have no more visual rows than bytes and lines together, and the map computes their
+/// size from their rows. So for right rows the limit on bytes and lines implies the limit on rows.
 pub fn few_rows()
     ensures size { (wrapping : Wrapping) (lines : List (List ℕ)) (rows : List RowsView) →
         AreRowsOf wrapping lines rows → size_total rows ≡ weight (following lines) }
@@ -104,9 +104,10 @@ pub fn few_rows()
         AreRowsOf wrapping lines rows → row_total rows ≤ size_total rows }
 {}
 
-/// Where lines are wrapped and tab stops are at least one column apart, no cursor stands behind the width: the greatest cursor
-/// column of every visual row is at most the width, where each cluster of a line or of a unit fits the width, a tab at its full
-/// length, and each whitespace cluster that has a width is one character.
+/// If lines are wrapped and tab stops are at least one column apart, no cursor is past the width:
+/// the greatest cursor column of each visual row is at most the width. Each grapheme cluster of a
+/// line or a unit must fit the width, with tabs at full length, and each whitespace cluster with a
+/// width must be one character.
 pub fn cursors_within_width()
     ensures { (wrapping : Wrapping) (lines : List (List ℕ)) (rows : List RowsView) (row : ℕ) →
         AreRowsOf wrapping lines rows → wrapping.mode ≢ mode.None → 0 < wrapping.tab_len →
@@ -114,8 +115,8 @@ pub fn cursors_within_width()
         greatest_column wrapping.tab_len (row_at lines rows row) ≤ max wrapping.width 1 }
 {}
 
-/// Whatever the lines hold, and wrapped or not, a cursor's column is no large number: a line has fewer than 2^48 characters, and
-/// each takes fewer than 2^8 columns.
+/// The column of a cursor is less than 2^56 for all lines, wrapped or not: a line has fewer than
+/// 2^48 characters, and each takes fewer than 2^8 columns.
 pub fn few_columns()
     ensures { (wrapping : Wrapping) (lines : List (List ℕ)) (rows : List RowsView) (row : ℕ) →
         AreRowsOf wrapping lines rows → wrapping.tab_len < 2 ^ 8 → row < row_total rows →

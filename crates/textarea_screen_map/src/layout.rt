@@ -1,4 +1,4 @@
-//! The rows of several lines.
+//! The visual rows of several lines.
 ghost use Rattle.std.specs.Prelude.{◌≡◌, ◌+◌, ◌≤◌, ◌++◌, ℕ, List, length, IfOk, OnOk};
 ghost use Rattle.textarea_util.specs.Limit.{size_limit};
 ghost use Rattle.textarea_text.specs.Size.{size_of};
@@ -10,8 +10,8 @@ use std::alloc::{AllocError, Global};
 use textarea_text::rows::size_within_limit;
 use textarea_wrap::wrap::{Rows, WrapCount, WrapMode, line_ranges};
 
-/// How lines are cut into rows: the mode, the width in columns, of which 0 counts as 1, and the columns between tab stops. In
-/// the mode `None` each line is one row.
+/// How lines are wrapped: the mode, the width in columns, where 0 counts as 1, and the columns
+/// between tab stops. In the mode `None` each line is one row.
 #[derive(Clone, Copy, Debug, PartialEq, Eq)]
 pub struct Wrapping {
     pub mode: WrapMode,
@@ -19,7 +19,7 @@ pub struct Wrapping {
     pub tab_len: u8,
 }
 
-/// Cuts the lines, and puts their rows behind those of the lines before them. Each line adds one to `count`.
+/// Wraps the lines and appends their rows. Each line adds one to `count`.
 pub fn push_rows(
     alloc: Global,
     rows: &mut Vec<Rows>,
@@ -48,7 +48,7 @@ pub fn push_rows(
     Ok(())
 }
 
-/// The rows of all these lines. Each line adds one to `count`.
+/// Returns the rows of all these lines. Each line adds one to `count`.
 pub fn rows_of(
     alloc: Global,
     lines: &[String],
@@ -66,8 +66,8 @@ pub fn rows_of(
     Ok(rows)
 }
 
-/// How many rows the lines have in all. Each is cut once, and no row is kept. Lines of more than 2^48 bytes and lines together
-/// are out of memory.
+/// Returns the number of rows of the lines. Wraps each line once and stores no row. More than 2^48
+/// bytes and lines together are out of memory.
 pub fn rows_in(alloc: Global, lines: &[String], wrapping: Wrapping) -> Result<usize, AllocError>
     ensures rows { IfOk result (IsRowCount wrapping (lines_of lines.now)) }
     ensures limit { OnOk result (size_of lines.now ≤ size_limit) }

@@ -1,4 +1,4 @@
-//! The rows of each line of a text, kept line by line in blocks of lines. Visual rows are counted from 0 over all lines.
+//! The visual rows of each line of a text, in blocks of lines. They count from 0 over all lines.
 ghost use Rattle.std.specs.Prelude.{◌≡◌, ◌+◌, ◌*◌, ◌<◌, ◌≤◌, ◌↔◌, ◌∷◌, [], ℕ, List, length, min, take, IfOk, IsOk, OnOk};
 ghost use Rattle.textarea_util.specs.Limit.{size_limit};
 ghost use Rattle.textarea_util.specs.Replaced.{replaced};
@@ -22,8 +22,9 @@ use textarea_wrap::wrap::{Rows, WrapCount};
 
 mod look_up;
 
-/// The rows of all lines. They change in two steps: `prepare`, which may find no memory and leaves them as they are, and
-/// `replace`, which takes no memory and wraps nothing.
+/// The visual rows of all lines, at most 2^48 bytes and lines together. They change in two steps:
+/// `prepare` changes no rows and may run out of memory; `replace` allocates nothing and wraps
+/// nothing.
 #[derive(Drop)]
 pub struct ScreenMap {
     blocks: RowBlocks,
@@ -47,18 +48,18 @@ impl Model for ScreenMap {
     ghost invariant = { λ map. IsCounted (all_rows map.blocks.blocks) map.total map.size };
 }
 
-/// Rows that are to be put in: those of a few lines, which are put beside others into a block, or those of many, in blocks of
+/// New rows for a map: those of a few lines become part of a block, those of many are blocks of
 /// their own.
 #[derive(Drop)]
 pub enum NewRows {
-    /// Those of at most `BLOCK` lines.
+    /// Rows of at most `BLOCK` lines.
     Few(Vec<Rows>),
-    /// Those of more lines.
+    /// Rows of more lines, or of lines after all others.
     Many(RowBlocks),
 }
 
-/// Rows that are to take the place of those of the `count` lines from `row` on, how many they are in all, the bytes and the
-/// number of their lines, summed, and how the map's lines are cut afterwards. A map made room for them.
+/// Rows that will replace those of the `count` lines from `row` on, their number, the bytes and the
+/// number of their lines in all, and the map's wrapping after that. The map has room for them.
 #[derive(Drop)]
 pub struct PreparedRows {
     pub row: usize,
@@ -72,7 +73,7 @@ pub struct PreparedRows {
 impl Clone for ScreenMap {
     ghost is_clone = { λ map copy. (copy.rows ≡ map.rows) × (copy.wrapping ≡ map.wrapping) };
 
-    /// A map with the same rows, ticks included, for the same wrapping, or an error where there is no memory for them. No line is cut.
+    /// Returns a map with the same wrapping and rows, each `tick` included. Wraps no line.
     fn clone(&self) -> Result<ScreenMap, AllocError> {
         Ok(ScreenMap {
             blocks: self.blocks.clone()?,
@@ -83,8 +84,8 @@ impl Clone for ScreenMap {
     }
 }
 
-/// The rows of all these lines, ready to be put in: in blocks where they are more than 768. Each line adds one to `count`. More than
-/// 2^48 lines or rows are out of memory.
+/// Returns the rows of all these lines, in blocks if they are more than 768 lines. Each line adds
+/// one to `count`. More than 2^48 lines or rows are out of memory.
 pub fn new_rows(
     alloc: Global,
     lines: &[String],
@@ -106,7 +107,7 @@ pub fn new_rows(
     Ok(NewRows::Many(blocks))
 }
 
-// How many rows these are, and the bytes and the number of their lines, summed, or the greatest `usize` where that is less.
+// Returns the number of rows, and the bytes and the number of their lines, up to `usize::MAX`.
 fn sums_of(rows: &NewRows) -> (usize, usize)
     ensures rows { result.0 ≡ min (row_total (rows_in rows.now)) usize.MAX }
     ensures size { result.1 ≡ min (size_total (rows_in rows.now)) usize.MAX }
@@ -117,7 +118,7 @@ fn sums_of(rows: &NewRows) -> (usize, usize)
     }
 }
 
-// These rows in a block.
+// Returns one block with these rows.
 fn block_of(rows: Vec<Rows>) -> Result<RowBlocks, AllocError>
     ensures { IfOk result (λ block. block.blocks ≡ rows.items ∷ []) }
 {
@@ -126,7 +127,7 @@ fn block_of(rows: Vec<Rows>) -> Result<RowBlocks, AllocError>
     Ok(block)
 }
 
-// How many rows these are in all, and how large their lines. More than 2^48 of one of them are out of memory.
+// Returns the number of rows and the size of their lines. Out of memory if one is above 2^48.
 fn sums_within_limit(blocks: &RowBlocks) -> Result<(usize, usize), AllocError>
     ensures rows { IfOk result (λ sums. sums.0 ≡ row_total (all_rows blocks.now.blocks)) }
     ensures size { IfOk result (λ sums. sums.1 ≡ size_total (all_rows blocks.now.blocks)) }
@@ -138,7 +139,7 @@ fn sums_within_limit(blocks: &RowBlocks) -> Result<(usize, usize), AllocError>
     Ok((total, size))
 }
 
-// Puts rows in the place of those of the `count` lines from `row` on, for which there is room, without memory.
+// Replaces the rows of the `count` lines from `row` on. There must be room. Allocates nothing.
 fn put_rows(blocks: &mut RowBlocks, row: usize, count: usize, rows: NewRows)
     requires within { row + count ≤ length (all_rows blocks.old.blocks) }
     requires room { HasRoom (all_rows blocks.old.blocks) blocks.old row count rows }
@@ -156,7 +157,7 @@ fn put_rows(blocks: &mut RowBlocks, row: usize, count: usize, rows: NewRows)
 }
 
 impl ScreenMap {
-    /// The map of the lines, each of which is cut once. Lines of more than 2^48 bytes and lines together are out of memory.
+    /// Returns the map of the lines, each wrapped once. Out of memory above 2^48 bytes and lines.
     pub fn new(
         alloc: Global,
         lines: &[String],
@@ -182,8 +183,8 @@ impl ScreenMap {
         })
     }
 
-    /// Cuts the lines that are to take the place of the `count` lines from `row` on, each once, and makes room for their rows.
-    /// The map stays as it is. More than 2^48 bytes and lines together would be out of memory.
+    /// Wraps the lines that will replace the `count` lines from `row` on, and reserves room for
+    /// their rows. The map's rows don't change. Out of memory if the map would exceed the limit.
     pub fn prepare(
         &mut self,
         alloc: Global,
@@ -211,8 +212,8 @@ impl ScreenMap {
         self.make_room(row, count, rows, wrapping)
     }
 
-    /// Makes room for rows that are to take the place of those of the `count` lines from `row` on, and are cut so. The map's
-    /// rows stay as they are. More than 2^48 bytes and lines together would be out of memory.
+    /// Reserves room for rows, of this wrapping, that will replace those of the `count` lines from
+    /// `row` on. The map's rows don't change. Out of memory if the map would exceed the limit.
     pub fn make_room(
         &mut self,
         row: usize,
@@ -241,8 +242,8 @@ impl ScreenMap {
         })
     }
 
-    // Makes room for the rows in the place of those of the `count` lines from `row` on: for a few in a block that is there, and
-    // for others beside the blocks, one of which is cut in two where `row` lies inside of it.
+    // Reserves room to replace the rows of the `count` lines from `row` on: for a few lines in an
+    // existing block, for many as new blocks, where a block is split if `row` is inside it.
     fn reserve(&mut self, row: usize, count: usize, rows: NewRows) -> Result<NewRows, AllocError>
         requires { row + count ≤ length self.old.rows }
         ensures same { self.new.rows ≡ self.old.rows }
@@ -259,7 +260,7 @@ impl ScreenMap {
         }
     }
 
-    // The same for rows of a few lines: in a block of their own where they come behind all others.
+    // The same for rows of a few lines, which become a block of their own after all other lines.
     fn reserve_few(
         &mut self,
         row: usize,
@@ -281,7 +282,7 @@ impl ScreenMap {
         Ok(NewRows::Many(blocks))
     }
 
-    // Has a block begin with the line, or end before it, and makes room there for so many blocks.
+    // Makes a block begin at the line, if it is not after all others, and room for `more` blocks.
     fn reserve_edge(&mut self, line: usize, more: usize) -> Result<(), AllocError>
         requires { line ≤ length self.old.rows }
         ensures same { self.new.rows ≡ self.old.rows }
@@ -293,8 +294,8 @@ impl ScreenMap {
         self.blocks.reserve(more)
     }
 
-    // How many rows these are, and how large their lines; out of memory where the map wouldn't be within the limit with them
-    // in the place of those of the `count` lines from `row` on.
+    // Returns the number of the rows and the size of their lines. Out of memory if the map would
+    // exceed the limit once they replace the rows of the `count` lines from `row` on.
     fn within_limit_with(
         &self,
         row: usize,
@@ -314,8 +315,8 @@ impl ScreenMap {
         Ok((total, size))
     }
 
-    /// Has the rows take their place, without memory; no line is cut. Of what lies behind them in other blocks, only the numbers of
-    /// lines and rows before each block change.
+    /// Replaces the prepared rows. Allocates nothing and wraps no line. In other blocks, only the
+    /// numbers of lines and rows before each block change.
     pub fn replace(&mut self, prepared: PreparedRows)
         requires { IsReady self.old prepared }
         ensures rows { self.new.rows ≡ rows_with self.old.rows prepared }
@@ -336,21 +337,20 @@ impl ScreenMap {
         self.wrapping = wrapping;
     }
 
-    /// How the lines are cut.
+    /// Returns how the lines are wrapped.
     pub fn wrapping(&self) -> Wrapping
         ensures { result ≡ self.now.wrapping }
     {
         self.wrapping
     }
 
-    /// How many visual rows there are.
+    /// Returns the number of visual rows.
     pub fn row_count(&self) -> usize
         ensures { result ≡ row_total self.now.rows }
     {
         self.total
     }
 
-    // The first visual row of the line.
     fn first_row(&self, line: usize) -> usize
         requires { line < length self.now.rows }
         ensures { result ≡ row_total (take line self.now.rows) }
@@ -358,7 +358,6 @@ impl ScreenMap {
         self.blocks.first_row(line)
     }
 
-    // The line of the visual row, and the row's number among the rows of that line.
     fn line_of_row(&self, row: usize) -> (usize, usize)
         requires { row < row_total self.now.rows }
         ensures line { result.0 < length self.now.rows }
@@ -368,7 +367,6 @@ impl ScreenMap {
         self.blocks.line_of_row(row)
     }
 
-    // For each row of the line the offset in bytes of its first byte, and the offset behind its last one.
     fn rows_of(&self, line: usize) -> &[(usize, usize)]
         requires { line < length self.now.rows }
         ensures { result.now ≡ ranges_at self.now.rows line }
@@ -377,8 +375,8 @@ impl ScreenMap {
     }
 }
 
-/// Sets the columns between tab stops of a map whose lines aren't wrapped: no line is cut, since the rows of lines that aren't
-/// wrapped are the same at any tab stops. A call between crates, which no facade passes on.
+/// Sets the columns between tab stops of a map without wrapping, whose rows don't depend on them.
+/// Wraps no line. Only other crates of this repository call this; no facade exports it.
 pub fn set_tab_len(map: &mut ScreenMap, tab_len: u8)
     requires { map.old.wrapping.mode ≡ mode.None }
     ensures same { map.new.rows ≡ map.old.rows }

@@ -1,4 +1,4 @@
-//! Lines with their rows, lent to be looked at.
+//! Read access to lines with their visual rows.
 ghost use Rattle.std.specs.Prelude.{◌≡◌, ◌+◌, ◌<◌, ◌≤◌, length, take};
 ghost use Rattle.textarea_util.specs.Limit.{size_limit};
 ghost use Rattle.textarea_text.specs.Place.{IsPlaceOf};
@@ -14,8 +14,8 @@ ghost use Rattle.textarea_screen_map.specs.Lent.{IsLent, lent_rows};
 use crate::screen_map::{RowText, ScreenMap};
 use std::marker::Model;
 
-/// Lines and the rows into which each is cut, lent: those of a text as it stands, or at a width that is prepared. Visual rows are
-/// counted from 0 over all lines.
+/// A borrow of lines and of their visual rows: those of the current text, or those at a prepared
+/// width. Visual rows count from 0 over all lines.
 #[derive(Drop)]
 pub struct LaidOutView<'a> {
     lines: &'a [String],
@@ -33,7 +33,7 @@ impl<'a> Model for LaidOutView<'a> {
 }
 
 impl<'a> LaidOutView<'a> {
-    /// The lines, one at least, with the rows of this map, which have to be theirs.
+    /// Borrows the lines, at least one, with a map of these lines.
     pub fn new(lines: &'a [String], map: &'a ScreenMap) -> LaidOutView<'a>
         requires { IsLent lines.now map.now }
         ensures { result ≡ lent_rows lines.now map.now }
@@ -41,7 +41,7 @@ impl<'a> LaidOutView<'a> {
         LaidOutView { lines, map }
     }
 
-    /// The lines, one at least, which are cut into these rows. Their bytes and their number together are at most 2^48.
+    /// Returns the lines, at least one. Their bytes and their number together are at most 2^48.
     pub fn lines(&self) -> &'a [String]
         ensures lines { lines_of result.now ≡ self.now.lines }
         ensures some { 0 < length result.now }
@@ -51,14 +51,14 @@ impl<'a> LaidOutView<'a> {
         self.lines
     }
 
-    /// The columns between tab stops.
+    /// Returns the columns between tab stops.
     pub fn tab_len(&self) -> u8
         ensures { result ≡ self.now.wrapping.tab_len }
     {
         self.map.wrapping().tab_len
     }
 
-    /// How many visual rows there are, one at least.
+    /// Returns the number of visual rows, at least one.
     pub fn row_count(&self) -> usize
         ensures value { result ≡ row_total self.now.rows }
         ensures some { 0 < result }
@@ -67,7 +67,7 @@ impl<'a> LaidOutView<'a> {
         self.map.row_count()
     }
 
-    /// A visual row, as parts of the lines.
+    /// Returns a visual row, as slices of the lines.
     pub fn row_at(&self, row: usize) -> RowText<'a>
         requires { row < row_total self.now.rows }
         ensures shown { shown_row result ≡ row_at self.now.lines self.now.rows row }
@@ -80,7 +80,7 @@ impl<'a> LaidOutView<'a> {
         self.map.row_at(self.lines, row)
     }
 
-    /// The visual row in which a place of the lines is seen, and its display column there.
+    /// Returns the visual position of a position: the visual row and the display column.
     pub fn visual_position(&self, place: (usize, usize)) -> (usize, usize)
         requires { IsPlaceOf self.now.lines place }
         ensures row { result.0 < row_total self.now.rows }
@@ -90,8 +90,8 @@ impl<'a> LaidOutView<'a> {
         self.map.visual_position(self.lines, place)
     }
 
-    /// The greatest display column of a visual row at which a cursor can stand: the row's width in its line's last row, else the
-    /// display column of its last character.
+    /// Returns the greatest display column of a visual row at which a cursor can be: the row's
+    /// width in the last row of its line, else the display column of the row's last character.
     pub fn greatest_column(&self, row: usize) -> usize
         requires { row < row_total self.now.rows }
         ensures { result ≡ greatest_column self.now.wrapping.tab_len
@@ -100,8 +100,8 @@ impl<'a> LaidOutView<'a> {
         self.map.greatest_column(self.lines, row)
     }
 
-    /// Where a cursor goes that is to stand in a visual row at a display column, or before it where the row's greatest cursor
-    /// column is less: a place that is seen in that row.
+    /// Returns the position for a cursor in a visual row at a display column, or at the row's
+    /// greatest cursor column if that is less. The position is in that visual row.
     pub fn place_near(&self, seen: (usize, usize)) -> (usize, usize)
         requires { seen.0 < row_total self.now.rows }
         ensures place { IsPlaceOf self.now.lines result }

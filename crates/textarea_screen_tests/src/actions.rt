@@ -1,4 +1,4 @@
-// What the keys ask for, with shortcuts and without, and what is answered.
+// The actions of keys, with shortcuts and without, and the results of `Action::answer`.
 use crate::cases::check_each;
 use crate::keys::pressed;
 use std::collections::HashMap;
@@ -13,7 +13,7 @@ use textarea_data::cursor::CursorMove::*;
 use textarea_data::input::{Input, Key};
 use textarea_data::scroll::Scrolling;
 
-/// Whether Ctrl and Alt are held.
+/// Whether Ctrl and Alt are pressed.
 type Held = (bool, bool);
 
 const PLAIN: Held = (false, false);
@@ -28,7 +28,7 @@ const ROW_DOWN: Scrolling = Scrolling::Delta { rows: 1, cols: 0 };
 
 const ROW_UP: Scrolling = Scrolling::Delta { rows: -1, cols: 0 };
 
-/// A key, and what it asks for without Shift. With it, an action that tells of Shift says that it is held.
+/// A key, and its action without Shift. With Shift, only the action's field for it differs.
 type Asked = (Key, Action);
 
 const ALONE: [Asked; 14] = [
@@ -173,7 +173,7 @@ const WHATEVER_IS_HELD_WITHOUT_SHORTCUTS: [Asked; 11] = [
     (Key::Null, Nothing),
 ];
 
-/// Whether there are shortcuts, each way to hold Ctrl and Alt, and keys.
+/// Whether there are shortcuts, each combination of Ctrl and Alt, and keys.
 type Keys = (bool, &'static [Held], &'static [Asked]);
 
 static KEYS: [Keys; 8] = [
@@ -207,7 +207,7 @@ fn action(has_shortcuts: bool, input: &Input) -> Action {
     }
 }
 
-// The keys, with each of the ways to hold Ctrl and Alt, and with and without Shift.
+// Checks the keys with each combination of Ctrl and Alt, with and without Shift.
 fn check_keys(rt: &impl Abort, (has_shortcuts, all_held, asked): &Keys) {
     for held in *all_held {
         for (key, wanted) in *asked {
@@ -223,7 +223,7 @@ fn check_keys(rt: &impl Abort, (has_shortcuts, all_held, asked): &Keys) {
     }
 }
 
-/// An action, and what is answered where the call answered false and where it answered true.
+/// An action, and its results for a call that returned false and for one that returned true.
 static ANSWERS: [(Action, [bool; 2]); 18] = [
     (Write(InsertChar('a')), [true, true]),
     (Write(InsertNewline), [true, true]),
@@ -256,10 +256,10 @@ fn keys_and_answers(rt: HostRuntime) -> Result<(), Fail> {
     })
 }
 
-/// A character with what is held, Shift last, and what it asks for.
+/// A character with the pressed modifiers, Shift last, and its action.
 type Shortcut = (char, Held, bool, Action);
 
-/// Two shortcuts of a program's own, the second set again.
+/// Two shortcuts of a program's own; the second is set again.
 static SET: [Shortcut; 3] = [
     ('z', CTRL, false, Edit(Undo)),
     ('z', CTRL, true, Edit(Redo)),
@@ -273,7 +273,7 @@ static OWN: [Shortcut; 4] = [
     ('z', PLAIN, false, Write(InsertChar('z'))),
 ];
 
-/// What an input asks for in a program with shortcuts of its own.
+/// Returns the action of an input in a program with shortcuts of its own.
 fn own_action(own: &HashMap<Input, Action>, input: Input) -> Action {
     own.get(&input)
         .copied()

@@ -1,18 +1,18 @@
-//! Blocks of the cases.
+//! The blocks of the cases.
 
 use std::alloc::{AllocError, Global};
 use textarea_screen::screen::{Block, Borders, Line, Padding, Span, Text};
 
-/// What a block has at its sides: their lines, whether a title, and the padding at the left, right, top and bottom.
+/// The borders of a block, whether it has a title, and its left, right, top and bottom padding.
 pub type Sides = (Borders, bool, (u16, u16, u16, u16));
 
-/// A line at each side.
+/// A border at each side.
 pub const ALL: Sides = (Borders::ALL, false, (0, 0, 0, 0));
 
-/// A title alone.
+/// Only a title.
 pub const TITLED: Sides = (Borders::NONE, true, (0, 0, 0, 0));
 
-/// Puts a span of each text behind those of a line.
+/// Appends a span of each text to a line.
 pub fn push_spans<'a>(line: &mut Line<'a>, texts: &[&'a str]) -> Result<(), AllocError> {
     for text in texts {
         line.spans.push(Span::raw(text))?;
@@ -24,7 +24,7 @@ pub fn line(alloc: Global, text: &str) -> Result<Line<'static>, AllocError> {
     Line::raw(String::from_str(alloc, text)?)
 }
 
-/// Puts such a line behind the lines of a text.
+/// Appends such a line to a text.
 pub fn push_line(alloc: Global, text: &mut Text<'_>, words: &str) -> Result<(), AllocError> {
     text.lines.push(line(alloc, words)?)?;
     Ok(())

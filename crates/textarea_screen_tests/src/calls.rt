@@ -1,8 +1,8 @@
-// Calls and answers, printed for whoever looks for what went wrong, and a call that can't be made.
+// The debug text of calls and of their results, and a call that can't be made.
 use std::test::Fail;
 use textarea_calls::{Answer, Call};
 
-// No text of these is promised.
+// The texts themselves are not specified.
 #[test]
 fn calls_and_answers_are_printed(rt: HostRuntime) -> Result<(), Fail> {
     let call = format!(in rt.alloc(); "{:?}", Call::InsertStr("ab"))?;
@@ -12,7 +12,7 @@ fn calls_and_answers_are_printed(rt: HostRuntime) -> Result<(), Fail> {
     Ok(())
 }
 
-// An empty list of lines can't take the place of a text.
+// A text can't be replaced by an empty list of lines.
 #[test]
 fn a_call_that_can_not_be_made(rt: HostRuntime) {
     let cursor = (0, 0);

@@ -6,7 +6,7 @@ use std::process::Abort;
 use std::test::Fail;
 use textarea_data::input::{Input, Key};
 
-/// Keys under which nothing is put.
+/// Keys without an entry.
 static OTHERS: [Key; 2] = [Key::Char('c'), Key::F(1)];
 
 static HELD: [Held; 8] = [
@@ -20,7 +20,7 @@ static HELD: [Held; 8] = [
     (true, true, true),
 ];
 
-// Each key is told from all others, and what was put under it is found by a key like it.
+// Keys differ from each other, and an entry is found by an equal key.
 #[test]
 fn keys(rt: HostRuntime) -> Result<(), Fail> {
     let mut numbers = HashMap::new(rt.alloc());
@@ -34,7 +34,7 @@ fn keys(rt: HostRuntime) -> Result<(), Fail> {
     check_each(&rt, &OTHERS, |_, key| Ok(numbers.get(key).is_none()))
 }
 
-/// Inputs, and the number that is found under each, where one is put under the first.
+/// Inputs, and the number that is found for each if only the first has an entry.
 static FOUND: [(Key, Held, Option<usize>); 5] = [
     (Key::Char('a'), (true, false, true), Some(1)),
     (Key::Char('b'), (true, false, true), None),
@@ -47,7 +47,7 @@ fn number_of(numbers: &HashMap<Input, usize>, key: Key, held: Held) -> Option<us
     numbers.get(&pressed(key, held)).copied()
 }
 
-// What was put under an input is found by one like it, and by none that differs in a field.
+// An entry is found by an equal input, and by none that differs in a field.
 #[test]
 fn inputs(rt: HostRuntime) -> Result<(), Fail> {
     let mut numbers = HashMap::new(rt.alloc());
@@ -58,7 +58,7 @@ fn inputs(rt: HostRuntime) -> Result<(), Fail> {
     check_all(&rt)
 }
 
-// All keys, with all that can be held, each under the next number.
+// Every key with every combination of Ctrl, Alt and Shift gets the next number.
 fn check_all(rt: &(impl Abort + AllocGlobal)) -> Result<(), Fail> {
     let mut numbers = HashMap::new(rt.alloc());
     for (key, _) in &KEYS {

@@ -19,7 +19,7 @@ const SELECTION: u8 = 4;
 
 const CUSTOM: u8 = 5;
 
-/// What is asked of a row. Each has the style of its kind.
+/// A call of a row's highlighter. Each uses the style of its kind.
 #[derive(Clone, Copy, Debug)]
 enum Call {
     /// The number of row 123, in five digits.
@@ -29,21 +29,21 @@ enum Call {
     LineStyle,
     CursorLine(usize),
     Search(&'static [(usize, usize)]),
-    /// The row, and the rows and bytes between which the selection is.
+    /// The row, and the start and end of the selection as (row, byte offset).
     Selection(usize, (usize, usize), (usize, usize)),
     Segment(usize, usize, bool),
-    /// The bytes of row 0 between which the highlight is, at priority 5.
+    /// The byte offsets in row 0 between which the highlight is, at priority 5.
     Custom(usize, usize),
 }
 
-/// How a row is shown: whether its cursor is drawn, its tab length, and what hides its text.
+/// How a row is drawn: whether its cursor is drawn, its tab length, and its mask.
 type Look = (bool, u8, Option<char>);
 
 const DRAWN: Look = (true, 4, None);
 
 const HIDDEN: Look = (false, 4, None);
 
-/// A row and its look, what is asked of it, and the spans that it shows.
+/// A row and its look, the calls, and the spans of the row.
 type Case = (
     &'static str,
     Look,
@@ -51,8 +51,8 @@ type Case = (
     &'static [(&'static str, u8)],
 );
 
-/// Rows that lend all of their spans. An end closes the newest start, the highlights have ranks, and their offsets may be inside a
-/// character.
+/// Rows with only borrowed spans. An end closes the newest start, the highlights have ranks, and
+/// their offsets may be inside a character.
 static LENT: [Case; 10] = [
     (
         "abcdef",
@@ -108,7 +108,7 @@ static LENT: [Case; 10] = [
     ),
 ];
 
-/// Rows that don't: their texts as they are displayed, with tabs and masks, and numbers in front of them.
+/// Rows with owned spans: texts as displayed, with tabs and masks, and with numbers before them.
 static OWNED: [Case; 7] = [
     (
         "\ta\tb\t",
@@ -135,7 +135,7 @@ static OWNED: [Case; 7] = [
     ("", HIDDEN, &[Number, LineStyle], &[("   124 ", CUSTOM)]),
 ];
 
-/// The style with this number; the empty one for 0.
+/// Returns the style with this number; the empty one for 0.
 fn shade(n: u8) -> Style {
     if n == PLAIN {
         Style::new()
@@ -202,7 +202,7 @@ fn is_lent(line: &Line<'_>) -> bool {
     true
 }
 
-/// Whether the row shows its spans, and lends all of them or doesn't.
+/// Returns whether the row has its spans, and whether they are all borrowed as expected.
 fn is_met(alloc: Global, case: &Case, lends_all: bool) -> Result<bool, AllocError> {
     let line = shown(alloc, case)?;
     let is_met = shows(&line, case.3) && is_lent(&line) == lends_all;
@@ -224,7 +224,7 @@ fn rows_with_their_spans(rt: HostRuntime) -> Result<(), Fail> {
     check_each(&rt, &OWNED, is_owned_so)
 }
 
-/// Whether a line in another style shows this row once it is asked, and is in no style then.
+/// Returns whether a line in another style has this row's spans after the call, and no style.
 fn shows_in(
     row: &mut LineHighlighter<'static>,
     line: &mut Line<'static>,

@@ -1,11 +1,11 @@
-// The forms of keys and inputs.
+// The written forms of keys and inputs.
 use crate::cases::check_each;
 use crate::written::{check_forms, check_refused, is_form};
 use std::process::Abort;
 use std::test::Fail;
 use textarea_data::input::{Input, Key};
 
-/// Keys, each told from all others, and their forms.
+/// Different keys, and their forms.
 pub static KEYS: [(Key, &str); 27] = [
     (Key::Char('a'), r#"{"Char":"a"}"#),
     (Key::Char('b'), r#"{"Char":"b"}"#),
@@ -50,7 +50,7 @@ static NO_KEYS: [&str; 11] = [
     r#"{"F":1,"Char":"a"}"#,
 ];
 
-/// Whether Ctrl, Alt and Shift are held.
+/// Whether Ctrl, Alt and Shift are pressed.
 pub type Held = (bool, bool, bool);
 
 pub fn pressed(key: Key, (ctrl, alt, shift): Held) -> Input {
@@ -62,7 +62,7 @@ pub fn pressed(key: Key, (ctrl, alt, shift): Held) -> Input {
     }
 }
 
-/// A key, what is held, and the form of that input.
+/// A key, the pressed modifiers, and the form of that input.
 static INPUTS: [(Key, Held, &str); 4] = [
     (
         Key::Esc,
@@ -94,7 +94,6 @@ static NO_INPUTS: [&str; 5] = [
     r#"{"key":"Esc","ctrl":1,"alt":false,"shift":true}"#,
 ];
 
-/// The forms of these tables.
 pub fn check(rt: &(impl Abort + AllocGlobal)) -> Result<(), Fail> {
     check_forms(rt, &KEYS, &NO_KEYS);
     check_refused::<Input>(rt, &NO_INPUTS);

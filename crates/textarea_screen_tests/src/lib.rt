@@ -1,6 +1,7 @@
-//! Worked cases of the text area's plain data: defaults and conversions, the forms in which serde writes it, inputs as keys of
-//! maps, what the keys ask for, and calls that can't be made; and of what a terminal shows: rectangles, styles and texts, what is
-//! around the rows of a text area, the spans of a row, drawn rows and blocks, and the viewport with caret and hit test.
+//! Worked cases of the text area's plain data: defaults and conversions, the forms that serde
+//! writes, inputs as keys of maps, the actions of keys, and calls that can't be made. Also of the
+//! screen: rectangles, styles and texts, block and placeholder, the spans of a row, drawn rows and
+//! blocks, and the viewport with caret and hit test.
 #![tactic(auto)]
 
 #[cfg(test)]

@@ -1,4 +1,4 @@
-// The forms of moves, scrolls and modes.
+// The written forms of moves, scrolls and modes.
 use crate::written::check_forms;
 use std::process::Abort;
 use textarea_data::cursor::CursorMove;
@@ -69,7 +69,6 @@ static MODES: [(WrapMode, &str); 4] = [
 
 static NO_MODES: [&str; 4] = ["null", "1", r#""Words""#, r#""none""#];
 
-/// The forms of these tables.
 pub fn check(rt: &(impl Abort + AllocGlobal)) {
     check_forms(rt, &MOVES, &NO_MOVES);
     check_forms(rt, &SCROLLS, &NO_SCROLLS);

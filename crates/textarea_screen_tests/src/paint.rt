@@ -15,17 +15,19 @@ use textarea_screen::screen::{
 /// What is drawn.
 #[derive(Clone, Copy, Debug)]
 enum Drawing {
-    /// Two spans with their alignment and their first column that is shown, in six cells: so many from column 1 on.
+    /// Two spans with their alignment and their first column in view, in a row of six cells: the
+    /// area has this number of columns, from column 1 on.
     Row((&'static str, &'static str), Alignment, usize, u16),
-    /// Three columns in the middle of so many, in seven cells.
+    /// Three columns, centered in this number of columns, in a row of seven cells.
     Centered(u16),
-    /// A text in this row, under an area of nine columns and three rows: in three cells of row 1, from column 2 on.
+    /// A text in this row of an area of nine columns and three rows, in a buffer of only three
+    /// cells: row 1, from column 2 on.
     Beyond(&'static str, u16),
-    /// A block with a title and all sides over an area, in four columns and three rows.
+    /// A block with a title and all borders over an area, in a buffer of 4 columns and 3 rows.
     Boxed(&'static str, (u16, u16, u16, u16)),
 }
 
-/// What is drawn, and the symbols of the cells: row after row, each before a bar and each row before a line feed.
+/// A drawing, and the symbols of the cells: a bar after each cell and a line feed after each row.
 type Case = (Drawing, &'static str);
 
 const UNTOUCHED: &str = " | | | |\n | | | |\n | | | |\n";
@@ -52,7 +54,7 @@ static CASES: [Case; 35] = [
     (Row(("犬", "ab"), Center, 0, 1), " |a| | | | |\n"),
     (Row(("a犬", "b"), Right, 0, 2), " | |a| | | |\n"),
     (Row(("ab", ""), Left, 0, 0), " | | | | | |\n"),
-    // Widths 6 and 7 around three columns: both halves are rounded down.
+    // Three columns centered in 6 and in 7: both halves are rounded down.
     (Centered(6), " | |a|b|c| | |\n"),
     (Centered(7), " | |a|b|c| | |\n"),
     (Beyond("ab犬c", 1), "犬||c|\n"),
@@ -163,7 +165,7 @@ fn rows_and_blocks(rt: HostRuntime) -> Result<(), Fail> {
     check_each(&rt, &CASES, is_drawn)
 }
 
-// What a frame draws: a block and a row, in styles of their own.
+// Draws a frame: a block and a row, in styles of their own.
 fn frame(buffer: &mut Buffer, area: Rect, line: &Line) -> Result<(), AllocError> {
     let block = Block::new()
         .borders(Borders::LEFT.union(Borders::TOP))
@@ -196,7 +198,7 @@ fn style_on_blue(fg: Color, bold: bool) -> Style {
     }
 }
 
-// The frame of a new row, in a buffer that may show one.
+// Checks the frame of a new row, in a buffer that may already show one.
 fn check_frame(rt: &(impl Abort + AllocGlobal), buffer: &mut Buffer) -> Result<(), Fail> {
     let line = line(rt.alloc(), "a", "")?;
     frame(buffer, Rect::new(0, 0, 3, 3), &line)?;

@@ -1,4 +1,4 @@
-// The forms of atomic ranges, and of what is said of them.
+// The written forms of atomic ranges and of their errors.
 use crate::written::{check_forms, check_refused, is_form};
 use std::process::Abort;
 use std::test::Fail;
@@ -77,7 +77,7 @@ const REFUSED_TWICE_FORM: &str = "{\"rejected\":[\
     {\"range\":{\"row\":1,\"start_col\":2,\"end_col\":5},\"reason\":\"RowOutOfBounds\"},\
     {\"range\":{\"row\":1,\"start_col\":2,\"end_col\":5},\"reason\":\"RowOutOfBounds\"}]}";
 
-/// The forms of these tables, and of an error of no ranges and of one of two.
+/// Checks the forms of these tables, and of errors with no range and with two.
 pub fn check(rt: &(impl Abort + AllocGlobal)) -> Result<(), Fail> {
     check_forms(rt, &RANGES, &NO_RANGES);
     check_forms(rt, &BIASES, &NO_SIDES);
@@ -89,7 +89,7 @@ pub fn check(rt: &(impl Abort + AllocGlobal)) -> Result<(), Fail> {
     check_error(rt, &[REFUSED, REFUSED], REFUSED_TWICE_FORM)
 }
 
-// The error has this form, and a copy is like it.
+// Checks that the error has this form and that a copy is equal to it.
 fn check_error(
     rt: &(impl Abort + AllocGlobal),
     rejected: &[RejectedAtomicRange],

@@ -10,10 +10,10 @@ use textarea_screen::screen::{
     Text,
 };
 
-/// Four numbers of a rectangle: where it begins, its width and its height.
+/// Four numbers of a rectangle: its first column and row, its width and its height.
 type Numbers = (u16, u16, u16, u16);
 
-/// Areas that are asked for, and their width and height.
+/// Requested areas, and the width and height that they get.
 static AREAS: [(Numbers, (u16, u16)); 4] = [
     ((0, 0, 65535, 65535), (65535, 65535)),
     ((65535, 65535, 1, 1), (0, 0)),
@@ -21,7 +21,7 @@ static AREAS: [(Numbers, (u16, u16)); 4] = [
     ((10, 20, 30, 40), (30, 40)),
 ];
 
-/// Places, and whether the rectangle of four columns and two rows from (2, 3) on has a cell there.
+/// Positions, and whether they are in the rectangle of four columns and two rows from (2, 3) on.
 static CELLS: [(u16, u16, bool); 6] = [
     (2, 3, true),
     (5, 4, true),
@@ -39,7 +39,7 @@ const CORNERED: Sides = (TOP_AND_LEFT, true, (1, 2, 3, 4));
 
 const WIDE: Sides = (Borders::ALL, false, (65535, 65535, 65535, 65535));
 
-/// Blocks, areas, and what the block leaves of the area.
+/// Blocks, areas, and the inner areas.
 static INNER: [(Sides, Numbers, Numbers); 7] = [
     (PLAIN, (3, 4, 10, 5), (3, 4, 10, 5)),
     (ALL, (0, 0, 10, 5), (1, 1, 8, 3)),
@@ -64,7 +64,7 @@ static MODIFIERS: [(&str, u16); 9] = [
 
 static BORDERS: [(&str, u8); 4] = [("TOP", 1), ("RIGHT", 2), ("BOTTOM", 4), ("LEFT", 8)];
 
-/// Places, and whether the buffer from (65533, 7) on has a cell there.
+/// Positions, and whether they are in the buffer from (65533, 7) on.
 static BUFFERED: [(u16, u16, bool); 6] = [
     (65533, 7, true),
     (65534, 9, true),
@@ -74,7 +74,7 @@ static BUFFERED: [(u16, u16, bool); 6] = [
     (65533, 10, false),
 ];
 
-/// Whether a rectangle has these numbers, and is empty where it has no column or no row.
+/// Returns whether a rectangle has these numbers, and is empty only without columns or rows.
 fn is_area(area: Rect, (x, y, width, height): Numbers) -> bool {
     (area.x(), area.y()) == (x, y)
         && (area.width(), area.height()) == (width, height)
@@ -150,7 +150,7 @@ fn bits_of_the_sets(rt: HostRuntime) -> Result<(), Fail> {
     })
 }
 
-/// A copy of a text of one line, of an own and a lent span.
+/// Returns a copy of a text of one line with an owned and a borrowed span.
 fn copy_of_one_line(alloc: Global) -> Result<Text<'static>, AllocError> {
     let mut line = line(alloc, "title")?;
     line.spans.push(Span {

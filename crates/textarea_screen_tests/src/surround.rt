@@ -1,4 +1,4 @@
-//! What surrounds the rows of a text area, as tables: calls, and what the surround tells behind them.
+//! Tables of calls for block, placeholder and heights, and of the getters' results after them.
 
 use crate::blocks::{ALL, Sides, TITLED, block, push_line, push_spans};
 use crate::cases::check_each;
@@ -16,7 +16,7 @@ const TALL: Sides = (Borders::NONE, false, (0, 0, 65535, 65535));
 
 const FRAMED: Sides = (Borders::ALL, true, (0, 0, 0, 0));
 
-/// A call that changes a surround, or what the surround tells.
+/// A call that changes the state, or a check of a getter's result.
 #[derive(Clone, Copy, Debug)]
 enum Step {
     SetMinRows(u16),
@@ -25,28 +25,28 @@ enum Step {
     RemoveBlock,
     SetPlaceholderText(&'static str),
     SetPlaceholderColor(Color),
-    /// The lines, in red.
+    /// Sets a placeholder of these lines, in red.
     SetPlaceholder(&'static [&'static str]),
-    /// The spans of the first line, and the lines below it, in red.
+    /// Sets a placeholder of a line of these spans and of the lines below it, in red.
     SetPlaceholderOfSpans(&'static [&'static str], &'static [&'static str]),
-    /// Told: the least and the greatest height.
+    /// Checks the least and the greatest height.
     Heights(u16, u16),
-    /// For a width, the rows of a text there and whether it is empty: the rows of the content, the preferred ones, the least
-    /// and the greatest.
+    /// Checks, for a width, the rows of a text there and whether it is empty: the content's rows,
+    /// the preferred rows, and the least and the greatest height.
     Measure((u16, usize, bool), (u16, u16, u16, u16)),
-    /// For a width: the width inside and the rows around.
+    /// Checks, for a width, the inner width and the rows that the block takes.
     Around(u16, (u16, u16)),
-    /// The sides of the block, and whether it has a title.
+    /// Checks the borders of the block, and whether it has a title.
     HasBlock(Option<(Borders, bool)>),
-    /// The text, the lines and the colour of the placeholder.
+    /// Checks the text of the placeholder, the number of its lines, and its colour.
     Placeholder(&'static str, usize, Option<Color>),
-    /// The colour of the placeholder, whether it has lines or not.
+    /// Checks the colour of the placeholder, with lines or without.
     PlaceholderColor(Color),
 }
 
-/// Steps of a new surround.
+/// Steps from a new state.
 static RUNS: [&[Step]; 13] = [
-    // Heights that are set.
+    // Setting heights.
     &[Heights(1, 65535)],
     &[SetMinRows(1), SetMaxRows(65535), Heights(1, 65535)],
     &[SetMaxRows(2), SetMinRows(5), Heights(5, 5)],
@@ -56,7 +56,7 @@ static RUNS: [&[Step]; 13] = [
     &[SetMaxRows(0), SetMinRows(0), Heights(1, 1)],
     &[SetMinRows(7), SetMinRows(3), Heights(3, 65535)],
     &[SetMaxRows(3), SetMaxRows(7), Heights(1, 7)],
-    // Heights that are measured.
+    // Measuring heights.
     &[
         Measure((5, 2, false), (2, 2, 1, 65535)),
         Measure((5, 1, true), (1, 1, 1, 65535)),
@@ -72,7 +72,7 @@ static RUNS: [&[Step]; 13] = [
         Measure((5, 4, false), (4, 4, 3, 4)),
         Measure((5, 9, false), (9, 4, 3, 4)),
     ],
-    // The same with a block.
+    // Measuring with a block.
     &[
         Around(7, (7, 0)),
         SetBlock(ALL),
@@ -130,7 +130,7 @@ static RUNS: [&[Step]; 13] = [
     ],
 ];
 
-/// What is set before a surround is copied.
+/// The calls before a copy.
 static SET: [Step; 4] = [
     SetBlock(FRAMED),
     SetPlaceholderText("hello"),
@@ -138,7 +138,7 @@ static SET: [Step; 4] = [
     SetMinRows(2),
 ];
 
-/// What the copy tells.
+/// The checks of the copy.
 static COPIED: [Step; 4] = [
     HasBlock(Some((Borders::ALL, true))),
     Placeholder("hello", 1, Some(Color::DarkGray)),
@@ -177,7 +177,7 @@ fn measure(surround: &Surround<'_>, text: (u16, usize, bool)) -> (u16, u16, u16,
     (content.0, content.1, measure.min_rows, measure.max_rows)
 }
 
-/// Whether the surround tells so.
+/// Returns whether the check passes.
 fn tells(surround: &Surround<'_>, told: Step) -> bool {
     match told {
         Heights(min, max) => (surround.min_rows(), surround.max_rows()) == (min, max),
@@ -197,7 +197,7 @@ fn tells(surround: &Surround<'_>, told: Step) -> bool {
     }
 }
 
-/// Makes the call, or whether the surround tells so.
+/// Makes the call, or returns whether the check passes.
 fn take(alloc: Global, surround: &mut Surround<'static>, step: Step) -> Result<bool, AllocError> {
     match step {
         SetMinRows(rows) => surround.set_min_rows(rows),
@@ -226,7 +226,7 @@ fn take_all(
     Ok(true)
 }
 
-/// Whether a copy tells what was set, whatever becomes of the surround.
+/// Returns whether a copy passes its checks, also after the original is changed.
 fn is_copied(alloc: Global) -> Result<bool, AllocError> {
     let mut surround = Surround::new(alloc);
     take_all(alloc, &mut surround, &SET)?;

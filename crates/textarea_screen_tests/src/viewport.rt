@@ -1,4 +1,4 @@
-//! The viewport, the caret and the hit test, as numbers.
+//! The viewport, the caret (the cursor on the screen) and the hit test, as numbers.
 
 use crate::cases::check_each;
 use crate::viewport::Scroll::{By, Rows};
@@ -8,15 +8,15 @@ use textarea_data::scroll::Scrolling::{Delta, HalfPageDown, HalfPageUp, PageDown
 use textarea_screen::screen::{Position, Rect};
 use textarea_view::{RowView, Viewport};
 
-/// A scroll.
+/// One step of scrolling.
 #[derive(Clone, Copy, Debug)]
 enum Scroll {
-    /// By so many rows.
+    /// By this number of rows.
     Rows(i16),
     By(Scrolling),
 }
 
-/// A height, ways to scroll, and the first and the last row that are shown then.
+/// A height, steps of scrolling, and the first and the last row in view after them.
 type Scrolled = (u16, &'static [Scroll], usize, usize);
 
 static SCROLLED: [Scrolled; 7] = [
@@ -26,11 +26,11 @@ static SCROLLED: [Scrolled; 7] = [
     (8, &[By(PageDown), Rows(3), By(HalfPageUp)], 7, 14),
     (5, &[By(HalfPageDown), By(HalfPageDown), Rows(0)], 4, 8),
     (5, &[Rows(9), By(PageUp), By(HalfPageUp)], 2, 6),
-    // An area without rows is drawn from the row behind the cursor's on.
+    // With no rows, the viewport starts at the row after the cursor's.
     (0, &[By(PageDown), By(HalfPageDown), Rows(2)], 3, 3),
 ];
 
-/// How far the viewport was scrolled, a row, and that row in the viewport.
+/// The number of rows scrolled, a row, and the nearest row in view.
 static ROWS: [(i32, usize, usize); 5] = [
     (15, 0, 15),
     (10, 15, 15),
@@ -39,10 +39,10 @@ static ROWS: [(i32, usize, usize); 5] = [
     (15, 22, 19),
 ];
 
-/// Columns, and these columns in the viewport.
+/// Columns, and for each the nearest column in view.
 static COLUMNS: [(usize, usize); 4] = [(0, 2), (2, 2), (5, 5), (9, 5)];
 
-/// The width and the height of an area, the column of the cursor, the first column that is shown, and the caret.
+/// The width and height of an area, the cursor's column, the first column in view, and the caret.
 type Caret = (u16, u16, usize, usize, Option<(u16, u16)>);
 
 static CARETS: [Caret; 5] = [
@@ -53,7 +53,7 @@ static CARETS: [Caret; 5] = [
     (0, 1, 2, 5, None),
 ];
 
-/// Whether a row is behind an offset, a cell by column and row, and the row and the column that are hit there.
+/// Whether the row begins at an offset, a cell (column, row), and the row and column at that cell.
 type Hit = (bool, u16, u16, Option<(usize, usize)>);
 
 static HITS: [Hit; 7] = [
@@ -66,12 +66,12 @@ static HITS: [Hit; 7] = [
     (true, 15, 8, None),
 ];
 
-/// The viewport once a text is drawn in an area of this size, the cursor in its first row.
+/// Returns the viewport of a drawn text in an area of this size, with the cursor in its first row.
 fn drawn(width: u16, height: u16) -> Viewport {
     Viewport::default().showing_row(Rect::new(0, 0, width, height), 0)
 }
 
-/// Whether these rows are shown.
+/// Returns whether these rows are in view.
 fn is_scrolled((height, scrolls, first, last): &Scrolled) -> bool {
     let mut viewport = drawn(24, *height);
     for scroll in *scrolls {
@@ -83,7 +83,7 @@ fn is_scrolled((height, scrolls, first, last): &Scrolled) -> bool {
     viewport.position() == (*first, 0, *last, 23)
 }
 
-/// Where a viewport begins that is scrolled as far as it goes, and then back.
+/// Returns the first row and column after scrolling as far as possible, and after scrolling back.
 fn scrolled_far() -> ((usize, usize), (usize, usize)) {
     let mut viewport = Viewport::default();
     viewport.scroll(i32::MAX, i32::MIN);
@@ -100,7 +100,7 @@ fn rows_shown_after_scrolls(rt: HostRuntime) -> Result<(), Fail> {
     check_each(&rt, &SCROLLED, |_, scrolled| Ok(is_scrolled(scrolled)))
 }
 
-/// The nearest row and column in a viewport of 24 by 8 that was scrolled.
+/// Returns the nearest row and column in a viewport of 24 by 8 that was scrolled.
 fn clamped(scrolled: i32, row: usize) -> (usize, usize) {
     let mut viewport = drawn(24, 8);
     viewport.scroll(scrolled, scrolled);
@@ -120,7 +120,7 @@ fn rows_and_columns_in_the_viewport(rt: HostRuntime) -> Result<(), Fail> {
     })
 }
 
-/// Whether a row that isn't wrapped, behind a line number of three columns, is shown from this column on and has this caret.
+/// Returns whether an unwrapped row with a line number of three columns has this left and caret.
 fn has_caret((width, height, column, left, caret): Caret) -> bool {
     let area = Rect::new(0, 0, width, height);
     let viewport = Viewport::default().showing_row_and_column(area, 0, column, 3);
@@ -132,7 +132,7 @@ fn has_caret((width, height, column, left, caret): Caret) -> bool {
 
 #[test]
 fn carets(rt: HostRuntime) -> Result<(), Fail> {
-    // 70,000 rows of one character, the cursor behind the last
+    // 70,000 rows of one character, with the cursor after the last
     let area = Rect::new(0, 0, 10, 5);
     let viewport = Viewport::default().showing_row_and_column(area, 69999, 1, 0);
     let caret = RowView::at_left(viewport, area, 0).caret(69999, 1);
@@ -141,7 +141,7 @@ fn carets(rt: HostRuntime) -> Result<(), Fail> {
     check_each(&rt, &CARETS, |_, caret| Ok(has_caret(*caret)))
 }
 
-/// What is hit of "hello" at the left of an area of one row, or behind an offset of 3 in one of three rows.
+/// Returns the row and column at a cell of "hello", at the left or after an offset of 3.
 fn hit(is_behind_offset: bool, position: Position) -> Option<(usize, usize)> {
     let view = if is_behind_offset {
         RowView::at_offset(drawn(8, 3), Rect::new(10, 5, 8, 3), 3, 0)

@@ -1,11 +1,11 @@
-// What serde writes, and reads.
+// The forms that serde writes and reads.
 use crate::{keys, moves, ranges};
 use serde::{Deserialize, Serialize};
 use std::alloc::Global;
 use std::process::Abort;
 use std::test::Fail;
 
-/// Whether the form is written of the value, and read as it.
+/// Returns whether the value is written in this form, and the form is read as the value.
 pub fn is_form<'a, T>(alloc: Global, value: &T, form: &'a str) -> bool
 where
     T: Serialize + Deserialize<'a> + PartialEq + Drop,
@@ -29,7 +29,7 @@ where
     read.is_err()
 }
 
-/// None of these is read as a value.
+/// Checks that none of these is read as a value.
 pub fn check_refused<'a, T>(rt: &(impl Abort + AllocGlobal), others: &[&'a str])
 where
     T: Deserialize<'a> + Drop,
@@ -39,7 +39,8 @@ where
     }
 }
 
-/// Each form is written of its value and read as it, and none of the others is read as a value.
+/// Checks that values are written in their forms, that these are read as the values, and that the
+/// others are not read.
 pub fn check_forms<'a, T>(
     rt: &(impl Abort + AllocGlobal),
     forms: &[(T, &'a str)],

@@ -1,9 +1,9 @@
--- The exit statuses of outcomes.
+-- The exit statuses of `tascript`.
 use Rattle.std.specs.Prelude.{ℕ, Result, Ok, Err}
 use Rattle.textarea_script.specs.declared.streams.Failure.{Failure}
 use Rattle.textarea_script.specs.declared.streams.Failure.TheVariants.{Stream, Line, NotRead, Memory}
 
--- 0 where all was printed, 1 where a stream failed, 2 where something isn't read, and 3 out of memory
+-- 0: all was printed; 1: a stream failed; 2: the input or an argument is unread; 3: out of memory
 abbrev pub status_of : {T : Type 0} → Result T Failure → ℕ
 status_of (Ok done) = 0
 status_of (Err Stream) = 1
@@ -11,7 +11,7 @@ status_of (Err (Line number)) = 2
 status_of (Err NotRead) = 2
 status_of (Err Memory) = 3
 
--- something isn't read
+-- the input or the arguments are unread
 abbrev pub IsUnread : Failure → Type 0
 IsUnread (Line number) = Unit {0}
 IsUnread NotRead = Unit {0}

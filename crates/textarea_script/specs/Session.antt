@@ -1,4 +1,4 @@
--- Sessions: the inputs that the characters of a text stand for, and what is printed of their end.
+-- Sessions: the inputs of a text's characters, and the printed text of their end.
 use Rattle.std.specs.Prelude.{◌≢◌, ℕ, false, ◌==◌, if◌then◌else◌, List, [], ◌++◌, codes, decimal, map, IsUtf8, Option}
 use Rattle.std.specs.Io.{StartsWith}
 use Rattle.std.specs.Io.KnownBytes.{Appends}
@@ -13,13 +13,13 @@ use Rattle.textarea_modal.specs.declared.modal.ModalStop.TheVariants.{End, Quit,
 use Rattle.textarea_modal.specs.declared.mode.Mode.{Mode}
 use Rattle.textarea_modal.specs.declared.mode.Mode.TheVariants.{Normal, Insert, Visual, Operator}
 
--- ---- what is read
+-- ---- ---- the input
 
--- the key: 27 is Esc, a line feed Enter, a tab Tab, and any other character itself
+-- the key of a character: 27 is Esc, a line feed Enter, a tab Tab, and any other character itself
 abbrev pub key_of : ℕ → Key
 key_of character = if character == 27 then Esc else (if character == 10 then Enter else (if character == 9 then Tab else Char character))
 
--- the input: that key, with nothing held
+-- the input of a character: its key, without modifiers
 abbrev pub input_of : ℕ → Input
 input_of character = record { key = key_of character; ctrl = false; alt = false; shift = false }
 
@@ -27,7 +27,7 @@ input_of character = record { key = key_of character; ctrl = false; alt = false;
 abbrev pub inputs_of : List ℕ → List Input
 inputs_of text = map input_of (chars text)
 
--- ---- what is printed
+-- ---- ---- the output
 
 abbrev pub mode_name : Mode → List ℕ
 mode_name Normal = codes "normal"
@@ -40,20 +40,20 @@ stop_name End = codes "end"
 stop_name Quit = codes "quit"
 stop_name Memory = codes "memory"
 
--- the first three lines: the mode, how many inputs were used, and why that was all
+-- the first three lines: the mode, the number of used inputs, and why the session ended
 abbrev pub head : Mode → ℕ → ModalStop → List ℕ
 head mode taken stop =
     codes "mode " ++ mode_name mode ++ codes "\ntaken " ++ decimal taken ++ codes "\n" ++ stop_name stop ++ codes "\n"
 
 -- ---- sessions
 
--- the inputs' run on a text area ends so, and none of their calls is refused
+-- the inputs' run on a text area ends like this, and none of their calls runs out of memory
 pub record Ends (old : State) (inputs : List Input) (mode : Mode) (taken : ℕ) (stop : ModalStop) : Type 0 where
   pub new : State
   pub ended : EndsAs old Normal inputs new mode taken stop
   pub none_refused : stop ≢ Memory
 
--- what is printed of the end of these inputs' run: first its mode, number and reason, and then the text area, of which nothing is said
+-- the printed text of the inputs' run: mode, number and reason, then the text area, in any form
 pub record IsPrinted (old : State) (inputs : List Input) (printed : List ℕ) : Type 0 where
   pub mode : Mode
   pub taken : ℕ
@@ -61,13 +61,13 @@ pub record IsPrinted (old : State) (inputs : List Input) (printed : List ℕ) : 
   pub ends : Ends old inputs mode taken stop
   pub first : StartsWith printed (head mode taken stop)
 
--- the bytes are a text, and what is printed of its session is written behind what a writer held, where that is known
+-- the bytes are UTF-8, and the printed text of their session is appended to a known output
 pub record IsWritten (old new : Option (List ℕ)) (bytes : List ℕ) : Type 0 where
   pub text : IsUtf8 bytes
   pub printed : List ℕ
   pub session : IsPrinted (new_state []) (inputs_of bytes) printed
   pub written : Appends old new printed
 
--- the bytes are no text
+-- the bytes are not UTF-8
 abbrev pub IsNoText : List ℕ → Type 0
 IsNoText bytes = ¬ (IsUtf8 bytes)

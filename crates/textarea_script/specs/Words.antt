@@ -1,4 +1,4 @@
--- The words after the program's name, by their bytes.
+-- The arguments of the program, as bytes.
 use Rattle.std.specs.Prelude.{◌≡◌, ℕ, List, [], ◌∷◌, codes}
 use Rattle.textarea_script.specs.declared.words.Asked.{Asked}
 use Rattle.textarea_script.specs.declared.words.Asked.TheVariants.{Script, Session, Nothing}
@@ -7,11 +7,11 @@ use Rattle.textarea_script.specs.declared.words.Asked.TheVariants.{Script, Sessi
 abbrev pub AskForScript : List (List ℕ) → Type 0
 AskForScript words = words ≡ []
 
--- they ask for a session: the word `modal` alone
+-- they ask for a session: the only argument is `modal`
 abbrev pub AskForSession : List (List ℕ) → Type 0
 AskForSession words = words ≡ codes "modal" ∷ []
 
--- they ask for nothing that there is
+-- they ask for neither
 pub record AskForNothing (words : List (List ℕ)) : Type 0 where
   pub no_script : ¬ (AskForScript words)
   pub no_session : ¬ (AskForSession words)

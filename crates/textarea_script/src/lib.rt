@@ -1,4 +1,4 @@
-//! Scripts, and sessions of a modal editor, from the bytes that are read to the bytes that are printed.
+//! Runs scripts and modal editor sessions: reads their bytes, and prints the end of the run.
 #![tactic(auto)]
 
 pub mod modal;

@@ -1,4 +1,4 @@
-//! Sessions of the modal editor: a text, each of whose characters is an input.
+//! Sessions of the modal editor. Each character of the input is a key.
 ghost use Rattle.std.specs.Prelude.{[], ◌≡◌, ◌≤◌, ◌<◌, ◌≢◌, IfErr, IfOk, IfSome, IsUtf8, OnOk, string_bytes};
 ghost use Rattle.std.specs.Io.{StartsWith};
 ghost use Rattle.textarea_script.specs.Failures.{IsUnread};
@@ -19,13 +19,14 @@ pub use textarea_modal::{Modal, ModalEnd, ModalStop, Mode, Op};
 use textarea_run::printing::Report;
 use tui_textarea::TextArea;
 
-/// Reads a text, takes its characters as inputs for a modal editor and an empty text area, and prints to `output` the mode, how many
-/// inputs were used, why that was all, and the text area at the end. The result is the exit status: `DONE`, `STREAM_FAILED`,
-/// `NOT_READ` or `OUT_OF_MEMORY`.
+/// Reads a text, takes its characters as inputs of a modal editor on an empty text area, and prints
+/// to `output` the mode, the number of used inputs, why the session ended, and the text area. The
+/// result is the exit status: `DONE`, `STREAM_FAILED`, `NOT_READ` or `OUT_OF_MEMORY`.
 ///
-/// Where the text isn't UTF-8 or memory is refused, `output` gets nothing, and one line says so on `errors`; else `errors` gets
-/// nothing. That `errors` fails changes no status. Where `output` fails, what it took is a beginning of the text. Memory that is
-/// refused inside a read or a write counts as a failure of that.
+/// If the text isn't UTF-8 or memory runs out, `output` gets nothing, and `errors` gets one line
+/// with the reason; otherwise `errors` gets nothing. A failure of `errors` is ignored. If `output`
+/// fails, a prefix of the text is written. Out of memory inside a read or a write is a failure of
+/// that stream.
 pub fn serve<R: Read, W: Write, E: Write>(
     alloc: Global,
     reader: &mut R,
@@ -42,7 +43,7 @@ pub fn serve<R: Read, W: Write, E: Write>(
     status(run_session(alloc, reader, output), errors)
 }
 
-// Nothing is written before all memory was taken.
+// Allocates all memory before it writes anything.
 fn run_session<R: Read, W: Write>(
     alloc: Global,
     reader: &mut R,
@@ -59,7 +60,7 @@ fn run_session<R: Read, W: Write>(
     write_whole(output, printed.as_str())
 }
 
-// What is printed of the session of these bytes, which may be no text.
+// The printed text of the session of these bytes, which have to be UTF-8.
 fn printed_of(alloc: Global, bytes: &[u8]) -> Result<String, Failure>
     ensures text { OnOk result (IsUtf8 bytes.now) }
     ensures printed { IfOk result
@@ -72,7 +73,7 @@ fn printed_of(alloc: Global, bytes: &[u8]) -> Result<String, Failure>
     Ok(printed_of_text(alloc, text)?)
 }
 
-// What is printed of the session of a text.
+// The printed text of the session of a text.
 fn printed_of_text(alloc: Global, text: &str) -> Result<String, AllocError>
     ensures { IfOk result
         (λ printed. IsPrinted (new_state []) (inputs_of text.now) (string_bytes printed)) }
@@ -81,7 +82,7 @@ fn printed_of_text(alloc: Global, text: &str) -> Result<String, AllocError>
     printed_of_inputs(alloc, inputs.as_slice())
 }
 
-// What is printed of the inputs' run on an empty text area.
+// The printed text of a run of the inputs on an empty text area.
 fn printed_of_inputs(alloc: Global, inputs: &[Input]) -> Result<String, AllocError>
     ensures { IfOk result
         (λ printed. IsPrinted (new_state []) inputs.now (string_bytes printed)) }
@@ -92,7 +93,7 @@ fn printed_of_inputs(alloc: Global, inputs: &[Input]) -> Result<String, AllocErr
     printed
 }
 
-// What is printed of the inputs' run on a text area.
+// The printed text of a run of the inputs on a text area.
 fn printed_behind(
     alloc: Global,
     area: &mut TextArea<'_>,
@@ -109,7 +110,7 @@ fn printed_behind(
     with_report(alloc, head, area)
 }
 
-// A text, and behind it what is printed of a text area.
+// The text `head`, followed by the printed text of a text area.
 fn with_report(alloc: Global, head: String, area: &TextArea<'_>) -> Result<String, AllocError>
     ensures { IfOk result (λ text. StartsWith (string_bytes text) (string_bytes head)) }
 {
@@ -119,7 +120,6 @@ fn with_report(alloc: Global, head: String, area: &TextArea<'_>) -> Result<Strin
     Ok(text)
 }
 
-// What is printed of a text area.
 fn report_of(alloc: Global, area: &TextArea<'_>) -> Result<String, AllocError> {
     let report = Report {
         answers: &[],
@@ -129,14 +129,13 @@ fn report_of(alloc: Global, area: &TextArea<'_>) -> Result<String, AllocError> {
     report.to_string(alloc)
 }
 
-// The inputs that a text stands for, one for each character.
+// The inputs of a text, one for each character.
 fn inputs_of(alloc: Global, text: &str) -> Result<Vec<Input>, AllocError>
     ensures { IfOk result (λ inputs. inputs.items ≡ inputs_of text.now) }
 {
     text.chars().map(input_of).collect(alloc)
 }
 
-// The input that a character stands for.
 fn input_of(character: char) -> Input
     ensures { result ≡ input_of character }
 {

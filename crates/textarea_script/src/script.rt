@@ -1,4 +1,4 @@
-//! Scripts: calls on a text area, a command a line.
+//! Scripts: calls on a text area, one command per line.
 ghost use Rattle.std.specs.Prelude.{◌≡◌, ◌≤◌, ◌<◌, ◌≢◌, All, IfErr};
 ghost use Rattle.textarea_calls.specs.Made.{CanBeMade};
 ghost use Rattle.textarea_script.specs.declared.streams.TheConstants.{OUT_OF_MEMORY, STREAM_FAILED};
@@ -15,21 +15,21 @@ pub use textarea_run::run::{RunEnd, run};
 use textarea_screen::screen::{Buffer, Rect};
 use tui_textarea::TextArea;
 
-/// The columns of the buffer that is drawn into.
+/// The width of the screen buffer, in columns.
 pub const COLUMNS: u16 = 80;
 
-/// The rows of the buffer that is drawn into.
+/// The height of the screen buffer, in rows.
 pub const ROWS: u16 = 24;
 
-/// Reads a script, runs its calls on an empty text area and a buffer of `COLUMNS` by `ROWS` cells, and
-/// prints to `output` the answers, the text area at the end and, if anything was drawn, the cells of
-/// the area that was drawn last. The result is the exit status: `DONE`, `STREAM_FAILED`,
-/// `NOT_READ` or `OUT_OF_MEMORY`.
+/// Reads a script, runs its calls on an empty text area and a buffer of `COLUMNS` by `ROWS` cells,
+/// and prints to `output` the results, the text area and, if anything was drawn, the cells of the
+/// area that was drawn last. The result is the exit status: `DONE`, `STREAM_FAILED`, `NOT_READ` or
+/// `OUT_OF_MEMORY`.
 ///
-/// Where a line isn't read or memory is refused, `output` gets nothing, and one line says so on
-/// `errors`; else `errors` gets nothing. That `errors` fails changes no status. Where `output` fails,
-/// what it took is a beginning of the text. Memory that is refused inside a read or a write counts
-/// as a failure of that.
+/// If a line is unparsed or memory runs out, `output` gets nothing, and `errors` gets one line with
+/// the reason; otherwise `errors` gets nothing. A failure of `errors` is ignored. If `output`
+/// fails, a prefix of the text is written. Out of memory inside a read or a write is a failure of
+/// that stream.
 pub fn serve<R: Read, W: Write, E: Write>(
     alloc: Global,
     reader: &mut R,
@@ -43,7 +43,7 @@ pub fn serve<R: Read, W: Write, E: Write>(
     status(run_script(alloc, reader, output), errors)
 }
 
-// Nothing is written before all memory was taken.
+// Allocates all memory before it writes anything.
 fn run_script<R: Read, W: Write>(
     alloc: Global,
     reader: &mut R,
@@ -56,65 +56,48 @@ fn run_script<R: Read, W: Write>(
     write_whole(output, text.as_str())
 }
 
-// The commands of a script, which itself is let go.
+// The commands of a script. The script itself is dropped.
 fn read_script<R: Read>(alloc: Global, reader: &mut R) -> Result<Vec<Command>, Failure> {
     let script = read_whole(alloc, reader)?;
     Ok(commands::read(alloc, script.as_slice())?)
 }
 
-// What is printed of a script of these commands.
+// Returns what is printed after a run of the commands on an empty text area.
 fn printed_of(alloc: Global, commands: Vec<Command>) -> Result<String, Failure> {
     let mut area = TextArea::try_default(alloc)?;
-    let printed = printed_behind(alloc, &mut area, commands);
-    drop(area);
-    printed
-}
-
-// What is printed of a run of the commands' calls.
-fn printed_behind(
-    alloc: Global,
-    area: &mut TextArea<'_>,
-    commands: Vec<Command>,
-) -> Result<String, Failure> {
     let mut buffer = Buffer::empty(alloc, Rect::new(0, 0, COLUMNS, ROWS))?;
-    let ran = run_commands(alloc, area, commands, &mut buffer)?;
-    printed_end(alloc, area, &buffer, &ran)
+    let run = run_commands(alloc, &mut area, commands, &mut buffer)?;
+    let report = Report {
+        answers: run.answers.as_slice(),
+        area: &area,
+        screen: run.drawn.map(|area| Screen {
+            buffer: &buffer,
+            area,
+        }),
+    };
+    Ok(report.to_string(alloc)?)
 }
 
-// What a run leaves beside the text area: the calls' answers, and the area that was drawn last, if one was.
+// What a run leaves beside the text area: the answers of the calls, and the area that was drawn
+// last, if any.
 #[derive(Drop)]
 struct Ran {
     answers: Vec<Answer>,
     drawn: Option<Rect>,
 }
 
-// What is printed of a run that left this.
-fn printed_end(
-    alloc: Global,
-    area: &TextArea<'_>,
-    buffer: &Buffer,
-    ran: &Ran,
-) -> Result<String, Failure> {
-    let screen = ran.drawn.map(|area| Screen { buffer, area });
-    let report = Report {
-        answers: ran.answers.as_slice(),
-        area,
-        screen,
-    };
-    Ok(report.to_string(alloc)?)
-}
-
-// Makes the calls of the commands, which are let go before anything is printed.
+// Makes the calls of the commands, and drops the commands.
 fn run_commands(
     alloc: Global,
     area: &mut TextArea<'_>,
     commands: Vec<Command>,
     buffer: &mut Buffer,
 ) -> Result<Ran, Failure> {
-    run_lent(alloc, area, commands.as_slice(), buffer)
+    let calls = commands::calls(alloc, commands.as_slice())?;
+    run_calls(area, calls.as_slice(), buffer)
 }
 
-// Makes the calls that the commands lend.
+// Makes the calls, which borrow from the commands.
 fn run_lent(
     alloc: Global,
     area: &mut TextArea<'_>,
@@ -125,7 +108,6 @@ fn run_lent(
     run_calls(area, calls.as_slice(), buffer)
 }
 
-// Makes the calls.
 fn run_calls(
     area: &mut TextArea<'_>,
     calls: &[Call<'_>],
@@ -143,7 +125,7 @@ fn run_calls(
     })
 }
 
-// The area that the last of the calls that draw drew into, if one of them does.
+// The area of the last call that draws, if there is one.
 fn last_drawn(calls: &[Call<'_>]) -> Option<Rect> {
     calls.iter().rev().find_map(|call| match call {
         Call::Render(area) => Some(*area),

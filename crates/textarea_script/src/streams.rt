@@ -1,4 +1,4 @@
-//! What scripts and sessions share: exit statuses, why there is none to print, and streams that are read and written whole.
+//! Shared by scripts and sessions: exit statuses, failures, and reading and writing whole streams.
 ghost use Rattle.std.specs.Prelude.{◌≡◌, ◌≤◌, ◌<◌, ◌≢◌, IfErr, IfOk, IfSome, OnOk};
 ghost use Rattle.std.specs.Io.KnownBytes.{Appends};
 ghost use Rattle.textarea_script.specs.Failures.{status_of};
@@ -7,26 +7,26 @@ use std::alloc::{AllocError, Global};
 use std::io::{Read, Write};
 use textarea_calls::commands::ReadError;
 
-/// What was read was run, and its end was printed.
+/// The input was run, and its end was printed.
 pub const DONE: u8 = 0;
 
-/// The input can't be read, or the end can't be printed.
+/// The input can't be read, or the output can't be written.
 pub const STREAM_FAILED: u8 = 1;
 
-/// A line of a script is no command or isn't UTF-8; the input of a session isn't UTF-8; or the words aren't understood.
+/// A line of a script is no command; the input isn't UTF-8; or the arguments are unknown.
 pub const NOT_READ: u8 = 2;
 
 /// Out of memory.
 pub const OUT_OF_MEMORY: u8 = 3;
 
-/// Why nothing is printed, or not all.
+/// Why nothing was printed, or only a prefix.
 #[derive(Drop)]
 pub enum Failure {
     /// A stream failed.
     Stream,
-    /// The line of this number is no command, or isn't UTF-8.
+    /// The number, counted from 1, of a line that is no command or isn't UTF-8.
     Line(usize),
-    /// The input isn't UTF-8, or the words aren't understood.
+    /// The input isn't UTF-8, or the arguments are unknown.
     NotRead,
     /// Out of memory.
     Memory,
@@ -51,7 +51,7 @@ impl From<ReadError> for Failure {
     }
 }
 
-/// The exit status of an outcome, which says on `errors` in one line why something isn't read or that memory was refused.
+/// Returns the exit status. Writes a line to `errors` if input is unparsed or memory ran out.
 pub fn status<E: Write>(outcome: Result<(), Failure>, errors: &mut E) -> u8
     ensures status { result ≡ status_of outcome }
     ensures quiet { result ≤ STREAM_FAILED → errors.new ≡ errors.old }
@@ -74,7 +74,7 @@ pub fn status<E: Write>(outcome: Result<(), Failure>, errors: &mut E) -> u8
     }
 }
 
-/// All bytes of a reader.
+/// Reads all bytes of a reader.
 pub fn read_whole<R: Read>(alloc: Global, reader: &mut R) -> Result<Vec<u8>, Failure>
     ensures bytes { IfOk result
         (λ bytes. IfSome (R.remaining reader.old) (λ all. bytes.items ≡ all)) }
@@ -87,7 +87,7 @@ pub fn read_whole<R: Read>(alloc: Global, reader: &mut R) -> Result<Vec<u8>, Fai
     Ok(bytes)
 }
 
-/// Writes the whole text. Where that fails, what was written is a beginning of it.
+/// Writes the whole text. If that fails, a prefix of it is written.
 pub fn write_whole<W: Write>(output: &mut W, text: &str) -> Result<(), Failure>
     ensures done { OnOk result (Appends (W.contents output.old) (W.contents output.new) text.now) }
     ensures fails { IfErr result (λ failure. failure ≡ Failure.Stream) }

@@ -1,5 +1,5 @@
-//! The whole work of `tascript`, by the words after its name: a script, or a session of the modal editor, over any reader and two
-//! writers.
+//! The whole of `tascript`, over any reader and two writers: a script, or a session of the modal
+//! editor, as the arguments say.
 ghost use Rattle.std.specs.Prelude.{◌≡◌, ◌≤◌, ◌<◌, ◌≢◌, IfSome, map, string_bytes};
 ghost use Rattle.std.specs.IoError.{error_kind};
 ghost use Rattle.textarea_script.specs.Session.{IsNoText, IsWritten};
@@ -12,20 +12,21 @@ use std::alloc::Global;
 use std::io;
 use std::io::{ErrorKind, Read, Write};
 
-// What words ask for.
+// What the arguments ask for.
 #[derive(Drop)]
 enum Asked {
-    // A script: there are none.
+    // A script: there are no arguments.
     Script,
-    // A session: the word `modal` alone.
+    // A session: the only argument is `modal`.
     Session,
-    // Nothing that there is.
+    // The arguments are unknown.
     Nothing,
 }
 
-/// Does the work of `tascript` that the words after its name ask for: none, a script ([`script::serve`](crate::script::serve)), and `modal`
-/// alone, a session ([`modal::serve`](crate::modal::serve)). Any others aren't understood: nothing is read, one line says so on `errors`, and the status is
-/// `NOT_READ`.
+/// Does what the arguments ask for: without arguments a script
+/// ([`script::serve`](crate::script::serve)), with the only argument `modal` a session
+/// ([`modal::serve`](crate::modal::serve)). Others are unknown: nothing is read, `errors` gets one
+/// line, and the status is `NOT_READ`.
 pub fn serve_words<R: Read, W: Write, E: Write>(
     alloc: Global,
     words: &[String],
@@ -50,7 +51,8 @@ pub fn serve_words<R: Read, W: Write, E: Write>(
     }
 }
 
-/// Says why there are no words: memory was refused, or else one isn't UTF-8. The result is the exit status.
+/// Writes to `errors` why there are no arguments: out of memory, or not UTF-8. Returns the exit
+/// status.
 pub fn serve_no_words<E: Write>(error: &io::Error, errors: &mut E) -> u8
     ensures memory { error_kind error.now ≡ ErrorKind.OutOfMemory → result ≡ OUT_OF_MEMORY }
     ensures not_read { error_kind error.now ≢ ErrorKind.OutOfMemory → result ≡ NOT_READ }

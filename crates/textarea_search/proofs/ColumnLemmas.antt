@@ -1,15 +1,15 @@
--- Bytes of a line, and the columns at which they stand.
+-- Byte offsets of a line and their columns.
 use Rattle.std.proofs.lemmas.Grind.{common_steps}
-use Rattle.std.proofs.Common.{◌≡◌, ℕ, zero, suc, ◌+◌, ◌<◌, ◌≤◌, Bool, true, false, List, [], ◌∷◌, ◌++◌, map, length, take, drop, reverse, Option, None, Some, option_map, refl, sym, ap, ◌∙◌, ⊎_elim, arith, IsUtf8, IsCharBoundary, encode_utf8_all, encode_utf8, MatchOption, is_some, true≢false}
+use Rattle.std.proofs.Common.{◌≡◌, ℕ, zero, suc, ◌+◌, ◌<◌, ◌≤◌, Bool, true, List, [], ◌∷◌, ◌++◌, map, length, take, drop, option_map, refl, sym, ap, ◌∙◌, ⊎_elim, arith, IsUtf8, IsCharBoundary, encode_utf8_all, encode_utf8, true≢false}
 use Rattle.std.specs.Prelude.{All}
 use Rattle.std.specs.List.{find, slice_get}
 use Rattle.std.specs.Str.{chars}
 use Rattle.std.proofs.lemmas.Bool.{cases_lt}
 use Rattle.std.proofs.lemmas.Bool.Decides.{nat_tests}
-use Rattle.std.proofs.lemmas.List.{take-append-drop, take_at, length-append, length-take-le, length-drop, drop-drop}
+use Rattle.std.proofs.lemmas.List.{take-append-drop, take_at, length-append, length-take-le}
 use Rattle.std.proofs.lemmas.List.Elements.{All-weaker}
 use Rattle.std.proofs.lemmas.Option.{slice_get-map}
-use Rattle.std.proofs.lemmas.Str.{chars-append, encodes-append, encodes-chars, IsUtf8-take, length-encode, len_utf8_bounds, cons_from_encodes, length-le-encodes}
+use Rattle.std.proofs.lemmas.Str.{chars-append, encodes-chars, IsUtf8-take, length-encode, len_utf8_bounds}
 use Rattle.textarea_search.specs.Columns.{column_at}
 use Rattle.textarea_search.specs.Starts.{along, is_ahead_in_line}
 use Rattle.textarea_search.specs.declared.search.direction.Direction.{Direction}
@@ -17,11 +17,11 @@ use Rattle.textarea_search.specs.declared.search.direction.Direction.TheVariants
 use Rattle.textarea_search.proofs.ListedLemmas.{LiesFrom}
 use Rattle.textarea_search.proofs.StartLemmas.{find-map, find-same, find-first, map_reverse, All-reverse}
 
--- the byte at which a column of these characters begins
+-- the byte offset at which a column of these characters begins
 abbrev pub byte_at : List ℕ → ℕ → ℕ
 byte_at cs column = length (encode_utf8_all (take column cs))
 
--- ---- a byte between characters as a column
+-- ---- a byte offset between characters as a column
 
 pub column_at_cut : (line : List ℕ) (byte : ℕ) → IsUtf8 line → IsCharBoundary line byte →
     (column_at line byte ≤ length (chars line)) × (byte_at (chars line) (column_at line byte) ≡ byte)
@@ -34,7 +34,7 @@ column_at_cut line byte text cut =
     let same : take (length (chars front)) (chars line) ≡ chars front = ap (take (length (chars front))) parts ∙ take_at (chars front) (chars (drop byte line)) (length (chars front)) refl in
     (omega arith, ap (λ cs. length (encode_utf8_all cs)) same ∙ ap length (encodes-chars front is_text) ∙ length-take-le byte line cut.0)
 
--- columns and their bytes are in the same order
+-- columns and their byte offsets are in the same order
 byte_at-below : (cs : List ℕ) (i j : ℕ) → i < j → j ≤ length cs → byte_at cs i < byte_at cs j
 byte_at-below [] i j lt le = absurd (omega arith)
 byte_at-below (c ∷ cs) i zero lt le = absurd (omega arith)
@@ -44,12 +44,12 @@ byte_at-below (c ∷ cs) (suc i) (suc j) lt le =
     let rest = byte_at-below cs i j (omega arith) (omega arith) in
     omega (arith, length-append (encode_utf8 c) (encode_utf8_all (take i cs)), length-append (encode_utf8 c) (encode_utf8_all (take j cs)))
 
--- the byte stands to the places of a line between characters as the column does to theirs
+-- the byte offset compares to the offsets between characters as the column does to their columns
 pub record StandsFor (line : List ℕ) (column byte : ℕ) : Type 0 where
   pub inside : column ≤ length (chars line) → byte ≡ byte_at (chars line) column
   pub past : length (chars line) < column → length line < byte
 
--- two pairs of numbers stand in the same order
+-- two pairs of numbers are in the same order
 record SameOrder (x y m n : ℕ) : Type 0 where
   less : m < n → x < y
   same : m ≡ n → x ≡ y
@@ -83,7 +83,7 @@ map_along : {X Y : Type 0} (f : X → Y) (direction : Direction) (xs : List X) �
 map_along f Forward xs = refl
 map_along f Back xs = map_reverse f xs
 
--- ---- from a search by bytes to one by columns
+-- ---- from a search by byte offsets to one by columns
 
 abbrev pub column_of_span : List ℕ → ℕ × ℕ → ℕ
 column_of_span line s = column_at line s.0
@@ -100,7 +100,7 @@ module _ (line : List ℕ) (spans : List (ℕ × ℕ)) (lie : All (LiesFrom line
       ∙ sym (find-map (is_ahead_in_line direction column at) (column_of_span line) (along direction spans))
       ∙ ap (find (is_ahead_in_line direction column at)) (map_along (column_of_span line) direction spans)
 
-  -- a mark that all are ahead of
+  -- a mark that is before all of them
   pub find_end : (mark : ℕ) → ((s : ℕ × ℕ) → LiesFrom line 0 s → is_ahead_in_line direction mark true s.0 ≡ true) →
       option_map (column_of_span line) (find (λ s. is_ahead_in_line direction mark true s.0) (along direction spans))
       ≡ slice_get (along direction (map (column_of_span line) spans)) 0

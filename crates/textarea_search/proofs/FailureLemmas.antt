@@ -1,4 +1,4 @@
--- What an error of `Regex::new` says of the text.
+-- What an error of `Regex::new` implies about the text.
 use Rattle.std.proofs.lemmas.Grind.{common_steps}
 use Rattle.std.proofs.lemmas.Bool.Decides.{nat_tests}
 use Rattle.std.proofs.Common.{arith, ◌≡◌, ◌≢◌, ◌≤◌, ◌<◌, ◌⊎◌, ℕ, List, length, Option, None, Some, IsSomeAnd, subst, sym, inl, inr}
@@ -37,7 +37,7 @@ IsCarried-of_regex text error failure sound e given =
     let same : error ≡ e = cc in
     subst (λ x. IsDefaultFailure text x × (x ≢ Internal)) same (failure, sound)
 
--- ---- what `of_built` gives back of what `Regex::new` gave
+-- ---- the result of `of_built` for a result of `Regex::new`
 
 module _ {P : Type 0} (Q : SearchError → Type 0) (q_of_memory : Q (Memory alloc_error)) where
   own_error : (result : Result P SearchError) → IfErr result (λ e. e ≡ Memory alloc_error) → IfErr result Q

@@ -1,4 +1,4 @@
--- The list of a line's matches, as a search goes over it.
+-- The list of a line's matches in the order in which a search finds them.
 use Rattle.std.proofs.lemmas.Grind.{common_steps}
 use Rattle.std.proofs.Common.{◌≡◌, ℕ, zero, suc, ◌+◌, ◌-◌, ◌<◌, ◌≤◌, Bool, true, false, cond, List, [], ◌∷◌, map, length, reverse, Option, None, Some, option_map, MatchOption, IfSome, refl, sym, ap, ◌∙◌, subst, inl, inr, ⊎_elim, arith, IsCharBoundary}
 use Rattle.std.specs.Prelude.{All}
@@ -11,7 +11,6 @@ use Rattle.std.proofs.lemmas.List.Elements.{All-nil, All-cons, All-weaker}
 use Rattle.std.proofs.lemmas.List.Folds.{find-append}
 use Rattle.std.proofs.lemmas.Option.{none-some, same_Some}
 use Rattle.regex_hir.specs.Re.{Re}
-use Rattle.regex_hir.specs.Text.{is_boundary}
 use Rattle.regex_hir.specs.Find.{Match, find_str}
 use Rattle.regex_hir.proofs.AttemptLemmas.{cond_some}
 use Rattle.regex_hir.proofs.FindLemmas.{IsFirst-of_first_between}
@@ -35,12 +34,12 @@ some_of_map f None y e = absurd (none-some y e)
 some_of_map f (Some x) y e = (x, refl, same_Some _ _ e)
 
 module _ (tree : Re) (line : List ℕ) (after : ℕ) where
-  -- the next match is found from where the last one ended, unless that is it once more
+  -- the next match is the first one from the end of the last, unless that is the same match again
   pub next_same_span : (o : Option (ℕ × ℕ)) → o ≡ option_map span (find_str tree line (after - 1)) → IfSome o (λ s. after ≤ s.1) →
       o ≡ option_map span (next_match true tree line after)
   next_same_span o e forth = grind (arith, common_steps, next_same)
 
-  -- and else from one byte on
+  -- else it is the first one from one byte later
   pub next_later_span : (o : Option (ℕ × ℕ)) (was : ℕ × ℕ) → option_map span (find_str tree line (after - 1)) ≡ Some was → was.1 < after →
       o ≡ option_map span (find_str tree line after) → o ≡ option_map span (next_match true tree line after)
   next_later_span o was first lt e =
@@ -54,7 +53,7 @@ module _ (tree : Re) (line : List ℕ) (after : ℕ) where
   first_of_rest None e = ap (map span) (matches_after_none tree line true after (none_of_map span _ (sym e)))
   first_of_rest (Some x) e = grind (arith, common_steps, some_of_map, matches_after_some)
 
--- a match starts where the search for it does, or behind
+-- a match starts at or after the byte at which the search for it begins
 pub starts_behind : (tree : Re) (line : List ℕ) (from : ℕ) (r : Option found_match.Match) → option_map match_span r ≡ option_map span (find_str tree line from) →
     IfSome r (λ m. from ≤ (match_span m).0)
 starts_behind tree line from None e = tt
@@ -62,15 +61,15 @@ starts_behind tree line from (Some x) e =
     let v = some_of_map span (find_str tree line from) (match_span x) (sym e) in
     subst (λ (s : ℕ × ℕ). from ≤ s.0) v.2 (leftmost_within tree line true from v.0 v.1).0
 
--- such a match ends behind that too
+-- such a match also ends after that byte
 pub forth_of_start : (after : ℕ) (r : Option found_match.Match) → IfSome r (λ m. after ≤ (match_span m).0) →
     IfSome r (λ m. (after ≤ (match_span m).0 + 1) × (after ≤ (match_span m).1))
 forth_of_start after None h = tt
 forth_of_start after (Some m) h = (omega arith, omega (arith, m.ordered))
 
--- ---- where the matches that are left lie
+-- ---- where the remaining matches are
 
--- the span starts between characters, and at or behind the end of the match before
+-- the span starts between characters, and at or after the end of the match before
 abbrev pub LiesFrom : List ℕ → ℕ → ℕ × ℕ → Type 0
 LiesFrom line after s = (after ≤ s.0 + 1) × IsCharBoundary line s.0
 
@@ -108,12 +107,12 @@ module _ (tree : Re) (line : List ℕ) where
   pub spans_lie : (after : ℕ) → All (LiesFrom line after) (spans_after tree line after)
   spans_lie after = all_lie (length line + 1) after (omega arith)
 
--- ---- the last that passes
+-- ---- the last match that passes
 
 abbrev pub starts_before : ℕ → Bool → ℕ × ℕ → Bool
 starts_before byte at s = is_past s.0 at byte
 
--- one more that passes
+-- one more match that passes
 pub last_more : (byte : ℕ) (at : Bool) (s : ℕ × ℕ) (rest : List (ℕ × ℕ)) (last : Option (ℕ × ℕ)) → starts_before byte at s ≡ true →
     option_or (find (starts_before byte at) (reverse (s ∷ rest))) last ≡ option_or (find (starts_before byte at) (reverse rest)) (Some s)
 last_more byte at s rest last passes =
@@ -126,7 +125,7 @@ last_more byte at s rest last passes =
     joined None s last = refl
     joined (Some x) s last = refl
 
--- one that doesn't, and so none behind it
+-- one match that doesn't pass, and so none after it does
 pub last_found : (byte : ℕ) (at : Bool) (line : List ℕ) (s : ℕ × ℕ) (rest : List (ℕ × ℕ)) → starts_before byte at s ≡ false → s.0 ≤ s.1 →
     All (LiesFrom line (s.1 + 1)) rest → find (starts_before byte at) (reverse (s ∷ rest)) ≡ None
 last_found byte at line s rest fails ordered lie =

@@ -1,4 +1,4 @@
--- From a pattern that was built to the text that it was built of.
+-- From a compiled pattern to its text.
 use Rattle.std.proofs.lemmas.Grind.{common_steps}
 use Rattle.std.proofs.Common.{◌≡◌, ℕ, zero, suc, ◌+◌, ◌<◌, ◌≤◌, true, ◌∷◌, ◌++◌, List, [], map, length, get_or, Option, None, Some, IsSomeAnd, refl, ap, ◌∙◌, subst, arith, IsUtf8, string_bytes, Global}
 use Rattle.std.specs.Prelude.{All, String}

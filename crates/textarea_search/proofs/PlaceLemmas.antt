@@ -1,4 +1,4 @@
--- Places of a text, and of a part of its lines.
+-- Positions of a text and of some of its lines.
 use Rattle.std.proofs.lemmas.Grind.{common_steps}
 use Rattle.std.proofs.Common.{◌≡◌, ℕ, ◌+◌, ◌-◌, ◌<◌, ◌≤◌, List, [], map, length, get_or, take, drop, sym, ap, ◌∙◌, subst, arith, string_bytes, Global, Option, None, Some, IfSome}
 use Rattle.std.specs.Prelude.{String}
@@ -22,11 +22,11 @@ pub place_at : (lines : List (String Global)) (row column : ℕ) (line : String 
     column ≤ length (chars (string_bytes line)) → IsPlaceIn lines (row, column)
 place_at lines row column line within is fits = (within, subst (λ cs. column ≤ length cs) (sym (text_of_line lines row line within is)) fits)
 
--- a place of the lines in front of a row
+-- a position in the lines before a row
 pub place_in_front : (lines : List (String Global)) (n : ℕ) (p : ℕ × ℕ) → n ≤ length lines → IsPlaceFrom 0 (take n lines) p → IsPlaceIn lines p
 place_in_front lines n p le h = grind (arith, common_steps, length-take-le n lines le, take-map, get_or-take)
 
--- and of those from a row on
+-- a position in the lines from a row on
 pub place_in_rest : (lines : List (String Global)) (n : ℕ) (p : ℕ × ℕ) → n ≤ length lines → IsPlaceFrom n (take (length lines - n) (drop n lines)) p → IsPlaceIn lines p
 place_in_rest lines n p le given = grind (arith, common_steps, take_rest lines n, length-drop n lines, drop-map, get_or-drop)
 

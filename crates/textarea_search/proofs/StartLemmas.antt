@@ -1,4 +1,4 @@
--- The starts of the matches of several lines, and where a search that wraps around stops among them.
+-- The match starts of several lines, and which of them a search that wraps around finds.
 use Rattle.std.proofs.lemmas.Grind.{common_steps}
 use Rattle.std.proofs.Common.{reverse, ◌≡◌, ℕ, ◌+◌, ◌-◌, ◌<◌, ◌≤◌, Bool, true, false, ◌==◌, ◌&&◌, ◌||◌, nat_lt, List, [], ◌∷◌, ◌++◌, map, length, get_or, take, drop, Option, None, Some, option_map, refl, sym, ap, ◌∙◌, arith, zero-add, cond}
 use Rattle.std.specs.Prelude.{String, string_bytes}
@@ -14,7 +14,7 @@ use Rattle.textarea_search.specs.Starts.{along, found_start, starts_from, is_ahe
 use Rattle.textarea_search.specs.declared.search.direction.Direction.{Direction}
 use Rattle.textarea_search.specs.declared.search.direction.Direction.TheVariants.{Forward, Back}
 
--- ---- a search in a list of three parts
+-- ---- a search in a list of three sections
 
 pub find-none : {X : Type 0} (test : X → Bool) (xs : List X) → All (λ x. test x ≡ false) xs → find test xs ≡ None
 find-none test [] h = refl
@@ -44,7 +44,7 @@ joined None None first all h = h refl refl
 joined None (Some y) first all h = refl
 joined (Some x) beyond first all h = refl
 
--- no place of the front passes, and each beyond does
+-- none of the front passes, and each element beyond does
 pub find_in_parts : {X : Type 0} (test : X → Bool) (front here beyond : List X) →
     All (λ x. test x ≡ false) front → All (λ x. test x ≡ true) beyond →
     find_or_first test (front ++ (here ++ beyond))
@@ -72,14 +72,14 @@ starts_from-below columns row high (x ∷ xs) h =
     All-append (λ (p : ℕ × ℕ). p.0 < high) _ _ (All-map (λ (p : ℕ × ℕ). p.0 < high) (λ column. (row, column)) (columns x) (λ k d lt. here))
     (starts_from-below columns (row + 1) high xs (omega arith))
 
--- the starts before a line, in it and behind it
+-- the starts before a line, in it and after it
 pub starts_in_parts : (columns : List ℕ → List ℕ) (lines : List (List ℕ)) (row : ℕ) (d : List ℕ) → row < length lines →
     starts_from columns 0 lines
     ≡ starts_from columns 0 (take row lines) ++ (map (λ column. (row, column)) (columns (get_or lines row d)) ++ starts_from columns (row + 1) (drop (row + 1) lines))
 starts_in_parts columns lines row d within =
     rw (take-append-drop, drop_more lines row d within, zero-add, length-take-le row lines (omega arith)) at (starts-append columns 0 (take row lines) (drop row lines))
 
--- ---- which places lie ahead of a cursor, and behind it
+-- ---- which positions are after a cursor, and which before it
 
 pub not_ahead : (cursor : ℕ × ℕ) (at : Bool) (p : ℕ × ℕ) → p.0 < cursor.0 → is_later cursor at p ≡ false
 not_ahead cursor at p h = grind (arith, nat_tests)
@@ -99,7 +99,7 @@ first_of_append : {X : Type 0} (xs ys : List X) (x : X) → slice_get xs 0 ≡ S
 first_of_append [] ys x e = cc
 first_of_append (z ∷ xs) ys x e = e
 
--- a line of these, as the code reads it, in front of the others
+-- one of these lines, as the code reads it, in front of the others
 module _ (columns : List ℕ → List ℕ) (row : ℕ) (lines : List (String Global)) (i : ℕ) (line : String Global) (within : i < length lines) (is_line : line ≡ get_or lines i line) where
   from_line : drop i (map string_bytes lines) ≡ string_bytes line ∷ drop (i + 1) (map string_bytes lines)
   from_line = rw (text_at lines i line within is_line) at (drop_more (map string_bytes lines) i (string_bytes line) (rw length-map within))
@@ -122,12 +122,12 @@ map_reverse f [] = refl
 map_reverse f (x ∷ xs) =
     grind (arith, common_steps, reverse-append (x ∷ []) xs, map-append f (reverse xs) (x ∷ []), map_reverse f xs, reverse-append (f x ∷ []) (map f xs))
 
--- the starts of the lines up to the one at i
+-- the starts of the lines up to the line at i
 starts_more : (columns : List ℕ → List ℕ) (row : ℕ) (lines : List (List ℕ)) (i : ℕ) (d : List ℕ) → i < length lines →
     starts_from columns row (take (i + 1) lines) ≡ starts_from columns row (take i lines) ++ map (λ c. (row + i, c)) (columns (get_or lines i d))
 starts_more columns row lines i d within = rw (take_more lines i d within, starts-append, length-take-le i lines (omega arith), append-nil) refl
 
--- the same as the code reads it, the last first
+-- the same as the code reads it, from the last line on
 module _ (columns : List ℕ → List ℕ) (row : ℕ) (lines : List (String Global)) (i : ℕ) (line : String Global) (within : i < length lines) (is_line : line ≡ get_or lines i line) where
   upto_line : reverse (starts_from columns row (take (i + 1) (map string_bytes lines)))
       ≡ reverse (map (λ c. (row + i, c)) (columns (string_bytes line))) ++ reverse (starts_from columns row (take i (map string_bytes lines)))
@@ -148,7 +148,7 @@ module _ (columns : List ℕ → List ℕ) (row : ℕ) (lines : List (String Glo
       reverse (starts_from columns row (take (i + 1) (map string_bytes lines))) ≡ reverse (starts_from columns row (take i (map string_bytes lines)))
   last_start_next e = rw (upto_line, nil_of_reverse (columns (string_bytes line)) e) refl
 
--- ---- a search in parts
+-- ---- a search in sections
 
 pub find-same : {X : Type 0} (p q : X → Bool) (xs : List X) → All (λ x. p x ≡ q x) xs → find p xs ≡ find q xs
 find-same p q [] h = refl
@@ -213,7 +213,7 @@ module _ (columns : List ℕ → List ℕ) (lines : List (List ℕ)) (row column
       ∙ ap (λ o. option_or o (option_or (slice_get (reverse front) 0) (slice_get (reverse beyond ++ reverse here) 0))) found
       ∙ ap (λ ys. option_or (option_map (λ c. (row, c)) (find (λ c. is_past c at column) (reverse (columns (get_or lines row d))))) (option_or (slice_get (reverse front) 0) (slice_get ys 0))) rest
 
--- ---- the same as the code reads it: a row of strings, those behind it, and those up to it
+-- ---- the same as the code reads it: a line of strings, those after it, and those up to it
 
 module _ (columns : List ℕ → List ℕ) (lines : List (String Global)) (row column : ℕ) (at : Bool) (line : String Global)
     (within : row < length lines) (is_line : line ≡ get_or lines row line) where
@@ -253,7 +253,7 @@ module _ (columns : List ℕ → List ℕ) (lines : List (String Global)) (row c
       ≡ option_or before (slice_get (reverse (starts_from columns row (map string_bytes (take (length lines - row) (drop row lines))))) 0)
   back_from before none e = back_parts ∙ rw (none, e) refl
 
--- none is ahead, on the way that is known
+-- no start is ahead, in the direction that is known
 pub none_ahead : (direction known : Direction) (columns : List ℕ → List ℕ) (text line : List ℕ) (column : ℕ) (at : Bool) → direction ≡ known → text ≡ line →
     None ≡ find (is_ahead_in_line direction column at) (along direction (columns text)) → find (is_ahead_in_line known column at) (along known (columns line)) ≡ None
 none_ahead direction known columns text line column at e same none = rw (← e, ← same) (sym none)

@@ -1,7 +1,7 @@
--- Columns of a line, which count its characters.
+-- Columns of a line, in characters.
 use Rattle.std.specs.Prelude.{ℕ, List, length, take}
 use Rattle.std.specs.Str.{chars}
 
--- how many characters of a line stand before a byte
+-- the number of characters of a line before a byte offset
 abbrev pub column_at : List ℕ → ℕ → ℕ
 column_at line byte = length (chars (take byte line))

@@ -1,11 +1,11 @@
--- The same list as a search goes over it, by the tree of a pattern that was built.
+-- The matches of a line, listed by the syntax tree of a compiled pattern.
 use Rattle.std.specs.Prelude.{◌≡◌, ℕ, true, IsUtf8, List, map}
 use Rattle.regex.specs.Patterns.{Re, span}
 use Rattle.regex.specs.Search.{matches_after}
 use Rattle.textarea_search.specs.Columns.{column_at}
 use Rattle.textarea_search.specs.Matches.{match_spans}
 
--- the spans of the matches behind the one that ended at `after - 1`, or of all of them from 0 on
+-- the spans of the matches after the one that ended at `after - 1`, or of all if `after` is 0
 abbrev pub spans_after : Re → List ℕ → ℕ → List (ℕ × ℕ)
 spans_after tree line after = map span (matches_after true tree line after)
 
@@ -13,6 +13,6 @@ spans_after tree line after = map span (matches_after true tree line after)
 abbrev pub columns_in : Re → List ℕ → List ℕ
 columns_in tree line = map (λ s. column_at line s.0) (spans_after tree line 0)
 
--- a tree lists for each text the matches of this pattern
+-- the tree lists the matches of this pattern for each line
 abbrev pub ListsMatchesOf : List ℕ → Re → Type 0
 ListsMatchesOf pattern tree = (line : List ℕ) → IsUtf8 line → spans_after tree line 0 ≡ match_spans pattern line

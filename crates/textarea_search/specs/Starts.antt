@@ -1,4 +1,4 @@
--- Where the matches of a text start, and which of them a search finds.
+-- The positions at which matches start in a text, and the one that a search finds.
 use Rattle.std.specs.Prelude.{◌≡◌, ℕ, ◌+◌, ◌-◌, ◌<◌, ◌≤◌, Bool, ◌==◌, ◌&&◌, ◌||◌, nat_lt, List, [], ◌∷◌, ◌++◌, map, length, find, reverse, slice_get, slice_index_or, Option, None, Some, String, string_bytes, IfOk, IfSome, IsNone, IsOk, Result}
 use Rattle.std.specs.declared.alloc.AllocError.{AllocError}
 use Rattle.std.specs.Option.{option_or}
@@ -10,71 +10,73 @@ use Rattle.textarea_search.specs.Spans.{columns_in}
 use Rattle.textarea_search.specs.declared.search.direction.Direction.{Direction}
 use Rattle.textarea_search.specs.declared.search.direction.Direction.TheVariants.{Forward, Back}
 
--- the places, as row and column, at which the matches of these lines start, in the order of the text
+-- the positions (row, column) at which the matches of these lines start, in the order of the text
 abbrev pub starts_from : (List ℕ → List ℕ) → ℕ → List (List ℕ) → List (ℕ × ℕ)
 starts_from columns row [] = []
 starts_from columns row (line ∷ lines) =
     map (λ column. (row, column)) (columns line) ++ starts_from columns (row + 1) lines
 
--- the starts of the matches that a pattern's tree has in these lines, the first of which is the given row
+-- the match starts of a pattern's tree in these lines, the first of which has the given row
 abbrev pub starts_by : Re → ℕ → List (String Global) → List (ℕ × ℕ)
 starts_by tree row lines = starts_from (columns_in tree) row (map string_bytes lines)
 
--- the starts of a pattern's matches in a text, and none without a pattern
+-- the match starts of a pattern in a text, and none without a pattern
 abbrev pub starts_of : Option (List ℕ) → List (String Global) → List (ℕ × ℕ)
 starts_of None lines = []
 starts_of (Some pattern) lines = starts_from (match_columns pattern) 0 (map string_bytes lines)
 
--- the matches that a tree has start where those of the pattern do
+-- the tree's matches start where those of the pattern do
 abbrev pub IsTreeOf : List ℕ → Re → Type 0
 IsTreeOf pattern tree = (lines : List (String Global)) → starts_by tree 0 lines ≡ starts_of (Some pattern) lines
 
--- the number is past the mark or, where that counts, at it
+-- whether the number is past the mark or, with `at_mark`, at it
 abbrev pub is_past : ℕ → Bool → ℕ → Bool
 is_past mark at_mark number = nat_lt mark number || (at_mark && (number == mark))
 
--- the same on the way that a search goes
+-- whether the column is past the cursor, or at it, in the search's direction
 abbrev pub is_ahead_in_line : Direction → ℕ → Bool → ℕ → Bool
 is_ahead_in_line Forward cursor at_cursor column = is_past cursor at_cursor column
 is_ahead_in_line Back cursor at_cursor column = is_past column at_cursor cursor
 
--- the place is past the mark in the text or, where that counts, at it
+-- whether the position is after the mark in the text or, with `at_mark`, at it
 abbrev pub is_later : ℕ × ℕ → Bool → ℕ × ℕ → Bool
 is_later mark at_mark place =
     nat_lt mark.0 place.0 || ((place.0 == mark.0) && is_past mark.1 at_mark place.1)
 
--- the same on the way that a search goes
+-- whether the position is after the cursor, or at it, in the search's direction
 abbrev pub is_ahead : Direction → ℕ × ℕ → Bool → ℕ × ℕ → Bool
 is_ahead Forward cursor at_cursor place = is_later cursor at_cursor place
 is_ahead Back cursor at_cursor place = is_later place at_cursor cursor
 
--- the order in which a search meets these
+-- the list in the order of the search
 abbrev pub along : {A : Type 0} → Direction → List A → List A
 along Forward xs = xs
 along Back xs = reverse xs
 
--- the first that passes, and where none does the first of all
+-- the first element that passes or, if none does, the first of all
 abbrev pub find_or_first : {A : Type 0} → (A → Bool) → List A → Option A
 find_or_first test xs = option_or (find test xs) (slice_get xs 0)
 
--- where a search goes to: the first start ahead, and past the last one on from the text's other end
+-- the position that a search finds: the first start in its direction or, if there is none, the
+-- first one from the text's other end
 abbrev pub found_start : Direction → List (ℕ × ℕ) → ℕ × ℕ → Bool → Option (ℕ × ℕ)
 found_start direction starts cursor at_cursor =
     find_or_first (is_ahead direction cursor at_cursor) (along direction starts)
 
--- the place lies in these lines, the first of which is the given row: its column is no greater than its line is long
+-- the position is in these lines, whose first has the given row, and at most at the line's end
 abbrev pub IsPlaceFrom : ℕ → List (String Global) → ℕ × ℕ → Type 0
 IsPlaceFrom row lines place =
     (row ≤ place.0) × (place.0 < row + length lines)
     × (place.1 ≤ length (slice_index_or (map (λ line. chars (string_bytes line)) lines) (place.0 - row) []))
 
--- the place lies in the text
+-- the position is in the text
 abbrev pub IsPlaceIn : List (String Global) → ℕ × ℕ → Type 0
 IsPlaceIn lines place =
     (place.0 < length lines)
     × (place.1 ≤ length (slice_index_or (map (λ line. chars (string_bytes line)) lines) place.0 []))
 
--- what a search from a cursor answers: where it leads, which is a place of the text; and without a pattern it takes no memory
+-- the result of a search from a cursor: the position found, which is in the text; a search without
+-- a pattern never runs out of memory
 pub record IsFound (direction : Direction) (pattern : Option (List ℕ)) (lines : List (String Global)) (cursor : ℕ × ℕ) (at_cursor : Bool)
     (result : Result (Option (ℕ × ℕ)) AllocError) : Type 0 where
   pub found : IfOk result (λ place. place ≡ found_start direction (starts_of pattern lines) cursor at_cursor)

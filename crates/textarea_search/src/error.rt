@@ -7,7 +7,7 @@ pub enum SearchError {
     /// Out of memory for the pattern.
     #[error(transparent)]
     Memory(AllocError),
-    /// What `regex` answered for the pattern, as it is. It may also stand for memory.
+    /// The error that `regex` returned for the pattern, unchanged. It may also mean out of memory.
     #[error(transparent)]
     Pattern(regex::Error),
 }

@@ -1,4 +1,4 @@
-//! Patterns that are built of a text, and searches for them in lines.
+//! Patterns that are compiled from a text, and searches for them in lines.
 #![tactic(auto)]
 
 pub mod error;

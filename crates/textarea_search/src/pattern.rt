@@ -10,8 +10,7 @@ use std::alloc::{AllocError, Global};
 use std::marker::Model;
 use std::rc::Rc;
 
-/// A pattern that was built, shared with the clones of what built it, and what gives memory to its matchers. Contracts see
-/// its text.
+/// A compiled pattern, shared by clones, and the allocator of its matchers. Contracts see its text.
 #[derive(Drop)]
 pub struct Pattern {
     regex: Rc<Regex>,
@@ -32,7 +31,7 @@ impl Model for Pattern {
 }
 
 impl Pattern {
-    /// Builds the pattern of a text, which is in the syntax of `regex`.
+    /// Compiles a pattern in the syntax of `regex`.
     pub fn new(alloc: Global, pattern: &str) -> Result<Pattern, SearchError>
         ensures ok { IfOk result (λ built. built ≡ pattern.now) }
         ensures refused { IfErr result (IsPatternFailure pattern.now) }
@@ -42,8 +41,8 @@ impl Pattern {
         Pattern::of_built(alloc, Regex::new(alloc, pattern))
     }
 
-    // The pattern that was built, in memory that can be shared; and for an error the same error. Out of memory for sharing
-    // is the pattern's own error.
+    // Moves a compiled pattern into memory that can be shared. An error of `regex` is passed on
+    // unchanged; out of memory for sharing is an error of its own.
     fn of_built(alloc: Global, built: Result<Regex, regex::Error>) -> Result<Pattern, SearchError>
         requires { IfOk built IsBuiltByDefault }
         ensures shared { IfOk built (λ regex. IfOk result (λ shared. shared ≡ regex_source regex)) }
@@ -59,19 +58,19 @@ impl Pattern {
         }
     }
 
-    /// The text of the pattern.
+    /// Returns the text of the pattern.
     pub fn text(&self) -> &str
         ensures { result.now ≡ self.now }
     {
         self.regex.as_str()
     }
 
-    /// Where the memory of its matchers comes from.
+    /// Returns the allocator of its matchers.
     pub fn allocator(&self) -> Global {
         self.alloc
     }
 
-    /// The same pattern once more. It fails only where no more owners can be counted.
+    /// Returns a clone that shares the compiled pattern. It fails only if the owner count is full.
     pub fn share(&self) -> Result<Pattern, AllocError>
         ensures { IfOk result (λ copy. copy ≡ self.now) }
     {
@@ -81,7 +80,7 @@ impl Pattern {
         })
     }
 
-    /// What goes over the matches of line after line.
+    /// Returns a matcher for the matches of many lines.
     pub fn matcher(&self) -> Result<Matcher<'_>, AllocError>
         ensures starts { IfOk result (λ m. IsTreeOf self.now (matcher_pattern m)) }
         ensures lists { IfOk result (λ m. ListsMatchesOf self.now (matcher_pattern m)) }

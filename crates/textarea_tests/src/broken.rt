@@ -3,8 +3,8 @@ use std::alloc::Global;
 use std::io;
 use std::io::{ErrorKind, Read, Write};
 
-/// Gives its text in pieces, each behind an interruption where it is interrupted, until its reads are used up; then each read
-/// fails.
+/// Reads its text a few bytes at a time, each time after an interruption if asked to. After a
+/// number of reads each read fails.
 #[derive(Drop)]
 pub struct BrokenReader<'a> {
     text: &'a [u8],
@@ -57,7 +57,7 @@ impl Read for BrokenReader<'_> {
     }
 }
 
-/// Takes a few bytes a write, until its writes are used up; then each write and flush fails.
+/// Takes a few bytes at each write. After a number of writes each write and flush fails.
 #[derive(Drop)]
 pub struct BrokenWriter {
     page: Vec<u8>,
@@ -74,7 +74,7 @@ impl BrokenWriter {
         }
     }
 
-    /// What it took.
+    /// The bytes that were written.
     pub fn text(&self) -> &[u8] {
         self.page.as_slice()
     }

@@ -1,4 +1,4 @@
-// Text areas of given lines, and copies of them.
+// Text areas created from lines, and copies of them.
 use crate::texts::{are_lines, strings};
 use crate::trial::{Trial, succeeds};
 use std::alloc::AllocError;
@@ -6,7 +6,7 @@ use std::process::Abort;
 use std::test::Fail;
 use tui_textarea::TextArea;
 
-// Whether these lines are held, and come out.
+// Returns whether the text area has these lines, and returns them as `into_lines`.
 fn holds(made: Result<TextArea<'_>, AllocError>, wanted: &[&str]) -> Result<bool, AllocError> {
     let area = made?;
     let is_held = are_lines(area.lines(), wanted);
@@ -56,7 +56,7 @@ fn a_copy_stands_alone(rt: HostRuntime) -> Result<(), Fail> {
     Ok(())
 }
 
-/// Whether a copy keeps text and pattern, whatever becomes of its source.
+/// Returns whether a copy keeps its text and pattern when the original changes.
 pub fn copy_stands_alone(area: &mut TextArea<'_>) -> Result<bool, AllocError> {
     area.insert_char('c')?;
     let is_set = area.set_search_pattern("c").is_ok();
@@ -75,7 +75,7 @@ fn change_beside(area: &mut TextArea<'_>, copy: &TextArea<'_>) -> Result<bool, A
     Ok(is_undone && is_so(area, "", None) && is_so(copy, "c", Some("c")))
 }
 
-// Whether these are the line and the pattern.
+// Returns whether the text is this line, and the pattern this one.
 fn is_so(area: &TextArea<'_>, line: &str, pattern: Option<&str>) -> bool {
     are_lines(area.lines(), &[line]) && area.search_pattern() == pattern
 }

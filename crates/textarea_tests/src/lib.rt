@@ -1,4 +1,4 @@
-//! Tests of the text area and of scripts that worked cases can't hold.
+//! Tests of the text area and of scripts that can't be written as worked cases.
 #![tactic(auto)]
 
 #[cfg(test)]

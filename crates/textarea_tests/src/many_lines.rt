@@ -1,4 +1,4 @@
-// More lines than a height counts.
+// More lines than the greatest height.
 use crate::trial::{Trial, succeeds};
 use std::alloc::{AllocError, Global};
 use std::test::Fail;
@@ -10,12 +10,11 @@ fn many_lines(rt: HostRuntime) -> Result<(), Fail> {
     Ok(())
 }
 
-/// 70,000 lines.
 pub fn lines_of_x(alloc: Global) -> Result<Vec<String>, AllocError> {
     vec![in alloc; String::from_str(alloc, "x")?; 70_000]
 }
 
-/// Many lines are selected, drawn and scrolled: whether all is where it must be.
+/// Selects, draws and scrolls many lines, and returns whether each state is correct.
 pub fn are_shown_and_scrolled(alloc: Global, area: &mut TextArea<'_>) -> Result<bool, AllocError> {
     area.select_all();
     draw(alloc, area)?;
@@ -43,7 +42,7 @@ fn are_shown(area: &mut TextArea<'_>) -> Result<bool, AllocError> {
     Ok(is_at_end && area.measure(10)? == HEIGHT)
 }
 
-// As far up as a scroll goes; the cursor goes with it, and so does the end of what is selected.
+// The longest scroll up: the cursor follows it, and so does the end of the selection.
 fn are_scrolled(area: &mut TextArea<'_>) -> bool {
     area.scroll(Scrolling::Delta {
         rows: -32768,

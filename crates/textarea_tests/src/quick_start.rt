@@ -1,4 +1,4 @@
-// The program of README, call by call, with what its comments say.
+// The example program of the README, with the results in its comments.
 use crate::trial::{Trial, succeeds};
 use std::alloc::AllocError;
 use std::test::Fail;
@@ -10,7 +10,7 @@ fn quick_start(rt: HostRuntime) -> Result<(), Fail> {
     Ok(())
 }
 
-/// Whether the calls answer and leave what is said of them.
+/// Returns whether each call has the result and leaves the state that the README states.
 pub fn is_as_told(area: &mut TextArea<'_>) -> Result<bool, AllocError> {
     area.insert_str("one two\nthree")?;
     let is_edited = is_removed_and_back(area)? && is_cut(area)?;

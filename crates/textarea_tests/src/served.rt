@@ -1,4 +1,4 @@
-// What the program does with what it reads, by the words behind its name.
+// Runs of the program, by its arguments and input.
 use crate::texts::{strings, text_of};
 use std::io;
 use std::io::ErrorKind;
@@ -7,7 +7,7 @@ use std::test::Fail;
 use textarea_script::streams::{DONE, NOT_READ, OUT_OF_MEMORY};
 use textarea_script::words::{serve_no_words, serve_words};
 
-/// How the program ends, what it prints and what it tells of errors, and what it leaves unread.
+/// The exit status, the output, the error output, and the unread input.
 #[derive(Clone, Copy, Debug, PartialEq, Eq)]
 struct End<'a> {
     status: u8,
@@ -47,13 +47,13 @@ const NO_TEXT: End<'static> = End {
     left: "",
 };
 
-// Of the text `ia` nothing is read.
+// The input `ia` is not read at all.
 const OTHER_WORDS: End<'static> = End {
     left: "ia",
     ..NO_TEXT
 };
 
-// What is tried, the words, what is read, and how it ends.
+// The description, the arguments, the input, and how the run ends.
 type Row = (
     &'static str,
     &'static [&'static str],
@@ -62,7 +62,7 @@ type Row = (
 );
 
 static ROWS: [Row; 25] = [
-    // No command at all, and empty lines between, before and behind commands.
+    // No command at all, and empty lines between, before and after commands.
     ("no command", &[], b"", EMPTY_TEXT),
     ("an empty line", &[], b"\n", EMPTY_TEXT),
     (
@@ -86,7 +86,7 @@ static ROWS: [Row; 25] = [
     // A carriage return is part of its line.
     ("carriage returns", &[], b"undo\r\nredo\r\n", LINE_1),
     ("a carriage return", &[], b"insert_char a\r\n", LINE_1),
-    // The first of several lines that aren't read is named, be it no command or no text; empty lines count.
+    // The first line that can't be parsed is reported: no command, or no text; empty lines count.
     (
         "a line behind an empty one",
         &[],
@@ -101,7 +101,7 @@ static ROWS: [Row; 25] = [
         b"undo\nredo\ninsert_char \xe7\x8a\n",
         LINE_3,
     ),
-    // What the words behind the program's name ask for: none, a script; `modal` alone, a session; others, nothing.
+    // No argument runs a script; the only argument `modal`, a session; other arguments, nothing.
     (
         "a script",
         &[],
@@ -144,7 +144,7 @@ static ROWS: [Row; 25] = [
         b"ia",
         OTHER_WORDS,
     ),
-    // Sessions of bytes that are no text.
+    // Sessions whose input is no UTF-8.
     ("no character in a session", &["modal"], b"\xff", NO_TEXT),
     (
         "half a character in a session",

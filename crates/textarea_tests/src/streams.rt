@@ -52,7 +52,7 @@ cursor 0 1
 selection 0 0 0 1
 ";
 
-/// Words behind the program's name, what is read, the status, what is printed and what is told of errors.
+/// The arguments, the input, the status, the output and the error output.
 struct Row {
     words: &'static [&'static str],
     given: &'static [u8],
@@ -103,20 +103,20 @@ fn streams_that_fail(rt: HostRuntime) -> Result<(), Fail> {
     Ok(())
 }
 
-// A reader that fails at each read in turn, and at none.
+// Tries readers that fail at each read in turn, and one that never fails.
 fn read_in_pieces(rt: &(impl Abort + AllocGlobal), words: &[String], row: &Row) {
     let given = row.given;
     for (piece, is_interrupted) in [(1, false), (1, true), (7, false), (64, true)] {
         for reads in 0..given.len() + 2 {
             let mut reader = BrokenReader::new(given, piece, is_interrupted, reads);
             read_from(rt, words, &mut reader, row);
-            // As many reads as bytes, and one that tells the end.
+            // One read for each byte, and one that reports the end.
             assert!(rt; piece != 1 || reader.has_failed() == (reads <= given.len()));
         }
     }
 }
 
-// Where a read fails nothing is printed.
+// If a read fails, nothing is printed.
 fn read_from(
     rt: &(impl Abort + AllocGlobal),
     words: &[String],
@@ -138,7 +138,7 @@ fn read_from(
     assert_eq!(rt; found, wanted);
 }
 
-/// How many bytes a write of what is printed takes, how many such writes there are, and how many bytes are told.
+/// The bytes of one write of the output, the number of such writes, and the bytes of error output.
 #[derive(Clone, Copy)]
 struct Limits {
     piece: usize,
@@ -146,13 +146,13 @@ struct Limits {
     told: usize,
 }
 
-// Writers that fail at each write in turn, and at none: where it is printed, and then where errors are told.
+// Tries writers that fail at each write in turn, and at none: for the output, then for the errors.
 fn write_in_pieces(rt: &(impl Abort + AllocGlobal), words: &[String], row: &Row) {
     let told = usize::MAX;
     for piece in [1, 7, 64] {
         let all = row.printed.len().div_ceil(piece);
         for writes in 0..all + 2 {
-            // One write more than the text takes is left for the flush.
+            // One write more than the text needs is left for the flush.
             let is_written = row.printed.is_empty() || writes > all;
             let status = if is_written {
                 row.status
@@ -167,7 +167,7 @@ fn write_in_pieces(rt: &(impl Abort + AllocGlobal), words: &[String], row: &Row)
             write_to(rt, words, row, limits, status);
         }
     }
-    // Errors that fail change no status.
+    // A failing error output changes no status.
     for told in 0..20 {
         let (piece, writes) = (64, usize::MAX);
         let limits = Limits {
@@ -179,7 +179,7 @@ fn write_in_pieces(rt: &(impl Abort + AllocGlobal), words: &[String], row: &Row)
     }
 }
 
-// Whatever fails, what it took is a beginning.
+// Checks that the written bytes are a beginning of the expected ones, even if a write fails.
 fn write_to(
     rt: &(impl Abort + AllocGlobal),
     words: &[String],
@@ -209,7 +209,7 @@ fn write_to(
     );
 }
 
-// As many bytes of a text, or all.
+// Returns the first `count` bytes of a text, or all if there are fewer.
 fn beginning(text: &str, count: usize) -> &[u8] {
     let bytes = text.as_bytes();
     &bytes[..count.min(bytes.len())]

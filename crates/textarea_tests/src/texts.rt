@@ -2,7 +2,6 @@
 use std::alloc::{AllocError, Global};
 use std::str::from_utf8;
 
-/// A string of each text.
 pub fn strings(alloc: Global, texts: &[&str]) -> Result<Vec<String>, AllocError> {
     let mut strings = Vec::new(alloc);
     for text in texts {
@@ -11,7 +10,7 @@ pub fn strings(alloc: Global, texts: &[&str]) -> Result<Vec<String>, AllocError>
     Ok(strings)
 }
 
-/// Whether the lines are these.
+/// Returns whether the lines are these.
 pub fn are_lines(lines: &[String], wanted: &[&str]) -> bool {
     for (line, wanted) in lines.iter().zip(wanted) {
         if line.as_str() != *wanted {
@@ -21,7 +20,7 @@ pub fn are_lines(lines: &[String], wanted: &[&str]) -> bool {
     lines.len() == wanted.len()
 }
 
-/// The text of these bytes, where they are one.
+/// Returns the bytes as text, or `no UTF-8`.
 pub fn text_of(bytes: &[u8]) -> &str {
     from_utf8(bytes).unwrap_or("no UTF-8")
 }

@@ -1,23 +1,22 @@
-// What is tried with a text area. One function owns each that is tried, and lends it to all else.
+// Trials with a text area. One function owns each text area, and the others borrow it.
 use crate::given::copy_stands_alone;
 use crate::many_lines::{are_shown_and_scrolled, lines_of_x};
 use crate::quick_start::is_as_told;
 use std::alloc::{AllocError, Global};
 use tui_textarea::TextArea;
 
-/// A trial.
 #[derive(Clone, Copy)]
 pub enum Trial {
-    /// A copy, and changes of its source.
+    /// A copy, and then changes of the original.
     Copy,
-    /// More lines than a height counts.
+    /// More lines than the greatest height.
     ManyLines,
-    /// The program of README.
+    /// The example program of the README.
     QuickStart,
 }
 
 impl Trial {
-    // The text area at first.
+    // Returns the initial text area.
     fn area(self, alloc: Global) -> Result<TextArea<'static>, AllocError> {
         match self {
             Trial::Copy | Trial::QuickStart => TextArea::try_default(alloc),
@@ -25,7 +24,7 @@ impl Trial {
         }
     }
 
-    // Whether all is as it must be.
+    // Returns whether the trial succeeds.
     fn is_right(self, alloc: Global, area: &mut TextArea<'_>) -> Result<bool, AllocError> {
         match self {
             Trial::Copy => copy_stands_alone(area),
@@ -35,7 +34,7 @@ impl Trial {
     }
 }
 
-/// Tries it with a text area of its own: whether all was as it must be.
+/// Runs the trial with a new text area, and returns whether it succeeds.
 pub fn succeeds(alloc: Global, trial: Trial) -> Result<bool, AllocError> {
     let mut area = trial.area(alloc)?;
     let is_right = trial.is_right(alloc, &mut area);

@@ -1,4 +1,4 @@
--- The symbol before a place of some lines.
+-- The symbol before a position of lines.
 use Rattle.std.proofs.Common.{◌≡◌, ℕ, ◌+◌, ◌-◌, ◌<◌, ◌≤◌, List, [], ◌∷◌, ◌++◌, length, take, drop, sym, ap, refl, ◌∙◌, arith, get_or, subst, String, encode_utf8_all, encode_utf8, Option, Some, None, MatchOption}
 use Rattle.std.proofs.lemmas.Grind.{common_steps}
 use Rattle.std.specs.Option.{IsSome}
@@ -14,7 +14,7 @@ use Rattle.textarea_text.proofs.RowEdits.{rows_around, cut_line, rows_stand}
 use Rattle.textarea_text.proofs.StringRows.{line_at}
 use Rattle.textarea_text.proofs.TextPlaces.{is_before}
 
--- a place of the lines is one of the text that they hold
+-- a position of lines is one of their text
 pub text_place : {Z : Type 0} (items : List (String Z)) (place : Place) → IsPlaceOf (lines_of items) place → IsPlace (text_of items) place
 text_place items place h =
     subst (λ (rows : List (List ℕ)). IsPlaceOf rows place) (sym (lines-joined (lines_of items) (omega (arith, h.0)))) h
@@ -40,7 +40,7 @@ break_stands rows row within =
 pub pair_is : (place : Place) (row column : ℕ) → place.0 ≡ row → place.1 ≡ column → place ≡ (row, column)
 pair_is place row column e e' = ap (λ (n : ℕ). (n, place.1)) e ∙ ap (λ (n : ℕ). (row, n)) e'
 
--- a character stands before a place inside a line
+-- before a position inside a line there is a character
 pub character_before : {Z : Type 0} (items : List (String Z)) (place : Place) (line : String Z) (c : ℕ) → IsPlaceOf (lines_of items) place → 0 < place.1 → line ≡ get_or items place.0 line → drop (place.1 - 1) (characters_of line) ≡ c ∷ drop (place.1 - 1 + 1) (characters_of line) → IsSymbolBefore (text_of items) place (place.0, place.1 - 1) (Character c)
 character_before items place line c h some read found =
     let rows = lines_of items in
@@ -50,7 +50,7 @@ character_before items place line c h some read found =
     (character_stands rows place.0 (place.1 - 1) c h.0 start.1 (subst (λ (l : List ℕ). drop (place.1 - 1) l ≡ c ∷ drop (place.1 - 1 + 1) l) (sym here) found))
     (pair_is place place.0 (place.1 - 1 + 1) refl (omega arith))
 
--- a break stands before a place at the start of a further line
+-- before a position at the start of a line below another there is a break
 pub break_before : {Z : Type 0} (items : List (String Z)) (place : Place) (line : String Z) (column : ℕ) → IsPlaceOf (lines_of items) place → place.1 ≡ 0 → 0 < place.0 → line ≡ get_or items (place.0 - 1) line → column ≡ length (characters_of line) → IsSymbolBefore (text_of items) place (place.0 - 1, column) Break
 break_before items place line column h none some read e =
     let rows = lines_of items in
@@ -61,7 +61,7 @@ break_before items place line column h none some read e =
     is_before (text_of items) (place.0 - 1, column) Break place (text_place items (place.0 - 1, column) (omega (arith, h.0), omega (arith, at))) stands
     (pair_is place (place.0 - 1 + 1) 0 (omega arith) none)
 
--- a call of `next`
+-- a call of `next` that returns a character
 pub next_is : (Same : Type 0) (cs was rest : List ℕ) (column c : ℕ) (found : Option ℕ) → was ≡ encode_utf8_all (drop column cs) → MatchOption found ((length was ≡ 0) × Same) (λ d. was ≡ encode_utf8 d ++ rest) → found ≡ Some c → drop column cs ≡ c ∷ drop (column + 1) cs
 next_is Same cs was rest column c found e h is =
     grind (arith, common_steps, cons_from_encodes, drop-drop 1 column cs)
@@ -75,7 +75,7 @@ back_some Same was rest (Some c) some h = refl
 pub back_is : (Same : Type 0) (was rest : List ℕ) (found : Option ℕ) (c : ℕ) → found ≡ Some c → MatchOption found ((length was ≡ 0) × Same) (λ d. was ≡ rest ++ encode_utf8 d) → was ≡ rest ++ encode_utf8 c
 back_is Same was rest found c is h = subst (λ (o : Option ℕ). MatchOption o ((length was ≡ 0) × Same) (λ d. was ≡ rest ++ encode_utf8 d)) is h
 
--- before a column that is not the first there are bytes
+-- before a column other than the first there are bytes
 pub some_before : (bs before : List ℕ) (column : ℕ) → IsUtf8 bs → 0 < column → column ≤ length (chars bs) → before ≡ take (offset_in (chars bs) column) bs → 0 < length before
 some_before bs before column text some within e =
     omega (arith, ap length (e ∙ take_offset bs column text), length-offset bs column text within)

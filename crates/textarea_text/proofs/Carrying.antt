@@ -1,4 +1,4 @@
--- Where a splice carries the places of a text.
+-- Where a splice moves the positions of a text.
 use Rattle.std.proofs.Common.{◌≡◌, ℕ, ◌+◌, ◌⊎◌, inl, inr, Bool, true, false, List, [], ◌∷◌, ◌++◌, length, take, drop, sym, ap, refl, ◌∙◌, arith, subst}
 use Rattle.std.proofs.lemmas.Grind.{common_steps}
 use Rattle.std.proofs.lemmas.Bool.Decides.{nat_tests}
@@ -10,7 +10,7 @@ use Rattle.textarea_text.specs.Carried.{GoesAlong, Stays, carried, carried_index
 use Rattle.textarea_text.proofs.Splices.{end-append, inserted_at, removed_at}
 use Rattle.textarea_text.proofs.TextPlaces.{Parted, index_parted, parted, place_parted, standing}
 
--- ---- a splice as the parts of the text: what stands before it, what goes, what comes, and what stands behind
+-- ---- a splice divides the text: before it, what it removes, what it inserts, and after it
 
 pub record Spliced (text : List Symbol) (splice : Splice) : Type 0 where
   pub front : List Symbol
@@ -67,7 +67,7 @@ spliced_by false text place symbols h allowed =
 pub spliced : (text : List Symbol) (splice : Splice) → Fits text splice → Spliced text splice
 spliced text splice h = spliced_by splice.inserts text splice.place splice.symbols h.is_place h.allowed
 
--- ---- the order of places, and where symbols end
+-- ---- the order of positions, and where symbols end
 
 pub end_from : (place : Place) (symbols : List Symbol) → IsUpTo place (end place symbols)
 end_from place [] = (omega arith, λ same. omega arith)
@@ -85,7 +85,7 @@ end_behind place Break symbols =
 never : (one other : Place) → IsBefore one other → IsUpTo other one → ⊥
 never one other h k = grind (arith, nat_tests)
 
--- ---- symbols that end in one place end in another where they stand elsewhere
+-- ---- the end of symbols moves with their position
 
 shifted_none : (old new : Place) → shifted old new old ≡ new
 shifted_none old new = grind (arith, nat_tests)
@@ -103,7 +103,7 @@ shifted_end old new (Character c ∷ symbols) =
 shifted_end old new (Break ∷ symbols) =
     grind (arith, common_steps, shifted_row old new (end (old.0 + 1, 0) symbols) (end_from (old.0 + 1, 0) symbols), end_from (old.0 + 1, 0) symbols, shifted_end (old.0 + 1, 0) (new.0 + 1, 0) symbols)
 
--- ---- two fronts of one text: the one is a part of the other
+-- ---- two prefixes of one text: one is a prefix of the other
 
 fork : (xs ys zs ws : List Symbol) → xs ++ ys ≡ zs ++ ws → ((more : List Symbol) × (xs ≡ zs ++ more) × (ws ≡ more ++ ys)) ⊎ ((symbol : Symbol) × (more : List Symbol) × (zs ≡ xs ++ (symbol ∷ more)))
 fork xs ys [] ws e = inl (xs, refl, sym e)
@@ -116,7 +116,7 @@ fork (x ∷ xs) ys (z ∷ zs) ws e =
       | inr found ↦ inr (found.0, found.1, (ap (λ (s : Symbol). s ∷ zs) (sym first) ∙ ap (λ t. x ∷ t) found.2))
     ]
 
--- ---- what stands before a place before the splice stays, and what stands behind a place behind it
+-- ---- the text before a position before the splice stays, and so does the text after one after it
 
 pub record FrontStays (text : List Symbol) (splice : Splice) (front : List Symbol) : Type 0 where
   pub back : List Symbol
@@ -178,7 +178,7 @@ back_stays text splice h place parts up =
           absurd (never place (place_before splice) (subst (IsBefore place) ends (end_behind place found.0 found.1)) up)
     ]
 
--- ---- the same of places
+-- ---- the same for positions
 
 pub stays : (text : List Symbol) (splice : Splice) (place : Place) → Fits text splice → IsPlace text place → IsUpTo place splice.place → Stays text splice place
 stays text splice place h is_place up =

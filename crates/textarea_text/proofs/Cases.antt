@@ -10,7 +10,7 @@ use Rattle.textarea_text.specs.Tab.{width_of}
 given_with_return : given (97 ∷ 13 ∷ 10 ∷ 98 ∷ 13 ∷ []) ≡ Character 97 ∷ Break ∷ Character 98 ∷ Character 13 ∷ []
 given_with_return = refl
 
--- "a\r\r\nb": one carriage return goes
+-- "a\r\r\nb": one carriage return is dropped
 given_with_two_returns : given (97 ∷ 13 ∷ 13 ∷ 10 ∷ 98 ∷ []) ≡ Character 97 ∷ Character 13 ∷ Break ∷ Character 98 ∷ []
 given_with_two_returns = refl
 
@@ -24,7 +24,7 @@ given_breaks = refl
 written_break : written (Character 97 ∷ Break ∷ Break ∷ Character 13 ∷ []) ≡ 97 ∷ 10 ∷ 10 ∷ 13 ∷ []
 written_break = refl
 
--- "ab", "cd": from behind the a to behind the c
+-- "ab", "cd": from after the a to after the c
 part_of_two_lines : part (Character 97 ∷ Character 98 ∷ Break ∷ Character 99 ∷ Character 100 ∷ []) (0, 1) (1, 1) ≡ Character 98 ∷ Break ∷ Character 99 ∷ []
 part_of_two_lines = refl
 

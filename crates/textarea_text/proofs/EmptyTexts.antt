@@ -1,4 +1,4 @@
--- When the text of some lines is empty.
+-- When the text of lines is empty.
 use Rattle.std.proofs.Common.{◌≡◌, ◌≢◌, ◌<◌, List, [], ◌∷◌, ◌++◌, length, sym, ap, refl, ◌∙◌, arith, get_or, String, string_bytes, encode_utf8_all}
 use Rattle.std.proofs.lemmas.Grind.{common_steps}
 use Rattle.std.specs.String.{string_len}
@@ -8,7 +8,7 @@ use Rattle.std.proofs.lemmas.List.{append-nil, length-append, nil_from_length}
 use Rattle.textarea_text.specs.Text.{characters, following, characters_of, lines_of, text_of}
 use Rattle.textarea_text.proofs.Splices.{length-characters}
 
--- an empty string has no characters, and no other
+-- just an empty string has no characters
 characters_of-nil : {Z : Type 0} (s : String Z) → string_bytes s ≡ [] → characters_of s ≡ []
 characters_of-nil s e = ap chars e ∙ chars-nil
 
@@ -21,7 +21,7 @@ text_of-one s e = append-nil (characters (characters_of s)) ∙ ap characters e
 text_of-one_nil : {Z : Type 0} (s : String Z) → text_of (s ∷ []) ≡ [] → characters_of s ≡ []
 text_of-one_nil s e = nil_from_length (characters_of s) (omega (arith, length-characters (characters_of s), ap length (sym (append-nil (characters (characters_of s))) ∙ e)))
 
--- the text is empty where its one line is
+-- the text of one line is empty just if the line is
 pub empty_text : {Z : Type 0} (items : List (String Z)) (s : String Z) → length items ≡ 1 → s ≡ get_or items 0 s → (string_len s ≡ 0 → text_of items ≡ []) × (text_of items ≡ [] → string_len s ≡ 0)
 empty_text [] s one e = absurd (omega arith)
 empty_text (a ∷ []) s one e = (
@@ -35,7 +35,7 @@ text_of-many [] apart some = absurd (omega arith)
 text_of-many (a ∷ []) apart some = absurd (apart refl)
 text_of-many (a ∷ b ∷ rest) apart some = λ e. omega (arith, ap length e, length-append (characters (characters_of a)) (following (lines_of (b ∷ rest))))
 
--- one empty line holds what no line holds
+-- one empty line has the same text as no lines
 pub text_of_empty : {Z : Type 0} (lines old : List (String Z)) (line : String Z) → lines ≡ old ++ line ∷ [] → length old ≡ 0 → string_bytes line ≡ [] → text_of lines ≡ text_of old
 text_of_empty lines old line is none e =
     grind (arith, common_steps, nil_from_length old none, chars-nil)

@@ -1,4 +1,4 @@
--- Given texts, cut at their first line feed, and pieces that are put together to one text.
+-- Texts that are split at their first line feed, and fragments that are joined to one text.
 use Rattle.std.proofs.Common.{◌≡◌, ◌≢◌, ℕ, ◌+◌, ◌<◌, false, nat_eq, List, [], ◌∷◌, ◌++◌, length, take, drop, get_or, refl, sym, ap, subst, ◌∙◌, arith, Option, Some, None, MatchOption, String}
 use denote.Ref.{Bor}
 use Rattle.std.specs.Option.{unwrap_or}
@@ -13,13 +13,13 @@ use Rattle.textarea_text.specs.Text.{Symbol, Character, Break, characters, chara
 use Rattle.textarea_text.proofs.Splices.{joined-append, following-append}
 use Rattle.textarea_text.specs.Given.{given, written, symbols_for, begins_with_line_feed}
 
--- ---- a given text, from its first line on
+-- ---- a text with line feeds, from its first line on
 
--- no line feed, the character 10, is among the characters
+-- no line feed, 10, is among the characters
 abbrev pub HasNoLineFeed : List ℕ → Type 0
 HasNoLineFeed cs = NonePass (λ d. nat_eq d 10) cs
 
--- the characters' last one and the rest's first one are no carriage return with its line feed
+-- the two lists do not meet in a carriage return and its line feed
 abbrev pub StandApart : List ℕ → List ℕ → Type 0
 StandApart line rest = (front : List ℕ) → line ≡ front ++ 13 ∷ [] → begins_with_line_feed rest ≡ false
 
@@ -36,7 +36,7 @@ given-append (c ∷ cs) rest none apart =
     rw (symbols_for-kept c (cs ++ rest) none.0 (apart-next c cs rest none.1 apart))
     (ap (λ t. Character c ∷ t) (given-append cs rest none.1 (λ front e. apart (c ∷ front) (ap (λ t. c ∷ t) e))))
 
--- the last line
+-- a text without a line feed is one line
 pub given-last : (line : List ℕ) → HasNoLineFeed line → given line ≡ characters line
 given-last line none = simp append-nil at (given-append line [] none (λ front e. refl))
 
@@ -47,7 +47,7 @@ given-line line behind none other = given-append line (10 ∷ behind) none (λ f
 given-line_with_return : (line behind : List ℕ) → HasNoLineFeed line → given (line ++ (13 ∷ 10 ∷ behind)) ≡ characters line ++ (Break ∷ given behind)
 given-line_with_return line behind none = given-append line (13 ∷ 10 ∷ behind) none (λ front e. refl)
 
--- ---- the same of texts as bytes
+-- ---- the same for texts as bytes
 
 no_line_feed : (bs : List ℕ) → IsUtf8 bs → NoCharPasses (λ d. nat_eq d 10) bs → HasNoLineFeed (chars bs)
 no_line_feed bs text none = subst HasNoLineFeed (encodes_same none.0 (chars bs) (none.1 ∙ sym (encodes-chars bs text))) none.2
@@ -63,14 +63,14 @@ chars_return : (bs : List ℕ) → IsUtf8 bs → chars (bs ++ 13 ∷ []) ≡ cha
 unfolding chars
 chars_return bs text = chars-append bs (13 ∷ []) text
 
--- what is left of a line without the carriage return at its end, if it has one
+-- a line without the carriage return at its end, if it has one
 given-stripped : (behind : List ℕ) (whole : Bor (List ℕ)) (stripped : Option (Bor (List ℕ))) → IsUtf8 whole.now → IsUtf8 (unwrap_or stripped whole).now → HasNoLineFeed (chars whole.now) → MatchOption stripped ((front : List ℕ) → whole.now ≢ front ++ 13 ∷ []) (λ x. whole.now ≡ x.now ++ 13 ∷ []) → given (chars whole.now ++ 10 ∷ behind) ≡ characters (chars (unwrap_or stripped whole).now) ++ (Break ∷ given behind)
 given-stripped behind whole None text text' none h =
     grind (arith, common_steps, given-line, encodes-chars whole.now text, encodes-append, encode_ascii)
 given-stripped behind whole (Some line) text text' none h =
     grind (arith, common_steps, chars_return line.now text', append_assoc (chars line.now) (13 ∷ []) (10 ∷ behind), given-line_with_return, front-none)
 
--- a text, cut at a line feed before which there is none
+-- a text, split at its first line feed
 pub given-cut : (bs behind : List ℕ) (i j : ℕ) (line : Bor (List ℕ)) (stripped : Option (Bor (List ℕ))) → IsUtf8 bs → IsUtf8 (unwrap_or stripped line).now → NoCharPasses (λ d. nat_eq d 10) (take i bs) → HasCharAt 10 bs i j → line.now ≡ take i bs → behind ≡ drop j bs → MatchOption stripped ((front : List ℕ) → line.now ≢ front ++ 13 ∷ []) (λ x. line.now ≡ x.now ++ 13 ∷ []) → given (chars bs) ≡ characters (chars (unwrap_or stripped line).now) ++ (Break ∷ given (chars behind))
 given-cut bs behind i j line stripped text text' none at front_is behind_is h =
     let within : i < length bs = omega (arith, at.after.0) in
@@ -82,7 +82,7 @@ given-cut bs behind i j line stripped text text' none at front_is behind_is h =
     ∙ ap (λ t. chars line.now ++ 10 ∷ chars t) (sym behind_is) in
     ap given cut ∙ given-stripped (chars behind) line stripped front text' (no_line_feed line.now front (subst (NoCharPasses (λ d. nat_eq d 10)) (sym front_is) none)) h
 
--- ---- pieces, cut off one after another
+-- ---- lines, split off one after another
 
 pub leading-append : (xs ys : List (List ℕ)) → leading (xs ++ ys) ≡ leading xs ++ leading ys
 leading-append [] ys = refl
@@ -96,7 +96,7 @@ pub given_done : {Z : Type 0} (pieces more : List (String Z)) (piece : String Z)
 given_done pieces more piece rest whole h last e is =
     rw (is, map-append, joined-append (lines_of pieces) (characters_of piece ∷ []) (omega arith), append-nil, e, ← last) h
 
--- ---- pieces, joined by line feeds
+-- ---- lines, joined by line feeds
 
 written-append : (xs ys : List Symbol) → written (xs ++ ys) ≡ written xs ++ written ys
 written-append [] ys = refl
@@ -119,7 +119,7 @@ written_more first text next_text piece rest number h within now e =
 pub written_done : {Z : Type 0} (first : String Z) (pieces rest : List (String Z)) (begins text : List ℕ) (number : ℕ) → text ≡ begins ++ written (following (take number (lines_of rest))) → take number (lines_of rest) ≡ lines_of rest → begins ≡ characters_of first → pieces ≡ first ∷ rest → text ≡ written (text_of pieces)
 written_done first pieces rest begins text number h all e is = rw (h, all, e, is, written-append, written-characters) refl
 
--- ---- pieces that are copied
+-- ---- copied lines
 
 pub copied_more : {Z : Type 0} (pieces copy more : List (String Z)) (piece : String Z) (number : ℕ) → lines_of copy ≡ take number (lines_of pieces) → more ≡ copy ++ piece ∷ [] → number < length pieces → characters_of piece ≡ get_or (lines_of pieces) number [] → lines_of more ≡ take (number + 1) (lines_of pieces)
 copied_more pieces copy more piece number h is within e = grind (arith, common_steps)

@@ -1,10 +1,10 @@
--- The nearest index that passes a test: what a search knows on its way, and what it may answer.
+-- The nearest index that passes a test: what a search knows on its way, and its result.
 use Rattle.std.proofs.Common.{◌≡◌, ℕ, zero, suc, ◌+◌, ◌-◌, ◌<◌, ◌≤◌, inl, inr, Bool, true, false, Some, None, arith, refl, sym, ap, subst, add-one}
 use Rattle.std.proofs.lemmas.Grind.{common_steps}
 use Rattle.std.proofs.lemmas.Bool.{cases_lt}
 use Rattle.textarea_text.specs.Nearest.{IsGreatest, least_below, greatest_below}
 
--- where no index below n passes, there is no least one
+-- if no index below n passes, there is no least one
 pub least_below-none : (test : ℕ → Bool) (n : ℕ) → ((e : ℕ) → e < n → test e ≡ false) → least_below test n ≡ None
 least_below-none test zero failed = refl
 least_below-none test (suc n) failed =
@@ -24,7 +24,7 @@ least_below-found test n (suc m) failed here within =
           rw (same, before, here) refl
     ]
 
--- one index more
+-- one failing index more
 pub failed_more : (test : ℕ → Bool) (n : ℕ) → ((e : ℕ) → e < n → test e ≡ false) → test n ≡ false → (e : ℕ) → e < n + 1 → test e ≡ false
 failed_more test n failed here e below =
     elim (cases_lt e n) [ inl earlier ↦ failed e earlier | inr last ↦ let same : e ≡ n = omega arith in rw same here ]
@@ -35,7 +35,7 @@ greatest_below-here test n here = rw (add-one, here) refl
 pub greatest_below-more : (test : ℕ → Bool) (n : ℕ) → test n ≡ false → greatest_below test (n + 1) ≡ greatest_below test n
 greatest_below-more test n here = rw (add-one, here) refl
 
--- indices that fail change nothing
+-- failing indices change nothing
 pub greatest_below-past : (test : ℕ → Bool) (n m : ℕ) → n ≤ m → ((e : ℕ) → n ≤ e → test e ≡ false) → greatest_below test m ≡ greatest_below test n
 greatest_below-past test n zero within past = let same : n ≡ 0 = omega arith in rw same refl
 greatest_below-past test n (suc m) within past =
@@ -53,16 +53,16 @@ by_case test n false here past below =
     subst (IsGreatest test) (sym same) (below (λ e from.
     elim (cases_lt n e) [ inl later ↦ past e (omega arith) | inr equal ↦ let at : e ≡ n = omega arith in rw at here ]))
 
--- where only indices below n may pass, the greatest below n is the greatest of all
+-- if only indices below n may pass, the greatest below n is the greatest of all
 pub IsGreatest-greatest_below : (test : ℕ → Bool) (n : ℕ) → ((e : ℕ) → n ≤ e → test e ≡ false) → IsGreatest test (greatest_below test n)
 IsGreatest-greatest_below test zero past = λ e. past e (omega arith)
 IsGreatest-greatest_below test (suc n) past = by_case test n (test n) refl past (IsGreatest-greatest_below test n)
 
--- where no index passes, below n nor from n on
+-- no index passes if none does below n or from n on
 pub IsLeast-none : (test : ℕ → Bool) (n : ℕ) → ((e : ℕ) → e < n → test e ≡ false) → ((e : ℕ) → n ≤ e → test e ≡ false) → (e : ℕ) → test e ≡ false
 IsLeast-none test n failed past e = elim (cases_lt e n) [ inl earlier ↦ failed e earlier | inr later ↦ past e later ]
 
--- the same where the test is known to fail below n - 1, and then at n - 1
+-- no index below n passes if none does below n - 1 or at n - 1
 pub failed_before : (test : ℕ → Bool) (n : ℕ) → ((e : ℕ) → suc e < n → test e ≡ false) → test (n - 1) ≡ false → (e : ℕ) → e < n → test e ≡ false
 failed_before test n failed here e below =
     elim (cases_lt (suc e) n) [ inl earlier ↦ failed e earlier | inr last ↦ let same : e ≡ n - 1 = omega arith in rw same here ]

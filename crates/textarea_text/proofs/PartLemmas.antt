@@ -1,4 +1,4 @@
--- The part of a text between two places, and its lines.
+-- The text between two positions, and its lines.
 use Rattle.std.proofs.Common.{◌≡◌, ℕ, zero, suc, ◌+◌, ◌-◌, ◌<◌, ◌≤◌, List, [], ◌∷◌, ◌++◌, length, take, drop, get_or, refl, sym, ap, ◌∙◌, arith, String}
 use Rattle.std.proofs.lemmas.Grind.{common_steps}
 use Rattle.std.proofs.Math.Nat.{add-zero}
@@ -10,7 +10,7 @@ use Rattle.textarea_text.proofs.Splices.{joined-append}
 use Rattle.textarea_text.proofs.TextPlaces.{part_rows, index_parted}
 use Rattle.textarea_text.specs.Part.{part}
 
--- ---- the lines up to a place
+-- ---- the lines up to a position
 
 abbrev pub lines_until : List (List ℕ) → Place → List (List ℕ)
 lines_until rows place = take place.0 rows ++ take place.1 (get_or rows place.0 []) ∷ []
@@ -23,12 +23,12 @@ lines_from_column column (line ∷ rest) = drop column line ∷ rest
 length-lines_until : (rows : List (List ℕ)) (place : Place) → place.0 < length rows → length (lines_until rows place) ≡ place.0 + 1
 length-lines_until rows place within = grind (arith, common_steps, nat_tests)
 
--- ---- a place up to another
+-- ---- a position at or before another
 
 place_until : (rows : List (List ℕ)) (from to : Place) → IsPlaceOf rows from → IsPlaceOf rows to → IsUpTo from to → IsPlaceOf (lines_until rows to) from
 place_until rows from to h h' up = grind (arith, common_steps, nat_tests)
 
--- the text, cut at two places
+-- the text, split at two positions
 record Between (rows : List (List ℕ)) (from to : Place) : Type 0 where
   index : index_of (joined rows) to ≡ index_of (joined rows) from + length (joined (lines_from_column from.1 (drop from.0 (lines_until rows to))))
   part_is : part (joined rows) from to ≡ joined (lines_from_column from.1 (drop from.0 (lines_until rows to)))
@@ -68,7 +68,7 @@ length-following : (rows : List (List ℕ)) → length rows ≤ length (followin
 length-following [] = omega arith
 length-following (line ∷ rest) = omega (arith, length-following rest, length-append (characters line) (following rest))
 
--- a place in a lower row has a greater index
+-- a position in a lower row has a greater index
 index-lower : (rows : List (List ℕ)) (place lower : Place) → IsPlaceOf rows place → IsPlaceOf rows lower → place.0 < lower.0 → index_of (joined rows) place < index_of (joined rows) lower
 index-lower rows place lower h h' below =
     let until = lines_until rows lower in
@@ -86,18 +86,18 @@ index-lower rows place lower h h' below =
 pub up_to_from_index : (rows : List (List ℕ)) (from to : Place) → IsPlaceOf rows from → IsPlaceOf rows to → index_of (joined rows) from ≤ index_of (joined rows) to → IsUpTo from to
 up_to_from_index rows from to h h' ordered = grind (arith, index-lower rows to from h' h)
 
--- ---- pieces, cut out line by line
+-- ---- the lines of a fragment, copied one by one
 
--- the lines of the part between the places
+-- the lines of the text between the positions
 abbrev pub part_lines : List (List ℕ) → Place → Place → List (List ℕ)
 part_lines rows from to = lines_from_column from.1 (drop from.0 (lines_until rows to))
 
--- the pieces so far, and what is still to be cut out, from the column of the row on
+-- the lines so far, and those still to be copied, from the column of the row on
 abbrev pub PiecesSoFar : {Z : Type 0} → List (String Z) → List (List ℕ) → Place → Place → ℕ → ℕ → Type 0
 PiecesSoFar pieces rows from to row column =
     lines_of pieces ++ lines_from_column column (drop row (lines_until rows to)) ≡ part_lines rows from to
 
--- there is no piece before the first
+-- at first there is no line
 pub pieces_none : {Z : Type 0} (pieces : List (String Z)) (rows : List (List ℕ)) (from to : Place) (row : ℕ) → pieces ≡ [] → row ≡ from.0 → PiecesSoFar pieces rows from to row from.1
 pieces_none pieces rows from to row none first =
     grind (arith, common_steps)

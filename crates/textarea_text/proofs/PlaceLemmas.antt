@@ -1,4 +1,4 @@
--- Places as indices, rows one below another, and where pieces end.
+-- Positions as indices, lines one below another, and where fragments end.
 use Rattle.std.proofs.Common.{◌≡◌, ℕ, zero, suc, ◌+◌, ◌-◌, ◌<◌, ◌≤◌, List, [], ◌∷◌, ◌++◌, length, min, take, drop, get_or, refl, sym, ap, subst, ◌∙◌, arith, String, string_bytes}
 use Rattle.std.proofs.lemmas.Grind.{common_steps}
 use Rattle.std.proofs.lemmas.List.{append-nil, drop_all, length-append, length-take-le, take_all, take_more, take_at}
@@ -11,7 +11,7 @@ use Rattle.textarea_text.proofs.TextPlaces.{part_rows, index_parted}
 use Rattle.textarea_text.proofs.Befores.{break_stands}
 use Rattle.textarea_text.proofs.StringRows.{stands_until}
 
--- ---- a place is where its index says
+-- ---- a position is at its index
 
 pub record IsAt (rows : List (List ℕ)) (place : Place) (index : ℕ) : Type 0 where
   pub value : place ≡ place_of (joined rows) index
@@ -43,7 +43,7 @@ is_at_end rows row column last at =
     (ap (λ t. index_of t (row, column)) parts.is ∙ index_parted (row, column) parts.front parts.back parts.ends
     ∙ sym (ap length (parts.is ∙ ap (λ t. parts.front ++ t) none ∙ append-nil parts.front)))
 
--- the next row begins behind its line and the break
+-- the next row begins after this row's line and the break
 pub row_start-next : (rows : List (List ℕ)) (row : ℕ) → row + 1 < length rows → row_start (joined rows) (row + 1) ≡ row_start (joined rows) row + length (get_or rows row []) + 1
 row_start-next rows row within =
     let line = get_or rows row [] in
@@ -51,7 +51,7 @@ row_start-next rows row within =
     subst (λ (r : List (List ℕ)). IsPlaceOf r (row, length line)) (sym (lines-joined rows (omega arith))) (omega arith, omega arith) in
     omega (arith, (stands_until (joined rows) (row, length line) (Break ∷ []) here (break_stands rows row within)).1)
 
--- ---- symbols ahead: where what is left ends in the row, and where the row is the last one
+-- ---- symbols ahead: if the rest ends in the row, and if the row is the last one
 
 pub ahead_inside : (rows : List (List ℕ)) (row column left wanted : ℕ) → row < length rows → column + left ≤ length (get_or rows row []) → row_start (joined rows) row + column + left ≡ wanted → IsAt rows (row, column + left) (min wanted (length (joined rows)))
 ahead_inside rows row column left wanted within inside e =
@@ -65,7 +65,7 @@ ahead_last rows row last column left step wanted all same inside stepped e =
     let begins = ap (row_start (joined rows)) same in
     is_at rows (last, column + step) (min wanted (length (joined rows))) (omega arith, omega arith) (omega arith)
 
--- ---- where pieces end
+-- ---- where fragments end
 
 pub end_of_one : (place : Place) (line : List ℕ) → end place (joined (line ∷ [])) ≡ (place.0, place.1 + length line)
 end_of_one place line = ap (end place) (append-nil (characters line)) ∙ end-characters place.0 place.1 line
@@ -89,7 +89,7 @@ end_of_single place [] one = absurd (omega arith)
 end_of_single place (line ∷ []) one = end_of_one place line
 end_of_single place (line ∷ next ∷ rest) one = absurd (omega arith)
 
--- a piece has at most as many characters as all pieces' size, less one
+-- a line of a fragment has at most the fragment's size, less one, in characters
 pub length-piece : {Z : Type 0} (pieces : List (String Z)) (i : ℕ) → i < length pieces → length (get_or (lines_of pieces) i []) + 1 ≤ size_of pieces
 length-piece [] i within = absurd (omega arith)
 length-piece (piece ∷ rest) zero within =

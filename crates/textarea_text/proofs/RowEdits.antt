@@ -1,4 +1,4 @@
--- One edit of some lines, as a splice of the text that they hold.
+-- One edit of lines, as a splice of their text.
 use Rattle.std.proofs.Common.{◌≡◌, ℕ, ◌+◌, ◌<◌, List, [], ◌∷◌, ◌++◌, length, take, drop, sym, ap, ◌∙◌, arith, get_or}
 use Rattle.std.proofs.lemmas.Grind.{common_steps}
 use Rattle.std.proofs.lemmas.List.{append-nil, take-append-drop, drop_more, length-take-le}
@@ -10,12 +10,12 @@ use Rattle.textarea_text.proofs.Splices.{characters-append, spliced_stands}
 pub rows_around : (rows : List (List ℕ)) (row : ℕ) → row < length rows → rows ≡ take row rows ++ ((get_or rows row [] ∷ []) ++ drop (row + 1) rows)
 rows_around rows row within = sym (take-append-drop row rows) ∙ ap (λ t. take row rows ++ t) (drop_more rows row [] within)
 
--- a line, cut at a column
+-- a line, split at a column
 pub cut_line : (line : List ℕ) (column : ℕ) → joined (line ∷ []) ≡ characters (take column line) ++ characters (drop column line)
 cut_line line column =
     grind (arith, common_steps, append-nil (characters line), take-append-drop column line, characters-append (take column line) (drop column line))
 
--- what stands at a place, as long as the symbols are
+-- the text at a position, with the length of the symbols
 abbrev StandsAt_part : List Symbol → Place → List Symbol → List Symbol
 StandsAt_part text place symbols = take (length symbols) (drop (index_of text place) text)
 

@@ -1,4 +1,4 @@
--- How large lines are that are put together, and of which some give place to others.
+-- The size of lines that are joined, and of lines of which some are replaced.
 use Rattle.std.proofs.Common.{◌≡◌, ℕ, ◌+◌, ◌≤◌, ◌<◌, List, [], ◌∷◌, ◌++◌, length, take, drop, reverse, refl, sym, ap, ◌∙◌, arith, get_or, String, string_bytes, string_len, encode_utf8, encode_utf8_all}
 use Rattle.std.proofs.lemmas.Grind.{common_steps}
 use Rattle.std.proofs.lemmas.List.{take-append-drop, take_more, drop-drop, length-append, reverse-append}
@@ -17,12 +17,12 @@ pub size_of_more : {Z : Type 0} (lines : List (String Z)) (i : ℕ) (line : Stri
 size_of_more lines i line within e =
     grind (arith, common_steps, take_more lines i line within, size_of-append (take i lines) (line ∷ []))
 
--- there are no more lines than the size says
+-- there are at most `size_of lines` lines
 pub length-le-size_of : {Z : Type 0} (lines : List (String Z)) → length lines ≤ size_of lines
 length-le-size_of [] = omega arith
 length-le-size_of (line ∷ lines) = omega (arith, length-le-size_of lines)
 
--- ---- the bytes that a text takes
+-- ---- the bytes of a text
 
 pub weight-append : (above below : List Symbol) → weight (above ++ below) ≡ weight above + weight below
 weight-append [] below = omega arith
@@ -38,7 +38,7 @@ weight-reverse [] = refl
 weight-reverse (c ∷ cs) =
     grind (arith, common_steps, reverse-append (c ∷ []) cs, characters-append (reverse cs) (c ∷ []), weight-append (characters (reverse cs)) (Character c ∷ []), weight-reverse cs)
 
--- a line takes as many bytes as its `String` has
+-- the bytes of a line are those of its `String`
 pub weight_of_line : {Z : Type 0} (line : String Z) → weight (characters (characters_of line)) ≡ string_len line
 weight_of_line line =
     weight-characters (characters_of line) ∙ ap length (encodes-chars (string_bytes line) (IsUtf8-string_bytes line)) ∙ sym line.bytes.ok.0
@@ -48,7 +48,7 @@ weight_of_following [] = refl
 weight_of_following (line ∷ strings) =
     omega (arith, weight-append (characters (characters_of line)) (following (lines_of strings)), weight_of_line line, weight_of_following strings)
 
--- the first line has no break
+-- all lines but the first have a break
 pub weight_of_text : {Z : Type 0} (first : String Z) (rest : List (String Z)) → weight (text_of (first ∷ rest)) ≡ string_len first + size_of rest
 weight_of_text first rest =
     omega (arith, weight-append (characters (characters_of first)) (following (lines_of rest)), weight_of_line first, weight_of_following rest)

@@ -1,4 +1,4 @@
--- The text that lines hold, and what a change of some neighbouring lines makes of it.
+-- The text of lines, and how it changes with some neighbouring lines.
 use Rattle.std.proofs.Common.{◌≡◌, ℕ, suc, ◌+◌, ◌<◌, List, [], ◌∷◌, ◌++◌, length, sym, ap, refl, ◌∙◌, arith, zero-add}
 use Rattle.std.proofs.lemmas.Grind.{common_steps}
 use Rattle.std.proofs.lemmas.List.{take_at, drop_at, append_assoc, length-append}
@@ -20,7 +20,7 @@ following-append [] ys = refl
 following-append (x ∷ xs) ys =
     grind (arith, common_steps, following-append xs ys, append_assoc (characters x) (following xs) (following ys))
 
--- the lines above, those that change, and those below
+-- lines below others, joined
 pub joined-append : (above middle : List (List ℕ)) → 0 < length middle → joined (above ++ middle) ≡ leading above ++ joined middle
 joined-append [] middle some = refl
 joined-append (line ∷ above) [] some = absurd (omega arith)
@@ -45,12 +45,12 @@ lines-following : (rest : List (List ℕ)) → lines (following rest) ≡ [] ∷
 lines-following [] = refl
 lines-following (line ∷ rest) = ap (λ t. [] ∷ t) (lines-front line (following rest) rest (lines-following rest))
 
--- lines are cut where they were joined
+-- splitting a joined text gives back the lines
 pub lines-joined : (rows : List (List ℕ)) → 0 < length rows → lines (joined rows) ≡ rows
 lines-joined [] some = absurd (omega arith)
 lines-joined (line ∷ rest) some = lines-front line (following rest) rest (lines-following rest)
 
--- ---- places
+-- ---- positions
 
 pub end-append : (place : Place) (xs ys : List Symbol) → end place (xs ++ ys) ≡ end (end place xs) ys
 end-append place [] ys = refl
@@ -69,7 +69,7 @@ end-leading row (line ∷ above) =
     ∙ end-leading (row + 1) above
     ∙ ap (λ (n : ℕ). (n, 0)) (omega arith)
 
--- where a part of a line ends that has lines above it
+-- where a line's prefix ends that has lines above it
 pub end_of_front : (above : List (List ℕ)) (line : List ℕ) → end (0, 0) (leading above ++ characters line) ≡ (length above, length line)
 end_of_front above line =
     grind (arith, common_steps, end-append, end-leading 0 above, end-characters, zero-add)
@@ -83,12 +83,12 @@ row_start-leading [] rest = refl
 row_start-leading (line ∷ above) rest =
     grind (arith, common_steps, append_assoc (characters line) (Break ∷ leading above) rest, row_start-characters line (Break ∷ (leading above ++ rest)) (length above), row_start-leading above rest, length-append (characters line) (Break ∷ leading above), length-characters line)
 
--- that place, as an index, is the length of what stands before it
+-- the index of that position is the length of the text before it
 pub index_of_front : (above : List (List ℕ)) (line : List ℕ) (rest : List Symbol) → index_of (leading above ++ (characters line ++ rest)) (length above, length line) ≡ length (leading above ++ characters line)
 index_of_front above line rest =
     omega (arith, row_start-leading above (characters line ++ rest), length-append (leading above) (characters line), length-characters line)
 
--- ---- splices of a text that is given in parts
+-- ---- splices of a text that is given as several lists
 
 pub inserted_at : (xs ys symbols : List Symbol) (place : Place) → index_of (xs ++ ys) place ≡ length xs → inserted (xs ++ ys) place symbols ≡ xs ++ (symbols ++ ys)
 inserted_at xs ys symbols place e =
@@ -102,9 +102,9 @@ pub stands_at : (xs ys symbols : List Symbol) (place : Place) → index_of (xs +
 stands_at xs ys symbols place e =
     grind (arith, common_steps, drop_at xs (symbols ++ ys) (length xs), take_at symbols ys (length symbols))
 
--- ---- the one lemma of all edits: neighbouring lines, the middle ones changed
+-- ---- the one lemma of all edits: of neighbouring lines the middle ones change
 
--- the whole text, with what stands before the place as one part
+-- the whole text, split at a position of the middle lines
 pub whole : (above middle below : List (List ℕ)) (start : List ℕ) (rest : List Symbol) → 0 < length middle → joined middle ≡ characters start ++ rest → joined (above ++ (middle ++ below)) ≡ (leading above ++ characters start) ++ (rest ++ following below)
 whole above middle below start rest some e =
     grind (arith, common_steps, joined_parts above middle below some, append_assoc (characters start) rest (following below), append_assoc (leading above) (characters start) (rest ++ following below))

@@ -1,4 +1,4 @@
--- Lines of `String`s that are read, cut and put together again.
+-- Lines of `String`s that are read, split and joined.
 use Rattle.std.proofs.Common.{subst, encode_utf8_all, ◌≡◌, ℕ, ◌+◌, ◌<◌, ◌≤◌, List, [], ◌∷◌, ◌++◌, length, take, drop, sym, ap, ◌∙◌, arith, get_or, String, string_bytes, ◌^◌}
 use Rattle.std.proofs.lemmas.Grind.{common_steps}
 use Rattle.std.specs.Str.{chars, IsCharBoundary}
@@ -14,7 +14,7 @@ use Rattle.textarea_text.proofs.TextPlaces.{part_rows, index_parted, parted, sta
 pub line_at : {Z : Type 0} (items : List (String Z)) (row : ℕ) (line : String Z) → row < length items → line ≡ get_or items row line → get_or (lines_of items) row [] ≡ characters_of line
 line_at items row line within e = get_or-map characters_of items row line [] within ∙ ap characters_of (sym e)
 
--- the offset as `byte_offset` gives it, of the line that `as_str` lends
+-- the byte offset, as `byte_offset` returns it, in the line that `as_str` borrows
 pub offset_of_line : {Z : Type 0} (line : String Z) (text : List ℕ) (column offset : ℕ) → text ≡ string_bytes line → offset ≡ length (encode_utf8_all (take column (chars text))) → offset ≡ offset_in (characters_of line) column
 offset_of_line line text column offset same e = e ∙ ap (λ t. length (encode_utf8_all (take column (chars t)))) same
 
@@ -22,7 +22,7 @@ pub boundary_at : {Z : Type 0} (line : String Z) (text : List ℕ) (column offse
 boundary_at line text column offset same e =
     subst (λ (t : List ℕ). IsCharBoundary t offset) (sym same) (subst (IsCharBoundary (string_bytes line)) (sym (offset_of_line line text column offset same e)) (IsCharBoundary-column (string_bytes line) column (IsUtf8-string_bytes line)))
 
--- ---- rows that are put together piece by piece
+-- ---- lines that are built one by one
 
 joined_last : (rows : List (List ℕ)) (line more : List ℕ) → joined (rows ++ (line ++ more) ∷ []) ≡ joined (rows ++ line ∷ []) ++ characters more
 joined_last rows line more =
@@ -32,7 +32,7 @@ joined_next : (rows : List (List ℕ)) (line next_line : List ℕ) → joined ((
 joined_next rows line next_line =
     grind (arith, common_steps, joined-append_below, length-append rows (line ∷ []), append-nil (characters next_line))
 
--- the rows so far, with the line that is being written: what the first line began with, and the pieces up to the number
+-- the lines so far, with the one being written: the start of the first, and those of the fragment
 abbrev pub RowsSoFar : {Z : Type 0} → List (String Z) → String Z → List ℕ → List (List ℕ) → ℕ → Type 0
 RowsSoFar rows line first rest number = joined (lines_of rows ++ characters_of line ∷ []) ≡ characters first ++ following (take number rest)
 
@@ -48,14 +48,14 @@ rows_more rows more line next_line first rest number h is within e =
     ∙ ap (λ t. characters first ++ t) (sym (following-append (take number rest) (get_or rest number [] ∷ [])))
     ∙ ap (λ t. characters first ++ following t) (sym (take_more rest number [] within))
 
--- before the first of them, and behind the last
+-- before the first of them, and after the last
 pub rows_none : {Z : Type 0} (rows : List (String Z)) (line : String Z) (rest : List (List ℕ)) → rows ≡ [] → RowsSoFar rows line (characters_of line) rest 0
 rows_none rows line rest none = ap (λ t. joined (lines_of t ++ characters_of line ∷ [])) none
 
 pub rows_all : {Z : Type 0} (rows : List (String Z)) (line : String Z) (first : List ℕ) (rest : List (List ℕ)) (number : ℕ) → RowsSoFar rows line first rest number → length rest ≤ number → joined (lines_of rows ++ characters_of line ∷ []) ≡ characters first ++ following rest
 rows_all rows line first rest number h all = h ∙ ap (λ t. characters first ++ following t) (take_all number rest all)
 
--- the last line gets the tail, and is put to the others
+-- the last line gets the tail, and is added to the others
 pub rows_done : {Z : Type 0} (rows new : List (String Z)) (line last : String Z) (head first tail : List ℕ) (whole_first : List ℕ) (rest : List (List ℕ)) → joined (lines_of rows ++ characters_of line ∷ []) ≡ characters whole_first ++ following rest → whole_first ≡ head ++ first → characters_of last ≡ characters_of line ++ tail → new ≡ rows ++ last ∷ [] → joined (lines_of new) ≡ characters head ++ ((characters first ++ following rest) ++ characters tail)
 rows_done rows new line last head first tail whole_first rest h begins e is =
     grind (arith, common_steps, map-append characters_of rows (last ∷ []), joined_last (lines_of rows) (characters_of line) tail, characters-append head first, append_assoc (characters head) (characters first) (following rest), append_assoc (characters head) (characters first ++ following rest) (characters tail))
@@ -68,7 +68,7 @@ back_of : (rows : List (List ℕ)) (place : Place) (h : IsPlaceOf rows place) �
 back_of rows place h =
     grind (arith, common_steps, part_rows rows place.0 place.1 h, index_parted, drop_at)
 
--- the whole text after the rows were put in the place of those from the start's to the end's
+-- the whole text after the new lines replaced those from the start's row to the end's
 pub rows_replaced : (rows new : List (List ℕ)) (start to : Place) (symbols : List Symbol) → IsPlaceOf rows start → IsPlaceOf rows to → ReplacesRows rows start to symbols new → joined (take start.0 rows ++ (new ++ drop (to.0 + 1) rows)) ≡ changed (joined rows) start to symbols
 unfolding part_rows
 rows_replaced rows new start to symbols h h' is =
@@ -80,12 +80,12 @@ rows_replaced rows new start to symbols h h' is =
     ∙ ap (λ t. t ++ (symbols ++ (characters tail ++ following below))) (sym (front_of rows start h))
     ∙ ap (λ t. take (index_of (joined rows) start) (joined rows) ++ (symbols ++ t)) (sym (back_of rows to h'))
 
--- the same of the `String`s that take the place of others
+-- the same for `String`s that replace others
 pub rows_in_place : {Z : Type 0} (items new : List (String Z)) (start to : Place) (row count : ℕ) (symbols : List Symbol) → IsPlaceOf (lines_of items) start → IsPlaceOf (lines_of items) to → row ≡ start.0 → row + count ≡ to.0 + 1 → ReplacesRows (lines_of items) start to symbols (lines_of new) → text_of (replaced items row count new) ≡ changed (text_of items) start to symbols
 rows_in_place items new start to row count symbols h h' at e is =
     grind (arith, common_steps, map-append characters_of (take start.0 items) (new ++ drop (to.0 + 1) items), map-append characters_of new (drop (to.0 + 1) items), take-map characters_of start.0 items, drop-map characters_of (to.0 + 1) items, rows_replaced (lines_of items) (lines_of new) start to symbols h h' is)
 
--- ---- places of an edit
+-- ---- positions of an edit
 
 pub rows_place : {Z : Type 0} (items : List (String Z)) (place : Place) → 0 < length items → IsPlace (text_of items) place → IsPlaceOf (lines_of items) place
 rows_place items place some h =
@@ -96,13 +96,13 @@ rows_ordered place [] = omega arith
 rows_ordered place (Character c ∷ symbols) = omega (arith, rows_ordered (place.0, place.1 + 1) symbols)
 rows_ordered place (Break ∷ symbols) = omega (arith, rows_ordered (place.0 + 1, 0) symbols)
 
--- symbols that end in the row where they begin end no earlier in it
+-- symbols that end in the row where they begin end at no smaller column
 pub columns_ordered : (place : Place) (symbols : List Symbol) → (end place symbols).0 ≡ place.0 → place.1 ≤ (end place symbols).1
 columns_ordered place [] e = omega arith
 columns_ordered place (Character c ∷ symbols) e = omega (arith, columns_ordered (place.0, place.1 + 1) symbols e)
 columns_ordered place (Break ∷ symbols) e = absurd (omega (arith, e, rows_ordered (place.0 + 1, 0) symbols))
 
--- symbols that stand at a place end at a place, as far behind as they are long
+-- symbols at a position of a text end at a position, and its index is greater by their number
 pub stands_until : (text : List Symbol) (place : Place) (symbols : List Symbol) → IsPlace text place → StandsAt text place symbols → IsPlace text (end place symbols) × (index_of text (end place symbols) ≡ index_of text place + length symbols)
 stands_until text place symbols h stands =
     let parts = parted text place h in
@@ -123,7 +123,7 @@ changed_by_none text place to symbols first h stands e none =
 pub row_within : {Z : Type 0} (items : List (String Z)) (place : Place) → IsPlaceOf (lines_of items) place → place.0 < length items
 row_within items place h = omega (arith, h.0, length-map items characters_of)
 
--- a line has at most as many characters as bytes
+-- a line has fewer than 2^63 characters
 pub characters_bound : {Z : Type 0} (line : String Z) → length (characters_of line) < 2 ^ 63
 characters_bound line =
     omega (arith, length-le-encodes (characters_of line), ap length (encodes-chars (string_bytes line) (IsUtf8-string_bytes line)), line.bytes.ok, line.bytes.small)

@@ -1,4 +1,4 @@
--- Widths behind the last tab stop.
+-- Widths after the last tab stop.
 use Rattle.std.proofs.Common.{◌≡◌, ◌<◌, ℕ, ◌+◌, ◌%◌, List, [], ◌∷◌, add_assoc, arith, false}
 use Rattle.std.proofs.Math.Nat.{mod-add-mod}
 use Rattle.std.proofs.lemmas.Grind.{common_steps}
@@ -6,7 +6,7 @@ use Rattle.std.specs.Option.{unwrap_or}
 use Rattle.unicode_width.specs.Width.{char_width}
 use Rattle.textarea_text.specs.Tab.{width_of}
 
--- one character on
+-- one character more
 pub width_of_more : (stop was now width c : ℕ) (text cs : List ℕ) (whole : ℕ) → (was + width_of text) % stop ≡ whole % stop → text ≡ c ∷ cs → width ≡ unwrap_or (char_width false c) 0 → now ≡ (was + width) % stop → (now + width_of cs) % stop ≡ whole % stop
 width_of_more stop was now width c text cs whole h read e is =
     rw (is, mod-add-mod, add_assoc, e) (rw read at h)

@@ -1,4 +1,4 @@
--- Places of a text, and what a change and its inverse do there.
+-- Positions of a text, and what a splice and its inverse do there.
 use Rattle.std.proofs.Common.{◌≤◌, ◌≡◌, ℕ, ◌+◌, ◌-◌, ◌<◌, Bool, true, false, List, [], ◌∷◌, ◌++◌, length, take, drop, sym, ap, refl, ◌∙◌, arith, get_or, subst}
 use Rattle.std.proofs.lemmas.Grind.{common_steps}
 use Rattle.std.proofs.lemmas.List.{append_assoc, length-append, take-append-drop, length-take-le, take_at, drop_at, get_or_at}
@@ -24,7 +24,7 @@ cut [] = record { above = []; start = []; is = refl }
 cut (Character c ∷ text) = let rest = cut text in cut_more c text rest.above rest.start rest.is
 cut (Break ∷ text) = let rest = cut text in record { above = [] ∷ rest.above; start = rest.start; is = ap (λ t. Break ∷ t) rest.is }
 
--- the lines of a text whose first part is known
+-- the lines of a text of which a prefix is known
 first_line : (line : List ℕ) (text : List Symbol) → (more : List ℕ) × (rest : List (List ℕ)) × (lines (characters line ++ text) ≡ (line ++ more) ∷ rest)
 first_line [] [] = ([], [], refl)
 first_line [] (Character c ∷ text) = let found = first_line [] text in (c ∷ found.0, found.1, ap (on_first c) found.2)
@@ -42,7 +42,7 @@ lines-leading (line ∷ above) text =
     ∙ lines-line line (leading above ++ text)
     ∙ ap (λ t. line ∷ t) (lines-leading above text)
 
--- where a front of a text ends is a place of the text, and the front's length is its index
+-- the end of a prefix is a position of the text, and the prefix's length is its index
 pub IsPlace-end : (front back : List Symbol) → IsPlace (front ++ back) (end (0, 0) front)
 IsPlace-end front back =
     let parts = cut front in
@@ -62,7 +62,7 @@ pub index_of-end : (front back : List Symbol) → index_of (front ++ back) (end 
 index_of-end front back =
     grind (arith, common_steps, cut front, front, back, end_of_front, index_of_part)
 
--- ---- a place parts the text
+-- ---- a position splits the text
 
 pub record Parted (text : List Symbol) (place : Place) : Type 0 where
   pub front : List Symbol
@@ -96,7 +96,7 @@ following-lines (Character c ∷ text) = following-on_first c (lines text) text 
     following-on_first c [] text e = cc
     following-on_first c (line ∷ rest) text e = ap (λ t. Break ∷ (Character c ∷ drop 1 t)) e
 
--- lines are joined to the text that they were cut from
+-- joining the lines of a text gives back the text
 pub joined-lines : (text : List Symbol) → joined (lines text) ≡ text
 joined-lines [] = refl
 joined-lines (Character c ∷ text) = on_first-joined c (lines text) ∙ ap (λ t. Character c ∷ t) (joined-lines text)
@@ -113,7 +113,7 @@ index_parted place front back e = ap (λ (p : Place). index_of (front ++ back) p
 pub place_parted : (place : Place) (front back : List Symbol) → end (0, 0) front ≡ place → IsPlace (front ++ back) place
 place_parted place front back e = subst (IsPlace (front ++ back)) e (IsPlace-end front back)
 
--- a place is the one at its index, which is at most the text's length
+-- a position is the one at its index, which is at most the text's length
 index_front : (text : List Symbol) (place : Place) (h : IsPlace text place) → index_of text place ≡ length (parted text place h).front
 index_front text place h =
     grind (arith, common_steps, parted text place h, index_parted)
@@ -126,15 +126,15 @@ pub index_within : (text : List Symbol) (place : Place) → IsPlace text place �
 index_within text place h =
     grind (arith, common_steps, parted text place h, index_front text place h, length-append)
 
--- ---- what stands at a place
+-- ---- the text at a position
 
 pub standing : (text : List Symbol) (place : Place) (symbols : List Symbol) (parts : Parted text place) → StandsAt text place symbols → take (length symbols) parts.back ≡ symbols
 standing text place symbols parts h =
     grind (arith, common_steps, index_parted place parts.front parts.back parts.ends, drop_at parts.front parts.back (length parts.front))
 
--- ---- a change and its inverse
+-- ---- a splice and its inverse
 
--- the inverse of a change fits where the change was made, and brings the text back
+-- the inverse of a splice fits the text after it, and gives back the text
 pub record TakesBack (text : List Symbol) (splice : Splice) : Type 0 where
   pub fits : Fits (applied text splice) (inverse splice)
   pub back : applied (applied text splice) (inverse splice) ≡ text
@@ -184,7 +184,7 @@ takes_back_by false text place symbols some h allowed = takes_back_removed text 
 pub takes_back : (text : List Symbol) (splice : Splice) → Fits text splice → TakesBack text splice
 takes_back text splice h = takes_back_by splice.inserts text splice.place splice.symbols h.some h.is_place h.allowed
 
--- ---- the symbol before a place
+-- ---- the symbol before a position
 
 pub is_before : (text : List Symbol) (start : Place) (symbol : Symbol) (place : Place) → IsPlace text start → StandsAt text start (symbol ∷ []) → place ≡ end start (symbol ∷ []) → IsSymbolBefore text place start symbol
 is_before text start symbol place h stands e =
@@ -209,4 +209,4 @@ is_before text start symbol place h stands e =
       ends = e;
     }
 
--- ---- any symbols at once
+-- ---- splices of any symbols

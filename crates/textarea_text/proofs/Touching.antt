@@ -1,4 +1,4 @@
--- The rows that symbols reach over, and the one line that symbols without a break change.
+-- The rows that symbols span, and the one line that symbols without a break change.
 use Rattle.std.proofs.Common.{◌≡◌, ℕ, ◌+◌, ◌<◌, Bool, true, false, cond, List, [], ◌∷◌, ◌++◌, length, take, drop, get_or, sym, ap, refl, ◌∙◌, arith, subst}
 use Rattle.std.proofs.lemmas.Grind.{common_steps}
 use Rattle.std.proofs.lemmas.List.{append-nil, length-append}
@@ -24,13 +24,13 @@ breaks_of-following [] = refl
 breaks_of-following (line ∷ rows) =
     omega (arith, breaks_of-append (characters line) (following rows), breaks_of-characters line, breaks_of-following rows)
 
--- pieces have a break between each two
+-- a fragment has a break between each two lines
 pub breaks_of-joined : (rows : List (List ℕ)) → 0 < length rows → breaks_of (joined rows) + 1 ≡ length rows
 breaks_of-joined [] some = absurd (omega arith)
 breaks_of-joined (line ∷ rows) some =
     omega (arith, breaks_of-append (characters line) (following rows), breaks_of-characters line, breaks_of-following rows)
 
--- symbols end as many rows below their place as they have breaks
+-- symbols end one row further down for each of their breaks
 pub end_row : (place : Place) (symbols : List Symbol) → (end place symbols).0 ≡ place.0 + breaks_of symbols
 end_row place [] = omega arith
 end_row place (Character c ∷ symbols) = end_row (place.0, place.1 + 1) symbols
@@ -44,7 +44,7 @@ only_characters (Character c ∷ symbols) e =
     let rest = only_characters symbols e in (c ∷ rest.0, ap (λ t. Character c ∷ t) rest.1)
 only_characters (Break ∷ symbols) e = absurd (omega arith)
 
--- the lines are the same but for one, in the row
+-- the lines are the same but for the one in the row
 pub record ChangesLine (rows new : List (List ℕ)) (row : ℕ) : Type 0 where
   pub line : List ℕ
   pub within : row < length rows
@@ -80,7 +80,7 @@ line_of_splice false rows new place symbols some h some' allowed none e =
     line_between rows new place to [] some h there (omega (arith, end_row place symbols)) refl
     (e ∙ sym (changed_by_none text place to symbols [] is_place allowed refl refl))
 
--- a change without a break leaves all lines as they are but one
+-- a splice without a break changes only one line
 pub changes_line : (rows new : List (List ℕ)) (splice : Splice) → 0 < length rows → 0 < length new → Fits (joined rows) splice → breaks_of splice.symbols ≡ 0 → joined new ≡ applied (joined rows) splice → ChangesLine rows new splice.place.0
 changes_line rows new splice some some' fits none e =
     grind (arith, common_steps, line_of_splice, lines-joined rows some)

@@ -1,4 +1,4 @@
--- Where words begin and end, told from the classes of two neighbours.
+-- Where words begin and end, by the classes of two neighbouring characters.
 use Rattle.std.proofs.Common.{Option, Some, None, ◌≡◌, ℕ, zero, suc, ◌+◌, ◌-◌, ◌<◌, ◌≤◌, Bool, true, false, not, ◌&&◌, nat_lt, nat_le, List, length, get_or, take, min, ◌++◌, ◌∷◌, [], arith, refl, ◌∙◌, ap, add-one, zero-add}
 use Rattle.std.proofs.lemmas.Grind.{common_steps}
 use Rattle.std.proofs.Math.Bool.{and-true, and-false}
@@ -15,12 +15,12 @@ use Rattle.textarea_text.specs.declared.word.CharKind.TheVariants.{Space, Punct,
 use Rattle.textarea_text.specs.declared.word.Edge.{Edge}
 use Rattle.textarea_text.specs.declared.word.Edge.TheVariants.{Start, Behind}
 
--- the class of the character before a column, and Space at the line's start
+-- the class of the character before a column, or Space at the line's start
 abbrev pub class_before : List ℕ → ℕ → CharKind
 class_before line zero = Space
 class_before line (suc e) = class_at line e
 
--- one turn of a loop over the characters of a line with their columns, where `kind` is the class of the character
+-- an iteration of a loop over the characters of a line; `kind` is the class of the character
 pub record IsTurn (line : List ℕ) (n column : ℕ) (kind : CharKind) : Type 0 where
   pub column_is : column ≡ n
   pub within : n < length line
@@ -33,12 +33,12 @@ IsTurn-enumerate_from line n column c kind below item of_c =
     let here : c ≡ get_or line n 0 = ap (λ (p : ℕ × ℕ). p.1) pair ∙ get_or_default line n c 0 within in
     record { column_is = ap (λ (p : ℕ × ℕ). p.0) pair ∙ zero-add n; within = within; kind_is = of_c ∙ ap class_of here }
 
--- the same in a loop over the characters alone, with a count of its own
+-- the same in a loop over only the characters, with a count of its own
 pub IsTurn-chars : (line : List ℕ) (n column c : ℕ) (kind : CharKind) → column ≡ n → n < length line → c ≡ get_or line n c → kind ≡ class_of c → IsTurn line column column kind
 IsTurn-chars line n column c kind counted below item of_c =
     rw counted (record { column_is = refl; within = below; kind_is = of_c ∙ ap class_of (item ∙ get_or_default line n c 0 below) })
 
--- a turn over the front of a line is one over the line
+-- an iteration over a prefix of a line is one over the line
 pub IsTurn-take : (line : List ℕ) (front n column : ℕ) (kind : CharKind) → IsTurn (take front line) n column kind → (n < front) × IsTurn line n column kind
 IsTurn-take line front n column kind turn =
     let bound : n < min front (length line) = rw length-take at turn.within in
@@ -51,15 +51,15 @@ IsTurn-take line front n column kind turn =
       },
     )
 
--- behind a turn its class is the one before the next column
+-- after an iteration its class is the one before the next column
 pub class_before-after : (line : List ℕ) (column : ℕ) (kind : CharKind) → IsTurn line column column kind → kind ≡ class_before line (column + 1)
 class_before-after line column kind turn = rw add-one turn.kind_is
 
--- the same where the columns are those of a list of what was yielded
+-- the same if the columns count the items that were yielded
 pub class_before-more : {X : Type 0} (line : List ℕ) (yielded : List X) (x : X) (column : ℕ) (kind : CharKind) → IsTurn line (length yielded) column kind → kind ≡ class_before line (length (yielded ++ x ∷ []))
 class_before-more line yielded x column kind turn = rw (length_push yielded x, add-one) turn.kind_is
 
--- at the line's start a word begins with any character that is no Space
+-- at the line's start any character other than a Space begins a word
 begins_first : (kind : CharKind) → (not (is_space kind) && true) ≡ begins Space kind
 begins_first Space = refl
 begins_first Punct = refl
@@ -91,7 +91,7 @@ pub is_word_last-last : (line : List ℕ) (e : ℕ) → suc e ≡ length line �
 is_word_last-last line e last =
     grind (arith, common_steps, and-true (not (is_space (class_at line e))))
 
--- ---- what the test of each search says in a turn
+-- ---- the test of each search in an iteration
 
 pub is_earlier_word_start-turn : (line : List ℕ) (start n column : ℕ) (before kind : CharKind) (b : Bool) → n < start → IsTurn line n column kind → before ≡ class_before line n → begins before kind ≡ b → is_earlier_word_start line start n ≡ b
 is_earlier_word_start-turn line start n column before kind b earlier turn behind tells =
@@ -101,7 +101,7 @@ pub is_later_edge-turn : (edge : Edge) (line : List ℕ) (start n column : ℕ) 
 is_later_edge-turn edge line start n column before kind b later turn behind tells =
     grind (arith, common_steps, is_edge-class_before edge line n turn.within)
 
--- ---- where a test can't hold: on the wrong side of the start, or past the line
+-- ---- where a test fails: on the wrong side of the start, or past the line
 
 pub is_later_edge-early : (edge : Edge) (line : List ℕ) (start n column : ℕ) (kind : CharKind) → column ≤ start → IsTurn line n column kind → is_later_edge edge line start n ≡ false
 is_later_edge-early edge line start n column kind early turn =
@@ -124,7 +124,7 @@ pub is_earlier_word_start-past : (line : List ℕ) (start e : ℕ) → min start
 is_earlier_word_start-past line start e past =
     grind (arith, common_steps, cases_lt e start, and-false (nat_lt e start))
 
--- ---- the column before a turn's, which may be a word's last
+-- ---- the column before an iteration's, which may be a word's last
 
 pub is_word_last_from-turn : (line : List ℕ) (start column : ℕ) (before kind : CharKind) (b : Bool) → start < column → IsTurn line column column kind → before ≡ class_before line column → ends before kind ≡ b → is_word_last_from line start (column - 1) ≡ b
 is_word_last_from-turn line start zero before kind b later turn behind tells = absurd (omega arith)
@@ -133,7 +133,7 @@ is_word_last_from-turn line start (suc m) before kind b later turn behind tells 
     let first : nat_le start m ≡ true = grind (arith, nat_tests) in
     rw (at, first, is_word_last-inside line m turn.within, ← behind, ← turn.kind_is) tells
 
--- what comes behind the line counts as Space
+-- the end of the line counts as a Space
 last_before_space : (kind : CharKind) → not (is_space kind) ≡ ends kind Space
 last_before_space Space = refl
 last_before_space Punct = refl
@@ -148,7 +148,7 @@ pub is_word_last_from-early : (line : List ℕ) (start e : ℕ) → e < start �
 is_word_last_from-early line start e early =
     grind (arith, common_steps)
 
--- a word start before `start` lies before it, and in the line
+-- a word start that is found before `start` is also in the line
 pub IsGreatest-within : (line : List ℕ) (start : ℕ) (found : Option ℕ) → IsGreatest (is_earlier_word_start line start) found → IfSome found (λ e. (e < start) × (e < length line))
 IsGreatest-within line start None greatest = tt
 IsGreatest-within line start (Some e) greatest =

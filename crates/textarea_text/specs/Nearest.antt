@@ -1,20 +1,20 @@
--- The nearest index that passes a test, seen from either side: as a relation and as a value.
+-- The nearest index that passes a test, as a relation and as a value.
 use Rattle.std.specs.Prelude.{◌≡◌, ℕ, zero, suc, ◌<◌, Bool, true, false, Option, Some, None, MatchOption, if◌then◌else◌}
 use Rattle.std.specs.Option.{option_or}
 
--- `found` is the least index that passes, and `None` where no index does
+-- `found` is the least index that passes, or `None` if no index does
 abbrev pub IsLeast : (ℕ → Bool) → Option ℕ → Type 0
 IsLeast test found =
     MatchOption found ((e : ℕ) → test e ≡ false)
     (λ least. (test least ≡ true) × ((e : ℕ) → e < least → test e ≡ false))
 
--- `found` is the greatest index that passes, and `None` where no index does
+-- `found` is the greatest index that passes, or `None` if no index does
 abbrev pub IsGreatest : (ℕ → Bool) → Option ℕ → Type 0
 IsGreatest test found =
     MatchOption found ((e : ℕ) → test e ≡ false)
     (λ greatest. (test greatest ≡ true) × ((e : ℕ) → greatest < e → test e ≡ false))
 
--- the index, where it passes
+-- the index, if it passes
 abbrev pub passing : (ℕ → Bool) → ℕ → Option ℕ
 passing test e = if test e then Some e else None
 

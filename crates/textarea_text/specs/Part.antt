@@ -1,13 +1,13 @@
--- Parts of a text, and the nearest places of lines.
+-- The text between two positions, and the nearest position of lines.
 use Rattle.std.specs.Prelude.{ℕ, ◌-◌, List, take, drop, length, min}
 use Rattle.textarea_text.specs.Text.{Symbol}
 use Rattle.textarea_text.specs.Place.{Place, index_of, last_row, line_of}
 
--- the symbols of the text between two places
+-- the symbols of the text between two positions
 abbrev pub part : List Symbol → Place → Place → List Symbol
 part text from to = take (index_of text to - index_of text from) (drop (index_of text from) text)
 
--- the nearest place of the lines: the row at most the last one, the column at most the length of that row's line
+-- the nearest position: the row at most the last, the column at most its line's length
 abbrev pub clip : List (List ℕ) → Place → Place
 clip rows place =
     let row = min place.0 (last_row rows) in

@@ -1,4 +1,4 @@
--- One change of a text: symbols inserted, or removed, at a place.
+-- A splice: symbols inserted or removed at a position of a text.
 use Rattle.std.specs.Prelude.{◌≡◌, ◌<◌, Bool, true, false, not, cond, List, [], ◌∷◌, length}
 use Rattle.textarea_text.specs.Text.{Symbol}
 use Rattle.textarea_text.specs.Place.{Place, IsPlace, StandsAt, end, inserted, removed}
@@ -8,16 +8,16 @@ pub record Splice : Type 0 where
   pub symbols : List Symbol
   pub inserts : Bool
 
--- the change that takes this one back
+-- the splice that undoes this one
 abbrev pub inverse : Splice → Splice
 inverse splice = record splice { inserts = not splice.inserts }
 
--- the text after the change
+-- the text after the splice
 abbrev pub applied : List Symbol → Splice → List Symbol
 applied text splice = cond splice.inserts (inserted text splice.place splice.symbols) (removed text splice.place splice.symbols)
 
--- what a change asks of the text: that it changes something, that its place is there, and, where it takes symbols
--- out, that they stand there
+-- when a splice fits a text: it has symbols, its position exists, and symbols that it removes are
+-- in the text at that position
 abbrev pub Allows : Bool → List Symbol → Place → List Symbol → Type 0
 Allows true text place symbols = Unit {0}
 Allows false text place symbols = StandsAt text place symbols
@@ -27,29 +27,29 @@ pub record Fits (text : List Symbol) (splice : Splice) : Type 0 where
   pub is_place : IsPlace text splice.place
   pub allowed : Allows splice.inserts text splice.place splice.symbols
 
--- where the cursor is left by the change, and by its inverse
+-- the cursor's position after the splice, and (`place_before`) before it
 abbrev pub place_after : Splice → Place
 place_after splice = cond splice.inserts (end splice.place splice.symbols) splice.place
 
 abbrev pub place_before : Splice → Place
 place_before splice = place_after (inverse splice)
 
--- the changes can be made one after another
+-- the splices fit one after another
 abbrev pub CanApply : List Symbol → List Splice → Type 0
 CanApply text [] = Unit {0}
 CanApply text (splice ∷ rest) = Fits text splice × CanApply (applied text splice) rest
 
--- the changes can be taken back one after another, the first one first
+-- the splices can be undone one after another, in the list's order
 abbrev pub CanTakeBack : List Symbol → List Splice → Type 0
 CanTakeBack text [] = Unit {0}
 CanTakeBack text (splice ∷ rest) = Fits text (inverse splice) × CanTakeBack (applied text (inverse splice)) rest
 
--- the text after all the changes, the first one first
+-- the text after all the splices, in the list's order
 abbrev pub applied_all : List Symbol → List Splice → List Symbol
 applied_all text [] = text
 applied_all text (splice ∷ rest) = applied_all (applied text splice) rest
 
--- the text stood before these changes: they can be made on it, one after another, and lead to the present one
+-- the text from which these splices, one after another, lead to the present one
 pub record StoodBefore (before text : List Symbol) (changes : List Splice) : Type 0 where
   pub can : CanApply before changes
   pub leads : applied_all before changes ≡ text

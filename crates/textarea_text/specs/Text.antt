@@ -2,22 +2,22 @@
 use Rattle.std.specs.Prelude.{ℕ, List, [], ◌∷◌, ◌++◌, map, string_bytes, String, Option, Some, None}
 use Rattle.std.specs.Str.{chars}
 
--- what a text is a list of: a character by its code, or the break between two lines
+-- a symbol: a character by its code, or the break between two lines
 pub data Symbol : Type 0 where
   Character : ℕ → Symbol
   Break : Symbol
 
--- the characters of one line, each a symbol
+-- the characters of one line as symbols
 abbrev pub characters : List ℕ → List Symbol
 characters [] = []
 characters (c ∷ cs) = Character c ∷ characters cs
 
--- lines that follow others: each with a break in front
+-- lines after others: each with a break before it
 abbrev pub following : List (List ℕ) → List Symbol
 following [] = []
 following (line ∷ rest) = Break ∷ (characters line ++ following rest)
 
--- lines that come before others: each with a break behind
+-- lines before others: each with a break after it
 abbrev pub leading : List (List ℕ) → List Symbol
 leading [] = []
 leading (line ∷ rest) = characters line ++ (Break ∷ leading rest)
@@ -27,12 +27,12 @@ abbrev pub joined : List (List ℕ) → List Symbol
 joined [] = []
 joined (line ∷ rest) = characters line ++ following rest
 
--- puts a character in front of the first line
+-- the lines with a character added in front of the first one
 abbrev pub on_first : ℕ → List (List ℕ) → List (List ℕ)
 on_first c [] = (c ∷ []) ∷ []
 on_first c (line ∷ rest) = (c ∷ line) ∷ rest
 
--- the text, cut at its breaks
+-- the text, split at its breaks
 abbrev pub lines : List Symbol → List (List ℕ)
 lines [] = [] ∷ []
 lines (Character c ∷ text) = on_first c (lines text)
@@ -42,15 +42,15 @@ lines (Break ∷ text) = [] ∷ lines text
 abbrev pub characters_of : {Z : Type 0} → String Z → List ℕ
 characters_of s = chars (string_bytes s)
 
--- the lines that a list of `String`s holds
+-- the lines in a list of `String`s
 abbrev pub lines_of : {Z : Type 0} → List (String Z) → List (List ℕ)
 lines_of strings = map characters_of strings
 
--- the text that a list of `String`s holds
+-- the text in a list of `String`s
 abbrev pub text_of : {Z : Type 0} → List (String Z) → List Symbol
 text_of strings = joined (lines_of strings)
 
--- a symbol as the code hands it on: a character, or none for a break
+-- a symbol as the code has it: a character, or none for a break
 abbrev pub symbol_in : Option ℕ → Symbol
 symbol_in None = Break
 symbol_in (Some c) = Character c

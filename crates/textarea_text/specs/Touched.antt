@@ -1,4 +1,4 @@
--- The lines that a splice of the text touches.
+-- The lines that a splice changes.
 use Rattle.std.specs.Prelude.{◌≡◌, ◌≤◌, ℕ, ◌+◌, cond, List, [], ◌∷◌, String, length, vec_len}
 use Rattle.std.specs.declared.alloc.Global.{Global}
 use Rattle.textarea_text.specs.Text.{Symbol, Character, Break, text_of}
@@ -7,22 +7,22 @@ use Rattle.textarea_util.specs.Replaced.{replaced}
 use Rattle.textarea_text.specs.Splice.{Splice, applied}
 use Rattle.textarea_text.specs.declared.rows.Replacement.{Replacement}
 
--- how many of the symbols are breaks
+-- the number of breaks among the symbols
 abbrev pub breaks_of : List Symbol → ℕ
 breaks_of [] = 0
 breaks_of (Character c ∷ symbols) = breaks_of symbols
 breaks_of (Break ∷ symbols) = breaks_of symbols + 1
 
--- How many lines, from the row of the splice on, give place to others: one where symbols are inserted, else those from the row
--- where the symbols begin to that where they end.
+-- The number of lines that are replaced, from the splice's row on: one for an insertion, and for a
+-- removal those from the row where the symbols begin to the one where they end.
 abbrev pub lines_going : Splice → ℕ
 lines_going splice = cond splice.inserts 1 (breaks_of splice.symbols + 1)
 
--- how many lines take their place
+-- the number of lines that replace them
 abbrev pub lines_coming : Splice → ℕ
 lines_coming splice = cond splice.inserts (breaks_of splice.symbols + 1) 1
 
--- the replacement puts the symbols in the place of what stands in these lines between two places
+-- the replacement puts the symbols instead of the text between two positions of these lines
 pub record ReplacesPart (lines : List (String Global)) (start to : Place) (symbols : List Symbol) (replacement : Replacement) : Type 0 where
   pub row : replacement.row ≡ start.0
   pub going : replacement.row + replacement.count ≡ to.0 + 1
@@ -30,8 +30,8 @@ pub record ReplacesPart (lines : List (String Global)) (start to : Place) (symbo
   pub within : replacement.row + replacement.count ≤ length lines
   pub text : text_of (replaced lines replacement.row replacement.count replacement.lines.items) ≡ changed (text_of lines) start to symbols
 
--- the replacement makes the splice on these lines: its lines take the place of just those that the splice touches, and the text
--- is then the one after the splice
+-- the replacement makes the splice on these lines: it replaces just the lines that the splice
+-- changes, and the text is then the one after the splice
 pub record IsReplacementFor (lines : List (String Global)) (splice : Splice) (replacement : Replacement) : Type 0 where
   pub row : replacement.row ≡ splice.place.0
   pub going : replacement.count ≡ lines_going splice

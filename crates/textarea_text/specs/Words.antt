@@ -1,7 +1,7 @@
 -- The classes of characters, and where words begin and end in a line.
 --
 -- A line is the list of its characters' codes, and a column is an index of that list. A word is a
--- longest stretch of characters of one class that is not Space.
+-- longest sequence of characters of one class other than Space.
 use Rattle.std.specs.Prelude.{ℕ, ◌+◌, ◌-◌, Bool, true, false, ◌&&◌, ◌||◌, not, ◌==◌, nat_lt, nat_le, List, length, slice_index, Option, if◌then◌else◌}
 use Rattle.std.specs.Char.{is_whitespace, is_ascii_punctuation}
 use Rattle.textarea_text.specs.Nearest.{least_below, greatest_below}
@@ -15,28 +15,26 @@ unfoldable pub class_of : ℕ → CharKind
 class_of c =
     if is_whitespace c then Space else (if is_ascii_punctuation c && not (c == 95) then Punct else Other)
 
--- the class is Space
 abbrev pub is_space : CharKind → Bool
 is_space Space = true
 is_space Punct = false
 is_space Other = false
 
--- the two classes are the same
 abbrev pub is_same : CharKind → CharKind → Bool
 is_same Space Space = true
 is_same Punct Punct = true
 is_same Other Other = true
 is_same _ _ = false
 
--- a word begins with a character of the second class that follows one of the first
+-- a word begins at a character of the second class after one of the first
 abbrev pub begins : CharKind → CharKind → Bool
 begins before kind = not (is_space kind) && not (is_same before kind)
 
--- a word ends with a character of the first class that comes before one of the second
+-- a word ends at a character of the first class before one of the second
 abbrev pub ends : CharKind → CharKind → Bool
 ends kind after = not (is_space kind) && not (is_same kind after)
 
--- the class of the character at a column that the line has
+-- the class of the character at a column within the line
 abbrev pub class_at : List ℕ → ℕ → CharKind
 class_at line e = class_of (slice_index line e)
 
@@ -46,18 +44,18 @@ is_word_start line e =
     nat_lt e (length line)
     && (not (is_space (class_at line e)) && (e == 0 || not (is_same (class_at line (e - 1)) (class_at line e))))
 
--- a word's last character stands at column `e`
+-- a word's last character is at column `e`
 abbrev pub is_word_last : List ℕ → ℕ → Bool
 is_word_last line e =
     nat_lt e (length line)
     && (not (is_space (class_at line e)) && (e + 1 == length line || not (is_same (class_at line e) (class_at line (e + 1)))))
 
--- column `e` is that of a character, and a word ends right before it
+-- column `e` has a character, and a word ends right before it
 abbrev pub is_behind_word : List ℕ → ℕ → Bool
 is_behind_word line e =
     nat_lt e (length line) && (nat_lt 0 e && ends (class_at line (e - 1)) (class_at line e))
 
--- column `e` has this edge of a word, which lies between a character of the first class and one of the second
+-- column `e` has this edge of a word; `lies_between` tests the classes around the edge
 abbrev pub is_edge : Edge → List ℕ → ℕ → Bool
 is_edge Start line e = is_word_start line e
 is_edge Behind line e = is_behind_word line e
@@ -68,27 +66,27 @@ lies_between Behind before kind = ends before kind
 
 -- ---- what the four searches look for from a column, `start`
 
--- column `e` lies behind `start`, and has this edge of a word
+-- column `e` is after `start`, and has this edge of a word
 abbrev pub is_later_edge : Edge → List ℕ → ℕ → ℕ → Bool
 is_later_edge edge line start e = nat_lt start e && is_edge edge line e
 
--- column `e` lies behind `start`, and a word begins there
+-- column `e` is after `start`, and a word begins there
 abbrev pub is_later_word_start : List ℕ → ℕ → ℕ → Bool
 is_later_word_start line start e = nat_lt start e && is_word_start line e
 
--- column `e` lies behind `start` and right behind a word's last character
+-- column `e` is after `start`, and right after a word's last character
 abbrev pub is_later_behind_word : List ℕ → ℕ → ℕ → Bool
 is_later_behind_word line start e = nat_lt start e && is_behind_word line e
 
--- column `e` is `start` or lies behind it, and holds a word's last character
+-- column `e` is `start` or after it, and has a word's last character
 abbrev pub is_word_last_from : List ℕ → ℕ → ℕ → Bool
 is_word_last_from line start e = nat_le start e && is_word_last line e
 
--- column `e` lies before `start`, and a word begins there
+-- column `e` is before `start`, and a word begins there
 abbrev pub is_earlier_word_start : List ℕ → ℕ → ℕ → Bool
 is_earlier_word_start line start e = nat_lt e start && is_word_start line e
 
--- ---- what they find, as a value
+-- ---- the results of the searches
 
 abbrev pub next_edge : Edge → List ℕ → ℕ → Option ℕ
 next_edge edge line start = least_below (is_later_edge edge line start) (length line)

@@ -1,17 +1,17 @@
-//! Where a splice of a text carries a place. A place is a row and a column, from 0, the column in characters.
+//! Where a splice moves a position (a row and a column in characters, both from 0).
 ghost use Rattle.std.specs.Prelude.{◌≡◌, ◌+◌, ◌≤◌};
 ghost use Rattle.textarea_text.specs.Place.{IsUpTo};
 ghost use Rattle.textarea_text.specs.Carried.{is_up_to, shifted};
 
-/// Whether the one place comes before the other, or is the same.
+/// Returns whether `one` is before `other` or the same position.
 pub fn is_up_to(one: (usize, usize), other: (usize, usize)) -> bool
     ensures { result ≡ is_up_to one other }
 {
     one.0 < other.0 || (one.0 == other.0 && one.1 <= other.1)
 }
 
-/// Where the place goes when what stood behind the old place stands behind the new one: as far behind the new place as it is
-/// behind the old one, by columns in the old one's row, by rows in a row below it.
+/// Moves `place` with the text after `old`, which moves to `new`. In the row of `old` it keeps its
+/// distance from `old` in columns. In a row below it keeps its distance in rows, and its column.
 pub fn shift(place: (usize, usize), old: (usize, usize), new: (usize, usize)) -> (usize, usize)
     requires behind { IsUpTo old place }
     requires row { new.0 + place.0 ≤ usize.MAX }

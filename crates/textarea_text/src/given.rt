@@ -1,4 +1,4 @@
-//! Given texts, with line feeds for breaks, as pieces: one for each line.
+//! Fragments: texts with line feeds, split into one string for each line.
 ghost use Rattle.std.specs.Prelude.{◌≡◌, ◌<◌, ◌++◌, ◌∷◌, length, vec_len, string_bytes, IfOk, MatchOption};
 ghost use Rattle.std.specs.Str.{chars};
 ghost use Rattle.textarea_text.specs.Text.{Break, characters, lines_of, text_of};
@@ -6,8 +6,8 @@ ghost use Rattle.textarea_text.specs.Given.{given, written};
 
 use std::alloc::{AllocError, Global};
 
-/// The pieces of a given text, which is cut at each line feed; a carriage return directly before a line feed goes with
-/// it. There is one piece more than line feeds, so an empty text has one empty piece.
+/// Splits a text at each line feed into lines. A carriage return directly before a line feed is
+/// dropped. There is one line more than line feeds, so an empty text gives one empty line.
 pub fn pieces_of(alloc: Global, text: &str) -> Result<Vec<String>, AllocError>
     ensures some { IfOk result (λ pieces. 0 < vec_len pieces) }
     ensures text { IfOk result (λ pieces. text_of pieces.items ≡ given (chars text.now)) }
@@ -22,7 +22,7 @@ pub fn pieces_of(alloc: Global, text: &str) -> Result<Vec<String>, AllocError>
     Ok(pieces)
 }
 
-// The text's first line, where a line feed ends it, and what stands behind that line feed.
+// The text's first line, if a line feed ends it, and the text after that line feed.
 fn first_line(text: &str) -> Option<(&str, &str)>
     ensures lines { MatchOption result (given (chars text.now) ≡ characters (chars text.now))
         (λ x. given (chars text.now)
@@ -34,7 +34,7 @@ fn first_line(text: &str) -> Option<(&str, &str)>
     Some((line.strip_suffix('\r').unwrap_or(line), behind))
 }
 
-/// The pieces as one text, with a line feed between each two; the empty text where there are none.
+/// Joins the lines of a fragment by line feeds; without lines it returns the empty text.
 pub fn join_with_line_feeds(alloc: Global, pieces: &[String]) -> Result<String, AllocError>
     ensures { IfOk result (λ s. chars (string_bytes s) ≡ written (text_of pieces.now)) }
 {
@@ -49,7 +49,7 @@ pub fn join_with_line_feeds(alloc: Global, pieces: &[String]) -> Result<String, 
     Ok(text)
 }
 
-/// Pieces with the same texts in memory of their own, in the same order.
+/// Returns a copy of the lines, in the same order.
 pub fn copy_pieces(alloc: Global, pieces: &[String]) -> Result<Vec<String>, AllocError>
     ensures same { IfOk result (λ copy. lines_of copy.items ≡ lines_of pieces.now) }
     ensures len { IfOk result (λ copy. vec_len copy ≡ length pieces.now) }

@@ -1,5 +1,5 @@
 //! Changes inside one line, in place.
-ghost use Rattle.std.specs.Prelude.{◌≡◌, ◌+◌, ◌^◌, ◌<◌, ◌≤◌, [], length, take, encode_utf8_all, string_bytes, string_capacity, string_len, vec_len, OnOk, OnErr};
+ghost use Rattle.std.specs.Prelude.{◌≡◌, ◌+◌, ◌^◌, ◌<◌, ◌≤◌, [], string_bytes, string_capacity, string_len, vec_len, OnOk, OnErr};
 ghost use Rattle.std.specs.Str.{chars};
 ghost use Rattle.textarea_text.specs.Text.{characters, lines_of, text_of};
 ghost use Rattle.textarea_text.specs.Offset.{offset_at};
@@ -7,8 +7,8 @@ ghost use Rattle.textarea_text.specs.Place.{IsPlaceOf, changed, inserted};
 
 use std::alloc::AllocError;
 
-/// Puts the text into its line at the place, which stands behind so many bytes of that line, in place: only what stands behind
-/// the place in the line is moved, and the whole line where it has to grow. Where there is no memory for that the lines stay.
+/// Inserts the text at the position, whose byte offset in its line is `offset`. Moves only the text
+/// after it, or the whole line if it has to grow. Out of memory leaves the lines unchanged.
 pub fn insert_inside(
     lines: &mut Vec<String>,
     place: (usize, usize),
@@ -31,8 +31,8 @@ pub fn insert_inside(
     Ok(())
 }
 
-// Makes room for that many more bytes, at least twice as much as there was, or leaves the line as it is where there is
-// no memory for it.
+// Makes room for `additional` more bytes. A line that has to grow at least doubles its capacity.
+// Out of memory leaves the line unchanged.
 fn make_room(line: &mut String, additional: usize) -> Result<(), AllocError>
     requires { additional < 2 ^ 63 }
     ensures bytes { string_bytes line.new ≡ string_bytes line.old }
@@ -50,7 +50,7 @@ fn make_room(line: &mut String, additional: usize) -> Result<(), AllocError>
     Ok(())
 }
 
-/// Removes, in place and without memory, what stands between two columns of a line, which stand behind so many bytes of it.
+/// Removes, in place and without allocating, the text between two columns with these byte offsets.
 pub fn remove_inside(
     lines: &mut Vec<String>,
     start: (usize, usize),

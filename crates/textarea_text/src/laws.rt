@@ -1,12 +1,12 @@
-//! Laws of places, each the contract of a function without a body.
+//! Laws of positions, each stated as the contract of a function without a body.
 ghost use Rattle.std.specs.Prelude.{List};
 ghost use Rattle.textarea_text.specs.Text.{Symbol};
 ghost use Rattle.textarea_text.specs.Place.{IsPlace, IsUpTo, Place};
 ghost use Rattle.textarea_text.specs.Splice.{Fits, Splice, place_before};
 ghost use Rattle.textarea_text.specs.Carried.{GoesAlong, Stays};
 
-/// A place before a splice that fits, or where it begins, stays with the symbols before it. A place behind it, or at its end,
-/// goes with the symbols behind it. Both are places of the text after the splice.
+/// A position at or before the start of a splice that fits stays, with the text before it. One at
+/// or after its end moves with the text after it. Both are positions of the text after the splice.
 pub fn places_go_with_the_text()
     ensures before { (text : List Symbol) (splice : Splice) (place : Place)
         → Fits text splice → IsPlace text place → IsUpTo place splice.place

@@ -1,4 +1,4 @@
-//! The text of an editor as lines: lines that replace others, changes of one line in place, fragments of several lines, places in a text, and the words of a line.
+//! The lines of a text: replacing lines, changing one line in place, fragments, positions, words.
 #![tactic(auto)]
 
 pub mod carried;

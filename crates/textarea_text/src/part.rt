@@ -1,5 +1,5 @@
-//! Parts of a text, cut out of its lines.
-ghost use Rattle.std.specs.Prelude.{◌≡◌, ◌+◌, ◌≤◌, ◌++◌, ◌∷◌, length, take, drop, vec_len, string_bytes, IfOk, OnOk, []};
+//! Copies of the text between two positions.
+ghost use Rattle.std.specs.Prelude.{◌≡◌, ◌+◌, ◌≤◌, ◌++◌, ◌∷◌, length, take, drop, vec_len, IfOk, OnOk, []};
 ghost use Rattle.std.specs.Str.{chars};
 ghost use Rattle.textarea_text.specs.Text.{lines_of, text_of};
 ghost use Rattle.textarea_text.specs.Place.{IsPlaceOf, index_of};
@@ -8,7 +8,7 @@ ghost use Rattle.textarea_text.specs.Part.{part};
 use crate::rows::{byte_offset, byte_offset_from};
 use std::alloc::{AllocError, Global};
 
-/// The text between two places as pieces: one for each row that it touches.
+/// Returns the text between two positions as a fragment, one string for each row that it touches.
 pub fn between(
     alloc: Global,
     lines: &[String],
@@ -31,7 +31,7 @@ pub fn between(
     Ok(pieces)
 }
 
-// Puts a text behind the other pieces.
+// Appends a copy of the text.
 fn push_piece(pieces: &mut Vec<String>, text: &str) -> Result<(), AllocError>
     ensures rows { OnOk result
         (lines_of pieces.new.items ≡ lines_of pieces.old.items ++ chars text.now ∷ []) }
@@ -42,7 +42,7 @@ fn push_piece(pieces: &mut Vec<String>, text: &str) -> Result<(), AllocError>
     Ok(())
 }
 
-/// What stands in a line before the column.
+/// The text of a line before the column.
 pub(crate) fn text_before(line: &str, column: usize) -> &str
     requires { column ≤ length (chars line.now) }
     ensures { chars result.now ≡ take column (chars line.now) }
@@ -50,7 +50,7 @@ pub(crate) fn text_before(line: &str, column: usize) -> &str
     &line[..byte_offset(line, column)]
 }
 
-// What stands in a line from the column on.
+// The text of a line from the column on.
 fn text_behind(line: &str, column: usize) -> &str
     requires { column ≤ length (chars line.now) }
     ensures { chars result.now ≡ drop column (chars line.now) }
@@ -58,7 +58,7 @@ fn text_behind(line: &str, column: usize) -> &str
     &line[byte_offset(line, column)..]
 }
 
-// What stands between two columns of a line.
+// The text of a line between two columns.
 fn text_between(line: &str, start: usize, end: usize) -> &str
     requires start { start ≤ end }
     requires end { end ≤ length (chars line.now) }

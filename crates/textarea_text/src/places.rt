@@ -1,4 +1,4 @@
-//! Places of some lines, counted from others. A place is a row and a column, from 0, the column in characters.
+//! Positions in lines. A position is a row and a column, both from 0, the column in characters.
 ghost use Rattle.std.specs.Prelude.{◌≡◌, ◌+◌, ◌^◌, ◌<◌, ◌≤◌, length, min};
 ghost use Rattle.std.specs.Str.{chars};
 ghost use Rattle.textarea_text.specs.Text.{lines_of, text_of};
@@ -8,8 +8,8 @@ ghost use Rattle.textarea_text.specs.Part.{clip};
 
 use crate::rows::column_count;
 
-/// The place behind `count` symbols from the place on, or the text's end where there are fewer. A symbol is a character or
-/// the break between two lines.
+/// Returns the position `count` symbols after `place`, or the end of the text if there are fewer. A
+/// symbol is a character or the break between two lines.
 pub fn ahead(lines: &[String], place: (usize, usize), count: usize) -> (usize, usize)
     requires { IsPlaceOf (lines_of lines.now) place }
     ensures value { result ≡ place_of (text_of lines.now)
@@ -33,7 +33,7 @@ pub fn ahead(lines: &[String], place: (usize, usize), count: usize) -> (usize, u
     (last, column + left.min(room))
 }
 
-/// The text's end: the end of its last line.
+/// Returns the end of the text: the end of its last line.
 pub fn text_end(lines: &[String]) -> (usize, usize)
     requires { 0 < length lines.now }
     ensures value { result ≡ place_of (text_of lines.now) (length (text_of lines.now)) }
@@ -43,7 +43,7 @@ pub fn text_end(lines: &[String]) -> (usize, usize)
     line_end(lines, last_row(lines))
 }
 
-/// The row of the last line.
+/// Returns the row of the last line.
 pub fn last_row(lines: &[String]) -> usize
     requires { 0 < length lines.now }
     ensures value { result ≡ last_row (lines_of lines.now) }
@@ -52,7 +52,7 @@ pub fn last_row(lines: &[String]) -> usize
     lines.len() - 1
 }
 
-/// The line of the row. A column one behind its end fits too.
+/// Returns the line of the row. It has fewer than 2^63 characters.
 pub fn line_of(lines: &[String], row: usize) -> &str
     requires { row < length lines.now }
     ensures characters { chars result.now ≡ line_of (lines_of lines.now) row }
@@ -61,7 +61,7 @@ pub fn line_of(lines: &[String], row: usize) -> &str
     lines[row].as_str()
 }
 
-/// How many characters the row's line has.
+/// Returns the number of characters in the row's line.
 pub fn line_length(lines: &[String], row: usize) -> usize
     requires { row < length lines.now }
     ensures { result ≡ length (line_of (lines_of lines.now) row) }
@@ -69,7 +69,7 @@ pub fn line_length(lines: &[String], row: usize) -> usize
     column_count(line_of(lines, row))
 }
 
-/// The place behind the last character of the row's line.
+/// Returns the position after the last character of the row's line.
 pub fn line_end(lines: &[String], row: usize) -> (usize, usize)
     requires { row < length lines.now }
     ensures value { result ≡ line_end (lines_of lines.now) row }
@@ -78,7 +78,7 @@ pub fn line_end(lines: &[String], row: usize) -> (usize, usize)
     (row, line_length(lines, row))
 }
 
-/// The nearest place of the lines: the row at most the last one, the column at most the length of that row's line.
+/// Returns the nearest position: the row at most the last, the column at most its line's length.
 pub fn clip(lines: &[String], place: (usize, usize)) -> (usize, usize)
     requires { 0 < length lines.now }
     ensures value { result ≡ clip (lines_of lines.now) place }
@@ -88,7 +88,7 @@ pub fn clip(lines: &[String], place: (usize, usize)) -> (usize, usize)
     (end.0, place.1.min(end.1))
 }
 
-/// The place where the pieces end, inserted at `place`.
+/// Returns the position where a fragment ends that is inserted at `place`.
 pub fn end_of(place: (usize, usize), pieces: &[String]) -> (usize, usize)
     requires some { 0 < length pieces.now }
     requires room { place.0 + place.1 + size_of pieces.now ≤ usize.MAX }

@@ -1,10 +1,10 @@
-//! Lines that take the place of others: made ready while the old lines stand, and put there without memory.
+//! Lines that replace others: built beside the old lines, then put in without allocating.
 ghost use Rattle.std.specs.Prelude.{◌≡◌, ◌+◌, ◌-◌, ◌<◌, ◌≤◌, ◌++◌, ◌∷◌, ◌↔◌, [], length, string_bytes, take, drop, MatchOption, encode_utf8_all, vec_len, vec_capacity, min, IfOk, IsOk, OnOk, OnErr};
 ghost use Rattle.std.specs.Str.{chars};
 ghost use Rattle.textarea_util.specs.Limit.{size_limit};
 ghost use Rattle.textarea_text.specs.Text.{characters, following, joined, lines_of, symbol_in, text_of};
 ghost use Rattle.textarea_text.specs.Offset.{offset_at};
-ghost use Rattle.textarea_text.specs.Place.{IsPlaceOf, IsSymbolBefore, ReplacesRows, changed, index_of};
+ghost use Rattle.textarea_text.specs.Place.{IsPlaceOf, IsSymbolBefore, ReplacesRows, index_of};
 ghost use Rattle.textarea_util.specs.Replaced.{replaced};
 ghost use Rattle.textarea_text.specs.Size.{size_of};
 ghost use Rattle.textarea_text.specs.Touched.{ReplacesPart};
@@ -13,8 +13,8 @@ use std::alloc::{AllocError, Global};
 use textarea_util::limit::within_limit;
 use textarea_util::replace::replace_items;
 
-/// The byte at which the column of a line begins; a column counts characters, and the line's length is one. The line is
-/// not walked where the column is its length in bytes, since then each character is one byte.
+/// Returns the byte offset of a column, counted in characters and at most the line's length. A
+/// column that equals the length in bytes needs no walk, since then each character is one byte.
 pub fn byte_offset(line: &str, column: usize) -> usize
     requires { column ≤ length (chars line.now) }
     ensures { result ≡ length (encode_utf8_all (take column (chars line.now))) }
@@ -22,8 +22,8 @@ pub fn byte_offset(line: &str, column: usize) -> usize
     byte_offset_from(line, (0, 0), column)
 }
 
-/// The byte at which the column of a line begins, told from another column and its byte: no more than what stands between the
-/// two is walked, and nothing where the column is the line's length in bytes.
+/// Returns the byte offset of a column, given another column with its byte offset. Only the text
+/// between the two is walked, and nothing if the column equals the line's length in bytes.
 pub fn byte_offset_from(line: &str, known: (usize, usize), column: usize) -> usize
     requires known { known.0 ≤ length (chars line.now) }
     requires offset { known.1 ≡ length (encode_utf8_all (take known.0 (chars line.now))) }
@@ -40,7 +40,7 @@ pub fn byte_offset_from(line: &str, known: (usize, usize), column: usize) -> usi
     offset_ahead(line, from, offset, column)
 }
 
-// The same for a column from the known one on.
+// The same for a column at or after the known one.
 fn offset_ahead(line: &str, from: usize, offset: usize, column: usize) -> usize
     requires ordered { from ≤ column }
     requires offset { offset ≡ length (encode_utf8_all (take from (chars line.now))) }
@@ -54,7 +54,7 @@ fn offset_ahead(line: &str, from: usize, offset: usize, column: usize) -> usize
     line.len() - rest.as_str().len()
 }
 
-// The same for a column up to the known one.
+// The same for a column at or before the known one.
 fn offset_back(line: &str, from: usize, offset: usize, column: usize) -> usize
     requires ordered { column ≤ from }
     requires from { from ≤ length (chars line.now) }
@@ -70,7 +70,7 @@ fn offset_back(line: &str, from: usize, offset: usize, column: usize) -> usize
     bytes
 }
 
-/// How many characters the line has.
+/// Returns the number of characters in the line.
 #[tactic(auto, using(std::proofs::lemmas::Str::chars_from_encodes))]
 pub fn column_count(line: &str) -> usize
     ensures { result ≡ length (chars line.now) }
@@ -78,7 +78,7 @@ pub fn column_count(line: &str) -> usize
     line.chars().count()
 }
 
-// The character that ends at the column of a line, which begins behind so many bytes.
+// The character that ends at the column, whose byte offset is `offset`.
 fn character_before(line: &str, column: usize, offset: usize) -> char
     requires some { 0 < column }
     requires within { column ≤ length (chars line.now) }
@@ -89,14 +89,14 @@ fn character_before(line: &str, column: usize, offset: usize) -> char
     before.next_back().unwrap()
 }
 
-/// What stands directly before a place, and where it begins: a character, or none for the break between two lines.
+/// The symbol directly before a position (a character, or none for a line break), and its start.
 #[derive(Clone, Copy, Debug, PartialEq, Eq)]
 pub struct SymbolBefore {
     pub start: (usize, usize),
     pub character: Option<char>,
 }
 
-/// The symbol before the place, which stands behind so many bytes of its line; none at the start of the text.
+/// Returns the symbol before `place`, whose byte offset is `offset`; none at the start of the text.
 pub fn symbol_before(lines: &[String], place: (usize, usize), offset: usize) -> Option<SymbolBefore>
     requires place { IsPlaceOf (lines_of lines.now) place }
     requires offset { offset ≡ offset_at (lines_of lines.now) place }
@@ -120,7 +120,7 @@ pub fn symbol_before(lines: &[String], place: (usize, usize), offset: usize) -> 
     })
 }
 
-/// Lines that are to take the place of the `count` lines from `row` on.
+/// Lines that replace the `count` lines from `row` on.
 #[derive(Drop)]
 pub struct Replacement {
     pub row: usize,
@@ -129,7 +129,7 @@ pub struct Replacement {
 }
 
 impl Replacement {
-    /// Inserts the new lines, or leaves the lines as they were where there is no memory for more of them.
+    /// Puts in the new lines. Out of memory leaves the lines unchanged.
     pub fn apply(self, lines: &mut Vec<String>) -> Result<(), AllocError>
         requires { self.row + self.count ≤ vec_len lines.old }
         ensures ok { OnOk result
@@ -141,7 +141,7 @@ impl Replacement {
         Ok(())
     }
 
-    /// Inserts the new lines, for which there is room.
+    /// Puts in the new lines, for which there is room.
     pub fn replace_in(self, lines: &mut Vec<String>)
         requires within { self.row + self.count ≤ vec_len lines.old }
         requires room { vec_len lines.old + vec_len self.lines
@@ -157,8 +157,9 @@ impl Replacement {
     }
 }
 
-/// The lines that hold the text with the first piece, and each further one behind a break, in the place of what
-/// stands between the two places. They are as many as the pieces; the old lines stay until these are inserted.
+/// Builds the lines in which `first`, and each line of `rest` after a break, replace the text
+/// between two positions. There is one new line for each of these. The old lines stay until
+/// `apply`.
 pub fn prepare_replacement(
     alloc: Global,
     lines: &[String],
@@ -182,7 +183,7 @@ pub fn prepare_replacement(
     })
 }
 
-// The lines that stand, afterwards, where those from the one row to the other stood.
+// The lines that replace those from the start's row to the end's.
 fn new_rows(
     alloc: Global,
     lines: &[String],
@@ -208,7 +209,7 @@ fn new_rows(
     Ok(rows)
 }
 
-// Puts lines where there is none yet: the head with the first text, and the further ones; the tail stands behind the last of them.
+// Pushes to no lines: `head` with `first`, then the lines of `rest`; `tail` ends the last of all.
 fn push_rows(
     rows: &mut Vec<String>,
     head: &str,
@@ -229,7 +230,6 @@ fn push_rows(
     Ok(())
 }
 
-// Two texts, one behind the other.
 fn put_together(alloc: Global, front: &str, back: &str) -> Result<String, AllocError>
     ensures { IfOk result (λ line.
         chars (string_bytes line) ≡ chars front.now ++ chars back.now) }
@@ -239,7 +239,8 @@ fn put_together(alloc: Global, front: &str, back: &str) -> Result<String, AllocE
     Ok(line)
 }
 
-// Puts the line and the further ones where there is none yet, but for the last of them, which becomes the line.
+// Pushes to no lines: `line`, then the lines of `rest`, but for the last of all, which becomes
+// `line`.
 fn push_pieces(rows: &mut Vec<String>, line: &mut String, rest: &[String]) -> Result<(), AllocError>
     requires none { rows.old.items ≡ [] }
     ensures rows { OnOk result
@@ -255,7 +256,7 @@ fn push_pieces(rows: &mut Vec<String>, line: &mut String, rest: &[String]) -> Re
     Ok(())
 }
 
-// The byte at which the end's column begins in its line, of the byte at which the start's does in its own.
+// The byte offset of `end` in its line, given the byte offset of `start` in its own line.
 fn end_offset(line: &str, end: (usize, usize), start: (usize, usize), offset: usize) -> usize
     requires column { end.1 ≤ length (chars line.now) }
     requires offset { start.0 ≡ end.0 → offset
@@ -268,7 +269,7 @@ fn end_offset(line: &str, end: (usize, usize), start: (usize, usize), offset: us
     byte_offset(line, end.1)
 }
 
-/// The bytes of the lines and their number, summed, or the greatest `usize` where that is less.
+/// Returns the bytes of the lines plus their number, at most `usize::MAX`.
 pub fn size_of(lines: &[String]) -> usize
     ensures { result ≡ min (size_of lines.now) usize.MAX }
 {
@@ -279,7 +280,7 @@ pub fn size_of(lines: &[String]) -> usize
     size
 }
 
-/// The bytes of the lines and their number, summed; more than a text may have are out of memory.
+/// Returns the bytes of the lines plus their number, or out of memory if that is above the limit.
 pub fn size_within_limit(lines: &[String]) -> Result<usize, AllocError>
     ensures size { IfOk result (λ size. size ≡ size_of lines.now) }
     ensures limit { IsOk result ↔ (size_of lines.now ≤ size_limit) }

@@ -6,8 +6,8 @@ ghost use Rattle.textarea_text.specs.Tab.{width_of};
 use crate::part::text_before;
 use unicode_width::UnicodeWidthChar;
 
-/// How many spaces reach from the column of a line, counted in characters, to the next tab stop: the tab length less the
-/// remainder of the width of the characters before the column, in which a tab counts 0. From 1 to the tab length.
+/// Returns the number of spaces from a column to the next tab stop, from 1 to the tab length: the
+/// tab length less the remainder of the width of the characters before the column. Tabs count 0.
 pub fn spaces_to_stop(line: &str, column: usize, tab_length: u8) -> u8
     requires some { 0 < tab_length }
     requires within { column ≤ length (chars line.now) }

@@ -1,8 +1,8 @@
-//! Positions of a text, and runs of spaces.
+//! Positions with byte offsets, and strings of spaces.
 ghost use Rattle.std.specs.Prelude.{◌≡◌, replicate};
 
-/// A position in a text: row and column from 0, the column in characters, and the byte of the line at which
-/// that column begins.
+/// A position in a text: row and column from 0, the column in characters, and the column's byte
+/// offset in the line.
 #[derive(Clone, Debug, PartialEq, Eq, Drop)]
 pub struct Pos {
     pub row: usize,
@@ -18,11 +18,11 @@ impl Pos {
     }
 }
 
-// As many spaces as `spaces` can be asked for.
+// The longest string that `spaces` returns.
 const SPACES: &str =
     "                                                                                                                                                                                                                                                               ";
 
-/// That many spaces.
+/// Returns `size` spaces.
 pub fn spaces(size: u8) -> &'static str
     ensures { result.now ≡ replicate size 32 }
 {

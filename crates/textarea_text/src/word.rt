@@ -1,8 +1,8 @@
 //! The classes of characters, and searches for the words of a line.
 //!
-//! A word is a longest stretch of characters of one class other than [`CharKind::Space`]. Columns
-//! count characters from 0. A search goes over the line once, and takes any start column, also one
-//! past the line's end.
+//! A word is a longest sequence of characters of one class other than [`CharKind::Space`]. Columns
+//! count characters from 0. A search walks the line once, and accepts any start column, even past
+//! the line's end.
 
 ghost use Rattle.std.specs.Prelude.{◌≡◌, ◌<◌, ◌≤◌, length, IfSome};
 ghost use Rattle.std.specs.Str.{chars};
@@ -12,7 +12,7 @@ ghost use Rattle.textarea_text.specs.Words.{class_of, begins, ends, lies_between
 /// The class of a character.
 #[derive(Clone, Copy, Debug, PartialEq, Eq)]
 pub enum CharKind {
-    /// White space, as Unicode's `White_Space` property has it.
+    /// White space, by Unicode's `White_Space` property.
     Space,
     /// ASCII punctuation other than `_`.
     Punct,
@@ -21,7 +21,7 @@ pub enum CharKind {
 }
 
 impl CharKind {
-    /// The class of `c`.
+    /// Returns the class of `c`.
     #[tactic(auto, unfolding(crate::specs::Words::class_of))]
     pub fn new(c: char) -> Self
         ensures { result ≡ class_of c }
@@ -35,14 +35,14 @@ impl CharKind {
         }
     }
 
-    /// Whether a character of this class that follows one of class `before` begins a word.
+    /// Returns whether a character of this class, after one of class `before`, begins a word.
     fn begins_word(self, before: CharKind) -> bool
         ensures { result ≡ begins before self }
     {
         self != CharKind::Space && self != before
     }
 
-    /// Whether a character of this class that comes before one of class `after` ends a word.
+    /// Returns whether a character of this class, before one of class `after`, ends a word.
     fn ends_word(self, after: CharKind) -> bool
         ensures { result ≡ ends self after }
     {
@@ -50,7 +50,7 @@ impl CharKind {
     }
 }
 
-/// An edge of a word: at its first character, or at the one right behind its last.
+/// An edge of a word: at its first character, or at the character right after its last.
 #[derive(Clone, Copy)]
 enum Edge {
     Start,
@@ -58,7 +58,7 @@ enum Edge {
 }
 
 impl Edge {
-    /// Whether it lies at a character of class `kind` that follows one of class `before`.
+    /// Returns whether this edge is at a character of class `kind` after one of class `before`.
     fn lies_between(self, before: CharKind, kind: CharKind) -> bool
         ensures { result ≡ lies_between self before kind }
     {
@@ -69,7 +69,7 @@ impl Edge {
     }
 }
 
-/// The least column after `start_column` at which such an edge lies.
+/// Returns the least column after `start_column` that has this edge of a word.
 fn find_edge_forward(line: &str, start_column: usize, edge: Edge) -> Option<usize>
     ensures least { IsLeast (is_later_edge edge (chars line.now) start_column) result }
     ensures value { result ≡ next_edge edge (chars line.now) start_column }
@@ -86,7 +86,7 @@ fn find_edge_forward(line: &str, start_column: usize, edge: Edge) -> Option<usiz
     None
 }
 
-/// The least column after `start_column` at which a word begins.
+/// Returns the least column after `start_column` at which a word begins.
 pub fn find_word_start_forward(line: &str, start_column: usize) -> Option<usize>
     ensures least { IsLeast (is_later_word_start (chars line.now) start_column) result }
     ensures value { result ≡ next_word_start (chars line.now) start_column }
@@ -95,7 +95,7 @@ pub fn find_word_start_forward(line: &str, start_column: usize) -> Option<usize>
     find_edge_forward(line, start_column, Edge::Start)
 }
 
-/// The least column after `start_column` that holds a character right behind a word's last.
+/// Returns the least column after `start_column` whose character is right after a word's last.
 pub fn find_word_exclusive_end_forward(line: &str, start_column: usize) -> Option<usize>
     ensures least { IsLeast (is_later_behind_word (chars line.now) start_column) result }
     ensures value { result ≡ next_behind_word (chars line.now) start_column }
@@ -104,7 +104,7 @@ pub fn find_word_exclusive_end_forward(line: &str, start_column: usize) -> Optio
     find_edge_forward(line, start_column, Edge::Behind)
 }
 
-/// The least column from `start_column` on that holds a word's last character.
+/// Returns the least column from `start_column` on that has a word's last character.
 pub fn find_word_inclusive_end_forward(line: &str, start_column: usize) -> Option<usize>
     ensures least { IsLeast (is_word_last_from (chars line.now) start_column) result }
     ensures value { result ≡ next_word_last (chars line.now) start_column }
@@ -127,7 +127,7 @@ pub fn find_word_inclusive_end_forward(line: &str, start_column: usize) -> Optio
     }
 }
 
-/// The greatest column before `start_column` at which a word begins.
+/// Returns the greatest column before `start_column` at which a word begins.
 pub fn find_word_start_backward(line: &str, start_column: usize) -> Option<usize>
     ensures greatest { IsGreatest (is_earlier_word_start (chars line.now) start_column) result }
     ensures value { result ≡ previous_word_start (chars line.now) start_column }

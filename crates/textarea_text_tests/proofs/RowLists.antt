@@ -1,4 +1,4 @@
--- The rows of lines, counted line by line.
+-- The visual rows of lines, counted line by line.
 use Rattle.std.proofs.Common.{◌≡◌, ◌∙◌, ℕ, ◌+◌, List, ◌++◌, String, ap, drop, length, map, subst, sym, take}
 use Rattle.std.proofs.lemmas.List.{drop-map, length-map, map-append, take-map}
 use Rattle.textarea_util.specs.Replaced.{replaced}
@@ -18,7 +18,7 @@ lines_replaced items new row count =
     ∙ ap (λ t. t ++ (lines_of new ++ lines_of (drop (row + count) items))) (sym (take-map characters_of row items))
     ∙ ap (λ t. take row (lines_of items) ++ (lines_of new ++ t)) (sym (drop-map characters_of (row + count) items))
 
--- lines took the place of others, and their rows that of the others' rows
+-- lines replace others, and their visual rows replace those of the others
 pub rows_replaced : {Z : Type 0} (w : Wrapping) (old new lent after : List (String Z)) (row count at number : ℕ) (was kept others now : List RowsView) → AreRowsOf w (lines_of old) was → AreRowsOf w (lines_of lent) others → lent ≡ new → kept ≡ was → at ≡ row → number ≡ count → now ≡ replaced kept at number others → after ≡ replaced old row count new → AreRowsOf w (lines_of after) now
 rows_replaced w old new lent after row count at number was kept others now h k lent_is kept_is at_is number_is now_is after_is =
     let changed = AreRowsOf-replaced w (lines_of old) (lines_of new) was others row count h (subst (λ (t : List (String _)). AreRowsOf w (lines_of t) others) lent_is k) in

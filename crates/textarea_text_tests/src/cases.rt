@@ -4,7 +4,7 @@ use std::fmt::Debug;
 use std::process::Abort;
 use std::test::Fail;
 
-/// Ends the test at the first of the cases that isn't met, and prints that case.
+/// Fails the test at the first case that is not met, and prints that case.
 pub fn check_each<T, F>(
     rt: &(impl Abort + AllocGlobal),
     cases: &[T],

@@ -1,5 +1,4 @@
-//! Worked cases of words, of given texts and parts of a text, of atomic ranges, of searches, of the rows of a line and of all
-//! lines, and of lines that change with their rows.
+//! Worked cases of words, fragments, ranges, searches, visual rows, and lines with these.
 #![tactic(auto)]
 
 #[cfg(test)]

@@ -1,5 +1,5 @@
-//! Lines and their rows over some steps: numbers worked by hand from the rules, and the same rows as those of lines that are
-//! laid out anew.
+//! Lines and their visual rows over some steps: numbers worked by hand from the rules, and the same
+//! rows as those of a layout from scratch.
 ghost use Rattle.std.specs.Prelude.{◌≡◌, ◌+◌, ◌<◌, false, length, vec_len, OnOk, if◌then◌else◌};
 ghost use Rattle.textarea_text.specs.Place.{IsPlace};
 ghost use Rattle.textarea_text.specs.Splice.{Fits};
@@ -25,35 +25,35 @@ const NINE_LINES: [&str; 9] = ["abcdefg"; 9];
 
 const TWO_LINES: [&str; 2] = ["abcdef", "gh"];
 
-/// A step over lines, and what is to be so behind it.
+/// A step over lines, and what it must lead to.
 #[derive(Clone, Copy, Debug)]
 enum Step {
-    /// There is one empty line, or there isn't.
+    /// Whether there is just one empty line.
     Empty(bool),
     Settings(Shape),
-    /// How many rows there are.
+    /// The number of visual rows.
     RowCount(usize),
-    /// Where a place is seen.
+    /// A position, and its visual position.
     Seen(Place, Place),
-    /// How many rows there are, and where the end of the text is seen.
+    /// The number of visual rows, and the visual position of the text's end.
     End(usize, Place),
-    /// Where a cursor goes from a place: up, and down.
+    /// A position, and where the cursor moves from it: up, and down.
     Moves(Place, Option<Place>, Option<Place>),
-    /// How many rows there are at a width.
+    /// The number of visual rows at a width.
     Count(u16, usize),
-    /// The rows at a width that is prepared while these stand.
+    /// While a width is only prepared: the visual rows of the lines, and those at this width.
     Prepare(u16, &'static [&'static str], &'static [&'static str]),
-    /// The rows at a width that is put in.
+    /// The visual rows at a width that is set.
     PutWidth(u16, &'static [&'static str]),
     PutTabLength(u8),
-    /// The one line that is held then.
+    /// The one line that is set.
     PutLine(&'static str),
     Break(Place),
-    /// A break at the end, which is taken back: how many rows there are between, and where the end of the text is seen.
+    /// A break at the end, and its undo: visual rows and the end's visual position in between.
     BreakAndTakeBack(usize, Place),
 }
 
-/// How lines with tab stops each four columns are laid out: the mode, whether they are numbered, and the inner width.
+/// How lines with tab stops each four columns are wrapped: mode, line numbers or not, inner width.
 type Shape = (WrapMode, bool, u16);
 
 const WHOLE: Shape = (WrapMode::None, false, 20);
@@ -82,7 +82,7 @@ const HIDDEN_WORDS: Shape = (WrapMode::WordOrGlyph, false, 0);
 type Case = (&'static [&'static str], Shape, &'static [Step]);
 
 static CASES: [Case; 10] = [
-    // A tenth line makes all rows narrower.
+    // A tenth line needs a wider number, so all visual rows become narrower.
     (
         &NINE_LINES,
         NUMBERED,
@@ -92,7 +92,7 @@ static CASES: [Case; 10] = [
             End(9, (8, 7)),
         ],
     ),
-    // It counts at a width, too.
+    // The same at a width that is only counted.
     (
         &NINE_LINES,
         HIDDEN_NUMBERED,
@@ -104,7 +104,7 @@ static CASES: [Case; 10] = [
             RowCount(10),
         ],
     ),
-    // A cursor goes up and down.
+    // The cursor moves up and down.
     (
         &["犬犬", "abcd"],
         NARROW_WHOLE,
@@ -121,11 +121,11 @@ static CASES: [Case; 10] = [
             Moves((0, 4), Some((0, 1)), None),
         ],
     ),
-    // Rows are counted at a width.
+    // Visual rows are counted at a width.
     (&["abc"], HIDDEN, &[Count(0, 3)]),
     (&["abcdef"], HIDDEN_WORDS, &[Count(5, 2)]),
     (&["abcdef"], HIDDEN_WHOLE, &[Count(1, 1)]),
-    // Tab stops cut no whole line.
+    // Tab stops do not wrap whole lines.
     (
         &["\ta", "abcdef"],
         WHOLE,
@@ -136,7 +136,7 @@ static CASES: [Case; 10] = [
             Count(1, 2),
         ],
     ),
-    // A width is prepared and put in.
+    // A width is prepared and set.
     (
         &TWO_LINES,
         GLYPHS,
@@ -148,7 +148,7 @@ static CASES: [Case; 10] = [
             Prepare(3, &["abcdef", "gh"], &["ab", "cd", "ef", "gh"]),
         ],
     ),
-    // Rows that were measured are put in, and not those of another width or of another text.
+    // Measured rows are used at their width, but not at another one or for another text.
     (
         &TWO_LINES,
         HIDDEN,
@@ -173,7 +173,7 @@ fn settings((mode, line_numbers, inner_width): Shape) -> LayoutSettings {
     }
 }
 
-// Lines of these texts, laid out.
+// These lines with a layout.
 fn laid_out(alloc: Global, texts: &[&str], shape: Shape) -> Result<LaidOutLines, AllocError> {
     LaidOutLines::new(alloc, strings(alloc, texts)?, settings(shape))
 }
@@ -186,7 +186,7 @@ fn end_of(laid: &LaidOutLines) -> Place
     (row, column_count(lines[row].as_str()))
 }
 
-// Where a place is seen, if it is there.
+// The visual position of `place`, if the lines have that position.
 fn seen(laid: &LaidOutLines, place: Place) -> Option<Place> {
     if is_place(laid.lines(), place) {
         Some(laid.visual_position(place))
@@ -195,7 +195,7 @@ fn seen(laid: &LaidOutLines, place: Place) -> Option<Place> {
     }
 }
 
-// How many rows there are, and where the end of the text is seen.
+// The number of visual rows, and the visual position of the text's end.
 fn end_seen(laid: &LaidOutLines) -> (usize, Place) {
     (laid.row_count(), laid.visual_position(end_of(laid)))
 }
@@ -212,7 +212,7 @@ fn has_rows(view: &LaidOutView<'_>, expected: &[&str]) -> bool {
     true
 }
 
-// The same lines, laid out now.
+// The same lines with a layout from scratch.
 fn laid_out_anew(laid: &LaidOutLines) -> Result<LaidOutLines, AllocError> {
     let alloc = laid.allocator();
     LaidOutLines::new(
@@ -245,7 +245,7 @@ fn is_as_anew(laid: &LaidOutLines) -> Result<bool, AllocError> {
     Ok(is_alike(laid, &laid_out_anew(laid)?))
 }
 
-// Makes an edit and undoes it. The end as it is seen between, if the rows are those of lines laid out anew before and after.
+// Makes and undoes an edit. Returns the end in between; none if a layout is not as from scratch.
 fn make_and_take_back(
     laid: &mut LaidOutLines,
     edit: &Edit,
@@ -283,7 +283,7 @@ fn insert_break(laid: &mut LaidOutLines, place: Place) -> Result<(), AllocError>
     laid.apply(edit.change())
 }
 
-// Inserts a break at a place, if it is there.
+// Inserts a break at a position, if the lines have it.
 fn breaks(laid: &mut LaidOutLines, place: Place) -> Result<bool, AllocError> {
     let is_there = is_place(laid.lines(), place);
     if is_there {
@@ -292,7 +292,7 @@ fn breaks(laid: &mut LaidOutLines, place: Place) -> Result<bool, AllocError> {
     Ok(is_there)
 }
 
-// Puts a width in. The count stays as it is where the lines are cut in the same way, and else goes on by one a line.
+// Sets a width. If the lines wrap as before none is wrapped again, else each is wrapped once.
 fn set_width(
     laid: &mut LaidOutLines,
     inner_width: u16,
@@ -308,7 +308,7 @@ fn set_width(
     Ok(is_prepared && has_rows(&laid.view(), expected))
 }
 
-// The lines stay as they are until the width is put in.
+// The layout stays as it is until the width is set.
 fn prepares(
     laid: &mut LaidOutLines,
     inner_width: u16,
@@ -322,7 +322,7 @@ fn prepares(
     Ok(is_kept && is_prepared)
 }
 
-// Other tab stops, where lines aren't wrapped: no line is cut.
+// Sets tab stops of lines that are not wrapped. No line is wrapped again.
 fn set_tab_len(laid: &mut LaidOutLines, tab_len: u8) -> Result<(), AllocError>
     requires { is_wrapped laid.old.layout.settings ≡ false }
     ensures { OnOk result (laid.new.layout.count ≡ laid.old.layout.count) }
@@ -334,7 +334,7 @@ fn set_tab_len(laid: &mut LaidOutLines, tab_len: u8) -> Result<(), AllocError>
     })
 }
 
-// Sets other tab stops, if lines aren't wrapped.
+// Sets tab stops, if lines are not wrapped.
 fn sets_tab_len(laid: &mut LaidOutLines, tab_len: u8) -> Result<bool, AllocError> {
     let is_whole = !is_wrapped(laid.layout_settings());
     if is_whole {
@@ -343,13 +343,13 @@ fn sets_tab_len(laid: &mut LaidOutLines, tab_len: u8) -> Result<bool, AllocError
     Ok(is_whole)
 }
 
-// A line made where the lines are takes their place.
+// Replaces the lines by one.
 fn put_line(laid: &mut LaidOutLines, text: &str) -> Result<(), AllocError> {
     let line = String::from_str(laid.allocator(), text)?;
     laid.set_lines(vec![in laid.allocator(); line]?)
 }
 
-// Takes the step; whether it led to what it is to lead to.
+// Takes the step. Returns whether it leads to what it must.
 fn leads_there(laid: &mut LaidOutLines, step: Step) -> Result<bool, AllocError> {
     match step {
         Empty(is_empty) => Ok(laid.is_empty() == is_empty),
@@ -376,7 +376,7 @@ fn leads_there(laid: &mut LaidOutLines, step: Step) -> Result<bool, AllocError> 
     }
 }
 
-// Whether each of the steps leads to what it is to lead to.
+// Whether each of the steps leads to what it must.
 fn lead_there(laid: &mut LaidOutLines, steps: &[Step]) -> Result<bool, AllocError> {
     for step in steps {
         if !leads_there(laid, *step)? {
@@ -393,7 +393,7 @@ fn steps_over_lines(rt: HostRuntime) -> Result<(), Fail> {
     })
 }
 
-// Whether lines in place of others have the rows that they have when they are laid out anew.
+// Whether the layout after replacing all lines equals one from scratch.
 fn are_put(alloc: Global, lines: Vec<String>, shape: Shape) -> Result<bool, AllocError>
     requires { 0 < vec_len lines }
 {
@@ -402,12 +402,12 @@ fn are_put(alloc: Global, lines: Vec<String>, shape: Shape) -> Result<bool, Allo
     is_as_anew(&others)
 }
 
-// Whether the rows are those of lines laid out anew, and stay so over a character.
+// Whether the layout equals one from scratch, also when a character is typed and undone.
 fn is_right(laid: &mut LaidOutLines) -> Result<bool, AllocError> {
     Ok(is_as_anew(laid)? && type_and_take_back(laid)?.is_some())
 }
 
-// Whether they are so in a shape, there over a break, too, and in another one, and for the lines in place of none.
+// The same in a shape, there also with a break, in another one, and for lines that replace others.
 fn is_right_in(alloc: Global, (shape, other): &(Shape, Shape)) -> Result<bool, AllocError> {
     let mut laid = laid_out(alloc, &NINE_LINES, *shape)?;
     let was_right = is_right(&mut laid)? && break_and_take_back(&mut laid)?.is_some();
@@ -437,7 +437,7 @@ static HELD: [Step; 6] = [
     End(1, (0, 3)),
 ];
 
-// Whether one line takes the place of none, and is given back.
+// Whether a line replaces the empty text, and is returned.
 fn is_held(alloc: Global) -> Result<bool, AllocError> {
     let mut laid = laid_out(alloc, &[], WHOLE)?;
     let leads_there = lead_there(&mut laid, &HELD)?;
@@ -457,7 +457,7 @@ fn is_lent(view: &LaidOutView<'_>) -> bool {
         && view.place_near((0, 9)) == (0, 3)
 }
 
-// Whether lines are lent with their rows.
+// Whether a view borrows the lines with their visual rows.
 fn is_view_lent(alloc: Global) -> Result<bool, AllocError> {
     let laid = laid_out(alloc, &TWO_LINES, GLYPHS)?;
     let view = laid.view();

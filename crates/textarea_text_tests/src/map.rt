@@ -1,4 +1,4 @@
-//! Worked cases of the look-ups, by hand from the rules, and maps that follow hundreds of replacements.
+//! Look-ups, worked by hand from the rules, and maps that follow hundreds of replacements.
 ghost use Rattle.std.specs.Prelude.{◌≡◌, ◌+◌, ◌<◌, ◌≤◌, length, vec_len, IfOk, OnOk};
 ghost use Rattle.textarea_text.specs.Text.{lines_of};
 ghost use Rattle.textarea_screen_map.specs.Layout.{AreRowsOf};
@@ -26,22 +26,22 @@ const GLYPHS: Shape = (WrapMode::Glyph, 4, 4);
 
 const WIDE_WORDS: Shape = (WrapMode::Word, 9, 4);
 
-/// What is to be so in a map of some lines.
+/// A fact about the map of some lines.
 #[derive(Clone, Copy, Debug)]
 enum Fact {
-    /// How many visual rows there are.
+    /// The number of visual rows.
     RowCount(usize),
-    /// What a place is seen at, and where a cursor goes from it: up, and down.
+    /// A position, its visual position, and where the cursor moves from it: up, and down.
     Moves(Place, Place, Option<Place>, Option<Place>),
     /// The width and the greatest cursor column of a visual row.
     Columns(usize, (usize, usize)),
-    /// A visual row: its line and its number there, what stands before it and its own text, and whether it is the last.
+    /// A visual row: line, number there, text before it, its own text, and whether it is the last.
     Row(usize, (usize, usize), (&'static str, &'static str), bool),
-    /// Which place a visual row and display column lead back to.
+    /// The position to which a visual row and a display column lead back.
     Back(Place, Place),
 }
 
-/// Lines, how they are wrapped, and what is to be so in their map.
+/// Lines, how they are wrapped, and facts of their map.
 type Case = (&'static [&'static str], Shape, &'static [Fact]);
 
 static CASES: [Case; 13] = [
@@ -98,7 +98,7 @@ static CASES: [Case; 13] = [
         WITHOUT_STOPS,
         &[Moves((0, 2), (0, 2), None, Some((1, 2)))],
     ),
-    // Rows.
+    // Visual rows.
     (
         &["abcdef ghi", ""],
         WORDS,
@@ -139,7 +139,7 @@ static CASES: [Case; 13] = [
             Row(2, (1, 1), ("ab犬", "猫"), true),
         ],
     ),
-    // Back from rows and columns to places.
+    // Back from visual rows and columns to positions.
     (
         &["e\u{301}x犬"],
         ONE_ROW_A_LINE,
@@ -235,7 +235,7 @@ fn places_and_rows(rt: HostRuntime) -> Result<(), Fail> {
     check_each(&rt, &CASES, is_met)
 }
 
-// Numbers that look random, each made from the one before it.
+// Numbers that look random, each made from the one before.
 #[derive(Drop)]
 struct Numbers {
     state: u64,
@@ -263,7 +263,7 @@ fn some_line(alloc: Global, numbers: &mut Numbers) -> Result<String, AllocError>
     Ok(line)
 }
 
-// Fewer lines than the limit.
+// Returns fewer lines than the limit.
 fn some_lines(alloc: Global, numbers: &mut Numbers, limit: usize) -> Result<Vec<String>, AllocError>
     requires { 0 < limit }
 {
@@ -275,7 +275,7 @@ fn some_lines(alloc: Global, numbers: &mut Numbers, limit: usize) -> Result<Vec<
     Ok(lines)
 }
 
-// Lines take the place of others, and their rows in the map.
+// Replaces lines by others, and their visual rows in the map.
 fn replace(
     alloc: Global,
     map: &mut ScreenMap,
@@ -318,7 +318,7 @@ fn is_same(map: &ScreenMap, other: &ScreenMap, lines: &[String]) -> bool
     true
 }
 
-// Whether a map has the visual rows of one that is made anew.
+// Whether the map has the visual rows of a map from scratch.
 fn is_as_anew(
     alloc: Global,
     map: &ScreenMap,
@@ -332,7 +332,7 @@ fn is_as_anew(
     Ok(is_same(map, &anew, lines))
 }
 
-// Some lines, and which lines they take the place of, both fewer than the limit.
+// Lines, and the lines that they replace, both fewer than the limit.
 fn some_change(
     alloc: Global,
     numbers: &mut Numbers,
@@ -348,7 +348,7 @@ fn some_change(
     Ok(Replacement { row, count, lines })
 }
 
-// Lines take the place of others. Whether the map is then as one that is made anew.
+// Replaces lines by others. Returns whether the map is the one from scratch.
 fn follows_one(
     alloc: Global,
     map: &mut ScreenMap,
@@ -366,7 +366,7 @@ fn follows_one(
     is_as_anew(alloc, map, lines.as_slice(), wrapping, counter)
 }
 
-// Replacements that look random: what their numbers begin with, the limit of lines in each, and how many there are.
+// Random-looking replacements: the seed of their numbers, the limit of lines in each, the count.
 #[derive(Clone, Copy)]
 struct Replacements {
     seed: u64,
@@ -374,7 +374,7 @@ struct Replacements {
     count: usize,
 }
 
-// Whether a map follows so many replacements, and is then copied.
+// Whether a map follows these replacements, and is then equal to its copy.
 fn follows_all(
     alloc: Global,
     map: &mut ScreenMap,
@@ -397,7 +397,7 @@ fn follows_all(
     Ok(is_same(map, &map.clone()?, lines.as_slice()))
 }
 
-/// The limit of lines in each replacement, and how many there are.
+/// The limit of lines in each replacement, and the number of replacements.
 type Amount = (usize, usize);
 
 const SMALL: Amount = (5, 150);
@@ -405,7 +405,7 @@ const SMALL: Amount = (5, 150);
 /// More lines than a block of the map has.
 const LARGE: Amount = (1500, 5);
 
-/// What the numbers of replacements begin with, the amount of these, and how their lines are wrapped.
+/// The seed of the numbers of replacements, the amount of these, and how their lines are wrapped.
 type Followed = (u64, Amount, Shape);
 
 static FOLLOWED: [Followed; 7] = [
@@ -435,7 +435,7 @@ fn follows_replacements(rt: HostRuntime) -> Result<(), Fail> {
     check_each(&rt, &FOLLOWED, is_followed)
 }
 
-// Two lines in the place of one, so many times in the same row. Whether the map is then as one that is made anew.
+// Replaces the line in `row` by two, `count` times. Returns whether the map is as from scratch.
 fn follows_breaks(
     alloc: Global,
     map: &mut ScreenMap,
@@ -473,7 +473,7 @@ fn follows_breaks_of(
     follows_breaks(alloc, &mut map, lines, row, count, wrapping)
 }
 
-// A block that is filled up is halved.
+// A full block is halved.
 #[test]
 fn follows_many_breaks(rt: HostRuntime) -> Result<(), Fail> {
     let mut lines = strings(rt.alloc(), &["above", "here", "below"])?;

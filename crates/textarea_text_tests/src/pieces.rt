@@ -1,4 +1,4 @@
-//! Given texts cut into pieces and joined again, parts of a text, and the spaces up to a tab stop.
+//! Fragments from texts and back, the text between positions, and the spaces up to a tab stop.
 use crate::cases::check_each;
 use crate::texts::Place;
 use std::alloc::{AllocError, Global};
@@ -9,16 +9,16 @@ use textarea_text::places::clip;
 use textarea_text::rows::column_count;
 use textarea_text::tab::spaces_to_stop;
 
-/// What is written of pieces.
+/// What is written of a fragment.
 #[derive(Clone, Copy, Debug)]
 enum Written {
-    /// All of them, and how many there are.
+    /// All of it, and the number of its lines.
     Whole(&'static str, usize),
-    /// Those up to this place.
+    /// The text up to this position.
     Part(Place, &'static str),
 }
 
-/// A text that is given, and what is written of its pieces.
+/// A text, and what is written of the fragment that is made from it.
 type Case = (&'static str, Written);
 
 static CASES: [Case; 8] = [

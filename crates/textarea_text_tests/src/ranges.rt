@@ -1,4 +1,4 @@
-//! A list of ranges that is accepted, and one of which each wrong range is named with its reason.
+//! A list of ranges that is accepted, and one whose wrong ranges are rejected with their reasons.
 use crate::texts::strings;
 use std::alloc::{AllocError, Global};
 use std::test::Fail;

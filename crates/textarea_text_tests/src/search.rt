@@ -1,4 +1,4 @@
-//! Searches worked by hand.
+//! Searches, worked by hand.
 use crate::cases::check_each;
 use crate::texts::{Place, strings};
 use regex::Regex;
@@ -6,7 +6,7 @@ use std::alloc::{AllocError, Global};
 use std::test::Fail;
 use textarea_search::search::{KeptMatches, Matches, Search, SearchError};
 
-/// A pattern, lines, a place, and the places that searches lead to one after another from it: forward, and back.
+/// A pattern, lines, a position, and the positions of repeated searches from it: forward, and back.
 type Led = (
     &'static str,
     &'static [&'static str],
@@ -30,7 +30,7 @@ static LED: [Led; 4] = [
         &[(0, 7), (0, 11), (0, 0), (0, 4)],
         &[(0, 0), (0, 11), (0, 7), (0, 4)],
     ),
-    // The end of a line matches the empty text there.
+    // The pattern matches the empty text at the end of each line.
     (
         "$",
         &["ab", "c"],
@@ -38,7 +38,7 @@ static LED: [Led; 4] = [
         &[(0, 2), (1, 1), (0, 2)],
         &[(1, 1), (0, 2), (1, 1)],
     ),
-    // Columns count characters, whatever their width: a wide one, and one with a combining mark behind it.
+    // Columns count characters of any width: a wide one, and one with a combining mark after it.
     (
         "x",
         &["犬x", "", "ab犬e\u{301}x"],
@@ -48,8 +48,8 @@ static LED: [Led; 4] = [
     ),
 ];
 
-/// A column of the line `foo foo`, and the columns that searches for `foo` lead to from it where a match there counts: forward, and
-/// back. A column past the end is behind all.
+/// A column of the line `foo foo`, and the columns of the matches of `foo` from it, where a match
+/// at the column counts: forward, and back. A column past the end is after all matches.
 static COUNTED: [(usize, usize, usize); 5] = [
     (0, 0, 0),
     (1, 4, 0),
@@ -58,7 +58,7 @@ static COUNTED: [(usize, usize, usize); 5] = [
     (usize::MAX, 0, 4),
 ];
 
-/// A pattern, and lines with the matches there: the offsets of the first byte of each, and of the one behind its last.
+/// A pattern, and lines with their matches: the byte offsets of each match's start and end.
 type Listed = (
     &'static str,
     &'static [(&'static str, &'static [(usize, usize)])],
@@ -76,14 +76,14 @@ static LISTED: [Listed; 6] = [
     ),
 ];
 
-// A search for a pattern, or one that finds nothing, if the pattern is refused.
+// A search for a pattern, or one that finds nothing if the pattern is rejected.
 fn search_for(alloc: Global, pattern: &str) -> Search {
     let mut search = Search::default();
     drop(search.set_pattern(alloc, pattern));
     search
 }
 
-// Where a search from a place leads, if there is such a line.
+// The match from a position, if there is such a line.
 fn found_from(
     search: &Search,
     lines: &[String],
@@ -100,7 +100,7 @@ fn found_from(
     }
 }
 
-// Searches on from each place that is found.
+// Whether repeated searches, each from the last match, find these positions.
 fn leads_along(
     search: &Search,
     lines: &[String],
@@ -126,7 +126,7 @@ fn is_led(alloc: Global, case: &Led) -> Result<bool, AllocError> {
     Ok(is_led_forth && leads_along(&search, lines.as_slice(), start, back, false)?)
 }
 
-// What is found from a column of a line on, forward and back, where a match at that place counts.
+// The matches from a column of a line, forward and back, where one at the column counts.
 fn found_around(
     alloc: Global,
     search: &Search,
@@ -161,7 +161,7 @@ fn lists(search: &Search, line: &str, spans: &[(usize, usize)]) -> Result<bool, 
     }
 }
 
-// Whether the lines have their matches, each by itself, and one behind another by one matcher.
+// Whether the lines have these matches, each by itself, and one after another with one matcher.
 fn is_listed(alloc: Global, (pattern, lines): &Listed) -> Result<bool, AllocError> {
     let search = search_for(alloc, pattern);
     let mut found = Vec::new(alloc);
@@ -184,14 +184,14 @@ fn found_in_lines(rt: HostRuntime) -> Result<(), Fail> {
     check_each(&rt, &LISTED, is_listed)
 }
 
-/// A pattern, a line by its number, and its matches.
+/// A pattern, a line with its number, and its matches.
 type Kept = (
     &'static str,
     (usize, &'static str),
     &'static [(usize, usize)],
 );
 
-/// Lines that are listed one after the other, where the matches of one line are kept.
+/// Lines whose matches are listed one after another, with a cache for one line.
 static KEPT: [Kept; 5] = [
     ("fo+", (0, "foo fo"), &[(0, 3), (4, 6)]),
     ("fo+", (0, "foo fo"), &[(0, 3), (4, 6)]),
@@ -204,7 +204,7 @@ fn are_same(spans: &[(usize, usize)], listed: &[(usize, usize)]) -> bool {
     spans == listed
 }
 
-// Lists the matches of a line into a vector that may hold others.
+// Lists the matches of a line into a vector that may have others.
 fn list_kept(
     search: &Search,
     kept: &mut KeptMatches,
@@ -215,7 +215,7 @@ fn list_kept(
     matcher.spans_into(number, line, spans)
 }
 
-// Whether the pattern is set and the line then has its matches.
+// Whether the pattern is set and the line then has these matches.
 fn lists_kept(
     alloc: Global,
     search: &mut Search,
@@ -238,18 +238,18 @@ fn kept_line_after_line(rt: HostRuntime) -> Result<(), Fail> {
     })
 }
 
-/// A pattern, whether it is set, and what is searched for then.
+/// A pattern, whether it is set, and the pattern that is searched for then.
 type Setting = (&'static str, bool, Option<&'static str>);
 
 static SETTINGS: [Setting; 4] = [
     ("fo+", true, Some("fo+")),
-    // No syntax of `regex`: refused, and what was searched for stays.
+    // Not in the syntax of `regex`: rejected, and the search stays.
     ("(hello", false, Some("fo+")),
     ("fo+", true, Some("fo+")),
     ("", true, None),
 ];
 
-// Whether a pattern is set or, as none of the syntax of `regex`, refused.
+// Whether a pattern is set or, if it is not in the syntax of `regex`, rejected.
 fn is_taken(alloc: Global, search: &mut Search, pattern: &str, is_set: bool) -> bool {
     match &search.set_pattern(alloc, pattern) {
         Ok(()) => is_set,
@@ -258,7 +258,7 @@ fn is_taken(alloc: Global, search: &mut Search, pattern: &str, is_set: bool) -> 
     }
 }
 
-// What is searched for, also by a copy. Without a pattern nothing is found.
+// Whether this pattern is searched for, also by a copy. Without a pattern nothing is found.
 fn is_for(alloc: Global, search: &Search, pattern: Option<&str>) -> Result<bool, AllocError> {
     if search.pattern() != pattern || search.clone()?.pattern() != pattern {
         return Ok(false);
@@ -275,7 +275,7 @@ fn patterns(rt: HostRuntime) -> Result<(), Fail> {
     })
 }
 
-/// Texts that `regex` builds no pattern of: seven without a reading, and one that nests deeper than 250.
+/// Texts that `regex` rejects: seven with wrong syntax, and one that nests deeper than 250.
 static NO_PATTERNS: [&str; 8] = [
     "(hello",
     "hello)",
@@ -287,7 +287,7 @@ static NO_PATTERNS: [&str; 8] = [
     "(((((((((((((((((((((((((((((((((((((((((((((((((((((((((((((((((((((((((((((((((((((((((((((((((((((((((((((((((((((((((((((((((((((((((((((((((((((((((((((((((((((((((((((((((((((((((((((((((((((((((((((((((((((((((((((((((((((((((((((((((((((((((((a)))))))))))))))))))))))))))))))))))))))))))))))))))))))))))))))))))))))))))))))))))))))))))))))))))))))))))))))))))))))))))))))))))))))))))))))))))))))))))))))))))))))))))))))))))))))))))))))))))))))))))))))))))))))))))))))))))))))))))))))))))))))))))",
 ];
 
-// Whether a search gives the very error that `regex` gives for the text.
+// Whether a search returns the same error as `regex`.
 fn is_carried(alloc: Global, pattern: &str) -> bool {
     let mut search = Search::default();
     let outcome = search.set_pattern(alloc, pattern);

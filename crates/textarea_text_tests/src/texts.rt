@@ -1,4 +1,4 @@
-//! Lines of the tests' own, and places in them.
+//! Lines for the tests, and positions in them.
 ghost use Rattle.std.specs.Prelude.{IsTrue};
 ghost use Rattle.textarea_text.specs.Place.{IsPlaceOf};
 ghost use Rattle.textarea_text.specs.Text.{lines_of};
@@ -6,7 +6,7 @@ ghost use Rattle.textarea_text.specs.Text.{lines_of};
 use std::alloc::{AllocError, Global};
 use textarea_text::rows::column_count;
 
-/// A line or visual row, and a column there.
+/// A line or visual row, and a column in it.
 pub type Place = (usize, usize);
 
 pub fn strings(alloc: Global, texts: &[&str]) -> Result<Vec<String>, AllocError> {
@@ -17,7 +17,7 @@ pub fn strings(alloc: Global, texts: &[&str]) -> Result<Vec<String>, AllocError>
     Ok(lines)
 }
 
-/// Whether the lines have this place.
+/// Whether the lines have this position.
 pub fn is_place(lines: &[String], place: Place) -> bool
     ensures { IsTrue result → IsPlaceOf (lines_of lines.now) place }
 {

@@ -1,4 +1,4 @@
-//! The classes of characters, and the words of lines, by hand from the rules.
+//! The classes of characters, and the words of lines, worked by hand from the rules.
 use crate::cases::check_each;
 use std::test::Fail;
 use textarea_text::word::{
@@ -22,8 +22,8 @@ static CLASSES: [(char, CharKind); 13] = [
     ('。', CharKind::Other),
 ];
 
-/// A line, a start column, and the answers: the next word's start, the column behind a word, a word's last character, the
-/// previous word's start.
+/// A line, a start column, and the columns found: the next word's start, the column after a word, a
+/// word's last character, the previous word's start.
 type Searched = (&'static str, usize, [Option<usize>; 4]);
 
 static SEARCHES: [Searched; 16] = [

@@ -1,4 +1,4 @@
-//! Rows of lines that are written out, worked by hand from the rules, and the numbers of some layouts.
+//! Visual rows of lines, worked by hand from the rules, and the numbers of some layouts.
 use crate::cases::check_each;
 use std::alloc::{AllocError, Global};
 use std::test::Fail;
@@ -9,7 +9,7 @@ use textarea_wrap::wrap::columns::{
 };
 use textarea_wrap::wrap::{WrapCount, WrapMode, line_ranges};
 
-/// A line, a width, a tab length, and the texts of the rows, each followed by a bar.
+/// A line, a mode, a width, a tab length, and the texts of the visual rows, each followed by a bar.
 type Wrapped = (&'static str, WrapMode, usize, u8, &'static str);
 
 static LINES: [Wrapped; 23] = [
@@ -22,7 +22,7 @@ static LINES: [Wrapped; 23] = [
     ("a\tb", WrapMode::Word, 3, 4, "a\t|b|"),
     ("a b", WrapMode::Word, 0, 0, "a |b|"),
     ("", WrapMode::Word, 0, 4, "|"),
-    // Glyphs.
+    // Grapheme clusters.
     ("abcdefg", WrapMode::Glyph, 7, 4, "abcdefg|"),
     ("abcdefg", WrapMode::Glyph, 6, 4, "abcdef|g|"),
     ("abc", WrapMode::Glyph, 0, 4, "a|b|c|"),
@@ -41,7 +41,7 @@ static LINES: [Wrapped; 23] = [
     ("a b", WrapMode::Word, usize::MAX, 255, "a b|"),
 ];
 
-// The texts of rows, each followed by a bar.
+// The texts of visual rows, each followed by a bar.
 fn shown(alloc: Global, line: &str, rows: &[(usize, usize)]) -> Result<String, AllocError> {
     let mut text = String::new(alloc);
     for (start, end) in rows {
@@ -53,7 +53,7 @@ fn shown(alloc: Global, line: &str, rows: &[(usize, usize)]) -> Result<String, A
     Ok(text)
 }
 
-// Whether a copy of the rows has these texts.
+// Whether a copy of the visual rows has these texts.
 fn is_wrapped(alloc: Global, case: &Wrapped) -> Result<bool, AllocError> {
     let (line, mode, width, tab_len, expected) = *case;
     let rows = line_ranges(alloc, line, mode, width, tab_len, &mut WrapCount::new())?;
@@ -88,7 +88,7 @@ fn columns(rt: HostRuntime) {
     assert!(rt; fits_width("a\t犬", 6, 4) && !fits_width("a\t犬", 5, 4));
 }
 
-/// A width inside, how many lines there are, whether they are numbered, and a mode; the columns of the numbers and of the rows.
+/// Inner width, number of lines, whether numbered, mode; columns of the numbers and of the rows.
 type Layout = ((u16, usize, bool, WrapMode), (usize, Option<usize>));
 
 static LAYOUTS: [Layout; 6] = [

@@ -1,4 +1,4 @@
--- The steps by which some items of a list give place to others.
+-- The steps of `replace_items` as equations of lists.
 use Rattle.std.proofs.Common.{◌≡◌, ℕ, ◌+◌, ◌-◌, ◌≤◌, List, ◌++◌, length, take, drop, sym, ap, ◌∙◌, arith}
 use Rattle.std.proofs.lemmas.List.{append_assoc, take_at, drop_at, take_all, drop-drop, length-append, length-drop, length-take-le, take-append-drop}
 use Rattle.textarea_util.specs.Replaced.{replaced}
@@ -15,7 +15,7 @@ pub length-replaced : {X : Type 0} (items : List X) (start count : ℕ) (new : L
 length-replaced items start count new within =
     omega (arith, length-append (take start items) (new ++ drop (start + count) items), length-append new (drop (start + count) items), length-take-le start items (omega arith), length-drop (start + count) items)
 
--- fewer items than there were: those that are left over go
+-- fewer new items than old ones: the rest of the old ones is removed
 pub replaced_by_fewer : {X : Type 0} (items new : List X) (start count shared : ℕ) → start + count ≤ length items → shared ≤ count → shared ≡ length new → take (start + shared) (replaced items start shared (take shared new)) ++ drop (start + count) (replaced items start shared (take shared new)) ≡ replaced items start count new
 replaced_by_fewer items new start count shared within few all =
     let above = take start items in
@@ -34,7 +34,7 @@ replaced_by_fewer items new start count shared within few all =
     ∙ ap (λ n. drop n items) more)
     ∙ append_assoc above new (drop (start + count) items)
 
--- more items than there were: those that are left over are put behind all others, and the items below moved behind them
+-- more new items than old ones: the rest is appended, and the items below are moved after it
 pub replaced_by_more : {X : Type 0} (items new : List X) (start count shared below : ℕ) → start + count ≤ length items → shared ≡ count → shared ≤ length new → below ≡ length items - (start + shared) → take (start + shared) (replaced items start shared (take shared new) ++ drop shared new) ++ (drop (start + shared + below) (replaced items start shared (take shared new) ++ drop shared new) ++ take below (drop (start + shared) (replaced items start shared (take shared new) ++ drop shared new))) ≡ replaced items start count new
 replaced_by_more items new start count shared below within all some size =
     let above = take start items in

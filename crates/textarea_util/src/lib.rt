@@ -1,4 +1,4 @@
-//! What the crates of an editor share: how large a text may be, and items of a vector that replace others.
+//! Shared by the crates of an editor: the size limit of a text, and replacing items of a vector.
 #![tactic(auto)]
 
 pub mod limit;

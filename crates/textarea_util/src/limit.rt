@@ -1,13 +1,13 @@
-//! The most that a text may hold. No sum of its bytes, columns, lines or rows leaves a machine word.
+//! The size limit of a text. It keeps sums of bytes, columns, lines and rows in a machine word.
 ghost use Rattle.std.specs.Prelude.{◌≡◌, ◌≤◌, ◌↔◌, IfOk, IsOk};
 ghost use Rattle.textarea_util.specs.Limit.{size_limit};
 
 use std::alloc::AllocError;
 
-/// The most bytes and lines together that a text may have: what would be more is answered as out of memory.
+/// The largest sum of bytes and lines that a text may have. A larger text counts as out of memory.
 pub const MAX_SIZE: usize = 0x1_0000_0000_0000;
 
-/// The size, where a text may have so many bytes and lines together; a larger one is out of memory.
+/// Returns `size`, a text's bytes and lines summed; out of memory if it is above the limit.
 pub fn within_limit(size: usize) -> Result<usize, AllocError>
     ensures size { IfOk result (λ same. same ≡ size) }
     ensures limit { IsOk result ↔ (size ≤ size_limit) }

@@ -1,9 +1,9 @@
-//! Some items of a vector give place to others, without memory.
+//! Replaces items of a vector without allocating.
 ghost use Rattle.std.specs.Prelude.{◌≡◌, ◌+◌, ◌-◌, ◌≤◌, ◌++◌, length, take, drop, vec_len, vec_capacity};
 ghost use Rattle.textarea_util.specs.Replaced.{replaced};
 
-/// Puts `new` in the place of the `count` items from `start` on. As many items as both have are swapped, so
-/// items that give place to as many others move no other item.
+/// Replaces the `count` items from `start` on by those of `new`. Items are swapped as long as both
+/// have some, so a replacement by the same number of items moves no other item.
 pub fn replace_items<T: Drop>(items: &mut Vec<T>, start: usize, count: usize, mut new: Vec<T>)
     requires within { start + count ≤ vec_len items.old }
     requires room { vec_len items.old + vec_len new ≤ vec_capacity items.old + count }
@@ -22,7 +22,7 @@ pub fn replace_items<T: Drop>(items: &mut Vec<T>, start: usize, count: usize, mu
     }
 }
 
-// Swaps the items from `start` on with the first ones of `new`.
+// Swaps the `count` items from `start` on with the first `count` items of `new`.
 fn swap_parts<T>(items: &mut Vec<T>, start: usize, new: &mut Vec<T>, count: usize)
     requires within { start + count ≤ vec_len items.old }
     requires there { count ≤ vec_len new.old }
@@ -55,7 +55,7 @@ fn remove_part<T: Drop>(items: &mut Vec<T>, start: usize, end: usize)
     drop(items.drain(start..end));
 }
 
-// Moves the `count` items from `start` on behind all others.
+// Moves the `count` items from `start` on to the end.
 fn move_behind<T>(items: &mut Vec<T>, start: usize, count: usize)
     requires { start + count ≤ vec_len items.old }
     ensures items { items.new.items

@@ -5,7 +5,7 @@ use Rattle.std.proofs.lemmas.List.{length-append}
 use Rattle.textarea_view.specs.Prelude.{ShowsRow, row_cell, RowArea, Changes, KeepsOutside, ShownCell, contains, is_in_row, ShownLine, Buffer, Rect, AreShown, DrawnTo, lines_change, VisualRow, row_at, highlights_of, row_highlights, SceneState}
 use Rattle.textarea_screen.proofs.ChangeLemmas.{Changes-none, Changes-then, KeepsOutside-from_changes, KeepsOutside-then, KeepsOutside-wider}
 
--- what is told of a row's text is told of the row
+-- the highlights of a row's text are those of the row
 pub told : (scene : SceneState) (number : ℕ) (row : VisualRow) → row ≡ row_at scene.rows.lines scene.rows.rows number → highlights_of scene row ≡ row_highlights scene number
 unfolding row_highlights
 told scene number row e = ap (highlights_of scene) e
@@ -57,7 +57,7 @@ pub lines_inside : (rows : RowArea) (lines : List ShownLine) (old now : Buffer) 
 lines_inside rows lines old now change =
     KeepsOutside-from_changes (contains rows.area) change (λ x y cell outside. outside_stays rows rows.area.y lines x y cell outside)
 
--- also where the next row fails half way
+-- this is also so if drawing the next row fails half way
 pub lines_failed : (rows : RowArea) (lines : List ShownLine) (old now new : Buffer) (y : ℕ) → Changes old now (lines_change rows rows.area.y lines) → KeepsOutside (is_in_row rows.area y) now new → KeepsOutside (contains rows.area) old new
 lines_failed rows lines old now new y change keeps =
     KeepsOutside-then (lines_inside rows lines old now change) (KeepsOutside-wider (contains rows.area) keeps (λ column row outside. not_in_row rows.area y column row outside))

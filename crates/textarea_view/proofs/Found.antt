@@ -1,4 +1,4 @@
--- The matches of a line, by the line's bytes.
+-- The matches of a line, by byte offsets in the line.
 use Rattle.std.proofs.Common.{◌≡◌, ◌<◌, ℕ, List, [], length, get_or, Option, None, Some, String, ap, ◌∙◌, arith, string_bytes}
 use Rattle.std.proofs.lemmas.List.{length-map}
 use Rattle.textarea_view.specs.Prelude.{option_map_or, characters_of, lines_of, match_spans, matches_in}

@@ -1,4 +1,4 @@
--- One visual row holds the cursor.
+-- Exactly one visual row has the cursor.
 use Rattle.std.proofs.Common.{◌≡◌, ◌≢◌, ℕ, ◌-◌, ◌<◌, ◌==◌, Bool, true, false, List, length, refl, sym, ap, ◌∙◌, arith, eq-eqb}
 use Rattle.std.proofs.lemmas.Bool.{eqb-true}
 use Rattle.std.proofs.lemmas.Bool.Decides.{nat_tests}
@@ -25,11 +25,11 @@ held_once w lines rows place row seen column h is within apart = by (holds (row_
         let other : IsVisualPosition w.tab_len lines rows place (row, column_at w.tab_len shown.text (place.1 - shown.first)) = record { row = within; holds = in_row shown place e; column = refl } in
         absurd (apart (ap (λ (p : Place). p.0) (seen_once w lines rows place (row, column_at w.tab_len shown.text (place.1 - shown.first)) (seen, column) h other is)))
 
--- the row in which the place is seen holds it
+-- the visual row of a position has it
 held_here : (w : Wrapping) (lines : List (List ℕ)) (rows : List RowsView) (place : Place) (seen column : ℕ) → IsVisualPosition w.tab_len lines rows place (seen, column) → holds (row_at lines rows seen) place ≡ true
 held_here w lines rows place seen column is = of_row (row_at lines rows seen) place is.holds
 
--- a visual row holds a place exactly if it is the one in which the place is seen
+-- a visual row has a position exactly if it is the visual row of the position
 pub holds_where_seen : (w : Wrapping) (lines : List (List ℕ)) (rows : List RowsView) (place : Place) (row seen column : ℕ) → AreRowsOf w lines rows → IsVisualPosition w.tab_len lines rows place (seen, column) → row < length (visual_rows lines rows) → (row == seen) ≡ holds (row_at lines rows row) place
 holds_where_seen w lines rows place row seen column h is within = by (row == seen) refl
   where

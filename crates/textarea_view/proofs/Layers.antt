@@ -1,16 +1,16 @@
--- One layer of a frame after another, and the cells outside of them.
+-- The layers of a frame, one after another, and the cells outside of them.
 use Rattle.std.proofs.Common.{◌≡◌, ℕ, Bool, true, false, IsTrue, List, Result, Ok, Err, OnOk, OnErr, IfOk, take, refl, sym, subst}
 use Rattle.std.proofs.lemmas.Bool.{cond-false}
 use Rattle.textarea_view.specs.Prelude.{AreLinesOf, AreLinesWith, block_change, frame_change, inside_change, inside_with, lines_shown, placeholder_change, rows_change, style_change, row_area, FrameState, shows_placeholder, CursorCellRender, Look, block_cell, RowArea, FillsArea, lines_change, rows_above_end, in_style, placeholder_lines, cursor_cell, SceneState, ShownBlock, Changes, KeepsOutside, area_of, ShownCell, contains, ShownLine, ShownText, Buffer, Rect, Style, ViewportState}
 use Rattle.textarea_view.proofs.Drawing.{lines_inside}
 use Rattle.textarea_screen.proofs.ChangeLemmas.{Changes-then, KeepsOutside-from_changes, KeepsOutside-then, KeepsOutside-wider}
 
--- what holds holds on an error too
+-- a fact is also true after an error
 pub also_on_err : {T E Fact : Type 0} (r : Result T E) → Fact → OnErr r Fact
 also_on_err (Ok x) fact = tt
 also_on_err (Err e) fact = fact
 
--- ---- around
+-- ---- the block
 
 block_outside : (block : ShownBlock) (area : Rect) (x y : ℕ) (cell : ShownCell) → contains area x y ≡ false → block_cell block area x y cell ≡ cell
 unfolding block_cell
@@ -20,9 +20,9 @@ pub around_outside : (block : ShownBlock) (area : Rect) (old new : Buffer) → C
 around_outside block area old new change =
     KeepsOutside-from_changes (contains area) change (λ x y cell outside. block_outside block area x y cell outside)
 
--- ---- inside
+-- ---- the inner area
 
--- lines are drawn in a frame, and this is what they make of the cells
+-- lines of the frame are drawn, and these are the changed cells
 abbrev pub IsFilledBy : FrameState → ViewportState → Rect → Buffer → Buffer → Type 0
 IsFilledBy frame viewport inner old new = (lines : List ShownLine) × AreLinesOf frame viewport inner (area_of old) lines × Changes old new (inside_change frame viewport inner lines)
 
@@ -71,7 +71,7 @@ framed frame viewport area inner old now new around inside = (
   Changes-then (frame_change frame viewport area inner inside.0) around inside.2 (λ x y cell. refl),
 )
 
--- ---- whether it succeeds or not
+-- ---- with and without an error
 
 pub either : {T E A B C : Type 0} (r : Result T E) → OnOk r A → OnErr r B → (A → C) → (B → C) → C
 either (Ok value) ok err from_ok from_err = from_ok ok
@@ -85,7 +85,7 @@ pub if_ok : {T E : Type 0} {P Q : T → Type 0} (r : Result T E) → IfOk r P �
 if_ok (Ok value) ok from_ok = from_ok value ok
 if_ok (Err error) ok from_ok = ok
 
--- ---- what the parts of a frame say by their own words
+-- ---- the contracts of the functions that draw the layers
 
 pub lines_outside : (rows : RowArea) (inner : Rect) (lines : List ShownLine) (old new : Buffer) → rows.area ≡ inner → Changes old new (lines_change rows rows.area.y lines) → KeepsOutside (contains inner) old new
 lines_outside rows inner lines old new same change =

@@ -1,4 +1,4 @@
--- What is shown of a scene is shown by one list of lines.
+-- Only one list of lines shows a scene.
 use Rattle.std.proofs.Common.{◌≡◌, ℕ, ◌+◌, List, [], ◌∷◌, length, refl, sym, ap, ◌∙◌, arith}
 use Rattle.textarea_view.specs.Prelude.{Highlights, ShowsRow, row_clusters, row_start, RowArea, ShownLine, Rect, AreShown, FillsArea, IsRowStart, row_highlights, SceneState}
 

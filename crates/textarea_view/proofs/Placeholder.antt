@@ -18,7 +18,7 @@ length-placeholder_lines cursor_cell (line ∷ lines) = refl
 cell_of_line-later : (cursor_cell : CursorCellRender) (line : ℕ) → 0 < line → cell_of_line cursor_cell line ≡ Hidden
 cell_of_line-later cursor_cell line later = cond-false (line == 0) _ _ (grind (arith, nat_tests))
 
--- the line of each number, with the cursor in front of the first
+-- the line of each number, with the cursor before the first
 pub line_at : (cursor_cell : CursorCellRender) (lines : List ShownLine) (i : ℕ) (d : ShownLine) → i < length lines → behind_cursor (cell_of_line cursor_cell i) (get_or lines i d) ≡ get_or (placeholder_lines cursor_cell lines) i d
 line_at cursor_cell [] i d within = absurd (omega (arith, within))
 line_at cursor_cell (line ∷ lines) zero d within = refl
@@ -27,7 +27,7 @@ line_at cursor_cell (line ∷ lines) (suc i) d within = ap (λ cell. behind_curs
 pub cell_of_line-hidden : (line : ℕ) → cell_of_line Hidden line ≡ Hidden
 cell_of_line-hidden line = elim (line == 0) as (λ b. cond b Hidden Hidden ≡ Hidden) [ true ↦ refl | false ↦ refl ]
 
--- a span whose text is lent from another shows the same
+-- a borrow of a span's text has the same bytes
 shown_bytes : (text : SpanText) → text_bytes text ≡ content_bytes (shown_content text)
 shown_bytes (Borrowed text) = refl
 shown_bytes (Owned text) = refl
@@ -39,7 +39,7 @@ pub lent_from : (item lent : Span) (bytes : List ℕ) → shown_content lent.con
     shown_span lent ≡ lent_span (shown_span item)
 lent_from item lent bytes content style are = ap₂ made (content ∙ ap Lent (are ∙ shown_bytes item.content)) style
 
--- one span more is lent, behind the blank
+-- one more borrowed span, after the blank
 pub lent_more : (items done more : List Span) (i : ℕ) (item lent : Span) (style : Style) → i < length items → map shown_span done ≡ blank style ∷ map lent_span (map shown_span (take i items)) →
     item ≡ get_or items i item → shown_span lent ≡ lent_span (shown_span item) → more ≡ done ++ lent ∷ [] → map shown_span more ≡ blank style ∷ map lent_span (map shown_span (take (i + 1) items))
 lent_more items done more i item lent style within known is same pushed =
@@ -64,17 +64,17 @@ lines_more rows lines old now new count line d within is drawn change =
     ∙ lines_change-push rows rows.area.y (take count lines) line x y cell
     ∙ ap (λ (ls : List ShownLine). lines_change rows rows.area.y ls x y cell) all)
 
--- ---- texts that are lent
+-- ---- borrowed texts
 
 clusters-lent : (style : Style) (spans : List ShownSpan) → flat_map (span_clusters style) (map lent_span spans) ≡ flat_map (span_clusters style) spans
 clusters-lent style [] = refl
 clusters-lent style (span ∷ spans) = ap (λ cs. span_clusters style span ++ cs) (clusters-lent style spans)
 
--- a line behind the blank has the same clusters, whoever owns its texts
+-- a line after the blank has the same clusters, borrowed or owned
 clusters_behind : (style own : Style) (line : ShownLine) → row_clusters style (behind_cursor (Draw own) (lent_line line)) ≡ row_clusters style (behind_cursor (Draw own) line)
 clusters_behind style own line = ap (λ cs. span_clusters (patched style line.style) (blank own) ++ cs) (clusters-lent (patched style line.style) line.spans)
 
--- so it leaves the same in each cell
+-- so it puts the same into each cell
 row_cell-like : (rows : RowArea) (y : ℕ) (a b : ShownLine) → row_clusters rows.style a ≡ row_clusters rows.style b → (column row : ℕ) (cell : ShownCell) → row_cell rows y a column row cell ≡ row_cell rows y b column row cell
 unfolding row_cell
 row_cell-like rows y a b same column row cell =

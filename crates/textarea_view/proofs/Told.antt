@@ -1,4 +1,4 @@
--- What a row's highlighter is told, from what its tests found.
+-- The highlights of a row, from the tests of its code.
 use Rattle.std.proofs.Common.{◌≡◌, ℕ, ◌-◌, ◌&&◌, ◌==◌, true, false, Option, Some, nat_lt, sym, ap, ◌∙◌, arith}
 use Rattle.std.proofs.lemmas.Bool.{cond-false, cond-true}
 use Rattle.std.proofs.lemmas.Bool.Decides.{nat_tests}
@@ -9,7 +9,7 @@ pub numbered_first : (scene : SceneState) (row : VisualRow) (h : Highlights) (di
 numbered_first scene row h digits shown first is =
     ap (λ n. with_number h row.line n scene.look.line_number_style) is ∙ sym (cond-true (row.start == 0) _ _ first) ∙ sym (cond-true scene.line_numbers (with_line_number scene row h) h shown)
 
--- the row that holds the cursor has its cell
+-- the row with the cursor has its cell
 pub cursor_here : (scene : SceneState) (row : VisualRow) (h : Highlights) (before : ℕ) → holds row scene.cursor ≡ true → before ≡ row.first → with_cursor_line h (scene.cursor.1 - before) scene.look.cursor_line_style ≡ with_cursor scene row h
 cursor_here scene row h before here is =
     ap (λ n. with_cursor_line h (scene.cursor.1 - n) scene.look.cursor_line_style) is ∙ sym (cond-true (holds row scene.cursor) _ _ here)
@@ -19,7 +19,7 @@ pub cursor_near : (scene : SceneState) (row : VisualRow) (h : Highlights) → ho
 cursor_near scene row h elsewhere line =
     sym (cond-true (scene.cursor.0 == row.line) _ _ (grind (arith, nat_tests, line))) ∙ sym (cond-false (holds row scene.cursor) _ _ elsewhere)
 
--- the row's part is selected
+-- the row's section of the selection
 pub selected_part : (scene : SceneState) (row : VisualRow) (h : Highlights) (range : Range) (from to : ℕ) → Some range ≡ option_map (byte_range scene.rows.lines) scene.selection → Some (from, to) ≡ part_of row range →
     with_segment h from to (row.is_last && nat_lt row.line range.1.0) ≡ with_selected scene row h
 selected_part scene row h range from to selected part =

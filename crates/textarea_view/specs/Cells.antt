@@ -1,4 +1,4 @@
--- What a frame makes of the cells of a buffer.
+-- A frame's effect on the cells of a buffer.
 use Rattle.std.specs.Prelude.{◌≡◌, Bool, true, false, List, [], ◌∷◌, take, Option, None, Some, if◌then◌else◌}
 use Rattle.textarea_view.specs.Frame.{FrameState, shows_placeholder}
 use Rattle.textarea_view.specs.Placed.{row_area}
@@ -25,23 +25,23 @@ block_change (Some block) area x y cell = block_cell block area x y cell
 abbrev pub style_change : Rect → Style → Change
 style_change inner style x y cell = if contains inner x y then styled style cell else cell
 
--- lines that are drawn over the style of the text area, in the rows of the inner area, from the first column on that is shown
+-- lines over the style of the text area, in the inner area, from the viewport's first column on
 abbrev pub rows_change : Look → ViewportState → Rect → List ShownLine → Change
 rows_change look viewport inner lines =
     in_turn (style_change inner look.style
     ∷ lines_change (row_area look inner viewport.column) inner.y lines ∷ [])
 
--- lines that are drawn in the style of a placeholder alone
+-- lines that are drawn in only the style of a placeholder
 abbrev pub placeholder_change : Look → Style → ViewportState → Rect → List ShownLine → Change
 placeholder_change look style viewport inner lines =
     lines_change (in_style (row_area look inner viewport.column) style) inner.y lines
 
--- the lines of a placeholder, as far as the inner area and the buffer go
+-- the lines of a placeholder that the inner area and the buffer have rows for
 abbrev pub lines_shown : Look → List ShownLine → Rect → Rect → List ShownLine
 lines_shown look lines inner buffer =
     take (rows_above_end inner buffer) (placeholder_lines (cursor_cell look) lines)
 
--- what is drawn into the inner area: the placeholder's lines, or those of the visual rows
+-- the drawing in the inner area: the placeholder's lines, or those of the visual rows
 abbrev pub inside_with : Bool → FrameState → ViewportState → Rect → List ShownLine → Change
 inside_with true frame viewport inner lines =
     placeholder_change frame.scene.look frame.surround.placeholder.style viewport inner lines
@@ -62,7 +62,7 @@ abbrev pub AreLinesOf : FrameState → ViewportState → Rect → Rect → List 
 AreLinesOf frame viewport inner buffer lines =
     AreLinesWith (shows_placeholder frame) frame viewport inner buffer lines
 
--- what a frame makes of a cell: the block is drawn over the area, and then the lines into the inner area
+-- a cell after a frame is drawn: the block over the area, and then the lines into the inner area
 abbrev pub frame_change : FrameState → ViewportState → Rect → Rect → List ShownLine → Change
 frame_change frame viewport area inner lines =
     in_turn (block_change frame.surround.block area

@@ -1,4 +1,4 @@
--- What drawing a frame makes of a buffer.
+-- A buffer after a frame is drawn.
 use Rattle.std.specs.Prelude.{List}
 use Rattle.textarea_view.specs.Cells.{AreLinesOf, frame_change}
 use Rattle.textarea_view.specs.Frame.{FrameState}
@@ -9,7 +9,7 @@ use Rattle.textarea_screen.specs.declared.screen.buffer.Buffer.{Buffer}
 use Rattle.textarea_screen.specs.declared.screen.rect.Rect.{Rect}
 use Rattle.textarea_view.specs.Viewport.{ViewportState}
 
--- this is placed in the inner area, where this part was shown before, and so the frame is drawn
+-- the frame is drawn with this new viewport and caret; `viewport` is that of the last frame
 pub record IsFrameDrawn (frame : FrameState) (viewport : ViewportState) (area inner : Rect) (old new : Buffer) (placing : Placing) : Type 0 where
   pub placing_is : IsPlaced frame viewport inner placing
   pub lines : List ShownLine

@@ -1,4 +1,4 @@
--- Which place of a frame's rows a cell of the screen shows.
+-- The position in the text that a cell of the screen shows.
 use Rattle.std.specs.Prelude.{◌≡◌, ℕ, ◌-◌, Bool, true, false, Option, None, Some}
 use Rattle.textarea_view.specs.Frame.{FrameState, shows_placeholder}
 use Rattle.textarea_view.specs.Placed.{LiesAs}
@@ -14,17 +14,17 @@ use Rattle.textarea_view.specs.Caret.{hit_column, hit_row}
 use Rattle.textarea_view.specs.Viewport.{ViewportState}
 use Rattle.textarea_view.specs.declared.row_view.RowView.{RowView}
 
--- the greatest display column of a visual row at which a cursor can stand
+-- the greatest display column that a cursor can have in a visual row
 abbrev pub greatest_at : LentRows → ℕ → ℕ
 greatest_at rows row = greatest_column rows.wrapping.tab_len (row_at rows.lines rows.rows row)
 
--- a cursor that is to stand in this visual row at this display column goes to this place
+-- the position of a cursor that is put to this visual row and display column
 abbrev pub IsNear : LentRows → Place → Place → Type 0
 IsNear rows seen place = IsPlaceNear rows.wrapping.tab_len rows.lines rows.rows seen place
 
--- ---- hits
+-- ---- hit tests
 
--- the cell lies in the inner area: it shows a visual row, the last one where it lies below that, and a display column of it
+-- a cell of the inner area shows a visual row, at most the last one, and a display column of it
 pub record IsHitInRows (scene : SceneState) (viewport : ViewportState) (inner : Rect) (x y : ℕ) (place : Place) : Type 0 where
   pub row : ℕ
   pub row_is : hit_row viewport.row inner (row_total scene.rows.rows - 1) x y ≡ Some row
@@ -37,13 +37,13 @@ abbrev pub IsHitWith : Bool → FrameState → ViewportState → Rect → ℕ �
 IsHitWith true frame viewport inner x y place = place ≡ (0, 0)
 IsHitWith false frame viewport inner x y place = IsHitInRows frame.scene viewport inner x y place
 
--- a cell outside of the inner area shows no place
+-- a cell outside of the inner area shows no position
 abbrev pub IsHitBy : Bool → FrameState → ViewportState → Rect → ℕ → ℕ → Option Place → Type 0
 IsHitBy false frame viewport inner x y found = found ≡ None
 IsHitBy true frame viewport inner x y found = (place : Place) × (found ≡ Some place)
     × IsHitWith (shows_placeholder frame) frame viewport inner x y place
 
--- what the cell in column x and row y shows
+-- the position that the cell in column x and row y shows, if it shows one
 abbrev pub IsHitOf : FrameState → ViewportState → Rect → ℕ → ℕ → Option Place → Type 0
 IsHitOf frame viewport inner x y found =
     IsHitBy (contains inner x y) frame viewport inner x y found

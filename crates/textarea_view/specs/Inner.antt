@@ -1,10 +1,10 @@
--- What a surround leaves of an area.
+-- The area inside a block.
 use Rattle.std.specs.Prelude.{◌≡◌, ℕ, ◌+◌, min, Option, None, Some}
 use Rattle.textarea_screen.specs.Block.{ShownBlock, left_inset, top_inset}
 use Rattle.textarea_screen.specs.declared.screen.rect.Rect.{Rect}
 use Rattle.textarea_view.specs.Measure.{height_inside, width_inside}
 
--- the columns that the block takes at the left of an area of this width, if there is a block; all of them at most
+-- the columns that a block takes at the left of an area of this width, at most all of them
 abbrev pub left_of : Option ShownBlock → ℕ → ℕ
 left_of None width = 0
 left_of (Some block) width = min (left_inset block) width
@@ -14,7 +14,7 @@ abbrev pub top_of : Option ShownBlock → ℕ → ℕ
 top_of None height = 0
 top_of (Some block) height = min (top_inset block) height
 
--- the inner area: what the block leaves of an area, or all of it without a block
+-- the inner area: the area inside the block, or all of it without a block
 pub record IsInner (block : Option ShownBlock) (area inner : Rect) : Type 0 where
   pub x : inner.x ≡ area.x + left_of block area.width
   pub y : inner.y ≡ area.y + top_of block area.height

@@ -1,4 +1,4 @@
--- The look at first.
+-- The default appearance.
 use Rattle.std.specs.Prelude.{None, Some}
 use Rattle.textarea_screen.specs.Style.{empty_style}
 use Rattle.textarea_screen.specs.declared.screen.alignment.Alignment.TheVariants.{Left}
@@ -7,23 +7,21 @@ use Rattle.textarea_screen.specs.declared.screen.style.Style.{Style}
 use Rattle.textarea_view.specs.declared.look.CursorRenderMode.TheVariants.{Cell}
 use Rattle.textarea_view.specs.declared.look.Look.{Look}
 
--- the cursor's: reversed, the modifier of the number 64
+-- the style of the cursor: reversed, which is the modifier 64
 abbrev pub default_cursor_style : Style
 default_cursor_style = record empty_style { add_modifier = record { 0 = 64 } }
 
--- that of the cursor's line: underlined, the modifier of the number 8
+-- the style of the cursor's line: underlined, which is the modifier 8
 abbrev pub default_cursor_line_style : Style
 default_cursor_line_style = record empty_style { add_modifier = record { 0 = 8 } }
 
--- that of what is selected: on light blue
 abbrev pub default_selection_style : Style
 default_selection_style = record empty_style { bg = Some LightBlue }
 
--- that of matches: on blue
 abbrev pub default_search_style : Style
 default_search_style = record empty_style { bg = Some Blue }
 
--- all else in no style, at the left, without a mask, and the cursor in its cell
+-- the styles above, all else in no style, at the left, without a mask, the cursor drawn in its cell
 abbrev pub default_look : Look
 default_look = record {
   style = empty_style;

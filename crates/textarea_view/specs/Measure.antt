@@ -1,44 +1,43 @@
--- What a surround takes of an area, and the height that is measured for a text.
+-- The room that a block takes of an area, and the measured height of a text.
 use Rattle.std.specs.Prelude.{ℕ, ◌+◌, ◌-◌, Bool, if◌then◌else◌, min, max, List, [], ◌∷◌, length, Option, None, Some}
 use Rattle.textarea_screen.specs.Block.{ShownBlock, inner_height, inner_width}
 use Rattle.textarea_screen.specs.Text.{ShownLine}
 use Rattle.textarea_view.specs.State.{SurroundState}
 use Rattle.textarea_view.specs.declared.surround.measure.TextAreaMeasure.{TextAreaMeasure}
 
--- the width that is left inside a block, if there is one, of an area of this width; not below 0
+-- the width and height inside a block, if there is one, of an area of this size; at least 0
 abbrev pub width_inside : Option ShownBlock → ℕ → ℕ
 width_inside None width = width
 width_inside (Some block) width = inner_width block width
 
--- the height that is left inside a block, if there is one, of an area of this height; not below 0
 abbrev pub height_inside : Option ShownBlock → ℕ → ℕ
 height_inside None height = height
 height_inside (Some block) height = inner_height block height
 
--- the rows of the highest area that the block takes
+-- the rows that the block takes of the highest area
 abbrev pub chrome_of : Option ShownBlock → ℕ
 chrome_of block = 65535 - height_inside block 65535
 
--- the number, or 65535 where it is greater
+-- the number, but at most 65535
 abbrev pub saturated : ℕ → ℕ
 saturated number = min number 65535
 
--- how many rows are shown of a text of so many rows: those of the placeholder where the text is empty and the placeholder
--- has lines
+-- the number of rows to draw for a text of `rows` rows: those of the placeholder if the text is
+-- empty and the placeholder has lines
 abbrev pub rows_shown : List ShownLine → ℕ → Bool → ℕ
 rows_shown [] rows is_empty = rows
 rows_shown (line ∷ lines) rows is_empty = if is_empty then length (line ∷ lines) else rows
 
--- the least height that is measured: that which is set, or the chrome and one row where that is more
+-- the least height measured: the one that is set, or the chrome and one row if that is greater
 abbrev pub least_height : SurroundState → ℕ
 least_height surround = max surround.min_rows (saturated (chrome_of surround.block + 1))
 
--- the greatest height that is measured: that which is set, or the least where that is more
+-- the greatest height that is measured: the one that is set, or the least if that is greater
 abbrev pub greatest_height : SurroundState → ℕ
 greatest_height surround = max surround.max_rows (least_height surround)
 
--- what is measured for a text of so many rows, empty or not: the rows shown; the height that shows all of them and the
--- chrome, as far as the least and the greatest allow; and these two
+-- the measure of a text of `rows` rows, empty or not: the rows to draw; the height for all of them
+-- and the chrome, within the least and the greatest; and these two
 abbrev pub measure_of : SurroundState → ℕ → Bool → TextAreaMeasure
 measure_of surround rows is_empty =
     let content = saturated (rows_shown surround.placeholder.lines rows is_empty) in

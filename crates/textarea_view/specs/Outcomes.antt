@@ -1,4 +1,4 @@
--- What the calls that set something make of a surround.
+-- The block, placeholder and heights after a call that sets one of them.
 use Rattle.std.specs.Prelude.{ℕ, max, List, [], ◌∷◌}
 use Rattle.textarea_screen.specs.Style.{empty_style}
 use Rattle.textarea_screen.specs.Text.{ShownLine}
@@ -6,31 +6,29 @@ use Rattle.textarea_screen.specs.Text.ShownContent.{Held}
 use Rattle.textarea_screen.specs.declared.screen.style.Style.{Style}
 use Rattle.textarea_view.specs.State.{SurroundState}
 
--- a line of one span that holds the whole text, a line feed in it too, in no style of its own
+-- a line of one span with the whole text, including any line feed, in no style of its own
 abbrev pub plain_line : List ℕ → ShownLine
 plain_line bytes = record { spans = record { content = Held bytes; style = empty_style } ∷ []; style = empty_style }
 
--- the lines of a placeholder that is a text alone: one line, and none of the empty text
+-- the lines of a placeholder that is set to a text: one line, or none for the empty text
 abbrev pub plain_lines : List ℕ → List ShownLine
 plain_lines [] = []
 plain_lines (byte ∷ bytes) = plain_line (byte ∷ bytes) ∷ []
 
--- the placeholder has the lines of this text, and its style stays
 abbrev pub with_placeholder_text : SurroundState → List ℕ → SurroundState
 with_placeholder_text surround bytes = record surround { placeholder = record surround.placeholder { lines = plain_lines bytes } }
 
--- the placeholder has this style, and its lines stay
 abbrev pub with_placeholder_style : SurroundState → Style → SurroundState
 with_placeholder_style surround style = record surround { placeholder = record surround.placeholder { style = style } }
 
--- a number of rows that is set, 0 counting as 1
+-- a number of rows to set; 0 counts as 1
 abbrev pub rows_set : ℕ → ℕ
 rows_set rows = max rows 1
 
--- the least height is set, and the greatest is raised to it where it is less
+-- the least height is set, and a lower greatest height is raised to it
 abbrev pub with_min_rows : SurroundState → ℕ → SurroundState
 with_min_rows surround rows = record surround { min_rows = rows_set rows; max_rows = max surround.max_rows (rows_set rows) }
 
--- the greatest height is set, and raised to the least where it is less
+-- the greatest height is set, or raised to the least if it is lower
 abbrev pub with_max_rows : SurroundState → ℕ → SurroundState
 with_max_rows surround rows = record surround { max_rows = max (rows_set rows) surround.min_rows }

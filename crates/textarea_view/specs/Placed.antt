@@ -1,4 +1,4 @@
--- Which part of the rows is shown, and where the caret is.
+-- The viewport, and the cell of the caret.
 use Rattle.std.specs.Prelude.{◌≡◌, ℕ, Bool, true, false, ◌||◌, ◌==◌, Option, None, Some, if◌then◌else◌}
 use Rattle.textarea_view.specs.Frame.{FrameState, number_width, shows_placeholder}
 use Rattle.textarea_view.specs.declared.look.Look.{Look}
@@ -19,11 +19,11 @@ use Rattle.textarea_view.specs.declared.row_view.RowView.{RowView}
 use Rattle.textarea_wrap.specs.declared.wrap.WrapMode.{WrapMode}
 use Rattle.textarea_wrap.specs.declared.wrap.WrapMode.TheVariants as wrap
 
--- a place of the screen by its column and its row
+-- a cell of the screen by its column and its row
 abbrev pub cell_of_position : Position → ℕ × ℕ
 cell_of_position position = (position.x, position.y)
 
--- what is shown, and the cell of the caret by its column and its row, if it is shown
+-- the viewport, and the cell of the caret by its column and its row, if it is in view
 pub record Placing : Type 0 where
   pub viewport : ViewportState
   pub caret : Option (ℕ × ℕ)
@@ -35,34 +35,34 @@ abbrev pub row_area : Look → Rect → ℕ → RowArea
 row_area look inner left =
     record { area = inner; alignment = look.alignment; left = left; style = empty_style }
 
--- how many columns behind the left edge the visual row begins: none at the left, else as the line does that shows it
+-- the columns between the left edge and the start of the visual row: 0 at the left, else its line's
 abbrev pub IsStart : Alignment → SceneState → RowArea → ℕ → ℕ → Type 0
 IsStart Left scene rows row start = start ≡ 0
 IsStart Center scene rows row start = IsRowStart scene rows row start
 IsStart Right scene rows row start = IsRowStart scene rows row start
 
--- how a row lies in the area: at the left it is scrolled, else it begins at its start
+-- the columns of a row in the area: at the left it is scrolled, else it begins at its start
 abbrev pub row_view : Alignment → ViewportState → Rect → ℕ → ℕ → RowView
 row_view Left viewport inner start columns = left_view viewport inner columns
 row_view Center viewport inner start columns = offset_view viewport inner start columns
 row_view Right viewport inner start columns = offset_view viewport inner start columns
 
--- the visual row lies so in the inner area, where this part is shown
+-- the visual row has this view in the inner area, with this viewport
 pub record LiesAs (scene : SceneState) (viewport : ViewportState) (inner : Rect) (row : ℕ) (view : RowView) : Type 0 where
   pub start : ℕ
   pub start_is : IsStart scene.look.alignment scene (row_area scene.look inner viewport.column) row start
   pub view_is : view ≡ row_view scene.look.alignment viewport inner start (number_width scene)
 
--- ---- once it is drawn
+-- ---- after it is drawn
 
--- the part that is shown once the cursor is seen in this visual row at this display column: the first row follows the cursor, and
--- where lines aren't wrapped so does the first column
+-- the viewport once the cursor is in view at this visual row and display column: the first row
+-- follows the cursor, and so does the first column of unwrapped lines
 abbrev pub viewport_at : WrapMode → ViewportState → Rect → ℕ → Place → ViewportState
 viewport_at wrap.None viewport inner columns seen =
     showing_row_and_column viewport inner seen.0 seen.1 columns
 viewport_at other viewport inner columns seen = showing_row viewport inner seen.0
 
--- the cell of the caret is that of the cursor's visual row and display column in what is shown then
+-- the caret's cell shows the cursor's visual row and display column in the new viewport
 pub record IsPlacedInRows (scene : SceneState) (mode : WrapMode) (viewport : ViewportState) (inner : Rect) (placing : Placing) : Type 0 where
   pub seen : Place
   pub seen_is : IsVisualPosition scene.rows.wrapping.tab_len scene.rows.lines scene.rows.rows scene.cursor seen
@@ -76,7 +76,7 @@ abbrev pub corner_caret : Rect → Option (ℕ × ℕ)
 corner_caret inner =
     if (inner.width == 0) || (inner.height == 0) then None else Some (inner.x, inner.y)
 
--- with a placeholder nothing is scrolled, and the caret stands in the corner
+-- with a placeholder nothing is scrolled, and the caret is in the corner
 abbrev pub placed_at_corner : Rect → Placing
 placed_at_corner inner = record { viewport = at_start inner; caret = corner_caret inner }
 
@@ -85,7 +85,7 @@ IsPlacedWith true frame viewport inner placing = placing ≡ placed_at_corner in
 IsPlacedWith false frame viewport inner placing =
     IsPlacedInRows frame.scene frame.mode viewport inner placing
 
--- what is shown of the frame once it is drawn into the inner area, where this part was shown before, and where the caret is
+-- the new viewport and the caret's cell; `viewport` is that of the last frame
 abbrev pub IsPlaced : FrameState → ViewportState → Rect → Placing → Type 0
 IsPlaced frame viewport inner placing =
     IsPlacedWith (shows_placeholder frame) frame viewport inner placing

@@ -1,4 +1,4 @@
--- A placeholder in the place of the rows.
+-- A placeholder that is drawn instead of the visual rows.
 use Rattle.std.specs.Prelude.{ℕ, ◌==◌, List, [], ◌∷◌, map, All, codes, if◌then◌else◌}
 use Rattle.textarea_highlight.specs.declared.highlight.highlighter.CursorCellRender.{CursorCellRender}
 use Rattle.textarea_highlight.specs.declared.highlight.highlighter.CursorCellRender.TheVariants.{Draw, Hidden}
@@ -13,27 +13,27 @@ use Rattle.textarea_screen.specs.declared.screen.style.Style.{Style}
 abbrev pub in_style : RowArea → Style → RowArea
 in_style rows style = record rows { style = patched rows.style style }
 
--- ---- the cursor in front of the first line
+-- ---- the cursor before the first line
 
 -- one blank in a style
 abbrev pub blank : Style → ShownSpan
 blank style = record { content = Lent (codes " "); style = style }
 
--- the line; where the cursor's cell is drawn, one blank in its style stands in front of it
+-- the line; if the cursor's cell is drawn, one blank in its style is before it
 abbrev pub behind_cursor : CursorCellRender → ShownLine → ShownLine
 behind_cursor (Draw style) line = record line { spans = blank style ∷ line.spans }
 behind_cursor Hidden line = line
 
--- the lines that are drawn: the cursor stands in front of the first
+-- the lines that are drawn: the cursor is before the first one
 abbrev pub placeholder_lines : CursorCellRender → List ShownLine → List ShownLine
 placeholder_lines cursor_cell [] = []
 placeholder_lines cursor_cell (line ∷ lines) = behind_cursor cursor_cell line ∷ lines
 
--- how the cursor's cell is drawn in front of the line of this number: it stands in front of the first alone
+-- how the cursor's cell is drawn before the line of this number: only the first line has it
 abbrev pub cell_of_line : CursorCellRender → ℕ → CursorCellRender
 cell_of_line cursor_cell line = if line == 0 then cursor_cell else Hidden
 
--- ---- lines whose texts are lent
+-- ---- lines with borrowed texts
 
 abbrev pub lent_span : ShownSpan → ShownSpan
 lent_span span = record { content = Lent (content_bytes span.content); style = span.style }
@@ -41,8 +41,8 @@ lent_span span = record { content = Lent (content_bytes span.content); style = s
 abbrev pub lent_line : ShownLine → ShownLine
 lent_line line = record { spans = map lent_span line.spans; style = line.style }
 
--- ---- lines that take no memory
+-- ---- lines that need no allocation
 
--- each cluster of each line lies in a cell that shows it
+-- each grapheme cluster of each line is short enough to be stored in its cell
 abbrev pub AreLinesInline : Style → List ShownLine → Type 0
 AreLinesInline style lines = All (λ line. AreInline (row_clusters style line)) lines

@@ -1,4 +1,4 @@
--- The names that clauses and proofs of this crate cite, passed on from one place. Declares nothing.
+-- The names that contracts and proofs of this crate use, re-exported. It declares nothing.
 pub use Rattle.std.specs.Option.{option_map, option_map_or}
 pub use Rattle.std.specs.Result.{OnErr, OnOk}
 pub use Rattle.textarea_text.specs.Place.{IsPlaceOf, Place}

@@ -1,4 +1,4 @@
--- What a frame is drawn from.
+-- The data that visual rows are drawn from.
 use Rattle.std.specs.Prelude.{ℕ, Bool, List, Option, IfSome}
 use Rattle.textarea_text.specs.Place.{Place, IsPlaceOf}
 use Rattle.textarea_screen_map.specs.Seen.{IsVisualPosition}
@@ -6,9 +6,9 @@ use Rattle.textarea_screen_map.specs.Lent.{LentRows}
 use Rattle.textarea_view.specs.declared.look.CustomHighlight.{CustomHighlight}
 use Rattle.textarea_view.specs.declared.look.Look.{Look}
 
--- the lines with their visual rows; where the cursor stands; what is selected, if something is, from its start to its end; the
--- pattern whose matches are highlighted, if there is one; how it all looks; the caller's own highlights, in the order in which
--- they were added; and whether each line has its number beside it
+-- the lines with their visual rows; the cursor; the selection, if there is one, from its start to
+-- its end; the pattern whose matches are highlighted, if there is one; the appearance; the caller's
+-- own highlights, in the order in which they were added; and whether lines are numbered
 pub record SceneState : Type 0 where
   pub rows : LentRows
   pub cursor : Place
@@ -18,13 +18,13 @@ pub record SceneState : Type 0 where
   pub highlights : List CustomHighlight
   pub line_numbers : Bool
 
--- the cursor is a place of the lines, and so are both ends of the selection
+-- the cursor is a position in the lines, and so are both ends of the selection
 pub record HasPlaces (scene : SceneState) : Type 0 where
   pub cursor : IsPlaceOf scene.rows.lines scene.cursor
   pub selection : IfSome scene.selection
       (λ selection. IsPlaceOf scene.rows.lines selection.0 × IsPlaceOf scene.rows.lines selection.1)
 
--- the cursor is seen in this visual row
+-- the cursor is in this visual row
 abbrev pub IsSeenIn : SceneState → ℕ → Type 0
 IsSeenIn scene row = (column : ℕ)
     × IsVisualPosition scene.rows.wrapping.tab_len scene.rows.lines scene.rows.rows scene.cursor (row, column)

@@ -1,4 +1,4 @@
--- The lines that show visual rows, and what they make of the cells of an area.
+-- The lines that show visual rows, and their effect on the cells of an area.
 use Rattle.std.specs.Prelude.{◌≡◌, ℕ, ◌+◌, ◌-◌, min, List, [], ◌∷◌, length}
 use Rattle.textarea_highlight.specs.Row.{ShowsRow}
 use Rattle.textarea_blocks.specs.Sums.{row_total}
@@ -17,28 +17,28 @@ abbrev pub AreShown : SceneState → ℕ → List ShownLine → Type 0
 AreShown scene row [] = Unit {0}
 AreShown scene row (line ∷ lines) = ShowsRow (row_highlights scene row) line × AreShown scene (row + 1) lines
 
--- how many rows of an area lie above the end of a buffer's area
+-- the number of rows of an area that are above the end of a buffer's area
 abbrev pub rows_above_end : Rect → Rect → ℕ
 rows_above_end area buffer = min (area.y + area.height) (buffer.y + buffer.height) - area.y
 
--- The lines that an area shows of the rows from the top on: one for each visual row that there is, as far as area and buffer go.
+-- the lines shown from the top on: one for each visual row, while area and buffer have room
 pub record FillsArea (scene : SceneState) (top : ℕ) (area buffer : Rect) (lines : List ShownLine) : Type 0 where
   pub all : length lines ≡ min (rows_above_end area buffer) (row_total scene.rows.rows - top)
   pub shown : AreShown scene top lines
 
--- what lines make of a cell that are drawn one below the other, the first in row `y`
+-- a cell after lines are drawn one below the other, the first in row `y`
 abbrev pub lines_change : RowArea → ℕ → List ShownLine → Change
 lines_change rows y [] column row cell = cell
 lines_change rows y (line ∷ lines) column row cell = lines_change rows (y + 1) lines column row (row_cell rows y line column row cell)
 
--- The buffer was `old`, and is `new`: so many visual rows from the top on are drawn one below the other.
+-- The buffer was `old`, and is `new`: `count` visual rows from the top on are drawn.
 pub record DrawnTo (scene : SceneState) (top : ℕ) (rows : RowArea) (old new : Buffer) (count : ℕ) : Type 0 where
   pub lines : List ShownLine
   pub many : length lines ≡ count
   pub shown : AreShown scene top lines
   pub change : Changes old new (lines_change rows rows.area.y lines)
 
--- the line that shows the visual row begins so many columns behind the left edge of the area
+-- the number of columns between the left edge of the area and the start of the visual row's line
 abbrev pub IsRowStart : SceneState → RowArea → ℕ → ℕ → Type 0
 IsRowStart scene rows row start = (line : ShownLine)
     × ShowsRow (row_highlights scene row) line

@@ -1,21 +1,20 @@
--- What scrolling makes of a viewport.
+-- A viewport after scrolling.
 use Rattle.std.specs.Prelude.{ℕ, ◌+◌, ◌-◌, ◌/◌, ℤ, pos, negsuc}
 use Rattle.textarea_data.specs.declared.scroll.Scrolling.{Scrolling}
 use Rattle.textarea_data.specs.declared.scroll.Scrolling.TheVariants.{Delta, PageDown, PageUp, HalfPageDown, HalfPageUp}
 use Rattle.textarea_view.specs.Viewport.{ViewportState, saturated}
 
--- a first row or column that is scrolled, forward by a number that isn't negative and back by one that is (`negsuc n` is
--- n + 1 below 0): at most the greatest `usize`, and not below 0, where `-` stops
+-- a first row or column after scrolling forward by a number, or back by a negative one (`negsuc n`
+-- is n + 1 below 0): at most the greatest `usize`, and at least 0, where `-` stops
 abbrev pub scrolled : ℕ → ℤ → ℕ
 scrolled first (pos distance) = saturated (first + distance)
 scrolled first (negsuc before) = first - (before + 1)
 
--- scrolled by rows and by columns
 abbrev pub scrolled_viewport : ViewportState → ℤ → ℤ → ViewportState
 scrolled_viewport viewport rows columns =
     record viewport { row = scrolled viewport.row rows; column = scrolled viewport.column columns }
 
--- by a delta exactly; by a page, which is the height; by half a page, which is half the height rounded down
+-- scrolled by a delta, by a page, which is the height, or by half of one, rounded down
 abbrev pub scrolled_by : ViewportState → Scrolling → ViewportState
 scrolled_by viewport (Delta rows columns) = scrolled_viewport viewport rows columns
 scrolled_by viewport PageDown = record viewport { row = saturated (viewport.row + viewport.height) }

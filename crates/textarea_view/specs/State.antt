@@ -1,4 +1,4 @@
--- The state of a surround: what is around the rows of a text area, and what is shown in place of an empty text.
+-- The block around the rows of a text area, the placeholder, and the least and greatest height.
 use Rattle.std.specs.Prelude.{ℕ, ◌≤◌, List, [], ◌∷◌, Option, None, Some}
 use Rattle.textarea_screen.specs.Block.{ShownBlock}
 use Rattle.textarea_screen.specs.Style.{empty_style}
@@ -7,8 +7,8 @@ use Rattle.textarea_screen.specs.Text.ShownContent.{Held, Lent}
 use Rattle.textarea_screen.specs.declared.screen.color.Color.TheVariants.{DarkGray}
 use Rattle.textarea_screen.specs.declared.screen.style.Style.{Style}
 
--- a surround as its callers see it: the block around the rows, if there is one; the placeholder, which is shown in place of an
--- empty text where it has lines; and the least and the greatest height to measure, in rows
+-- the block around the rows, if there is one; the placeholder, which is drawn instead of an empty
+-- text if it has lines; and the least and the greatest height to measure, in rows
 pub record SurroundState : Type 0 where
   pub block : Option ShownBlock
   pub placeholder : ShownText
@@ -19,11 +19,9 @@ pub record SurroundState : Type 0 where
 abbrev pub AreBounds : ℕ → ℕ → Type 0
 AreBounds min_rows max_rows = (1 ≤ min_rows) × (min_rows ≤ max_rows)
 
--- the style of a placeholder at first: dark gray
 abbrev pub default_placeholder_style : Style
 default_placeholder_style = record empty_style { fg = Some DarkGray }
 
--- a new surround: no block, no placeholder line, and heights from 1 to 65535 rows
 abbrev pub new_surround : SurroundState
 new_surround = record {
   block = None;
@@ -32,22 +30,22 @@ new_surround = record {
   max_rows = 65535;
 }
 
--- the bytes of a span's text, lent or held
+-- the bytes of a span's text, borrowed or owned
 abbrev pub content_bytes : ShownContent → List ℕ
 content_bytes (Lent bytes) = bytes
 content_bytes (Held bytes) = bytes
 
--- the bytes of the first span's text, none where there is no span
+-- the bytes of the first span's text, none without a span
 abbrev pub first_span_bytes : List ShownSpan → List ℕ
 first_span_bytes [] = []
 first_span_bytes (span ∷ spans) = content_bytes span.content
 
--- the bytes of the text of the first line's first span, none where there is no line, or no span in it
+-- the bytes of the text of the first line's first span, none if there is no line, or no span in it
 abbrev pub first_bytes : List ShownLine → List ℕ
 first_bytes [] = []
 first_bytes (line ∷ lines) = first_span_bytes line.spans
 
--- the style of a text that has lines
+-- the style of a text, if it has lines
 abbrev pub style_with_lines : List ShownLine → Style → Option Style
 style_with_lines [] style = None
 style_with_lines (line ∷ lines) style = Some style

@@ -1,26 +1,26 @@
--- The part of a text's visual rows that is shown.
+-- The visual rows and columns of a text that are in view.
 use Rattle.std.specs.Prelude.{ℕ, ◌+◌, ◌-◌, ◌^◌, min, max}
 
--- what clauses see of a viewport: the first visual row and the first column that are shown, and the size of the area
+-- a viewport as contracts see it: the first visual row and column in view, and the area's size
 pub record ViewportState : Type 0 where
   pub row : ℕ
   pub column : ℕ
   pub width : ℕ
   pub height : ℕ
 
--- before anything is drawn
+-- the viewport before anything is drawn
 abbrev pub initial_viewport : ViewportState
 initial_viewport = record { row = 0; column = 0; width = 0; height = 0 }
 
--- the number, or the greatest `usize` where it is greater
+-- the number, but at most the greatest `usize`
 abbrev pub saturated : ℕ → ℕ
 saturated number = min number (2 ^ 64 - 1)
 
--- the last of so many rows or columns from the first on: one less than their sum, and no less than the first; the sum is at
--- most the greatest `usize`, and the difference stops at 0
+-- the last of `len` rows or columns from the first on: one less than their sum, and at least the
+-- first; the sum is at most the greatest `usize`, and the difference stops at 0
 abbrev pub last_shown : ℕ → ℕ → ℕ
 last_shown first len = max first (saturated (first + len) - 1)
 
--- a row or a column that is clamped to the first and the last that are shown, then to the greatest that there is
+-- a row or a column that is clamped to those in view, and then to at most the greatest one
 abbrev pub clamped : ℕ → ℕ → ℕ → ℕ → ℕ
 clamped first len greatest at = min (min (max at first) (last_shown first len)) greatest

@@ -1,6 +1,6 @@
-//! What one frame is drawn from, and the cells that it makes.
+//! One frame of a text area, and the cells that it changes.
 ghost use Rattle.std.specs.Prelude.{◌≡◌, ℕ, IfOk, IsTrue, List, OnOk};
-ghost use Rattle.textarea_view.specs.Prelude.{AreLinesOf, block_change, frame_change, inside_change, lines_shown, placeholder_change, rows_change, IsFrameDrawn, shows_placeholder, FillsArea, HasPlaces, Changes, KeepsOutside, area_of, contains, ShownLine};
+ghost use Rattle.textarea_view.specs.Prelude.{AreLinesOf, block_change, inside_change, lines_shown, placeholder_change, rows_change, IsFrameDrawn, shows_placeholder, FillsArea, HasPlaces, Changes, KeepsOutside, area_of, contains, ShownLine};
 
 use crate::placing::{Placing, row_area};
 use crate::scene::Scene;
@@ -13,7 +13,7 @@ use textarea_screen::screen::{Buffer, Rect};
 use textarea_search::search::KeptMatches;
 use textarea_wrap::wrap::WrapMode;
 
-/// The parts of a text area that one frame is drawn from, lent.
+/// The borrowed parts of a text area that one frame is drawn from.
 #[derive(Drop)]
 pub struct Frame<'f, 's> {
     /// The visual rows.
@@ -22,7 +22,6 @@ pub struct Frame<'f, 's> {
     pub surround: &'f Surround<'s>,
     /// How lines are wrapped.
     pub mode: WrapMode,
-    /// Whether the text is empty.
     pub is_empty: bool,
 }
 
@@ -40,14 +39,14 @@ impl<'f, 's> Model for Frame<'f, 's> {
 }
 
 impl Frame<'_, '_> {
-    // Whether the placeholder is shown in the place of the rows.
+    // Returns whether the placeholder is drawn instead of the visual rows.
     pub(crate) fn shows_placeholder(&self) -> bool
         ensures { result ≡ shows_placeholder self.now }
     {
         self.is_empty && self.surround.placeholder_rows() > 0
     }
 
-    // Draws the rows or the placeholder into the inner area.
+    // Draws the visual rows or the placeholder into the inner area.
     fn draw_inside(
         &self,
         alloc: Global,
@@ -127,8 +126,8 @@ fn draw_rows(
     scene.draw(alloc, kept, buffer, rows, top)
 }
 
-/// Draws the frame, where this part was shown before, and gives what is shown then: the part that is shown follows the cursor. The
-/// inner area lies in the area. Out of memory, cells of the area may be drawn already.
+/// Draws the frame. `viewport` is that of the last frame; the returned one follows the cursor. The
+/// inner area must be within the area. After out of memory, cells of the area may be changed.
 pub fn draw_frame(
     frame: &Frame<'_, '_>,
     alloc: Global,

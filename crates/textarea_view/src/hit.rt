@@ -1,4 +1,4 @@
-//! Which place of a frame's rows a cell of the screen shows.
+//! The position in the text that a cell of the screen shows.
 ghost use Rattle.std.specs.Prelude.{◌≡◌, ◌-◌, ◌<◌, IfOk, IfSome, IsOk, Some};
 ghost use Rattle.textarea_view.specs.Prelude.{IsHitInRows, IsHitOf, row_total, HasPlaces, Left, IsPlaceOf, hit_row};
 
@@ -10,8 +10,9 @@ use std::alloc::{AllocError, Global};
 use textarea_screen::screen::{Position, Rect};
 
 impl Frame<'_, '_> {
-    /// The place that a cell of the screen shows, if it is one of the inner area, where this part is shown: a cell below the last visual
-    /// row shows that row, and one behind a row its greatest cursor column; with a placeholder each shows the start.
+    /// Returns the position (row, column) that a cell of the inner area shows in this viewport, or
+    /// `None` for a cell outside. A cell below the last visual row shows that row, and one after a
+    /// row shows the row's greatest cursor column. With a placeholder each cell shows the start.
     pub fn hit(
         &self,
         alloc: Global,
@@ -36,7 +37,7 @@ impl Frame<'_, '_> {
     }
 }
 
-// The place that a cell of the inner area shows, in the visual row that it shows.
+// Returns the position that a cell of the inner area shows, in the given visual row.
 fn hit_in_row(
     alloc: Global,
     scene: &Scene<'_>,

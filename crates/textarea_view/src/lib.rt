@@ -1,4 +1,4 @@
-//! The widget as it is seen: its styles, what surrounds the rows, the viewport, visual rows that are drawn, and one frame of all.
+//! The widget's appearance: styles, block, placeholder, viewport, rows to draw, and whole frames.
 #![tactic(auto)]
 
 pub mod frame;
@@ -15,7 +15,7 @@ pub use surround::Surround;
 pub use surround::measure::TextAreaMeasure;
 pub use viewport::Viewport;
 
-/// Cursor moves and places.
+/// Cursor moves and positions.
 pub mod cursor {
     pub use textarea_data::cursor::{CursorMove, DataCursor};
 }
@@ -25,14 +25,14 @@ pub mod highlight {
     pub use textarea_highlight::highlight::{CursorCellRender, LineHighlighter};
 }
 
-/// The visual rows of all lines, kept line by line.
+/// The visual rows of all lines, cached line by line.
 pub mod screen_map {
     pub use textarea_screen_map::screen_map::{
         NewRows, PreparedRows, RowText, ScreenMap, new_rows,
     };
 }
 
-/// What a widget keeps of its last drawing.
+/// The state that a widget has from its last drawing.
 pub mod widget {
     pub use crate::viewport::Viewport;
 }

@@ -1,4 +1,4 @@
-//! Styles and what else decides how a text is drawn, as plain values.
+//! The styles and other settings of a text's appearance, as plain values.
 ghost use Rattle.std.specs.Prelude.{◌≡◌};
 ghost use Rattle.textarea_view.specs.Look.{default_look};
 
@@ -7,9 +7,9 @@ use textarea_screen::screen::{Alignment, Color, Modifier, Style};
 /// How the cell at the cursor is drawn.
 #[derive(Clone, Copy, Debug, PartialEq, Eq)]
 pub enum CursorRenderMode {
-    /// In the cursor's style.
+    /// The cell is drawn in the cursor's style.
     Cell,
-    /// As any other cell, since a terminal's own cursor stands there.
+    /// The cell is drawn as any other, for the terminal's own cursor.
     Hidden,
 }
 
@@ -18,30 +18,29 @@ impl Default for CursorRenderMode {
 
     ghost is_default = { λ mode. mode ≡ Cell };
 
-    /// In the cursor's style.
     fn default() -> CursorRenderMode {
         CursorRenderMode::Cell
     }
 }
 
-/// How a text area is drawn, besides its text and what surrounds it.
+/// The appearance of a text area, without its text and what surrounds it.
 #[derive(Clone, Copy, Debug, PartialEq, Eq)]
 pub struct Look {
-    /// Of each cell of the inner area, under all others; not where a placeholder is shown.
+    /// The style of each cell of the inner area, under all others; not used with a placeholder.
     pub style: Style,
-    /// Of the cell at the cursor.
+    /// The style of the cell at the cursor.
     pub cursor_style: Style,
-    /// Of all visual rows of the cursor's line, where no highlight is.
+    /// The style of all visual rows of the cursor's line, where there is no highlight.
     pub cursor_line_style: Style,
-    /// Of line numbers, where there are any.
+    /// The style of line numbers, if there are any.
     pub line_number_style: Style,
-    /// Of what is selected.
+    /// The style of the selection.
     pub selection_style: Style,
-    /// Of the matches of the pattern.
+    /// The style of the matches of the pattern.
     pub search_style: Style,
-    /// Where rows stand in the inner area.
+    /// The alignment of rows in the inner area.
     pub alignment: Alignment,
-    /// What is shown in the place of each character, if anything is.
+    /// The character that is drawn instead of every other, if any.
     pub mask: Option<char>,
     pub cursor_render_mode: CursorRenderMode,
 }
@@ -49,8 +48,8 @@ pub struct Look {
 impl Default for Look {
     ghost is_default = { λ look. look ≡ default_look };
 
-    /// The cursor reversed, its line underlined, a selection on light blue and matches on blue; all else in no style, at the
-    /// left and without a mask.
+    /// Returns the default: the cursor reversed, its line underlined, the selection on light blue
+    /// and matches on blue; all else in no style, aligned at the left and without a mask.
     fn default() -> Look {
         Look {
             style: Style::new(),
@@ -66,14 +65,14 @@ impl Default for Look {
     }
 }
 
-/// A highlight of the caller's own. Its start and its end are a row and a byte of that row each; a byte inside a character
-/// counts as that character's first one, and one behind the row's end as the end.
+/// A highlight of the caller's own, from one (line, byte offset in it) to another. An offset inside
+/// a character counts as the character's start, one past the line's end as the end.
 #[derive(Clone, Copy, Debug, PartialEq, Eq)]
 pub struct CustomHighlight {
     pub start: (usize, usize),
     pub end: (usize, usize),
     pub style: Style,
-    /// Of the highlights that begin at one place the one of the highest priority is seen: the cursor's is 30, a match's 20
-    /// and a selection's 10.
+    /// Of several highlights that begin at one position, the one of the highest priority is drawn.
+    /// The cursor's is 30, a match's 20 and a selection's 10.
     pub priority: u8,
 }

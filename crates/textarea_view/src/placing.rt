@@ -1,4 +1,4 @@
-//! Which part of the rows is shown once a frame is drawn, and where the caret is.
+//! The viewport and the caret's cell after a frame is drawn. The caret is the cursor on the screen.
 ghost use Rattle.std.specs.Prelude.{◌≡◌, ◌<◌, IfOk, IsOk};
 ghost use Rattle.textarea_view.specs.Prelude.{option_map, number_width, IsPlaced, IsPlacedInRows, LiesAs, corner_caret, placed_at_corner, row_area, row_view, viewport_at, cell_of_position, row_total, HasPlaces, Left};
 
@@ -13,12 +13,12 @@ use textarea_screen::screen::{Alignment, Position, Rect, Style};
 use textarea_wrap::layout::LayoutMetrics;
 use textarea_wrap::wrap::WrapMode;
 
-/// The part that is shown, and the cell of the caret, if it is shown.
+/// A viewport, and the cell of the caret if it is in view.
 #[derive(Drop)]
 pub struct Placing {
-    /// The part that is shown.
+    /// The visual rows and columns in view.
     pub viewport: Viewport,
-    /// The cell of the caret, if it is shown.
+    /// The cell of the caret, if it is in view.
     pub caret: Option<Position>,
 }
 
@@ -36,7 +36,7 @@ impl Model for Placing {
 }
 
 impl Frame<'_, '_> {
-    // What is shown once the frame is drawn into the inner area, where this part was shown before.
+    // Returns the new viewport and the caret's cell. `viewport` is that of the last frame.
     pub(crate) fn placing(
         &self,
         alloc: Global,
@@ -54,7 +54,7 @@ impl Frame<'_, '_> {
     }
 }
 
-// The same where the rows are shown.
+// Does the same for a frame of visual rows.
 fn placing_in_rows(
     alloc: Global,
     scene: &Scene<'_>,
@@ -74,7 +74,8 @@ fn placing_in_rows(
     })
 }
 
-// How a visual row lies in the inner area. At the left that is known without the row, and takes no memory.
+// Returns the columns that a visual row has in the inner area. With left alignment it does not
+// build the row, and it allocates nothing.
 pub(crate) fn row_view(
     alloc: Global,
     scene: &Scene<'_>,
@@ -93,7 +94,7 @@ pub(crate) fn row_view(
     Ok(view_from(rows.alignment, viewport, inner, start, columns))
 }
 
-// How a row lies in the inner area that begins so many columns behind its left edge.
+// Returns the columns of a row that begins `start` columns after the left edge of the inner area.
 fn view_from(
     alignment: Alignment,
     viewport: Viewport,
@@ -109,7 +110,7 @@ fn view_from(
     }
 }
 
-// The rows of the inner area, from the first column on that is shown.
+// Returns the rows of the inner area, from the viewport's first column on.
 pub(crate) fn row_area(look: Look, viewport: Viewport, inner: Rect) -> RowArea
     ensures { result ≡ row_area look inner viewport.column }
 {
@@ -122,7 +123,7 @@ pub(crate) fn row_area(look: Look, viewport: Viewport, inner: Rect) -> RowArea
     }
 }
 
-// The columns of line numbers, 0 without them.
+// Returns the number of columns that line numbers take, 0 without them.
 fn number_width(scene: &Scene<'_>) -> usize
     ensures { result ≡ number_width scene.now }
 {
@@ -130,7 +131,7 @@ fn number_width(scene: &Scene<'_>) -> usize
     LayoutMetrics::new(0, line_count, scene.line_numbers, WrapMode::None).line_number_width()
 }
 
-// The part that is shown once the cursor is seen in this visual row at this display column.
+// Returns the viewport once the cursor is in view at this (visual row, display column).
 fn viewport_at(
     mode: WrapMode,
     viewport: Viewport,
@@ -146,7 +147,7 @@ fn viewport_at(
     }
 }
 
-// What is shown with a placeholder: nothing is scrolled, and the caret stands in the corner.
+// Returns the viewport and caret with a placeholder: not scrolled, the caret in the corner.
 fn placing_at_corner(inner: Rect) -> Placing
     ensures { result ≡ placed_at_corner inner }
 {
@@ -156,7 +157,7 @@ fn placing_at_corner(inner: Rect) -> Placing
     }
 }
 
-// The corner of an area that has a cell.
+// Returns the corner of an area that has a cell.
 fn corner_caret(inner: Rect) -> Option<Position>
     ensures { option_map cell_of_position result ≡ corner_caret inner }
 {

@@ -1,30 +1,30 @@
-//! The cell of the caret in a visual row, and the column that a cell of the row shows.
+//! The cell of the caret in a visual row, and the column of a cell of the row.
 ghost use Rattle.std.specs.Prelude.{◌≡◌, ◌+◌, ◌≤◌};
 ghost use Rattle.textarea_view.specs.Prelude.{option_map, caret_at, cell_of, hit_column, left_view, offset_view};
 
 use crate::viewport::Viewport;
 use textarea_screen::screen::{Position, Rect};
 
-/// How a visual row lies in the area that it is shown in.
+/// The position of a visual row in the area in which it is drawn.
 ///
-/// A row that begins at the left of the area is scrolled by its first column, and its offset is 0. A row in the middle or
-/// at the right begins at an offset and isn't scrolled: its first column is 0.
+/// A row that begins at the left of the area is scrolled by its first column, and its offset is 0.
+/// A row in the middle or at the right begins at an offset and isn't scrolled: its column is 0.
 #[derive(Clone, Copy, Debug, PartialEq, Eq)]
 pub struct RowView {
-    /// The cells that show the text.
+    /// The cells of the text.
     pub inner_area: Rect,
-    /// The first visual row that is shown.
+    /// The first visual row in view.
     pub top_row: usize,
-    /// The first column of the row that is shown, counted with those of the line number.
+    /// The first column of the row in view; the columns of the line number count too.
     pub left_column: usize,
-    /// How many columns behind the left edge the row begins.
+    /// The number of columns between the left edge and the start of the row.
     pub offset: u16,
-    /// How many columns the line number takes, 0 where there are no line numbers.
+    /// The number of columns of the line number, 0 without line numbers.
     pub line_number_width: usize,
 }
 
 impl RowView {
-    /// A row that begins at the left of the area, scrolled by the viewport's first column.
+    /// Returns a row at the left of the area, scrolled by the viewport's first column.
     pub fn at_left(viewport: Viewport, inner_area: Rect, line_number_width: usize) -> RowView
         ensures { result ≡ left_view viewport inner_area line_number_width }
     {
@@ -38,8 +38,7 @@ impl RowView {
         }
     }
 
-    /// A row in the middle or at the right of the area, which begins this many columns behind its left edge and isn't
-    /// scrolled.
+    /// Returns a row that begins `offset` columns after the area's left edge and isn't scrolled.
     pub fn at_offset(
         viewport: Viewport,
         inner_area: Rect,
@@ -58,8 +57,8 @@ impl RowView {
         }
     }
 
-    /// The cell of a caret in this visual row, at this display column of the text; none where the row or the column isn't
-    /// shown. No sum is cut, whatever the numbers are.
+    /// Returns the cell of a caret in this visual row at this display column of the text, or `None`
+    /// if the row or the column isn't in view. No sum overflows.
     pub fn caret(&self, row: usize, column: usize) -> Option<Position>
         ensures { option_map (λ position. (position.x, position.y)) result
             ≡ caret_at self.now row column }
@@ -71,8 +70,8 @@ impl RowView {
         Some(Position { x, y })
     }
 
-    /// The display column of the row that a cell of it shows, as its column on the screen tells: 0 in the line number and
-    /// before the row, and behind the row its greatest cursor column. No sum is cut.
+    /// Returns the display column at a cell, by the cell's column on the screen: 0 in the line
+    /// number and before the row, and after the row its greatest cursor column. No sum overflows.
     pub fn hit_column(&self, position: Position, greatest_column: usize) -> usize
         ensures { result ≡ hit_column self.now greatest_column position.x }
     {
@@ -83,8 +82,8 @@ impl RowView {
     }
 }
 
-// The cell of a row or column, of an area that begins at a cell and shows `len` of them from the first on; none where it
-// isn't shown.
+// Returns the cell of a row or column `at`, in an area that begins at `start` and shows `len` of
+// them from the first on, or `None` if `at` is not among these.
 fn cell_of(start: u16, len: u16, first: usize, at: u128) -> Option<u16>
     requires { start + len ≤ 65535 }
     ensures { result ≡ cell_of start len first at }

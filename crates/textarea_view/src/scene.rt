@@ -19,16 +19,16 @@ use textarea_screen::screen::{Alignment, Buffer, Line, Rect};
 use textarea_screen_map::view::LaidOutView;
 use textarea_search::search::{KeptMatches, Search};
 
-/// What a frame is drawn from, lent.
+/// The borrowed data that visual rows are drawn from.
 #[derive(Drop)]
 pub struct Scene<'a> {
     pub rows: LaidOutView<'a>,
     pub cursor: (usize, usize),
-    /// From its start to its end.
+    /// The selection from its start to its end, if there is one.
     pub selection: Option<((usize, usize), (usize, usize))>,
     pub search: &'a Search,
     pub look: Look,
-    /// In the order in which they were added.
+    /// The caller's own highlights, in the order in which they were added.
     pub highlights: &'a [CustomHighlight],
     pub line_numbers: bool,
 }
@@ -50,10 +50,10 @@ impl<'a> Model for Scene<'a> {
 }
 
 impl<'a> Scene<'a> {
-    /// Draws the visual rows from `top` on into the rows of the area, as far as there are rows of both and the buffer goes.
+    /// Draws the visual rows from `top` on into the area, while text, area and buffer have rows.
     ///
-    /// A cell on which nothing stands is left as it is. Matches that are kept aren't looked for again, and those that are found
-    /// are kept. Out of memory, cells of the area may be drawn already.
+    /// A cell without a grapheme cluster is unchanged. Matches in `kept` aren't searched for again,
+    /// and new ones are added to it. After out of memory, cells of the area may be changed already.
     pub fn draw(
         &self,
         alloc: Global,
@@ -77,7 +77,7 @@ impl<'a> Scene<'a> {
         draw_rows(alloc, &frame, &mut matches, buffer, rows, top, count)
     }
 
-    /// How the cell at the cursor is drawn: in the cursor's style, or as any other.
+    /// Returns how the cell at the cursor is drawn: in the cursor's style, or as any other.
     pub fn cursor_cell(&self) -> CursorCellRender
         ensures { result ≡ cursor_cell self.now.look }
     {
@@ -87,8 +87,8 @@ impl<'a> Scene<'a> {
         }
     }
 
-    /// How many columns behind the left edge of the area a visual row begins that is drawn in it. At the left that is known
-    /// without the row, and takes no memory.
+    /// Returns the number of columns between the left edge of the area and the start of a visual
+    /// row. With left alignment it does not build the row, and it allocates nothing.
     pub fn row_start(&self, alloc: Global, rows: RowArea, row: usize) -> Result<u16, AllocError>
         requires places { HasPlaces self.now }
         requires row { row < row_total self.now.rows.rows }
@@ -105,7 +105,7 @@ impl<'a> Scene<'a> {
         }
     }
 
-    // The line that shows a visual row.
+    // Returns the line that shows a visual row.
     fn row_line(&self, alloc: Global, row: usize) -> Result<Line<'a>, AllocError>
         requires places { HasPlaces self.now }
         requires row { row < row_total self.now.rows.rows }
@@ -119,7 +119,7 @@ impl<'a> Scene<'a> {
     }
 }
 
-// Draws so many visual rows from `top` on, one below the other.
+// Draws `count` visual rows from `top` on, one below the other.
 fn draw_rows<'a>(
     alloc: Global,
     frame: &Frame<'_, 'a>,
@@ -145,7 +145,7 @@ fn draw_rows<'a>(
     Ok(())
 }
 
-// Draws a line into the row of the area that lies so many rows below its first.
+// Draws a line into the row that is `below` rows below the first of the area.
 fn draw_below(
     buffer: &mut Buffer,
     rows: RowArea,
@@ -161,7 +161,7 @@ fn draw_below(
     draw_row(buffer, rows, rows.area.y() + below as u16, line)
 }
 
-// How many rows of the area lie above the end of the buffer's area.
+// Returns the number of rows of the area that are above the end of the buffer's area.
 fn rows_above_end(area: Rect, buffer: Rect) -> u16
     ensures { result ≡ rows_above_end area buffer }
 {

@@ -1,4 +1,4 @@
-//! The surround: a block, a placeholder, and the least and the greatest height.
+//! The block, the placeholder, and the least and the greatest height.
 pub mod measure;
 mod placeholder;
 
@@ -9,11 +9,11 @@ use std::alloc::{AllocError, Global};
 use std::marker::Model;
 use textarea_screen::screen::{Block, Color, Style, Text};
 
-/// What is around the rows of a text area, what is shown in place of an empty text, and between which heights a measured
-/// height lies.
+/// The block around a text area's rows, the placeholder for an empty text, and the height limits.
 ///
-/// The placeholder is shown where the text is empty and the placeholder has lines. The least height is one row or more and
-/// the greatest is no less, both in rows of the whole area. A call that runs out of memory leaves the surround as it was.
+/// The placeholder is drawn if the text is empty and the placeholder has lines. Heights are in rows
+/// of the whole area; the least is at least 1, and the greatest is no less. A call that runs out of
+/// memory changes nothing.
 #[derive(Drop)]
 pub struct Surround<'a> {
     block: Option<Block<'a>>,
@@ -41,7 +41,8 @@ impl<'a> Model for Surround<'a> {
 }
 
 impl<'a> Surround<'a> {
-    /// A surround without a block and without a line of a placeholder, whose style is dark gray; heights from 1 to 65535 rows.
+    /// Returns the initial state: no block, no placeholder line, a dark gray placeholder style, and
+    /// heights from 1 to 65535 rows.
     pub fn new(alloc: Global) -> Surround<'a>
         ensures { result ≡ new_surround }
     {
@@ -56,8 +57,7 @@ impl<'a> Surround<'a> {
         }
     }
 
-    /// The same surround, the texts copied that its title and its placeholder own, or an error where there is no memory for
-    /// them.
+    /// Returns a copy. The owned texts of the title and the placeholder are copied.
     pub fn clone(&self) -> Result<Surround<'a>, AllocError>
         ensures { IfOk result (λ surround. surround ≡ self.now) }
     {
@@ -73,29 +73,28 @@ impl<'a> Surround<'a> {
         })
     }
 
-    /// Puts this block around the rows, in place of the one that was there.
+    /// Sets the block around the rows, which replaces any other.
     pub fn set_block(&mut self, block: Block<'a>)
         ensures { self.new ≡ record self.old { block = Some (shown_block block.entry) } }
     {
         self.block = Some(block);
     }
 
-    /// Takes the block away, if there is one.
+    /// Removes the block, if there is one.
     pub fn remove_block(&mut self)
         ensures { self.new ≡ record self.old { block = None } }
     {
         self.block = None;
     }
 
-    /// The block around the rows, if there is one.
+    /// Returns the block around the rows, if there is one.
     pub fn block(&self) -> Option<&Block<'a>>
         ensures { option_map (λ block. shown_block block.now) result ≡ self.now.block }
     {
         self.block.as_ref()
     }
 
-    /// Sets the least height, in rows of the whole area; 0 counts as 1. The greatest height is raised to it where it is
-    /// less.
+    /// Sets the least height in rows of the whole area, at least 1. A lower greatest one is raised.
     pub fn set_min_rows(&mut self, rows: u16)
         ensures { self.new ≡ with_min_rows self.old rows }
     {
@@ -103,7 +102,7 @@ impl<'a> Surround<'a> {
         self.max_rows = self.max_rows.max(self.min_rows);
     }
 
-    /// The least height, in rows of the whole area: 1 or more, and at most the greatest.
+    /// Returns the least height, in rows of the whole area: at least 1, and at most the greatest.
     pub fn min_rows(&self) -> u16
         ensures value { result ≡ self.now.min_rows }
         ensures bounds { AreBounds result self.now.max_rows }
@@ -111,14 +110,14 @@ impl<'a> Surround<'a> {
         self.min_rows
     }
 
-    /// Sets the greatest height, in rows of the whole area; 0 counts as 1, and less than the least height as that.
+    /// Sets the greatest height, in rows of the whole area, at least the least height.
     pub fn set_max_rows(&mut self, rows: u16)
         ensures { self.new ≡ with_max_rows self.old rows }
     {
         self.max_rows = rows.max(1).max(self.min_rows);
     }
 
-    /// The greatest height, in rows of the whole area: no less than the least.
+    /// Returns the greatest height, in rows of the whole area: at least the least.
     pub fn max_rows(&self) -> u16
         ensures value { result ≡ self.now.max_rows }
         ensures bounds { AreBounds self.now.min_rows result }

@@ -1,4 +1,4 @@
-//! The part of a text's visual rows that is shown, which follows the cursor and is scrolled.
+//! The visual rows and columns of a text in view. The viewport follows the cursor or is scrolled.
 ghost use Rattle.std.specs.Prelude.{◌≡◌};
 ghost use Rattle.textarea_view.specs.Prelude.{hit_row, scrolled, scrolled_by, scrolled_viewport, at_start, column_to_show, first_shown, showing_row, showing_row_and_column, clamped, initial_viewport, last_shown};
 
@@ -8,11 +8,11 @@ use textarea_screen::screen::{Position, Rect};
 
 pub mod laws;
 
-/// The first visual row and the first column that are shown, and the width and height of the area they are shown in. All
+/// The first visual row and the first column in view, and the width and height of the area. All
 /// four are 0 before anything is drawn.
 ///
-/// Rows and columns are never cut to 16 bits: what would pass the greatest `usize` is that one, and what would fall below
-/// 0 is 0. The first column counts the columns of the line number too.
+/// Rows and columns are not limited to 16 bits: they are at least 0 and at most the greatest
+/// `usize`. The first column also counts the columns of the line number.
 #[derive(Clone, Copy, Debug, PartialEq, Eq)]
 pub struct Viewport {
     row: usize,
@@ -44,7 +44,7 @@ impl Model for Viewport {
 impl Default for Viewport {
     ghost is_default = { λ viewport. viewport ≡ initial_viewport };
 
-    /// The viewport before anything is drawn: all four numbers are 0.
+    /// Returns the viewport before anything is drawn: all four numbers are 0.
     fn default() -> Viewport {
         Viewport {
             row: 0,
@@ -56,29 +56,29 @@ impl Default for Viewport {
 }
 
 impl Viewport {
-    /// The viewport of an area that shows a text from its first row and column on, as it shows a placeholder.
+    /// Returns the viewport of an area that shows a text from its start on, as with a placeholder.
     pub fn at_start(inner_area: Rect) -> Viewport
         ensures { result ≡ at_start inner_area }
     {
         Viewport::showing_from(inner_area, 0, 0)
     }
 
-    /// The first row and the first column that are shown.
+    /// Returns the first row and the first column in view.
     pub fn scroll_top(&self) -> (usize, usize)
         ensures { result ≡ (self.now.row, self.now.column) }
     {
         (self.row, self.column)
     }
 
-    /// The four numbers, in the order: row, column, width, height.
+    /// Returns the four numbers in the order: row, column, width, height.
     pub fn rect(&self) -> (usize, usize, usize, usize)
         ensures { result ≡ (self.now.row, self.now.column, self.now.width, self.now.height) }
     {
         (self.row, self.column, self.width, self.height)
     }
 
-    /// The first row and the first column that are shown, then the last row and the last column, in this order. Where the
-    /// height is 0 the last row is the first one, and so for columns.
+    /// Returns the first row and column in view, then the last row and column, in this order. If
+    /// the height is 0, the last row is the first one, and so for columns.
     pub fn position(&self) -> (usize, usize, usize, usize)
         ensures { result ≡ (
           self.now.row,
@@ -95,7 +95,7 @@ impl Viewport {
         )
     }
 
-    /// Scrolls down by so many rows and to the right by so many columns, or up and to the left where they are negative.
+    /// Scrolls down by `rows` and to the right by `cols`, or back if they are negative.
     pub fn scroll(&mut self, rows: i32, cols: i32)
         ensures { self.new ≡ scrolled_viewport self.old rows cols }
     {
@@ -103,7 +103,7 @@ impl Viewport {
         self.column = scroll_from(self.column, cols);
     }
 
-    /// Scrolls by rows and columns, or by a page, which is the height, or by half of it, rounded down.
+    /// Scrolls by rows and columns, by a page (the height), or by half a page, rounded down.
     pub fn scroll_by(&mut self, scrolling: Scrolling)
         ensures { self.new ≡ scrolled_by self.old scrolling }
     {
@@ -116,8 +116,8 @@ impl Viewport {
         }
     }
 
-    /// The viewport once a text whose lines are wrapped is drawn in the area, with the cursor in this visual row: its first
-    /// row is moved no further than it takes to show that row, and its first column is 0.
+    /// Returns the viewport after wrapped lines are drawn in the area with the cursor in this
+    /// visual row. The first row changes no more than needed to show it; the first column is 0.
     pub fn showing_row(self, inner_area: Rect, row: usize) -> Viewport
         ensures { result ≡ showing_row self inner_area row }
     {
@@ -125,10 +125,10 @@ impl Viewport {
         Viewport::showing_from(inner_area, top, 0)
     }
 
-    /// The viewport once a text whose lines aren't wrapped is drawn in the area, with the cursor in this visual row, at this
-    /// display column: its first row and its first column are moved no further than it takes to show them. Behind a line
-    /// number a column that is at most as great as the line number is wide counts twice, so that the line number slides in
-    /// smoothly as the cursor goes left.
+    /// Returns the viewport after unwrapped lines are drawn in the area, with the cursor in this
+    /// visual row at this display column. The first row and column change no more than they must to
+    /// show it. With line numbers, a display column of at most the line number's width counts
+    /// double, so that the line number scrolls in smoothly as the cursor moves left.
     pub fn showing_row_and_column(
         self,
         inner_area: Rect,
@@ -144,25 +144,23 @@ impl Viewport {
         Viewport::showing_from(inner_area, top, left)
     }
 
-    /// The row that is nearest to a visual row among those from the first to the last that is shown, or the text's last row
-    /// where it is less.
+    /// Returns the row in view that is nearest to a visual row, but at most the text's last row.
     pub fn clamp_row(&self, row: usize, last_row: usize) -> usize
         ensures { result ≡ clamped self.now.row self.now.height last_row row }
     {
         clamp(self.row, self.height, last_row, row)
     }
 
-    /// The column that is nearest to a display column among those from the first to the last that is shown, or the row's
-    /// greatest cursor column where it is less.
+    /// Returns the column in view nearest to a display column, at most the greatest cursor column.
     pub fn clamp_column(&self, column: usize, greatest_column: usize) -> usize
         ensures { result ≡ clamped self.now.column self.now.width greatest_column column }
     {
         clamp(self.column, self.width, greatest_column, column)
     }
 
-    /// The visual row that a cell of the area shows, or the text's last row where the cell lies below it; none for a cell
-    /// outside of the area. The area is the one that was drawn in last. Once the row is known, so is how it lies in the
-    /// area, and then the column that is hit, by `RowView::hit_column`.
+    /// Returns the visual row that a cell of the area shows, or the text's last row if the cell is
+    /// below it. Returns `None` for a cell outside of the area. The area is the one that was drawn
+    /// last. `RowView::hit_column` then returns the column.
     pub fn hit_row(&self, inner_area: Rect, last_row: usize, position: Position) -> Option<usize>
         ensures { result ≡ hit_row self.now.row inner_area last_row position.x position.y }
     {
@@ -174,7 +172,7 @@ impl Viewport {
         }
     }
 
-    // The viewport of the area from this row and column on.
+    // Returns the viewport of the area from this row and column on.
     fn showing_from(inner_area: Rect, row: usize, column: usize) -> Viewport
         ensures { result ≡ record {
           row = row;
@@ -192,14 +190,14 @@ impl Viewport {
     }
 }
 
-// The last of so many rows or columns from the first on, or the first where there are none.
+// Returns the last of `len` rows or columns from the first on, or the first if `len` is 0.
 fn last_shown(first: usize, len: usize) -> usize
     ensures { result ≡ last_shown first len }
 {
     first.max(first.saturating_add(len).saturating_sub(1))
 }
 
-// A first row or column that is scrolled.
+// Returns the first row or column after scrolling.
 fn scroll_from(first: usize, by: i32) -> usize
     ensures { result ≡ scrolled first by }
 {
@@ -211,7 +209,7 @@ fn scroll_from(first: usize, by: i32) -> usize
     }
 }
 
-// The first of `len` rows or columns that are shown, moved no further than it takes to show this one.
+// Returns the first of `len` rows or columns in view, changed no more than it must be to show `at`.
 fn first_shown(first: usize, len: u16, at: usize) -> usize
     ensures { result ≡ first_shown first len at }
 {
@@ -225,7 +223,7 @@ fn first_shown(first: usize, len: u16, at: usize) -> usize
     }
 }
 
-// The column that is to be shown for a cursor at this display column, behind a line number of this width.
+// Returns the column that must be in view for a cursor at this column, after a line number.
 fn column_to_show(line_number_width: usize, column: usize) -> usize
     ensures { result ≡ column_to_show line_number_width column }
 {
@@ -236,7 +234,7 @@ fn column_to_show(line_number_width: usize, column: usize) -> usize
     }
 }
 
-// The nearest of `len` rows or columns from the first on, or the greatest where it is less.
+// Returns the nearest of `len` rows or columns from the first on, but at most the greatest.
 fn clamp(first: usize, len: usize, greatest: usize, at: usize) -> usize
     ensures { result ≡ clamped first len greatest at }
 {

@@ -1,4 +1,4 @@
--- What holds of each element of two lists, and of both together.
+-- Properties of each element of two lists and of both together.
 use Rattle.std.proofs.Common.{List, [], ◌∷◌, ◌++◌}
 use Rattle.std.specs.List.{AllByRecursion}
 
@@ -6,7 +6,7 @@ pub all_append : {X : Type 0} (P : X → Type 0) (xs ys : List X) → AllByRecur
 all_append P [] ys p q = q
 all_append P (x ∷ xs) ys p q = (p.0, all_append P xs ys p.1 q)
 
--- a list and what follows it, taken apart
+-- a property of each element of two lists together is one of each list
 pub all_parts : {X : Type 0} (P : X → Type 0) (xs ys : List X) → AllByRecursion P (xs ++ ys) → AllByRecursion P xs × AllByRecursion P ys
 all_parts P [] ys p = (tt, p)
 all_parts P (x ∷ xs) ys p = let rest = all_parts P xs ys p.1 in ((p.0, rest.0), rest.1)

@@ -1,4 +1,4 @@
--- A whitespace unit, taken by itself, is one cluster: between whitespace characters a boundary depends on these two alone.
+-- A whitespace unit by itself is one grapheme cluster: each boundary depends on two characters.
 use Rattle.std.proofs.lemmas.Grind.{common_steps}
 use Rattle.std.proofs.Common.{◌≡◌, ℕ, zero, suc, ◌+◌, ◌<◌, ◌≤◌, Bool, true, false, cond, not, ◌&&◌, ◌||◌, ◌==◌, nat_lt, unwrap_or, List, [], ◌∷◌, ◌++◌, map, length, refl, sym, ap, ap₂, subst, ◌∙◌, ⊎_elim, arith}
 use Rattle.std.proofs.lemmas.Bool.{false≢true, and_parts, or_cases, cases_order, cond_both}
@@ -20,14 +20,14 @@ use Rattle.textarea_wrap.specs.Cutting.{Stretch}
 use Rattle.textarea_wrap.proofs.Alls.{all_append}
 use Rattle.textarea_wrap.proofs.FewestWordLemmas.{AreBlanksClusters, BlankIsCluster}
 
--- the character joins nothing by the rules that read further back
+-- no rule that reads further back joins the character to another
 pub record IsPlain (c : ℕ) : Type 0 where
   pub is_scalar : scalar c ≡ true
   pub no_joiner : is_zwj (grapheme_cluster_break c) ≡ false
   pub no_flag : is_regional (grapheme_cluster_break c) ≡ false
   pub no_consonant : is_consonant (indic_conjunct_break c) ≡ false
 
--- n characters from one on
+-- the `n` characters from `low` on
 abbrev AreAllPlain : ℕ → ℕ → Type 0
 AreAllPlain low zero = Unit {0}
 AreAllPlain low (suc n) = IsPlain low × AreAllPlain (low + 1) n
@@ -127,7 +127,7 @@ cut_one before c [] p n =
 cut_one before c (d ∷ cs) p n =
     ap₂ (λ b t. cond b ((c ∷ []) ∷ t) (prepend (c ∷ []) t)) (pair_same c d before (cs ++ []) p.0 p.1.0 ∙ n.0) (cut_one (c ∷ before) d cs p.1 n.1)
 
--- a character before segments of which the first begins with another, as a segment of its own or joined to it
+-- joins a character with segments, as a segment of its own or in front of the first one
 join : (b : Bool) (c d : ℕ) (seg : List ℕ) (segs : List (List ℕ)) → pair c d ≡ b → IsPlain c → AllByRecursion IsOneCluster ((d ∷ seg) ∷ segs)
     → AllByRecursion IsOneCluster (cond b ((c ∷ []) ∷ (d ∷ seg) ∷ segs) ((c ∷ (d ∷ seg)) ∷ segs))
 join true c d seg segs e p all = (record { some = omega arith; plain_chars = (p, tt); whole = tt }, all)
@@ -158,7 +158,7 @@ scalars-ArePlain : (cs : List ℕ) → ArePlain cs → scalars cs ≡ true
 scalars-ArePlain [] p = refl
 scalars-ArePlain (c ∷ cs) p = ap₂ ◌&&◌ p.0.is_scalar (scalars-ArePlain cs p.1)
 
--- by itself it is one cluster
+-- such a text by itself is one cluster
 length-graphemes-one : (cs : List ℕ) → IsOneCluster cs → length (graphemes true (encode_utf8_all cs)) ≡ 1
 unfolding segments
 length-graphemes-one [] one = let some = one.some in absurd (omega arith)

@@ -1,4 +1,4 @@
--- Columns of characters and pieces that are put together.
+-- Columns of characters and of segments that are put together.
 use Rattle.std.proofs.lemmas.Grind.{common_steps}
 use Rattle.std.proofs.Common.{length, length-append, ◌≡◌, ℕ, ◌+◌, ◌-◌, ◌/◌, ◌%◌, ◌<◌, ◌≤◌, true, false, cond, nat_eq, le_refl, le_trans, List, [], ◌∷◌, ◌++◌, refl, sym, ap, subst, ◌∙◌, append-nil, arith}
 use Rattle.std.proofs.Math.Nat.{div-add-mod, mul-le-mul_left}
@@ -12,7 +12,7 @@ use Rattle.std.specs.Str.{chars}
 use Rattle.textarea_wrap.specs.Cutting.{Stretch}
 use Rattle.textarea_wrap.specs.Columns.{plain_width, next_stop, column_after, end_column, stretch_width}
 
--- behind a character a text is shorter
+-- the text after a character is shorter
 pub shorter_behind : (c : ℕ) (left text : List ℕ) → text ≡ encode_utf8 c ++ left → length left + 1 ≤ length text
 shorter_behind c left text is = omega (arith, ap length is, length-append (encode_utf8 c) left, length-encode c, len_utf8_bounds c)
 

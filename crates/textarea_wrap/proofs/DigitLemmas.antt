@@ -1,4 +1,4 @@
--- How many digits a number is written with.
+-- The number of decimal digits of a number.
 use Rattle.std.proofs.Common.{◌≡◌, ℕ, ◌+◌, ◌*◌, ◌/◌, ◌%◌, ◌^◌, ◌<◌, ◌≤◌, zero, suc, List, [], ◌∷◌, ◌++◌, length, arith, length-append}
 use Rattle.std.proofs.Math.Nat.{pow-suc}
 use Rattle.std.proofs.lemmas.Fmt.{decimal_by_steps, length-decimal-le}
@@ -19,7 +19,7 @@ more_digits : (n : ℕ) (digits : List ℕ) → 10 ≤ n → HasDigits (n / 10) 
 more_digits n digits large has zero h = omega (arith, length-append digits ((48 + n % 10) ∷ []))
 more_digits n digits large has (suc k) h = let shorter = has k (omega (arith, pow-suc 10 k)) in omega (arith, length-append digits ((48 + n % 10) ∷ []))
 
--- the number of digits, from the powers of ten about a number
+-- the number of digits, from the powers of ten around the number
 pub length-decimal-power : (k n : ℕ) → 10 ^ k ≤ n → n < 10 * 10 ^ k → n < 2 ^ 64 → length (decimal n) ≡ k + 1
 length-decimal-power k n low high fits =
     let most = length-decimal-le (suc k) n (omega arith) (omega (arith, pow-suc 10 k)) fits in

@@ -1,15 +1,15 @@
--- A greedy cutting has the fewest rows, since a stretch that begins later is never wider.
+-- Greedy wrapping has the fewest rows, since a stretch that begins later is never wider.
 use Rattle.std.proofs.lemmas.Grind.{common_steps}
-use Rattle.std.proofs.Common.{◌≡◌, ℕ, ◌<◌, ◌≤◌, ◌⊎◌, inl, inr, List, [], ◌∷◌, ◌++◌, length, refl, sym, ap, subst, ◌∙◌, ⊎_elim, append_assoc, append-nil, length-append, arith}
+use Rattle.std.proofs.Common.{◌≡◌, ℕ, ◌<◌, ◌≤◌, ◌⊎◌, inl, inr, List, [], ◌∷◌, ◌++◌, length, refl, sym, ap, ◌∙◌, ⊎_elim, append_assoc, append-nil, length-append, arith}
 use Rattle.std.proofs.lemmas.List.{length-map}
 use Rattle.std.specs.List.{concat}
 use Rattle.textarea_wrap.specs.Columns.{stretch_width}
-use Rattle.textarea_wrap.specs.Cutting.{Stretch, pieces_of, HasNoRoomForNext, IsGlyphRow, AreGlyphRows, IsGlyphCutting, AreFittingRows, HasFewestGlyphRows}
+use Rattle.textarea_wrap.specs.Cutting.{Stretch, pieces_of, IsGlyphRow, AreGlyphRows, IsGlyphCutting, AreFittingRows, HasFewestGlyphRows}
 use Rattle.textarea_wrap.proofs.ColumnLemmas.{stretch_width-front, stretch_width-back}
 
--- ---- two cuttings of one list
+-- ---- two splits of one list
 
--- of two fronts of a list one begins the other
+-- of two prefixes of a list one is a prefix of the other
 pub fronts : (a b c d : Stretch) → a ++ b ≡ c ++ d → ((e : Stretch) × (c ≡ a ++ e) × (b ≡ e ++ d)) ⊎ ((e : Stretch) × (a ≡ c ++ e) × (d ≡ e ++ b))
 fronts [] b c d h = inl (c, refl, h)
 fronts (x ∷ a) b [] d h = inr (x ∷ a, refl, sym h)
@@ -19,20 +19,20 @@ fronts (x ∷ a) b (y ∷ c) d h =
     ⊎_elim (λ p. inl (p.0, ap (λ t. y ∷ t) p.1 ∙ ap (λ z. z ∷ (a ++ p.0)) (sym heads), p.2))
     (λ p. inr (p.0, ap (λ t. x ∷ t) p.1 ∙ ap (λ z. z ∷ (c ++ p.0)) heads, p.2)) (fronts a b c d tails)
 
--- a greedy row `stretch` before `later` is not a strict front of what a fitting row has from there on
+-- the rest of a fitting row does not contain a whole greedy row `stretch` and more
 pub not_shorter : (t w : ℕ) (stretch later front rest : Stretch) (next : List ℕ) (row : Stretch) → IsGlyphRow t w stretch later → later ≡ next ∷ rest → (back : Stretch)
     → row ≡ front ++ (stretch ++ next ∷ back) → (stretch_width t row ≤ w) ⊎ (length row ≡ 1) → ⊥
 not_shorter t w stretch later front rest next row greedy later_is back row_is fits =
     grind (arith, common_steps, append_assoc stretch (next ∷ []) back, stretch_width-front t (stretch ++ next ∷ []) back, stretch_width-back t front (stretch ++ next ∷ back), length-append front (stretch ++ next ∷ back), length-append stretch (next ∷ back))
 
--- so a fitting row that goes on behind a greedy one ends with it
+-- so a fitting row that continues after a greedy one ends with it
 ended : (t w : ℕ) (stretch left rest row front back over : Stretch) → IsGlyphRow t w stretch (left ++ []) → row ≡ front ++ back → back ≡ stretch ++ over → left ≡ over ++ rest
     → (stretch_width t row ≤ w) ⊎ (length row ≡ 1) → left ≡ rest
 ended t w stretch left rest row front back [] greedy row_is back_is left_is fits = left_is
 ended t w stretch left rest row front back (next ∷ over) greedy row_is back_is left_is fits =
     absurd (not_shorter t w stretch (left ++ []) front (over ++ rest) next row greedy (append-nil left ∙ left_is) over (row_is ∙ ap (λ t. front ++ t) back_is) fits)
 
--- the greedy rows of what is left behind a front are no more than any fitting rows of the whole
+-- the greedy rows of what remains after a prefix are no more than any fitting rows of the whole
 pub greedy_ahead : (t w : ℕ) (others greedy : List Stretch) (front : Stretch) → AreGlyphRows t w greedy [] → front ++ pieces_of greedy ≡ pieces_of others
     → AreFittingRows t w others → length greedy ≤ length others
 greedy_ahead t w others [] front cut same fit = omega arith
@@ -49,7 +49,7 @@ greedy_ahead t w (row ∷ others) (stretch ∷ greedy) front cut same fit =
     (λ p. let behind = greedy_ahead t w others (stretch ∷ greedy) p.0 cut (sym p.2) fit.1 in omega arith)
     (fronts front (stretch ++ pieces_of greedy) row (pieces_of others) same)
 
--- a cutting at cluster ends has the fewest rows
+-- wrapping at grapheme cluster ends has the fewest rows
 pub HasFewestGlyphRows-cutting : (t w : ℕ) (text : List ℕ) (rows : List (List ℕ)) → IsGlyphCutting t w text rows → HasFewestGlyphRows t w text (length rows)
 HasFewestGlyphRows-cutting t w text rows cutting = λ others whole fit.
     let count = ap length cutting.rows_are ∙ length-map cutting.stretches concat in

@@ -1,4 +1,4 @@
--- The rows of a line are the fewest that its mode allows.
+-- A line has the fewest visual rows that its mode allows.
 use Rattle.std.proofs.lemmas.Grind.{common_steps}
 use Rattle.std.proofs.Common.{◌≡◌, ℕ, suc, ◌+◌, ◌<◌, List, [], ◌∷◌, length, refl, ap, arith}
 use Rattle.textarea_wrap.specs.declared.wrap.WrapMode.{WrapMode}

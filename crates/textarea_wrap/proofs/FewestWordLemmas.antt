@@ -1,4 +1,4 @@
--- A greedy cutting at unit ends has the fewest rows, where each whitespace unit is one cluster.
+-- Greedy wrapping at unit ends has the fewest rows, if whitespace units are grapheme clusters.
 use Rattle.std.proofs.lemmas.Grind.{common_steps}
 use Rattle.std.proofs.Common.{◌≡◌, ℕ, ◌<◌, ◌≤◌, ◌⊎◌, inl, inr, true, List, [], ◌∷◌, ◌++◌, length, refl, sym, ap, subst, ◌∙◌, ⊎_elim, append_assoc, append-nil, length-append, arith}
 use Rattle.std.proofs.lemmas.Bool.{cases_lt}
@@ -31,19 +31,19 @@ module _ (t w : ℕ) (row later : Stretch) (fit : IsFittingStretch t w row later
       (λ within. let less = stretch_width-front t fit.front (fit.last ∷ []) in omega arith)
       (λ hang. hang.1) fit.fits
 
-  -- what stands before a part of the row is within the width
+  -- a proper prefix of the row is within the width
   part_within : (a b : Stretch) → row ≡ a ++ b → 0 < length b → stretch_width t a ≤ w
   part_within a b row_is some =
       grind (arith, common_steps, stretch_width-front, front_within, length-append, nil_from_length, append-nil fit.front, fronts a b fit.front (fit.last ∷ []) (sym row_is ∙ fit.stretch_is))
 
-  -- a unit that is too wide may only end the row, as whitespace behind other units
+  -- a unit that is too wide may only end the row, as whitespace after other units
   pub wide_ends : (front : Stretch) (unit : List ℕ) (back : Stretch) → row ≡ front ++ unit ∷ back → w < stretch_width t (unit ∷ []) → (back ≡ []) × (0 < length front) × (is_blank unit ≡ true)
   wide_ends front unit [] row_is wide =
       grind (arith, common_steps, push-injective fit.front front fit.last unit (sym fit.stretch_is ∙ row_is), stretch_width-back t front (unit ∷ []))
   wide_ends front unit (next ∷ back) row_is wide =
       grind (arith, common_steps, part_within, append_assoc front (unit ∷ []) (next ∷ back), stretch_width-back t front (unit ∷ []))
 
-  -- what begins later in the row fits too
+  -- a run that begins later in the row fits too
   pub later_fits : (front stretch : Stretch) (next : List ℕ) (back : Stretch) → row ≡ front ++ (stretch ++ next ∷ back) → 0 < length stretch → FitsBehind t w stretch next (back ++ later)
   later_fits front stretch next [] row_is some =
       let same = push-injective fit.front (front ++ stretch) fit.last next (sym fit.stretch_is ∙ row_is ∙ sym (append_assoc front stretch (next ∷ []))) in
@@ -93,7 +93,7 @@ block_count t w (split unit rows) (split wide others) left rest [] (x ∷ part) 
 block_count t w (split unit rows) (split wide others) left rest (f ∷ front) (x ∷ part) more is fit blanks other_is block_is some =
     absurd (omega (arith, ap length other_is, length-append front (x ∷ part)))
 
--- a greedy block is not a strict front of what a fitting one has from there on
+-- the rest of a fitting block does not contain a whole greedy block and more
 pub block_reaches : (t w : ℕ) (block other : Block) (left rest front : Stretch) (next : List ℕ) (over : Stretch) → IsBlock t w block (left ++ []) → IsFittingBlock t w other (rest ++ [])
     → units_of other ≡ front ++ (units_of block ++ next ∷ over) → left ≡ (next ∷ over) ++ rest → ⊥
 block_reaches t w (shared stretch) (shared row) left rest front next over is fit other_is left_is =
@@ -106,7 +106,7 @@ block_reaches t w (split unit rows) (shared row) left rest front next over is fi
 block_reaches t w (split unit rows) (split wide others) left rest front next over is fit other_is left_is =
     omega (arith, ap length other_is, length-append front (unit ∷ next ∷ over))
 
--- what is left of the units behind two blocks: the other block is passed, or both are
+-- the units that remain after two blocks: only the other block is passed, or both are
 abbrev Step : Block → Block → Stretch → Stretch → Type 0
 Step block other left rest =
     ((front : Stretch) × (front ++ (units_of block ++ left) ≡ rest))
@@ -137,7 +137,7 @@ pub block_some : (t w : ℕ) (block : Block) (left : Stretch) → IsBlock t w bl
 block_some t w (shared stretch) left is = omega (arith, ap length is.0.stretch_is, length-append is.0.front (is.0.last ∷ []))
 block_some t w (split unit rows) left is = omega arith
 
--- the greedy rows of what is left behind a front are no more than any fitting rows of the whole
+-- the greedy rows of what remains after a prefix are no more than any fitting rows of the whole
 pub words_ahead : (t w : ℕ) (others greedy : List Block) (front : Stretch) → AreBlanksClusters (flat_map units_of greedy) → AreBlocks t w greedy []
     → front ++ flat_map units_of greedy ≡ flat_map units_of others → AreFittingBlocks t w others [] → length (flat_map rows_of greedy) ≤ length (flat_map rows_of others)
 words_ahead t w others [] front blanks cut same fit = omega arith
@@ -153,7 +153,7 @@ words_ahead t w (other ∷ others) (block ∷ greedy) front blanks cut same fit 
     let behind = words_ahead t w others greedy p.0 parts.1 cut.1 p.1 fit.1 in omega arith)
     (step t w block other (flat_map units_of greedy) (flat_map units_of others) front cut.0 fit.0 parts.0 same)
 
--- a cutting at unit ends has the fewest rows
+-- wrapping at unit ends has the fewest rows
 pub HasFewestWordRows-cutting : (t w : ℕ) (line : List ℕ) (rows : List (List ℕ)) → AreBlanksClusters (line_units line) → IsWordCutting t w line rows
     → HasFewestWordRows t w line (length rows)
 HasFewestWordRows-cutting t w line rows blanks cutting = λ others whole fit.

@@ -1,4 +1,4 @@
--- Where the clusters of a line fit the width, no cursor stands in a column behind it.
+-- If the grapheme clusters of a line fit the width, no cursor is in a column past it.
 use Rattle.std.proofs.lemmas.Grind.{common_steps}
 use Rattle.std.proofs.Common.{◌≡◌, ◌≢◌, ℕ, zero, suc, ◌+◌, ◌-◌, ◌*◌, ◌^◌, ◌<◌, ◌≤◌, true, false, cond, nat_eq, List, [], ◌∷◌, ◌++◌, map, length, take, drop, get_or, refl, sym, ap, subst, ◌∙◌, ⊎_elim, append-nil, length-append, le_trans, arith}
 use Rattle.std.proofs.lemmas.Bool.Decides.{nat_tests}
@@ -10,7 +10,7 @@ use Rattle.std.specs.Str.{IsUtf8, chars}
 use Rattle.unicode_segmentation.specs.Grapheme.{graphemes, is_grapheme_break}
 use Rattle.unicode_segmentation.proofs.SegmentsLemmas.{concat-segments}
 use Rattle.unicode_width.proofs.Rules.{width_or_zero-le}
-use Rattle.textarea_wrap.specs.Columns.{plain_width, next_stop, column_after, end_column, stretch_width}
+use Rattle.textarea_wrap.specs.Columns.{plain_width, column_after, end_column, stretch_width}
 use Rattle.textarea_wrap.specs.Cutting.{Stretch, Block, shared, split, pieces_of, units_of, rows_of, begins_with_content, AreGlyphRows, IsGlyphCutting, HangsOver, IsBlock, AreBlocks, IsWordCutting}
 use Rattle.textarea_wrap.specs.Fitting.{full_width, IsFittingCluster, AreFittingClusters, HasFittingClusters}
 use Rattle.textarea_wrap.specs.Units.{is_blank}
@@ -36,7 +36,7 @@ end_column-full t x (c ∷ cs) = omega (arith, end_column-full t (column_after t
 
 -- ---- the rows of a line, each given by its bytes
 
--- the column behind a text that stands at the start of a row
+-- the column after a text at the start of a row
 abbrev end_of : ℕ → List ℕ → ℕ
 end_of t text = end_column t 0 (chars text)
 
@@ -44,7 +44,7 @@ end_of t text = end_column t 0 (chars text)
 abbrev last_of : ℕ → List ℕ → ℕ
 last_of t text = end_column t 0 (take (length (chars text) - 1) (chars text))
 
--- the last row is within the width, each other row up to its last character
+-- the last row is within the width, and each other row is up to its last character
 abbrev pub AreWithin : ℕ → ℕ → List (List ℕ) → Type 0
 AreWithin t w [] = Unit {0}
 AreWithin t w (text ∷ []) = end_column t 0 (chars text) ≤ w

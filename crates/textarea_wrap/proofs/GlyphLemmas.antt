@@ -1,4 +1,4 @@
--- A walk over the clusters of a text, with the rows that are full and the row that is open.
+-- A walk over the grapheme clusters of a text, with the rows that are full and the open row.
 use Rattle.std.proofs.lemmas.Grind.{common_steps}
 use Rattle.std.proofs.Common.{◌≡◌, ℕ, ◌+◌, ◌<◌, ◌≤◌, ◌⊎◌, inl, inr, true, List, [], ◌∷◌, ◌++◌, map, length, refl, sym, ap, subst, ◌∙◌, ⊎_elim, append_assoc, append-nil, length-append, arith}
 use Rattle.std.proofs.lemmas.List.{map-append}
@@ -33,7 +33,7 @@ AreGlyphRows-push tab_len width [] stretch later before here = (here, tt)
 AreGlyphRows-push tab_len width (first ∷ stretches) stretch later before here =
     (subst (IsGlyphRow tab_len width first) (sym (pieces_of-push stretches stretch later)) before.0, AreGlyphRows-push tab_len width stretches stretch later before.1 here)
 
--- `rows` are those before the walk and the ranges of the full rows; `left` are the clusters that are still to come
+-- `rows` are the rows before the walk and the full rows; `left` are the clusters that remain
 pub record IsGlyphWalk (tab_len width start : ℕ) (clusters : Stretch) (before rows : List (ℕ × ℕ)) (left : Stretch) (row_start row_end column : ℕ) : Type 0 where
   pub full : List Stretch
   pub open_stretch : Stretch
@@ -54,7 +54,7 @@ nonempty_from_bytes (piece ∷ stretch) h = omega arith
 pub length-concat-push : (stretch : Stretch) (piece : List ℕ) → length (concat (stretch ++ piece ∷ [])) ≡ length (concat stretch) + length piece
 length-concat-push stretch piece = simp (concat-append, append-nil, length-append)
 
--- a text more, behind texts that end where it begins
+-- one text more, after texts that end where it begins
 pub ranges_from-push : (start : ℕ) (before rows : List (ℕ × ℕ)) (full : List Stretch) (stretch : Stretch) (row_start row_end : ℕ)
     → rows ≡ before ++ ranges_from start (map concat full) → row_start ≡ start + length (concat (map concat full)) → row_end ≡ row_start + length (concat stretch)
     → rows ++ (row_start, row_end) ∷ [] ≡ before ++ ranges_from start (map concat (full ++ stretch ∷ []))
@@ -132,7 +132,7 @@ module _ (tab_len width start : ℕ) (clusters : Stretch) (before : List (ℕ ×
 
   module _ (rows : List (ℕ × ℕ)) (row_start row_end column : ℕ) (text : List ℕ) (utf8 : IsUtf8 text) (whole : clusters ≡ graphemes true text)
       (w : IsGlyphWalk tab_len width start clusters before rows [] row_start row_end column) where
-    -- no cluster is left, and the open row is closed
+    -- no cluster remains, and the open row is closed
     pub IsGlyphWalk-end_open : row_start < row_end
         → (texts : List (List ℕ)) × IsGlyphCutting tab_len width text texts × (concat texts ≡ text) × (rows ++ (row_start, row_end) ∷ [] ≡ before ++ ranges_from start texts)
     IsGlyphWalk-end_open started =
@@ -152,7 +152,7 @@ module _ (tab_len width start : ℕ) (clusters : Stretch) (before : List (ℕ ×
           ranges_from-push start before rows w.full w.open_stretch row_start row_end w.rows_are w.begins w.ends,
         )
 
-    -- no cluster is left, and no row is open
+    -- no cluster remains, and no row is open
     pub IsGlyphWalk-end_closed : row_end ≤ row_start
         → (texts : List (List ℕ)) × IsGlyphCutting tab_len width text texts × (concat texts ≡ text) × (rows ≡ before ++ ranges_from start texts)
     IsGlyphWalk-end_closed none =

@@ -1,4 +1,4 @@
--- A text has one greedy cutting: of two rows that begin together neither ends before the other.
+-- A text has one greedy wrapping: of two rows that begin together neither ends before the other.
 use Rattle.std.proofs.Common.{◌≡◌, ℕ, ◌≤◌, ◌⊎◌, List, [], ◌∷◌, ◌++◌, map, length, refl, sym, ap, ap₂, subst, ◌∙◌, ⊎_elim, append-nil, length-append, arith}
 use Rattle.std.specs.List.{concat, flat_map}
 use Rattle.textarea_wrap.specs.Columns.{stretch_width}
@@ -9,7 +9,7 @@ use Rattle.textarea_wrap.specs.Wrapped.{AreRowTexts, IsCutting, IsWrapped}
 use Rattle.textarea_wrap.proofs.FewestLemmas.{fronts, not_shorter}
 use Rattle.textarea_wrap.proofs.FewestWordLemmas.{block_reaches, block_some, wide_ends}
 
--- ---- at cluster ends
+-- ---- at grapheme cluster ends
 
 row_ends : (t w : ℕ) (stretch left rest row over : Stretch) → IsGlyphRow t w stretch (left ++ []) → row ≡ stretch ++ over → left ≡ over ++ rest → (stretch_width t row ≤ w) ⊎ (length row ≡ 1) → (row ≡ stretch) × (left ≡ rest)
 row_ends t w stretch left rest row [] greedy row_is left_is fits = (row_is ∙ append-nil stretch, left_is)

@@ -1,4 +1,4 @@
--- A line that is not wrapped or is no wider than the width takes one row, whatever its clusters and units are.
+-- A line that isn't wrapped or is no wider than the width takes one row, whatever its units are.
 use Rattle.std.proofs.lemmas.Grind.{common_steps}
 use Rattle.std.proofs.Common.{◌≡◌, ℕ, ◌<◌, ◌≤◌, inl, true, List, [], ◌∷◌, ◌++◌, length, refl, sym, ap, subst, ◌∙◌, ⊎_elim, append-nil, arith}
 use Rattle.std.proofs.lemmas.Str.{chars-nil, chars-append}
@@ -19,7 +19,7 @@ pub chars-pieces : (xs : Stretch) → ArePieces xs → flat_map chars xs ≡ cha
 chars-pieces [] p = sym chars-nil
 chars-pieces (x ∷ xs) p = ap (λ t. chars x ++ t) (chars-pieces xs p.1) ∙ sym (chars-append x (concat xs) p.0.utf8)
 
--- pieces that make up a text are together as wide as the text
+-- segments that make up a text are together as wide as the text
 pub stretch_width-whole : (t : ℕ) (text : List ℕ) (pieces : Stretch) → ArePieces pieces → concat pieces ≡ text → stretch_width t pieces ≡ end_column t 0 (chars text)
 stretch_width-whole t text pieces p joined = ap (end_column t 0) (chars-pieces pieces p ∙ ap chars joined)
 
@@ -75,7 +75,7 @@ pub IsWrapped-one_row : (kind : WrapMode) (t w : ℕ) (line : List ℕ) (ranges 
 IsWrapped-one_row kind t w [] ranges u one ranges_are = IsWrapped-empty kind t w [] ranges refl ranges_are
 IsWrapped-one_row kind t w (byte ∷ line) ranges u one ranges_are = grind (arith, common_steps, IsWrapped-whole, one_row_within)
 
--- only a line that holds something is wider than a width
+-- only a line that isn't empty is wider than a width
 pub nonempty_unless_fits : (t w : ℕ) (line : List ℕ) → (end_column t 0 (chars line) ≤ w → ⊥) → 0 < length line
 nonempty_unless_fits t w [] wide = absurd (wide (subst (λ cs. end_column t 0 cs ≤ w) (sym chars-nil) (omega arith)))
 nonempty_unless_fits t w (byte ∷ line) wide = omega arith

@@ -1,4 +1,4 @@
--- What is left of a row that fits, when its front is cut off.
+-- What remains of a row that fits, without its front.
 use Rattle.std.proofs.lemmas.Grind.{common_steps}
 use Rattle.std.proofs.Common.{◌≡◌, ℕ, ◌<◌, ◌⊎◌, inl, inr, List, [], ◌∷◌, ◌++◌, length, refl, sym, ap, subst, ⊎_elim, length-append, arith}
 use Rattle.std.proofs.lemmas.Bool.{cases_lt}
@@ -13,7 +13,7 @@ use Rattle.textarea_wrap.proofs.FewestWordLemmas.{BlankIsCluster, AreBlanksClust
 pub clusters_fit : (t w : ℕ) (front back : Stretch) → 0 < length back → IsFittingRow t w (front ++ back) → IsFittingRow t w back
 clusters_fit t w front back some fit = grind (arith, common_steps, stretch_width-back t front back, length-append front back)
 
--- one unit is left: it fits, or it is whitespace that hung over
+-- one unit remains: it fits, or it is whitespace that hung over
 one_left : (t w : ℕ) (front later : Stretch) (unit : List ℕ) → AreBlanksClusters (unit ∷ []) → IsFittingStretch t w (front ++ unit ∷ []) later → IsFittingStretch t w (unit ∷ []) later ⊎ IsBlankCluster (unit ∷ [])
 one_left t w front later unit blanks fit =
     ⊎_elim
@@ -23,7 +23,7 @@ one_left t w front later unit blanks fit =
     (λ within. inl (record { front = []; last = unit; stretch_is = refl; fits = inl within }))
     (cases_lt w (stretch_width t (unit ∷ [])))
 
--- several are left, of which the last is that of the run
+-- several units remain, of which the last is that of the run
 several_left : (t w : ℕ) (front part later : Stretch) (last : List ℕ) → 0 < length part → IsFittingStretch t w (front ++ (part ++ last ∷ [])) later → IsFittingStretch t w (part ++ last ∷ []) later
 several_left t w front part later last some fit =
     record { front = part; last = last; stretch_is = refl; fits = later_fits t w (front ++ (part ++ last ∷ [])) later fit front part last [] refl some }
@@ -32,7 +32,7 @@ left : (t w : ℕ) (front part later : Stretch) (last : List ℕ) → AreBlanksC
 left t w front [] later last blanks fit = one_left t w front later last blanks fit
 left t w front (unit ∷ part) later last blanks fit = inl (several_left t w front (unit ∷ part) later last (omega arith) fit)
 
--- the last of some units
+-- the last one of some units
 last_of : (units : Stretch) → 0 < length units → (part : Stretch) × (last : List ℕ) × (units ≡ part ++ last ∷ [])
 last_of [] some = absurd (omega arith)
 last_of (unit ∷ []) some = ([], unit, refl)

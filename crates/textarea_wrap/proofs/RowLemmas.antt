@@ -1,4 +1,4 @@
--- The rows of a cutting make up the line, begin and end between characters, and are not empty.
+-- The visual rows of a line make it up, begin and end between characters, and are not empty.
 use Rattle.std.proofs.Common.{◌≡◌, ℕ, ◌+◌, ◌<◌, true, List, [], ◌∷◌, ◌++◌, map, length, refl, sym, ap, ap₂, subst, ◌∙◌, append_assoc, append-nil, length-append, arith}
 use Rattle.std.proofs.lemmas.Str.{IsUtf8-nil, IsUtf8-append, IsUtf8-between, IsCharBoundary-at_seam, IsCharBoundary-end}
 use Rattle.std.proofs.lemmas.Bool.{cond_both}
@@ -96,7 +96,7 @@ pub concat-glyphs : (tab_len width : ℕ) (text : List ℕ) (rows : Stretch) →
 concat-glyphs tab_len width text rows u cutting =
     ap concat cutting.rows_are ∙ concat-pieces_of cutting.stretches ∙ ap concat cutting.whole ∙ concat-segments (is_grapheme_break true) text u
 
--- the rows of a block are pieces, and make up its units
+-- the rows of a block are not empty, and make up its units
 ArePieces-block : (tab_len width : ℕ) (block : Block) (later : Stretch) → IsBlock tab_len width block later → ArePieces (units_of block)
     → ArePieces (rows_of block) × (concat (rows_of block) ≡ concat (units_of block))
 ArePieces-block tab_len width (shared stretch) later is p =
@@ -116,7 +116,7 @@ ArePieces-blocks tab_len width (block ∷ blocks) later are p =
       concat-append (rows_of block) (flat_map rows_of blocks) ∙ ap₂ ◌++◌ here.1 rest.1 ∙ sym (concat-append (units_of block) (flat_map units_of blocks)),
     )
 
--- rows that are pieces and make up the line lie between its characters
+-- rows that are not empty and make up the line begin and end between its characters
 AreRowRanges-from : (line front : List ℕ) (texts : Stretch) → line ≡ front ++ concat texts → ArePieces texts → AllByRecursion (IsRowRange line) (ranges_from (length front) texts)
 AreRowRanges-from line front [] e p = tt
 AreRowRanges-from line front (text ∷ texts) e p =
@@ -132,7 +132,7 @@ AreRowRanges-from line front (text ∷ texts) e p =
       subst (λ n. AllByRecursion (IsRowRange line) (ranges_from n texts)) wide (AreRowRanges-from line (front ++ text) texts past p.1),
     )
 
--- a line that is not empty, cut into texts that are pieces
+-- a line that is not empty, split into texts that are not empty
 IsWrapped-texts : (mode : WrapMode) (tab_len width : ℕ) (line : List ℕ) (ranges : List (ℕ × ℕ)) (texts : Stretch) → 0 < length line → IsCutting mode tab_len width line texts
     → concat texts ≡ line → ranges ≡ ranges_from 0 texts → ArePieces texts → IsWrapped mode tab_len width line ranges
 IsWrapped-texts mode tab_len width [] ranges texts some cut joined ranges_are p = absurd (omega arith)

@@ -1,6 +1,6 @@
 -- A walk over the units of a line, with the blocks that are full and the row that is open.
 use Rattle.std.proofs.lemmas.Grind.{common_steps}
-use Rattle.std.proofs.Common.{◌≡◌, ℕ, ◌+◌, ◌<◌, ◌≤◌, ◌⊎◌, inl, inr, true, not, List, [], ◌∷◌, ◌++◌, length, refl, sym, ap, subst, ◌∙◌, ⊎_elim, append_assoc, append-nil, length-append, arith, map, ◌-◌, add-one, take, take_all, drop, drop-cons, length-drop, get_or, Bor}
+use Rattle.std.proofs.Common.{◌≡◌, ℕ, ◌+◌, ◌<◌, ◌≤◌, ◌⊎◌, inl, inr, true, List, [], ◌∷◌, ◌++◌, length, refl, sym, ap, subst, ◌∙◌, ⊎_elim, append_assoc, append-nil, length-append, arith, map, ◌-◌, add-one, take, take_all, drop, drop-cons, length-drop, get_or, Bor}
 use Rattle.std.proofs.lemmas.Grind.{flat_map-append}
 use Rattle.std.proofs.lemmas.List.Folds.{concat-append}
 use Rattle.std.specs.List.{concat, flat_map, AllByRecursion}
@@ -24,7 +24,7 @@ AreBlocks-push tab_len width [] block later before here = (here, tt)
 AreBlocks-push tab_len width (first ∷ blocks) block later before here =
     (subst (IsBlock tab_len width first) (sym (units_of-push blocks block later)) before.0, AreBlocks-push tab_len width blocks block later before.1 here)
 
--- rows more, behind rows that end where they begin
+-- more rows, after rows that end where they begin
 ranges-push : (before rows : List (ℕ × ℕ)) (blocks : List Block) (block : Block) (at : ℕ)
     → rows ≡ before ++ ranges_from 0 (flat_map rows_of blocks) → at ≡ length (concat (flat_map rows_of blocks))
     → rows ++ ranges_from at (rows_of block) ≡ before ++ ranges_from 0 (flat_map rows_of (blocks ++ block ∷ []))
@@ -114,7 +114,7 @@ module _ (tab_len width : ℕ) (units : Stretch) (before : List (ℕ × ℕ)) wh
 
   module _ (rows : List (ℕ × ℕ)) (unit : List ℕ) (left : Stretch) (row_start row_end column : ℕ)
       (w : IsWordWalk tab_len width units before rows (unit ∷ left) row_start row_end column) where
-    -- a row that holds nothing is at column 0
+    -- an empty row is at column 0
     pub IsWordWalk-empty : row_end ≤ row_start → IsWordWalk tab_len width units before rows (unit ∷ left) row_end row_end 0
     IsWordWalk-empty none =
         let same : row_start ≡ row_end = omega arith in
@@ -159,7 +159,7 @@ module _ (tab_len width : ℕ) (units : Stretch) (before : List (ℕ × ℕ)) wh
 
   module _ (rows : List (ℕ × ℕ)) (row_start row_end column : ℕ)
       (w : IsWordWalk tab_len width units before rows [] row_start row_end column) where
-    -- no unit is left, and the open row is closed
+    -- no unit remains, and the open row is closed
     pub IsWordWalk-end_open : row_start < row_end
         → (blocks : List Block) × (flat_map units_of blocks ≡ units) × AreBlocks tab_len width blocks []
         × (rows ++ (row_start, row_end) ∷ [] ≡ before ++ ranges_from 0 (flat_map rows_of blocks))
@@ -172,7 +172,7 @@ module _ (tab_len width : ℕ) (units : Stretch) (before : List (ℕ × ℕ)) wh
           ap (λ t. rows ++ t) range ∙ ranges-push before rows w.blocks block row_start w.rows_are w.begins,
         )
 
-    -- no unit is left, and no row is open
+    -- no unit remains, and no row is open
     pub IsWordWalk-end_closed : row_end ≤ row_start
         → (blocks : List Block) × (flat_map units_of blocks ≡ units) × AreBlocks tab_len width blocks []
         × (rows ≡ before ++ ranges_from 0 (flat_map rows_of blocks))
@@ -198,7 +198,7 @@ all_later units i = take_all _ (drop (i + 1) units) (omega (arith, length-drop (
 units_from : (units : List (Bor (List ℕ))) (i : ℕ) → i < length units → unit_bytes (drop i units) ≡ (get_or units i no_unit).now ∷ unit_bytes (drop (i + 1) units)
 units_from units i inside = let first : drop i units ≡ get_or units i no_unit ∷ drop (i + 1) units = rw (add-one, drop-cons units i no_unit) in ap unit_bytes first
 
--- a unit, and those behind it
+-- a unit, and those after it
 pub units_at : (units : List (Bor (List ℕ))) (i : ℕ) → i < length units
     → unit_bytes (drop i units) ≡ (get_or units i no_unit).now ∷ unit_bytes (take (length units - (i + 1)) (drop (i + 1) units))
 units_at units i inside = units_from units i inside ∙ ap (λ later. (get_or units i no_unit).now ∷ unit_bytes later) (sym (all_later units i))

@@ -1,4 +1,4 @@
--- The columns that characters take, where columns count from 0 at the start of a row.
+-- The columns that characters take. Columns count from 0 at the start of a visual row.
 use Rattle.std.specs.Prelude.{ℕ, ◌+◌, ◌-◌, ◌%◌, ◌==◌, max, false, List, [], ◌∷◌, unwrap_or, chars, if◌then◌else◌}
 use Rattle.std.specs.List.{flat_map}
 use Rattle.unicode_width.specs.Width.{char_width}
@@ -11,26 +11,26 @@ plain_width c = unwrap_or (char_width false c) 0
 abbrev pub next_stop : ℕ → ℕ → ℕ
 next_stop tab_len column = if tab_len == 0 then column else column + (tab_len - column % tab_len)
 
--- the column behind a character that begins at the column; 9 is the tab
+-- the column after a character that begins at the column; 9 is the tab
 abbrev pub column_after : ℕ → ℕ → ℕ → ℕ
 column_after tab_len column c = if c == 9 then next_stop tab_len column else column + plain_width c
 
--- the column behind characters of which the first begins at the column
+-- the column after characters of which the first begins at the column
 abbrev pub end_column : ℕ → ℕ → List ℕ → ℕ
 end_column tab_len column [] = column
 end_column tab_len column (c ∷ cs) = end_column tab_len (column_after tab_len column c) cs
 
--- the width of pieces of a text, each given by its bytes, that stand together at the start of a row
+-- the width of segments of a text, each given by its bytes, that are together at the start of a row
 abbrev pub stretch_width : ℕ → List (List ℕ) → ℕ
 stretch_width tab_len pieces = end_column tab_len 0 (flat_map chars pieces)
 
 -- ---- display columns
 
--- A cursor can stand before and behind each tab, so a tab takes one column where there are no tab stops, as it would if each
--- column were a tab stop.
+-- The display column after a character. A cursor can be before and after each tab, so a tab takes
+-- one column where there are no tab stops, as it would if each column were a tab stop.
 abbrev pub display_column_after : ℕ → ℕ → ℕ → ℕ
 display_column_after tab_len column c = column_after (max tab_len 1) column c
 
--- the display column behind characters of which the first begins at the column
+-- the display column after characters of which the first begins at the column
 abbrev pub display_end_column : ℕ → ℕ → List ℕ → ℕ
 display_end_column tab_len column cs = end_column (max tab_len 1) column cs

@@ -1,5 +1,5 @@
--- Which cuttings of a line into rows are right. A piece is a cluster or a unit, given by its bytes. A stretch is pieces that
--- stand together in one row.
+-- The right ways to wrap a line into visual rows. A segment is a grapheme cluster or a unit, given
+-- by its bytes. A stretch is a run of segments in one row.
 use Rattle.std.specs.Prelude.{◌≡◌, ℕ, ◌+◌, ◌<◌, ◌≤◌, ◌⊎◌, Bool, true, false, not, List, [], ◌∷◌, ◌++◌, map, length}
 use Rattle.std.specs.List.{concat, flat_map, AllByRecursion}
 use Rattle.unicode_segmentation.specs.Grapheme.{graphemes}
@@ -9,35 +9,35 @@ use Rattle.textarea_wrap.specs.Units.{is_blank, line_units}
 abbrev pub Stretch : Type 0
 Stretch = List (List ℕ)
 
--- the stretches, one behind the other
+-- the segments of all stretches, in order
 abbrev pub pieces_of : List Stretch → Stretch
 pieces_of [] = []
 pieces_of (stretch ∷ stretches) = stretch ++ pieces_of stretches
 
--- the byte ranges of texts that stand one behind the other from an offset on
+-- the byte ranges of consecutive texts from an offset on
 abbrev pub ranges_from : ℕ → List (List ℕ) → List (ℕ × ℕ)
 ranges_from at [] = []
 ranges_from at (text ∷ texts) = (at, at + length text) ∷ ranges_from (at + length text) texts
 
 -- ---- at cluster ends
 
--- the row does not fit together with the first cluster behind it
+-- the row has no room for the first cluster after it
 abbrev pub HasNoRoomForNext : ℕ → ℕ → Stretch → Stretch → Type 0
 HasNoRoomForNext tab_len width stretch [] = Unit {0}
 HasNoRoomForNext tab_len width stretch (next ∷ later) = width < stretch_width tab_len (stretch ++ next ∷ [])
 
--- a row of clusters, before the clusters `later`
+-- a row of clusters, followed by the clusters `later`
 pub record IsGlyphRow (tab_len width : ℕ) (stretch later : Stretch) : Type 0 where
   pub nonempty : 0 < length stretch
   pub fits : (stretch_width tab_len stretch ≤ width) ⊎ (length stretch ≡ 1)
   pub full : HasNoRoomForNext tab_len width stretch later
 
--- rows of clusters, before the clusters `later`
+-- rows of clusters, followed by the clusters `later`
 abbrev pub AreGlyphRows : ℕ → ℕ → List Stretch → Stretch → Type 0
 AreGlyphRows tab_len width [] later = Unit {0}
 AreGlyphRows tab_len width (stretch ∷ stretches) later = IsGlyphRow tab_len width stretch (pieces_of stretches ++ later) × AreGlyphRows tab_len width stretches later
 
--- the text is cut into rows at the ends of its clusters, which are those of this text taken by itself
+-- the rows of a text, wrapped at the ends of the clusters that it has by itself
 pub record IsGlyphCutting (tab_len width : ℕ) (text : List ℕ) (rows : List (List ℕ)) : Type 0 where
   pub stretches : List Stretch
   pub whole : pieces_of stretches ≡ graphemes true text
@@ -55,25 +55,25 @@ begins_with_content (unit ∷ later) = not (is_blank unit)
 abbrev pub HangsOver : ℕ → ℕ → List ℕ → Stretch → Type 0
 HangsOver width end unit later = (end ≡ width + 1) × (is_blank unit ≡ true) × (begins_with_content later ≡ true)
 
--- the units `front` and then `unit` fit in one row, before the units `later`
+-- the units `front` and then `unit` fit in one row that is followed by the units `later`
 abbrev pub FitsBehind : ℕ → ℕ → Stretch → List ℕ → Stretch → Type 0
 FitsBehind tab_len width front unit later =
     (stretch_width tab_len (front ++ unit ∷ []) ≤ width)
     ⊎ ((0 < length front) × (stretch_width tab_len front ≤ width) × HangsOver width (stretch_width tab_len (front ++ unit ∷ [])) unit later)
 
--- the row does not fit together with the first unit behind it
+-- the row has no room for the first unit after it
 abbrev pub HasNoRoomForUnit : ℕ → ℕ → Stretch → Stretch → Type 0
 HasNoRoomForUnit tab_len width stretch [] = Unit {0}
 HasNoRoomForUnit tab_len width stretch (next ∷ later) = ¬ (FitsBehind tab_len width stretch next later)
 
--- the units fit in one row, before the units `later`
+-- the units fit in one row that is followed by the units `later`
 pub record IsFittingStretch (tab_len width : ℕ) (stretch later : Stretch) : Type 0 where
   pub front : Stretch
   pub last : List ℕ
   pub stretch_is : stretch ≡ front ++ last ∷ []
   pub fits : FitsBehind tab_len width front last later
 
--- a row of units, or a unit that is too wide for one, with its rows
+-- the units of one row (`shared`), or a unit that is too wide for one row, with its rows (`split`)
 pub data Block : Type 0 where
   shared : Stretch → Block
   split : List ℕ → List (List ℕ) → Block
@@ -90,12 +90,12 @@ abbrev pub IsBlock : ℕ → ℕ → Block → Stretch → Type 0
 IsBlock tab_len width (shared stretch) later = IsFittingStretch tab_len width stretch later × HasNoRoomForUnit tab_len width stretch later
 IsBlock tab_len width (split unit rows) later = (width < stretch_width tab_len (unit ∷ [])) × IsGlyphCutting tab_len width unit rows
 
--- blocks, before the units `later`
+-- blocks, followed by the units `later`
 abbrev pub AreBlocks : ℕ → ℕ → List Block → Stretch → Type 0
 AreBlocks tab_len width [] later = Unit {0}
 AreBlocks tab_len width (block ∷ blocks) later = IsBlock tab_len width block (flat_map units_of blocks ++ later) × AreBlocks tab_len width blocks later
 
--- the line is cut into rows at the ends of its units, and at cluster ends inside units that are too wide
+-- the rows of a line that is wrapped at unit ends, and at cluster ends in units that are too wide
 pub record IsWordCutting (tab_len width : ℕ) (line : List ℕ) (rows : List (List ℕ)) : Type 0 where
   pub blocks : List Block
   pub whole : flat_map units_of blocks ≡ line_units line
@@ -104,19 +104,19 @@ pub record IsWordCutting (tab_len width : ℕ) (line : List ℕ) (rows : List (L
 
 -- ---- fewest rows
 
--- the row fits the width or is one cluster, whether or not it has room for more
+-- the row fits the width or is one cluster; it may have room for more
 abbrev pub IsFittingRow : ℕ → ℕ → Stretch → Type 0
 IsFittingRow tab_len width stretch = (stretch_width tab_len stretch ≤ width) ⊎ (length stretch ≡ 1)
 
--- and so is each of these
+-- each row fits in this way
 abbrev pub AreFittingRows : ℕ → ℕ → List Stretch → Type 0
 AreFittingRows tab_len width stretches = AllByRecursion (IsFittingRow tab_len width) stretches
 
--- the units are one, which is whitespace and one cluster
+-- there is one unit, and it is one whitespace cluster
 abbrev pub IsBlankCluster : Stretch → Type 0
 IsBlankCluster units = (unit : List ℕ) × (units ≡ unit ∷ []) × (is_blank unit ≡ true) × (length (graphemes true unit) ≡ 1)
 
--- no cutting of the text at cluster ends whose rows each fit or are one cluster has fewer rows
+-- no wrapping of the text at cluster ends into rows that each fit or are one cluster has fewer rows
 abbrev pub HasFewestGlyphRows : ℕ → ℕ → List ℕ → ℕ → Type 0
 HasFewestGlyphRows tab_len width text count =
     (stretches : List Stretch) → pieces_of stretches ≡ graphemes true text → AreFittingRows tab_len width stretches → count ≤ length stretches
@@ -126,13 +126,13 @@ IsFittingBlock tab_len width (shared stretch) later = IsFittingStretch tab_len w
 IsFittingBlock tab_len width (split unit rows) later =
     (width < stretch_width tab_len (unit ∷ [])) × ((stretches : List Stretch) × (pieces_of stretches ≡ graphemes true unit) × AreFittingRows tab_len width stretches × (rows ≡ map concat stretches))
 
--- blocks that fit, before the units `later`, whether or not they have room for more
+-- blocks that fit, followed by the units `later`; they may have room for more
 abbrev pub AreFittingBlocks : ℕ → ℕ → List Block → Stretch → Type 0
 AreFittingBlocks tab_len width [] later = Unit {0}
 AreFittingBlocks tab_len width (block ∷ blocks) later =
     IsFittingBlock tab_len width block (flat_map units_of blocks ++ later) × AreFittingBlocks tab_len width blocks later
 
--- no cutting of the line's units into stretches that fit and units that are too wide has fewer rows
+-- no wrapping of the line into stretches that fit and units that are too wide has fewer rows
 abbrev pub HasFewestWordRows : ℕ → ℕ → List ℕ → ℕ → Type 0
 HasFewestWordRows tab_len width line count =
     (blocks : List Block) → flat_map units_of blocks ≡ line_units line → AreFittingBlocks tab_len width blocks [] → count ≤ length (flat_map rows_of blocks)

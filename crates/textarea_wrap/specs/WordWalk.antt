@@ -1,11 +1,12 @@
--- How far a cutting at unit ends has come.
+-- How far the wrapping of a line at unit ends is.
 use Rattle.std.specs.Prelude.{◌≡◌, ℕ, ◌+◌, ◌<◌, ◌≤◌, List, [], ◌++◌, length}
 use Rattle.std.specs.List.{concat, flat_map, AllByRecursion}
 use Rattle.textarea_wrap.specs.Columns.{stretch_width}
 use Rattle.textarea_wrap.specs.Cutting.{Stretch, Block, units_of, rows_of, ranges_from, IsFittingStretch, AreBlocks}
 
--- Units up to `left` are in blocks that are right before what is left, or in the open row. The rows are those before the walk and
--- those of the blocks; the open row has its first byte at `row_start`, ends at `row_end` and at the column.
+-- The units before `left` are in finished blocks or in the open row. The rows are those before the
+-- walk and those of the blocks. The open row is the bytes `row_start` to `row_end`, up to the
+-- column.
 pub record IsWordWalk (tab_len width : ℕ) (units : Stretch) (before rows : List (ℕ × ℕ)) (left : Stretch) (row_start row_end column : ℕ) : Type 0 where
   pub blocks : List Block
   pub open_stretch : Stretch

@@ -1,4 +1,4 @@
--- The rows of one line.
+-- The visual rows of one line.
 use Rattle.std.specs.Prelude.{◌≡◌, ℕ, ◌≤◌, ◌⊎◌, List, [], ◌∷◌, chars}
 use Rattle.std.specs.List.{concat, AllByRecursion}
 use Rattle.std.specs.Str.{IsCharBoundary}
@@ -19,7 +19,7 @@ abbrev pub AreRowTexts : WrapMode → ℕ → ℕ → List ℕ → List (List �
 AreRowTexts mode tab_len width [] texts = texts ≡ [] ∷ []
 AreRowTexts mode tab_len width (byte ∷ line) texts = IsCutting mode tab_len width (byte ∷ line) texts
 
--- the row begins and ends between characters of the line, and is empty in an empty line alone
+-- the row begins and ends between characters of the line, and is empty only in an empty line
 pub record IsRowRange (line : List ℕ) (range : ℕ × ℕ) : Type 0 where
   pub ordered : range.0 ≤ range.1
   pub start : IsCharBoundary line range.0
@@ -34,7 +34,7 @@ pub record IsWrapped (mode : WrapMode) (tab_len width : ℕ) (line : List ℕ) (
   pub ranges_are : ranges ≡ ranges_from 0 texts
   pub placed : AllByRecursion (IsRowRange line) ranges
 
--- no other cutting that the mode allows has fewer rows
+-- no other wrapping that the mode allows has fewer rows
 abbrev pub HasFewestRows : WrapMode → ℕ → ℕ → List ℕ → ℕ → Type 0
 HasFewestRows mode.None tab_len width line count = count ≡ 1
 HasFewestRows mode.Word tab_len width line count = HasFewestWordRows tab_len width line count

@@ -1,12 +1,12 @@
-//! The counter of the calls that wrap a line.
+//! A counter of the calls that wrap a line.
 ghost use Rattle.std.specs.Prelude.{◌≡◌, ℕ, ◌+◌, ⊤};
 
 use crate::tally::Tally;
 use std::alloc::AllocError;
 use std::marker::Model;
 
-/// How many calls have wrapped a line with this counter. Contracts see the number, which has no greatest value; at run time
-/// the counter has no bytes.
+/// Counts the calls that wrap a line. The number exists only in contracts, where it has no upper
+/// bound. At run time the counter takes no bytes.
 #[derive(Drop)]
 pub struct WrapCount {
     tally: Tally,
@@ -19,7 +19,7 @@ impl Model for WrapCount {
 }
 
 impl WrapCount {
-    /// A counter at 0.
+    /// Returns a counter at 0.
     pub fn new() -> WrapCount
         ensures { result ≡ 0 }
     {
@@ -28,7 +28,7 @@ impl WrapCount {
         }
     }
 
-    // One more call. Only `Rows::counted` makes this call.
+    // Adds one. Only `Rows::counted` calls this.
     pub(crate) fn tick(&mut self)
         ensures { self.new ≡ self.old + 1 }
     {
@@ -41,7 +41,7 @@ impl Clone for WrapCount {
 
     ghost is_infallible = { λ _. ⊤ };
 
-    /// Another counter at the same number. It takes no memory.
+    /// Returns another counter at the same number. Allocates nothing.
     fn clone(&self) -> Result<WrapCount, AllocError> {
         Ok(WrapCount {
             tally: self.tally.same(),

@@ -1,4 +1,4 @@
-//! Laws of wrapping, each the contract of a function without a body.
+//! Laws of wrapping. Each is the contract of a function with an empty body.
 ghost use Rattle.std.specs.Prelude.{◌≡◌, ◌<◌, ◌≤◌, ◌⊎◌, ◌++◌, ℕ, List, length};
 ghost use Rattle.textarea_wrap.specs.declared.wrap.WrapMode.{WrapMode};
 ghost use Rattle.textarea_wrap.specs.declared.wrap.WrapMode.TheVariants as mode;
@@ -7,16 +7,16 @@ ghost use Rattle.textarea_wrap.specs.Cutting.{HasFewestGlyphRows, HasFewestWordR
 ghost use Rattle.textarea_wrap.specs.Units.{line_units};
 ghost use Rattle.textarea_wrap.specs.Wrapped.{IsWrapped};
 
-/// A line has one right cutting in each mode, at each width and tab length.
+/// A line wraps in only one way in each mode, at each width and tab length.
 pub fn one_cutting()
     ensures { (mode : WrapMode) (tab_len width : ℕ) (line : List ℕ) (ranges others : List (ℕ × ℕ)) →
         IsWrapped mode tab_len width line ranges → IsWrapped mode tab_len width line others → ranges
         ≡ others }
 {}
 
-/// The rows of a line that isn't empty are the fewest. In the mode `Glyph` no cutting of the line at the ends of its clusters whose
-/// rows each fit or are one cluster has fewer. In the word modes no cutting of its units into runs that fit and single units that
-/// are wider than the width, each of these cut at the ends of its clusters in that same way, has fewer.
+/// A line that isn't empty gets the fewest visual rows possible: in the mode `Glyph` of all splits
+/// between grapheme clusters into rows that fit or are one cluster, in the word modes of all splits
+/// into runs of units that fit and wider units, each split into rows as in `Glyph`.
 pub fn fewest_rows()
     ensures glyphs { (tab_len width : ℕ) (line : List ℕ) (ranges : List (ℕ × ℕ)) →
         0 < length line → IsWrapped mode.Glyph tab_len width line ranges →
@@ -29,8 +29,8 @@ pub fn fewest_rows()
         HasFewestWordRows tab_len width line (length ranges) }
 {}
 
-/// A run that begins later is never wider, tabs included: characters that begin at a later column end at no earlier one, so pieces
-/// without those in front of them are no wider than with them. Nor are they without those behind them.
+/// A run that begins later is never wider, tabs included: characters that begin at a later column
+/// end at no earlier one. So segments are no wider without those before or after them.
 pub fn never_wider_later()
     ensures columns { (tab_len column later : ℕ) (characters : List ℕ) → column ≤ later →
         end_column tab_len column characters ≤ end_column tab_len later characters }
@@ -40,8 +40,8 @@ pub fn never_wider_later()
         stretch_width tab_len front ≤ stretch_width tab_len (front ++ back) }
 {}
 
-/// What is left when the front of a run that fits is cut off fits too: of clusters, that fit or are one, and of the units of a
-/// line, unless one whitespace cluster is left, which is one row anyhow.
+/// If a run fits, it also fits without its front. This is true for rows of clusters, and for units,
+/// except that a single whitespace cluster may remain, which is one row anyway.
 pub fn rest_fits()
     ensures clusters { (tab_len width : ℕ) (front back : Stretch) → 0 < length back →
         IsFittingRow tab_len width (front ++ back) → IsFittingRow tab_len width back }

@@ -1,4 +1,4 @@
-//! The digits of a number, the columns of line numbers, and the width that is left for rows.
+//! The width of line numbers, and the width that remains for visual rows.
 ghost use Rattle.std.specs.Prelude.{◌≡◌, ◌+◌, ◌≤◌, ℕ, length};
 ghost use Rattle.std.specs.Fmt.{decimal};
 ghost use Rattle.textarea_wrap.specs.Layout.{line_number_columns, columns_for_rows};
@@ -6,10 +6,10 @@ ghost use Rattle.textarea_wrap.specs.Layout.{line_number_columns, columns_for_ro
 use crate::wrap::WrapMode;
 use std::marker::Model;
 
-/// One column is kept free behind each row, for a caret that stands at its end.
+/// One column after each row stays free for a caret at the row's end.
 const CARET_WIDTH: usize = 1;
 
-/// The columns of line numbers, and the width at which lines are wrapped, for an inner area and a number of lines.
+/// The widths of line numbers and of wrapped lines, for an inner area and a number of lines.
 #[derive(Clone, Copy, Debug, PartialEq, Eq)]
 pub struct LayoutMetrics {
     line_number_width: usize,
@@ -33,7 +33,7 @@ impl Model for LayoutMetrics {
 }
 
 impl LayoutMetrics {
-    /// The numbers for an inner area of `inner_width` columns that shows `line_count` lines.
+    /// Returns the metrics for `line_count` lines in an inner area of `inner_width` columns.
     pub fn new(
         inner_width: u16,
         line_count: usize,
@@ -62,14 +62,14 @@ impl LayoutMetrics {
         }
     }
 
-    /// The columns of a line number with the blanks before and behind it, or 0 where lines have no numbers.
+    /// Returns the columns of a line number with a blank on each side, or 0 without line numbers.
     pub fn line_number_width(&self) -> usize
         ensures { result ≡ self.now.line_number_width }
     {
         self.line_number_width
     }
 
-    /// The width at which lines are wrapped, at least 1, or `None` where they are not.
+    /// Returns the width at which lines are wrapped, at least 1, or `None` without wrapping.
     pub fn wrap_width(&self) -> Option<usize>
         ensures { result ≡ self.now.wrap_width }
     {
@@ -77,7 +77,7 @@ impl LayoutMetrics {
     }
 }
 
-/// How many decimal digits the number is written with; 0 has one, and no smaller number has more.
+/// Returns the number of decimal digits, 1 for 0. No smaller number has more.
 pub fn num_digits(number: usize) -> u8
     ensures value { result ≡ length (decimal number) }
     ensures few { result ≤ 20 }

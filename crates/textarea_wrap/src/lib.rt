@@ -1,4 +1,4 @@
-//! Wrapping of one line: columns, the rows of a line at a width, laws of these, and the numbers of a layout.
+//! Wrapping of one line: columns, the visual rows at a width, laws of these, and layout widths.
 #![tactic(auto)]
 
 pub mod count;

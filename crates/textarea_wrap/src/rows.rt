@@ -1,4 +1,4 @@
-//! The byte ranges of a line's rows, with the number of the call that cut them.
+//! The byte ranges of a line's visual rows, with the number of the call that wrapped the line.
 ghost use Rattle.std.specs.Prelude.{◌≡◌, ◌+◌, ◌≤◌, ◌↔◌, length, IfOk, IsOk};
 
 use crate::count::WrapCount;
@@ -6,11 +6,11 @@ use smallvec::SmallVec;
 use std::alloc::AllocError;
 use std::marker::Model;
 
-/// Byte ranges of rows. One row lies in the value itself, and only more take an allocation.
+/// Byte ranges of visual rows. A single range is stored inline, and only more need an allocation.
 pub type Ranges = SmallVec<(usize, usize), 1>;
 
-/// The byte ranges of a line's rows, and the number that the call which wrapped the line counted to. Only
-/// `line_ranges` and `clone` return one.
+/// The byte ranges of a line's visual rows, and the counter's number after the call that wrapped
+/// the line. Only `line_ranges` and `clone` return one.
 #[derive(Drop)]
 pub struct Rows {
     ranges: Ranges,
@@ -26,9 +26,9 @@ impl Model for Rows {
 }
 
 impl Rows {
-    // Counts a call that wraps a line, and returns its rows with the number that the count has then. A call that ran out of
-    // memory is counted too, and its error is returned. This takes no memory. Only `line_ranges` calls it, and nothing else
-    // counts.
+    // Counts a call that wraps a line, and returns its rows with the new number. A call that ran
+    // out of memory is counted too, and its error is returned. Allocates nothing. Only
+    // `line_ranges` calls this, and nothing else counts.
     pub(crate) fn counted(
         cut: Result<Ranges, AllocError>,
         count: &mut WrapCount,
@@ -46,7 +46,7 @@ impl Rows {
         })
     }
 
-    /// For each row the offset of its first byte, and the offset behind its last one.
+    /// Returns for each row the offset of its first byte and the offset after its last one.
     pub fn as_slice(&self) -> &[(usize, usize)]
         ensures { result.now ≡ self.now.ranges }
     {
@@ -59,7 +59,7 @@ impl Clone for Rows {
 
     ghost is_infallible = { λ rows. length rows.ranges ≤ 1 };
 
-    /// The same rows with the same tick. A single row takes no memory.
+    /// Returns the same rows with the same `tick`. A single row needs no allocation.
     fn clone(&self) -> Result<Rows, AllocError> {
         Ok(Rows {
             ranges: self.ranges.clone()?,

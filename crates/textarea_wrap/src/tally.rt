@@ -1,12 +1,13 @@
-//! A number without a greatest value that contracts alone see. It has no bytes, and its functions do nothing at run time.
+//! An unbounded number that only contracts see. It has no bytes, and its functions do nothing.
 //!
-//! The three functions are proved by hand, and such a proof could set any number. No other code makes a `Tally`.
+//! The three functions are proved by hand; such a proof could set any number, so no other code
+//! makes a `Tally`.
 ghost use Rattle.std.specs.Prelude.{◌≡◌, ℕ, ◌+◌};
 ghost use Rattle.std.specs.Borrow.{ftrue};
 
 use std::marker::{Model, PhantomData};
 
-/// A number that only proofs hold.
+/// A number that only contracts see.
 #[derive(Drop)]
 pub struct Tally {
     marker: PhantomData<u8>,
@@ -18,7 +19,7 @@ impl Model for Tally {
 }
 
 impl Tally {
-    /// A tally at 0.
+    /// Returns a tally at 0.
     pub fn zero() -> Tally
         ensures { result.number ≡ 0 }
     {
@@ -27,7 +28,7 @@ impl Tally {
         }
     }
 
-    /// A tally at the same number.
+    /// Returns a tally at the same number.
     pub fn same(&self) -> Tally
         ensures { result.number ≡ self.now.number }
     {
@@ -36,7 +37,7 @@ impl Tally {
         }
     }
 
-    /// A tally at the number behind.
+    /// Returns a tally at the next number.
     pub fn next(&self) -> Tally
         ensures { result.number ≡ self.now.number + 1 }
     {

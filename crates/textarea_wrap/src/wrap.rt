@@ -1,4 +1,4 @@
-//! The rows of one line.
+//! Wrapping of one line into visual rows.
 ghost use Rattle.std.specs.Prelude.{◌≡◌, ◌+◌, ◌<◌, ◌≤◌, ◌↔◌, max, length, IsTrue, IsOk, IfOk, OnOk};
 ghost use Rattle.textarea_util.specs.Limit.{size_limit};
 ghost use Rattle.textarea_wrap.specs.Wrapped.{HasFewestRows, IsWrapped, TakesOneRow};
@@ -19,31 +19,32 @@ mod glyphs;
 mod units;
 mod words;
 
-/// How a line is cut into rows.
+/// How a line is wrapped into visual rows.
 #[derive(Clone, Copy, Debug, PartialEq, Eq, Serialize, Deserialize)]
 pub enum WrapMode {
-    /// One row a line.
+    /// Each line is one row.
     None,
-    /// At the ends of words, and at the ends of clusters inside words that are too wide.
+    /// Rows end between words, and between the grapheme clusters of a word that is too wide.
     Word,
-    /// At the ends of clusters.
+    /// Rows end between grapheme clusters.
     Glyph,
-    /// As `Word`.
+    /// The same as `Word`.
     WordOrGlyph,
 }
 
-/// Whether a line is short enough to be cut into rows and to be drawn.
+/// Returns whether a line is short enough to be wrapped and drawn: less than 2^48 bytes.
 pub fn is_short(line: &str) -> bool
     ensures { IsTrue result ↔ (length line.now < size_limit) }
 {
     line.len() < MAX_SIZE
 }
 
-/// Cuts a line into the rows that it takes at a width in columns, where a width of 0 counts as 1. A tab reaches to the next
-/// multiple of `tab_len`, and takes no column where that is 0. Each call adds one to `count`, also one that is refused.
+/// Wraps a line at a width in columns and returns its visual rows. A width of 0 counts as 1. A tab
+/// reaches to the next multiple of `tab_len`, and takes no column if that is 0. Each call, even one
+/// that fails, adds one to `count`.
 ///
-/// A line of more than 2^48 - 1 bytes is answered with an `AllocError`. A line that takes one row because it is not wrapped, or
-/// because it is no wider than the width, takes no memory and is never refused for its length.
+/// A line of 2^48 bytes or more is an `AllocError`. A shorter line that takes one row, because it
+/// is not wrapped or is no wider than the width, needs no allocation and never fails.
 pub fn line_ranges(
     alloc: Global,
     line: &str,

@@ -1,5 +1,20 @@
--- What inputs come to, by any fact of splices that steps have.
-use Rattle.std.proofs.Common.{◌≡◌, List, [], ap, is_some, subst, sym, ◌∙◌}
+-- Inputs, by any fact of splices that steps have.
+use Rattle.std.proofs.Common.{◌≡◌, ℕ, List, [], Option, None, Some, ap, is_some, refl, subst, sym, ◌∙◌, inl, inr, ⊎_elim}
+use Rattle.std.specs.Str.{chars}
+use Rattle.textarea_calls.specs.declared.call.Call.{Call}
+use Rattle.textarea_calls.specs.declared.call.Call.TheVariants as call
+use Rattle.textarea_text.specs.Given.{given}
+use Rattle.textarea_text.specs.Place.{Place}
+use Rattle.textarea_document.specs.Splices.{selected_splices}
+use Rattle.tui_textarea.specs.CallSplices.{OfLeft, splices_of}
+use Rattle.tui_textarea.specs.Input.{IsLeftBy, asked_by, asked_without_shortcuts}
+use Rattle.tui_textarea.specs.Outcomes.{IsBehind, IsLeft, behind_pattern}
+use Rattle.tui_textarea.specs.Removals.{symbols_ahead_removed}
+use Rattle.tui_textarea.specs.Said.{Said, PatternRefused}
+use Rattle.tui_textarea.specs.Search.{next_match, previous_match, searched}
+use Rattle.tui_textarea.specs.Selection.{unselected}
+use Rattle.tui_textarea.specs.Selection as selection
+use Rattle.tui_textarea.proofs.Stepping.{ahead_by, hit_range_by, selected_by}
 use Rattle.textarea_calls.specs.declared.action.Action.{Action}
 use Rattle.textarea_calls.specs.declared.action.Action.TheVariants as action
 use Rattle.textarea_calls.specs.declared.kind.Edit.TheVariants as edit
@@ -17,17 +32,17 @@ use Rattle.tui_textarea.specs.Removals.{break_before_removed, line_end_removed, 
 use Rattle.tui_textarea.specs.State.{State}
 use Rattle.tui_textarea.proofs.Stepping.{Reckoning, after_by, before_by, break_by, char_by, cleared_by, copied_seen, cut_by, line_end_by, line_head_by, moves_seen, newline_by, seen, str_by, tab_by, unselected_by, word_after_by, word_before_by}
 
--- what is known of documents, from one to another, by splices
+-- a relation of two documents and the splices between them
 abbrev pub Fact : Type 1
 Fact = DocumentState → List Splice → DocumentState → Type 0
 
--- the fact of an input, by what it asks for: an undo and a redo have one of their own
+-- the relation for an action: undo and redo have one of their own
 abbrev pub ByAct : Fact → Fact → Action → DocumentState → List Splice → DocumentState → Type 0
 ByAct By Past (action.Edit edit.Undo) old splices new = Past old splices new
 ByAct By Past (action.Edit edit.Redo) old splices new = Past old splices new
 ByAct By Past asked old splices new = By old splices new
 
--- where they have the same fact, each input has it
+-- if both relations are the same, each action has it
 pub by_any_act : (By : Fact) (asked : Action) (old new : DocumentState) (splices : List Splice) → ByAct By By asked old splices new → By old splices new
 by_any_act By (action.Edit edit.Undo) old new splices h = h
 by_any_act By (action.Edit edit.Redo) old new splices h = h
@@ -36,7 +51,7 @@ by_any_act By asked old new splices h = h
 as_outcome : (By : Fact) (old new outcome : State) (splices : List Splice) → new ≡ outcome → By old.document splices outcome.document → By old.document splices new.document
 as_outcome By old new outcome splices is h = subst (λ (s : State). By old.document splices s.document) (sym is) h
 
--- what an undo and a redo come to, where there is an edit to take back or to make again, and where there is none
+-- the relation for undo and redo, with and without an edit to undo or redo
 pub record Past (Own : Fact) : Type 0 where
   pub undos : (document : DocumentState) → IsSound document → Own document (undo_splices document) (undone document)
   pub redos : (document : DocumentState) → IsSound document → Own document (redo_splices document) (redone document)
@@ -62,3 +77,101 @@ acts_by By Own by past old new (action.Edit edit.Redo) h k = as_outcome Own old 
 acts_by By Own by past old new (action.MoveWithShift cursor_move shift) h k = by.none old.document new.document (moves_seen old new shift cursor_move k)
 acts_by By Own by past old new (action.ScrollWithShift scrolling shift) h k = by.none old.document new.document (moves_seen (viewport_scrolled old scrolling) new shift move.InViewport k)
 acts_by By Own by past old new (action.Scroll scrolling) h k = by.none old.document new.document (moves_seen (viewport_scrolled old scrolling) new (is_some old.document.anchor) move.InViewport k)
+
+-- ---- calls
+
+-- the fact of a call, by its splices: an undo and a redo have one of their own, and of calls that replace lines, ranges or the layout nothing is stated
+abbrev pub ByCall : Fact → Fact → Call → DocumentState → List Splice → DocumentState → Type 0
+ByCall By Past call.Undo old splices new = Past old splices new
+ByCall By Past call.Redo old splices new = Past old splices new
+ByCall By Past (call.Input input) old splices new = ByAct By Past (asked_by input.now) old splices new
+ByCall By Past (call.InputWithoutShortcuts input) old splices new = ByAct By Past (asked_without_shortcuts input.now) old splices new
+ByCall By Past (call.SetLines lines cursor) old splices new = Unit {0}
+ByCall By Past (call.SetTabLength columns) old splices new = Unit {0}
+ByCall By Past (call.SetWrapMode mode) old splices new = Unit {0}
+ByCall By Past (call.SetLineNumberStyle style) old splices new = Unit {0}
+ByCall By Past call.RemoveLineNumber old splices new = Unit {0}
+ByCall By Past (call.SetAlignment alignment) old splices new = Unit {0}
+ByCall By Past (call.TrySetAtomicRanges ranges) old splices new = Unit {0}
+ByCall By Past call.ClearAtomicRanges old splices new = Unit {0}
+ByCall By Past (call.Render area) old splices new = Unit {0}
+ByCall By Past made old splices new = By old splices new
+
+pattern_seen : (state : State) (text : List ℕ) (answer : Said) → seen (behind_pattern state text answer).document ≡ seen state.document
+pattern_seen state text PatternRefused = refl
+pattern_seen state text answer = refl
+
+searched_seen : (state : State) (found : Option Place) → seen (searched state found).document ≡ seen state.document
+searched_seen state None = refl
+searched_seen state (Some place) = refl
+
+module _ (By Own : Fact) (by : Reckoning By) (past : Past Own) where
+  act_by : (old new : State) (asked : Action) → IsSound old.document → IsActed old asked new → ByAct By Own asked old.document (splices_by old asked) new.document
+  act_by = acts_by By Own by past
+
+  pub calls_by : (old new : State) (made : Call) (answer : Said) → IsSound old.document → IsBehind old made answer new → ByCall By Own made old.document (splices_of old made) new.document
+  calls_by old new (call.InsertChar c) answer h k = act_by old new (action.Write (write.InsertChar c)) h k
+  calls_by old new (call.InsertStr text) answer h k = as_outcome By old new _ _ k (str_by By by old (given (chars text.now)) h)
+  calls_by old new call.InsertTab answer h k = act_by old new (action.Edit edit.InsertTab) h k
+  calls_by old new call.InsertNewline answer h k = act_by old new (action.Write write.InsertNewline) h k
+  calls_by old new call.Paste answer h k = act_by old new (action.Edit edit.Paste) h k
+  calls_by old new (call.DeleteStr count) answer h k = as_outcome By old new _ _ k (unselected_by By by old (symbols_ahead_removed old count) _ h (ahead_by By by old count h))
+  calls_by old new call.DeleteNewline answer h k = act_by old new (action.Edit edit.DeleteNewline) h k
+  calls_by old new call.DeleteChar answer h k = act_by old new (action.Edit edit.DeleteChar) h k
+  calls_by old new call.DeleteNextChar answer h k = act_by old new (action.Edit edit.DeleteNextChar) h k
+  calls_by old new call.DeleteLineByEnd answer h k = act_by old new (action.Edit edit.DeleteLineByEnd) h k
+  calls_by old new call.DeleteLineByHead answer h k = act_by old new (action.Edit edit.DeleteLineByHead) h k
+  calls_by old new call.DeleteWord answer h k = act_by old new (action.Edit edit.DeleteWord) h k
+  calls_by old new call.DeleteNextWord answer h k = act_by old new (action.Edit edit.DeleteNextWord) h k
+  calls_by old new call.Clear answer h k = act_by old new (action.Edit edit.Clear) h k
+  calls_by old new call.Cut answer h k = act_by old new (action.Edit edit.Cut) h k
+  calls_by old new call.Copy answer h k = act_by old new (action.Write write.Copy) h k
+  calls_by old new call.Undo answer h k = act_by old new (action.Edit edit.Undo) h k
+  calls_by old new call.Redo answer h k = act_by old new (action.Edit edit.Redo) h k
+  calls_by old new (call.DeleteAtomicRangeAtCursor direction) answer h k = as_outcome By old new _ _ k (hit_range_by By by old direction h)
+  calls_by old new (call.Input input) answer h k = act_by old new (asked_by input.now) h k
+  calls_by old new (call.InputWithoutShortcuts input) answer h k = act_by old new (asked_without_shortcuts input.now) h k
+  calls_by old new (call.Move cursor_move) answer h k = act_by old new (action.MoveWithShift cursor_move (is_some old.document.anchor)) h k
+  calls_by old new (call.Scroll scrolling) answer h k = act_by old new (action.Scroll scrolling) h k
+  calls_by old new (call.SearchForward at_cursor) answer h k = by.none old.document new.document (ap (λ (s : State). seen s.document) k ∙ searched_seen old (next_match old at_cursor))
+  calls_by old new (call.SearchBack at_cursor) answer h k = by.none old.document new.document (ap (λ (s : State). seen s.document) k ∙ searched_seen old (previous_match old at_cursor))
+  calls_by old new (call.SetSearchPattern text) answer h k = by.none old.document new.document (ap (λ (s : State). seen s.document) k ∙ pattern_seen old text.now answer)
+  calls_by old new (call.SetLines lines cursor) answer h k = tt
+  calls_by old new (call.SetTabLength columns) answer h k = tt
+  calls_by old new (call.SetWrapMode mode) answer h k = tt
+  calls_by old new (call.SetLineNumberStyle style) answer h k = tt
+  calls_by old new call.RemoveLineNumber answer h k = tt
+  calls_by old new (call.SetAlignment alignment) answer h k = tt
+  calls_by old new (call.TrySetAtomicRanges ranges) answer h k = tt
+  calls_by old new call.ClearAtomicRanges answer h k = tt
+  calls_by old new (call.Render area) answer h k = tt
+  calls_by old new made answer h k = by.none old.document new.document (ap (λ (s : State). seen s.document) k)
+
+  -- ---- calls that run out of memory
+
+  left_by : (old new : State) → IsSound old.document → selection.IsLeft old new → OfLeft old (λ splices. By old.document splices new.document)
+  left_by old new h k =
+      ⊎_elim
+      (λ same. inl (by.none old.document new.document (ap (λ (s : State). seen s.document) same)))
+      (λ gone. inr (as_outcome By old new (unselected old) (selected_splices old.document) gone (selected_by By by old.document old.moment h)))
+      k
+
+  stayed : (old new : State) → new ≡ old → OfLeft old (λ splices. By old.document splices new.document)
+  stayed old new same = inl (by.none old.document new.document (ap (λ (s : State). seen s.document) same))
+
+  act_left : (old new : State) (asked : Action) → IsSound old.document → IsLeftBy old asked new → OfLeft old (λ splices. By old.document splices new.document)
+  act_left old new (action.Write (write.InsertChar c)) h k = left_by old new h k
+  act_left old new (action.Write write.InsertNewline) h k = left_by old new h k
+  act_left old new (action.Edit edit.InsertTab) h k = left_by old new h k
+  act_left old new (action.Edit edit.Paste) h k = left_by old new h k
+  act_left old new asked h k = stayed old new k
+
+  pub calls_left : (old new : State) (made : Call) → IsSound old.document → IsLeft old made new → OfLeft old (λ splices. By old.document splices new.document)
+  calls_left old new (call.InsertChar c) h k = left_by old new h k
+  calls_left old new (call.InsertStr text) h k = left_by old new h k
+  calls_left old new call.InsertTab h k = left_by old new h k
+  calls_left old new call.InsertNewline h k = left_by old new h k
+  calls_left old new call.Paste h k = left_by old new h k
+  calls_left old new (call.Input input) h k = act_left old new (asked_by input.now) h k
+  calls_left old new (call.InputWithoutShortcuts input) h k = act_left old new (asked_without_shortcuts input.now) h k
+  calls_left old new made h k = stayed old new k

@@ -28,7 +28,7 @@ some_ahead text cursor to count h h' e apart = by (nat_lt (index_of text cursor)
 pub lesser_ahead : (text : List Symbol) (cursor to : Place) (count : ℕ) → index_of text to ≡ min (index_of text cursor + count) (length text) → nat_lt (index_of text cursor) (min (index_of text cursor + count) (length text)) ≡ true → index_of text cursor < index_of text to
 lesser_ahead text cursor to count e less = grind (arith, nat_tests)
 
--- where the end was counted from a place given otherwise, and is not that place
+-- the end that was counted from another form of the cursor's position, and is not that position
 pub record IsAhead (document : DocumentState) (to : Place) (count : ℕ) : Type 0 where
   pub some : nat_lt (index_of document.text document.cursor) (min (index_of document.text document.cursor + count) (length document.text)) ≡ true
   pub less : index_of document.text document.cursor < index_of document.text to

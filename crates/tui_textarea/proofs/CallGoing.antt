@@ -1,80 +1,49 @@
--- How the atomic ranges go with the text over each call, by what the text area says of its outcomes; and what becomes of them in a run.
-use Rattle.std.proofs.Common.{◌≡◌, ◌⊎◌, ℕ, ◌<◌, Bor, List, [], ◌∷◌, ◌++◌, ◌+◌, length, get_or, map, take, Option, None, Some, is_some, ap, refl, subst, sym, ◌∙◌, inl, inr, ⊎_elim}
+-- How the atomic ranges move over each call, by the laws of the text area, and over a run.
+use Rattle.std.proofs.Common.{◌≡◌, ◌⊎◌, ℕ, ◌<◌, Bor, List, [], ◌∷◌, ◌++◌, ◌+◌, length, get_or, map, take, ap, refl, subst, sym, ◌∙◌, inl, inr, ⊎_elim}
 use Rattle.std.proofs.lemmas.List.{append-nil, append_assoc, map-append}
-use Rattle.std.specs.Str.{chars}
 use Rattle.textarea_calls.specs.declared.action.Action.{Action}
 use Rattle.textarea_calls.specs.declared.action.Action.TheVariants as action
 use Rattle.textarea_calls.specs.declared.kind.Edit.TheVariants as edit
-use Rattle.textarea_calls.specs.declared.kind.Write.TheVariants as write
 use Rattle.textarea_text.specs.Given.{given}
-use Rattle.textarea_data.specs.declared.range.AtomicDeleteDirection.{AtomicDeleteDirection}
 use Rattle.textarea_data.specs.declared.range.AtomicRange.{AtomicRange}
 use Rattle.textarea_data.specs.declared.range.RejectedAtomicRange.{RejectedAtomicRange}
 use Rattle.textarea_screen.specs.declared.screen.buffer.Buffer.{Buffer}
-use Rattle.textarea_screen.specs.declared.screen.rect.Rect.{Rect}
-use Rattle.textarea_text.specs.Place.{Place}
-use Rattle.textarea_text.specs.Text.{Symbol}
 use Rattle.textarea_text.specs.Splice.{CanApply, Splice}
 use Rattle.textarea_document.specs.Goes.{CutNone, GoesOver, GoesUncut}
 use Rattle.textarea_document.specs.Outcomes.{redone, undone}
 use Rattle.textarea_document.specs.Sound.{IsSound}
-use Rattle.textarea_document.specs.Splices.{break_splices, hit_splices, selected_splices}
+use Rattle.textarea_document.specs.Splices.{selected_splices}
 use Rattle.textarea_document.specs.State.{DocumentState}
 use Rattle.textarea_document.proofs.Going.{all_stay_or_are_dropped, all_stem, goes_on, stays}
-use Rattle.tui_textarea.specs.Drawing.{IsRendered}
-use Rattle.tui_textarea.specs.Edits.{char_inserted, newline_inserted, str_inserted, tab_inserted}
 use Rattle.tui_textarea.specs.Goes.{GoesByAct}
-use Rattle.tui_textarea.specs.Input.{IsActed, IsLeftBy, asked_by, asked_without_shortcuts}
-use Rattle.tui_textarea.specs.Ranges.{hit_range_removed}
-use Rattle.tui_textarea.specs.Removals.{break_before_removed, line_end_removed, line_head_removed, symbol_before_removed, symbol_behind_removed, symbols_ahead_removed, text_cleared, unselected_or, word_before_removed, word_behind_removed}
-use Rattle.tui_textarea.specs.Search.{next_match, previous_match, searched}
-use Rattle.tui_textarea.specs.Selection.{selection_cut, unselected}
-use Rattle.tui_textarea.specs.Selection as selection
-use Rattle.tui_textarea.specs.Splices.{ahead_splices, clear_splices, selected_splices_or, str_splices}
-use Rattle.tui_textarea.specs.State.{State, with_document}
+use Rattle.tui_textarea.specs.Input.{asked_by, asked_without_shortcuts}
+use Rattle.tui_textarea.specs.State.{State}
 use Rattle.textarea_calls.specs.Kinds.{call_of_edit, call_of_write}
 use Rattle.tui_textarea.specs.Calls.{state_after, ranges_answer, rejected_ranges, with_ranges_if}
 use Rattle.tui_textarea.specs.CallGoes.{GivesRanges, GoesByCall, IsUndoOrRedo, IsUndoOrRedoAct, NoneGives, RangesGo, RangesInRun, RangesOfRun, SinceGiven}
-use Rattle.tui_textarea.specs.Outcomes.{IsAnswer, IsBehind, behind_pattern, IsLeft}
+use Rattle.tui_textarea.specs.Outcomes.{IsAnswer, IsBehind, IsLeft}
 use Rattle.tui_textarea.specs.Run.{Leads, Makes}
-use Rattle.tui_textarea.specs.Said.{Said, Done, PatternRefused, said}
+use Rattle.tui_textarea.specs.Said.{Said, Done, said}
 use Rattle.tui_textarea.specs.CallSplices.{LeadsBy, OfLeft, splices_of, splices_by}
 use Rattle.textarea_calls.specs.declared.call.Call.{Call}
 use Rattle.textarea_calls.specs.declared.call.Call.TheVariants as call
 use Rattle.textarea_calls.specs.declared.answer.Answer.{Answer}
+use Rattle.tui_textarea.proofs.Acting.{ByAct, ByCall, calls_by, calls_left}
+use Rattle.tui_textarea.proofs.Going.{RedosGo, StepsGo, UndosGo, drawing_goes, going, past_goes}
 use Rattle.tui_textarea.proofs.Runs.{Leads-append, one_more as one_call_more}
 
--- ---- what the laws of the text area say
+-- ---- the laws of the text area
 
 pub record TheLaws : Type 0 where
-  pub inputs : (old new : State) (asked : Action) → IsSound old.document → IsActed old asked new → GoesByAct asked old.document (splices_by old asked) new.document
-  pub text : (state : State) (symbols : List Symbol) → IsSound state.document → GoesUncut state.document (str_splices state symbols) (str_inserted state symbols).document
-  pub ahead : (state : State) (count : ℕ) → IsSound state.document → GoesUncut state.document (selected_splices_or state.document (ahead_splices state.document count)) (unselected_or state (symbols_ahead_removed state count)).document
-  pub range : (state : State) (direction : AtomicDeleteDirection) → IsSound state.document → GoesUncut state.document (hit_splices state.document direction) (hit_range_removed state direction).document
-  pub selected : (state : State) → IsSound state.document → GoesUncut state.document (selected_splices state.document) (unselected state).document
-  pub drawing : (old new : State) (area : Rect) → IsRendered old area new → GoesUncut old.document [] new.document
+  pub stepped : StepsGo
+  pub undone : UndosGo
+  pub redone : RedosGo
 
--- ---- calls that leave text and ranges
+-- ---- calls that leave text and ranges unchanged
 
 kept : (old new outcome : State) → new ≡ outcome → outcome.document.text ≡ old.document.text → outcome.document.ranges ≡ old.document.ranges → GoesUncut old.document [] new.document
 kept old new outcome is text ranges =
     stays old.document new.document (ap (λ (s : State). s.document.text) is ∙ text) (ap (λ (s : State). s.document.ranges) is ∙ ranges)
-
-searched_text : (state : State) (found : Option Place) → (searched state found).document.text ≡ state.document.text
-searched_text state None = refl
-searched_text state (Some place) = refl
-
-searched_ranges : (state : State) (found : Option Place) → (searched state found).document.ranges ≡ state.document.ranges
-searched_ranges state None = refl
-searched_ranges state (Some place) = refl
-
-pattern_text : (state : State) (text : List ℕ) (answer : Said) → (behind_pattern state text answer).document.text ≡ state.document.text
-pattern_text state text PatternRefused = refl
-pattern_text state text answer = refl
-
-pattern_ranges : (state : State) (text : List ℕ) (answer : Said) → (behind_pattern state text answer).document.ranges ≡ state.document.ranges
-pattern_ranges state text PatternRefused = refl
-pattern_ranges state text answer = refl
 
 -- ranges that are set, where none is rejected
 set_ranges : (old new : State) (ranges : Bor (List AtomicRange)) (rejected : List RejectedAtomicRange) (answer : Said) → answer ≡ ranges_answer rejected → new ≡ with_ranges_if rejected old ranges.now → GoesByCall old (call.TrySetAtomicRanges ranges) answer new
@@ -86,110 +55,70 @@ set_ranges old new ranges (range ∷ rejected) answer e k =
 
 -- ---- each call
 
--- what a call that runs out of memory leaves, by the splices that it has made
+-- the state after a call that runs out of memory, by the splices that it has made
 abbrev pub LeftUncut : State → State → Type 0
 LeftUncut old new = OfLeft old (λ splices. GoesUncut old.document splices new.document)
 
--- splices fit the text one after another, and cut no range, unless they take back an edit or make one again
+-- the splices fit the text one after another, and only those of an undo or redo may split a range
 abbrev Fitting : State → Type 0 → List Splice → Type 0
 Fitting state Free splices = CanApply state.document.text splices × ((¬ Free) → CutNone state.document.ranges splices)
 
 uncut : {Free : Type 0} (state : State) (splices : List Splice) (new : DocumentState) → GoesUncut state.document splices new → Fitting state Free splices
 uncut state splices new h = (h.0.text.can, λ no. h.1)
 
+goes_by_act : (asked : Action) (old new : DocumentState) (splices : List Splice) → ByAct GoesUncut GoesOver asked old splices new → GoesByAct asked old splices new
+goes_by_act (action.Edit edit.Undo) old new splices h = h
+goes_by_act (action.Edit edit.Redo) old new splices h = h
+goes_by_act asked old new splices h = h
+
 module _ (laws : TheLaws) where
-  edited : (old new outcome : State) (splices : List Splice) → new ≡ outcome → GoesUncut old.document splices outcome.document → GoesUncut old.document splices new.document
-  edited old new outcome splices is h = subst (λ (s : State). GoesUncut old.document splices s.document) (sym is) h
+  goes : (old new : State) (made : Call) (answer : Said) → IsSound old.document → IsBehind old made answer new → ByCall GoesUncut GoesOver made old.document (splices_of old made) new.document
+  goes old new made answer h k = calls_by GoesUncut GoesOver (going laws.stepped) (past_goes laws.undone laws.redone) old new made answer h k
 
   pub call_goes : (old new : State) (made : Call) (answer : Said) → IsSound old.document → IsAnswer old made answer → IsBehind old made answer new → GoesByCall old made answer new
-  call_goes old new (call.InsertChar c) answer h e k = laws.inputs old new (action.Write (write.InsertChar c)) h k
-  call_goes old new (call.InsertStr text) answer h e k = edited old new _ _ k (laws.text old (given (chars text.now)) h)
-  call_goes old new call.InsertTab answer h e k = laws.inputs old new (action.Edit edit.InsertTab) h k
-  call_goes old new call.InsertNewline answer h e k = laws.inputs old new (action.Write write.InsertNewline) h k
-  call_goes old new call.Paste answer h e k = laws.inputs old new (action.Edit edit.Paste) h k
-  call_goes old new (call.DeleteStr count) answer h e k = edited old new _ _ k (laws.ahead old count h)
-  call_goes old new call.DeleteNewline answer h e k = laws.inputs old new (action.Edit edit.DeleteNewline) h k
-  call_goes old new call.DeleteChar answer h e k = laws.inputs old new (action.Edit edit.DeleteChar) h k
-  call_goes old new call.DeleteNextChar answer h e k = laws.inputs old new (action.Edit edit.DeleteNextChar) h k
-  call_goes old new call.DeleteLineByEnd answer h e k = laws.inputs old new (action.Edit edit.DeleteLineByEnd) h k
-  call_goes old new call.DeleteLineByHead answer h e k = laws.inputs old new (action.Edit edit.DeleteLineByHead) h k
-  call_goes old new call.DeleteWord answer h e k = laws.inputs old new (action.Edit edit.DeleteWord) h k
-  call_goes old new call.DeleteNextWord answer h e k = laws.inputs old new (action.Edit edit.DeleteNextWord) h k
-  call_goes old new call.Clear answer h e k = laws.inputs old new (action.Edit edit.Clear) h k
-  call_goes old new call.Cut answer h e k = laws.inputs old new (action.Edit edit.Cut) h k
-  call_goes old new call.Copy answer h e k = laws.inputs old new (action.Write write.Copy) h k
-  call_goes old new call.Undo answer h e k = laws.inputs old new (action.Edit edit.Undo) h k
-  call_goes old new call.Redo answer h e k = laws.inputs old new (action.Edit edit.Redo) h k
-  call_goes old new (call.DeleteAtomicRangeAtCursor direction) answer h e k = edited old new _ _ k (laws.range old direction h)
   call_goes old new (call.SetLines lines cursor) answer h e k = ap (λ (s : State). s.document.ranges) k
   call_goes old new call.ClearAtomicRanges answer h e k = ap (λ (s : State). s.document.ranges) k
   call_goes old new (call.TrySetAtomicRanges ranges) answer h e k = set_ranges old new ranges (rejected_ranges old ranges.now) answer e k
-  call_goes old new (call.Render area) answer h e k = laws.drawing old new area k
-  call_goes old new (call.Input input) answer h e k = laws.inputs old new (asked_by input.now) h k
-  call_goes old new (call.InputWithoutShortcuts input) answer h e k = laws.inputs old new (asked_without_shortcuts input.now) h k
-  call_goes old new (call.Move cursor_move) answer h e k = laws.inputs old new (action.MoveWithShift cursor_move (is_some old.document.anchor)) h k
-  call_goes old new (call.Scroll scrolling) answer h e k = laws.inputs old new (action.Scroll scrolling) h k
-  call_goes old new (call.SearchForward at_cursor) answer h e k = kept old new _ k (searched_text old (next_match old at_cursor)) (searched_ranges old (next_match old at_cursor))
-  call_goes old new (call.SearchBack at_cursor) answer h e k = kept old new _ k (searched_text old (previous_match old at_cursor)) (searched_ranges old (previous_match old at_cursor))
-  call_goes old new (call.SetSearchPattern text) answer h e k = kept old new _ k (pattern_text old text.now answer) (pattern_ranges old text.now answer)
-  call_goes old new made answer h e k = kept old new _ k refl refl
-
-  -- a call that runs out of memory
-  left_goes : (old new : State) → IsSound old.document → selection.IsLeft old new → LeftUncut old new
-  left_goes old new h k =
-      ⊎_elim
-      (λ same. inl (kept old new old same refl refl))
-      (λ gone. inr (edited old new (unselected old) (selected_splices old.document) gone (laws.selected old h)))
-      k
-
-  act_left : (old new : State) (asked : Action) → IsSound old.document → IsLeftBy old asked new → LeftUncut old new
-  act_left old new (action.Write (write.InsertChar c)) h k = left_goes old new h k
-  act_left old new (action.Write write.InsertNewline) h k = left_goes old new h k
-  act_left old new (action.Edit edit.InsertTab) h k = left_goes old new h k
-  act_left old new (action.Edit edit.Paste) h k = left_goes old new h k
-  act_left old new asked h k = inl (kept old new old k refl refl)
+  call_goes old new (call.SetTabLength columns) answer h e k = kept old new _ k refl refl
+  call_goes old new (call.SetWrapMode mode) answer h e k = kept old new _ k refl refl
+  call_goes old new (call.SetLineNumberStyle style) answer h e k = kept old new _ k refl refl
+  call_goes old new call.RemoveLineNumber answer h e k = kept old new _ k refl refl
+  call_goes old new (call.SetAlignment alignment) answer h e k = kept old new _ k refl refl
+  call_goes old new (call.Render area) answer h e k = drawing_goes old new area k
+  call_goes old new (call.Input input) answer h e k = goes_by_act (asked_by input.now) old.document new.document _ (goes old new (call.Input input) answer h k)
+  call_goes old new (call.InputWithoutShortcuts input) answer h e k = goes_by_act (asked_without_shortcuts input.now) old.document new.document _ (goes old new (call.InputWithoutShortcuts input) answer h k)
+  call_goes old new made answer h e k = goes old new made answer h k
 
   pub refused_goes : (old new : State) (made : Call) → IsSound old.document → IsLeft old made new → LeftUncut old new
-  refused_goes old new (call.InsertChar c) h k = left_goes old new h k
-  refused_goes old new (call.InsertStr text) h k = left_goes old new h k
-  refused_goes old new call.InsertTab h k = left_goes old new h k
-  refused_goes old new call.InsertNewline h k = left_goes old new h k
-  refused_goes old new call.Paste h k = left_goes old new h k
-  refused_goes old new (call.Input input) h k = act_left old new (asked_by input.now) h k
-  refused_goes old new (call.InputWithoutShortcuts input) h k = act_left old new (asked_without_shortcuts input.now) h k
-  refused_goes old new made h k = inl (kept old new old k refl refl)
+  refused_goes old new made h k = calls_left GoesUncut GoesOver (going laws.stepped) (past_goes laws.undone laws.redone) old new made h k
 
-  -- ---- the splices of each call, whatever it leaves
+  -- ---- the splices of each call, in any case
 
   act_fits : (state : State) (asked : Action) → IsSound state.document → Fitting state (IsUndoOrRedoAct asked) (splices_by state asked)
-  act_fits state (action.Edit edit.Undo) h = ((laws.inputs state (with_document state (undone state.document)) (action.Edit edit.Undo) h refl).text.can, λ no. absurd (no tt))
-  act_fits state (action.Edit edit.Redo) h = ((laws.inputs state (with_document state (redone state.document)) (action.Edit edit.Redo) h refl).text.can, λ no. absurd (no tt))
-  act_fits state (action.Edit other) h = uncut state _ _ (laws.inputs state (state_after state (call_of_edit other)) (action.Edit other) h refl)
-  act_fits state (action.Write write) h = uncut state _ _ (laws.inputs state (state_after state (call_of_write write)) (action.Write write) h refl)
+  act_fits state (action.Edit edit.Undo) h = ((goes state (state_after state call.Undo) call.Undo Done h refl).text.can, λ no. absurd (no tt))
+  act_fits state (action.Edit edit.Redo) h = ((goes state (state_after state call.Redo) call.Redo Done h refl).text.can, λ no. absurd (no tt))
+  act_fits state (action.Edit other) h = uncut state _ _ (goes state (state_after state (call_of_edit other)) (call_of_edit other) Done h refl)
+  act_fits state (action.Write write) h = uncut state _ _ (goes state (state_after state (call_of_write write)) (call_of_write write) Done h refl)
   act_fits state asked h = (tt, λ no. tt)
 
   pub call_fits : (state : State) (made : Call) → IsSound state.document → Fitting state (IsUndoOrRedo made) (splices_of state made)
-  call_fits state (call.InsertChar c) h = act_fits state (action.Write (write.InsertChar c)) h
-  call_fits state (call.InsertStr text) h = uncut state _ _ (laws.text state (given (chars text.now)) h)
-  call_fits state call.InsertTab h = act_fits state (action.Edit edit.InsertTab) h
-  call_fits state call.InsertNewline h = act_fits state (action.Write write.InsertNewline) h
-  call_fits state call.Paste h = act_fits state (action.Edit edit.Paste) h
-  call_fits state (call.DeleteStr count) h = uncut state _ _ (laws.ahead state count h)
-  call_fits state call.DeleteNewline h = act_fits state (action.Edit edit.DeleteNewline) h
-  call_fits state call.DeleteChar h = act_fits state (action.Edit edit.DeleteChar) h
-  call_fits state call.DeleteNextChar h = act_fits state (action.Edit edit.DeleteNextChar) h
-  call_fits state call.DeleteLineByEnd h = act_fits state (action.Edit edit.DeleteLineByEnd) h
-  call_fits state call.DeleteLineByHead h = act_fits state (action.Edit edit.DeleteLineByHead) h
-  call_fits state call.DeleteWord h = act_fits state (action.Edit edit.DeleteWord) h
-  call_fits state call.DeleteNextWord h = act_fits state (action.Edit edit.DeleteNextWord) h
-  call_fits state call.Clear h = act_fits state (action.Edit edit.Clear) h
-  call_fits state call.Cut h = act_fits state (action.Edit edit.Cut) h
   call_fits state call.Undo h = act_fits state (action.Edit edit.Undo) h
   call_fits state call.Redo h = act_fits state (action.Edit edit.Redo) h
-  call_fits state (call.DeleteAtomicRangeAtCursor direction) h = uncut state _ _ (laws.range state direction h)
   call_fits state (call.Input input) h = act_fits state (asked_by input.now) h
   call_fits state (call.InputWithoutShortcuts input) h = act_fits state (asked_without_shortcuts input.now) h
-  call_fits state made h = (tt, λ no. tt)
+  call_fits state (call.SetLines lines cursor) h = (tt, λ no. tt)
+  call_fits state (call.SetTabLength columns) h = (tt, λ no. tt)
+  call_fits state (call.SetWrapMode mode) h = (tt, λ no. tt)
+  call_fits state (call.SetLineNumberStyle style) h = (tt, λ no. tt)
+  call_fits state call.RemoveLineNumber h = (tt, λ no. tt)
+  call_fits state (call.SetAlignment alignment) h = (tt, λ no. tt)
+  call_fits state (call.TrySetAtomicRanges ranges) h = (tt, λ no. tt)
+  call_fits state call.ClearAtomicRanges h = (tt, λ no. tt)
+  call_fits state (call.Render area) h = (tt, λ no. tt)
+  call_fits state (call.Move cursor_move) h = (tt, λ no. tt)
+  call_fits state (call.Scroll scrolling) h = (tt, λ no. tt)
+  call_fits state (call.SetSearchPattern text) h = (tt, λ no. tt)
+  call_fits state made h = uncut state _ _ (goes state (state_after state made) made Done h refl)
 
 -- ---- a run
 
@@ -198,7 +127,7 @@ act_goes (action.Edit edit.Undo) old new splices h = h
 act_goes (action.Edit edit.Redo) old new splices h = h
 act_goes asked old new splices h = h.0
 
--- a call that gives no ranges anew: they go with the text over its splices
+-- a call that does not replace the ranges: they move with the text over its splices
 goes_of_call : (old new : State) (made : Call) (answer : Said) → ¬ GivesRanges made answer → GoesByCall old made answer new → GoesOver old.document (splices_of old made) new.document
 goes_of_call old new call.Undo answer none h = h
 goes_of_call old new call.Redo answer none h = h
@@ -241,7 +170,7 @@ LeadsBy-append old mid new buffer screen shown (first ∷ calls) (a ∷ answers)
   LeadsBy-append so_far.0 mid new so_far.1 screen shown calls answers so_far.2 made answer so_far.5 makes,
 )
 
--- what is known of a run so far: since when the ranges go with the text, and that they do
+-- the facts of a run so far: since when the ranges move with the text, and that they do
 pub record SoFar (old : State) (buffer : Buffer) (calls : List Call) (answers : List Said) (newest : State) (shown : Buffer) : Type 0 where
   pub since : SinceGiven old buffer calls answers newest shown
   pub goes : GoesOver since.then.document since.splices newest.document
@@ -272,7 +201,7 @@ at_start old buffer sound = record {
   sound = sound;
 }
 
--- a call that gives ranges anew
+-- a call that replaces the ranges
 given_anew : (old mid new : State) (buffer screen shown : Buffer) (calls : List Call) (answers : List Said) (made : Call) (answer : Said) → IsSound new.document → Leads old buffer calls answers mid screen → Makes mid screen made answer new shown → GivesRanges made answer → SoFar old buffer (calls ++ made ∷ []) (answers ++ answer ∷ []) new shown
 given_anew old mid new buffer screen shown calls answers made answer sound led makes gives = record {
   since = record {
@@ -294,7 +223,7 @@ given_anew old mid new buffer screen shown calls answers made answer sound led m
   sound = sound;
 }
 
--- a call over which the ranges go on
+-- a call over which the ranges move
 gone_on : (old mid new : State) (buffer screen shown : Buffer) (calls : List Call) (answers : List Said) (made : Call) (answer : Said) → Makes mid screen made answer new shown → ¬ GivesRanges made answer → GoesOver mid.document (splices_of mid made) new.document → SoFar old buffer calls answers mid screen → SoFar old buffer (calls ++ made ∷ []) (answers ++ answer ∷ []) new shown
 gone_on old mid new buffer screen shown calls answers made answer makes none on h =
     let since = h.since in
@@ -325,14 +254,14 @@ one_more old mid new buffer screen shown calls answers made answer sound led mak
       | inr none ↦ gone_on old mid new buffer screen shown calls answers made answer makes none (goes_of_call mid new made answer none on) h
     ]
 
--- the call at the index, of a run that has come so far
+-- the call at the index, of a run up to there
 pub so_far_next : (old mid new : State) (buffer screen shown : Buffer) (calls : List Call) (answers : List Answer) (index : ℕ) (made : Call) (answer : Answer) → index < length calls → made ≡ get_or calls index made → IsSound new.document → Leads old buffer (take index calls) (map said answers) mid screen → Makes mid screen made (said answer) new shown → GoesByCall mid made (said answer) new → SoFar old buffer (take index calls) (map said answers) mid screen → SoFar old buffer (take (index + 1) calls) (map said (answers ++ answer ∷ [])) new shown
 so_far_next old mid new buffer screen shown calls answers index made answer within is_call sound led makes on h =
     subst (λ (a : List Said). SoFar old buffer (take (index + 1) calls) a new shown) (sym (map-append said answers (answer ∷ [])))
     (subst (λ (done : List Call). SoFar old buffer done (map said answers ++ said answer ∷ []) new shown) (one_call_more calls index made within is_call)
     (one_more old mid new buffer screen shown (take index calls) (map said answers) made (said answer) sound led makes on h))
 
--- ---- what becomes of the ranges
+-- ---- what happens to the ranges
 
 ranges_go : (first last : DocumentState) (splices : List Splice) → IsSound first → GoesOver first splices last → RangesGo first splices last
 ranges_go first last splices sound h = record { goes = h; stem = all_stem first last splices sound h; dropped = all_stay_or_are_dropped first last splices h }
@@ -347,7 +276,7 @@ ranges_left old mid new buffer screen calls answers left left_are on h = record 
       (goes_on h.since.then.document mid.document new.document h.since.splices left h.goes on);
 }
 
--- as many calls as are answered
+-- the number of calls that have results
 counted : (old new : State) (buffer : Buffer) (calls : List Call) (answers : List Answer) (index : ℕ) (left : List Splice) → length answers ≡ index → RangesInRun old buffer (take index calls) (map said answers) left new → RangesOfRun old buffer calls answers new
 counted old new buffer calls answers index left same h =
     (left, subst (λ (n : ℕ). RangesInRun old buffer (take n calls) (map said answers) left new) (sym same) h)
@@ -367,7 +296,7 @@ ranges_at_refused old mid new buffer screen calls answers index same on h =
           (ranges_left old mid new buffer screen (take index calls) (map said answers) (selected_splices mid.document) (inr refl) gone.0 h)
     ]
 
--- where no call is answered
+-- no call has a result
 pub ranges_at_first : (old : State) (buffer : Buffer) (calls : List Call) (answers : List Answer) → IsSound old.document → answers ≡ [] → RangesOfRun old buffer calls answers old
 ranges_at_first old buffer calls answers sound none =
     subst (λ (a : List Answer). RangesOfRun old buffer calls a old) (sym none)

@@ -22,15 +22,15 @@ use Rattle.textarea_calls.specs.declared.call.Call.TheVariants.{InsertChar, Inse
 abbrev empty : State
 empty = new_state []
 
--- the move goes over no visual rows
+-- the move does not depend on visual rows
 abbrev IsPlain : CursorMove → Type 0
 IsPlain Up = ⊥
 IsPlain Down = ⊥
 IsPlain InViewport = ⊥
 IsPlain cursor_move = Unit {0}
 
--- the call sets no pattern, takes no input, measures, draws and hits nothing and goes over no visual rows, so its answer and the state behind it are
--- computed
+-- the call sets no pattern, takes no input, does not measure, draw or hit test, and does not depend
+-- on visual rows, so its result and the state after it can be computed
 abbrev IsSettled : Call → Type 0
 IsSettled (SetSearchPattern text) = ⊥
 IsSettled (Measure width) = ⊥
@@ -46,24 +46,24 @@ abbrev AreSettled : List Call → Type 0
 AreSettled [] = Unit {0}
 AreSettled (call ∷ calls) = IsSettled call × AreSettled calls
 
--- no visual row is gone over
+-- no target of a move over visual rows
 abbrev nowhere : VisualTargets
 nowhere = record { above = None; below = None; inside = (0, 0) }
 
--- where such a move leads
+-- the target of such a move
 abbrev plain_target : State → CursorMove → Option Place
 plain_target state cursor_move = target nowhere state.document.text state.document.cursor cursor_move
 
--- the state behind a move that goes over no visual rows
+-- the state after such a move
 abbrev after_move : State → CursorMove → State
 after_move state cursor_move = moved_by state (is_some state.document.anchor) (pushed state.document.ranges cursor_move (plain_target state cursor_move))
 
--- the state behind a settled call
+-- the state after such a call
 abbrev behind : State → Call → State
 behind state (Move cursor_move) = after_move state cursor_move
 behind state call = state_after state call
 
--- what such calls answer, and the state that they lead to
+-- the results of such calls, and the state after them
 abbrev answers_of : State → List Call → List Said
 answers_of state [] = []
 answers_of state (call ∷ calls) = answer_of state call ∷ answers_of (behind state call) calls
@@ -136,7 +136,7 @@ two_lines-answers : answers_of empty two_lines ≡ Done ∷ Done ∷ Done ∷ Fl
 unfolding removed_before removed_behind part_removed yanked moved_ranges
 two_lines-answers = refl
 
--- so a run leads there
+-- a run leads there
 two_lines-leads : (buffer : Buffer) → Leads empty buffer two_lines (answers_of empty two_lines) (reached two_lines) buffer
 two_lines-leads buffer = settled-leads empty buffer two_lines (tt, (tt, (tt, (tt, (tt, tt)))))
 
@@ -144,12 +144,12 @@ two_lines-text : (reached two_lines).document.text ≡ Character 97 ∷ Break �
 unfolding removed_before removed_behind part_removed yanked moved_ranges
 two_lines-text = refl
 
--- the cursor stands behind the restored text
+-- the cursor is after the restored text
 two_lines-cursor : (reached two_lines).document.cursor ≡ (1, 1)
 unfolding removed_before removed_behind part_removed yanked moved_ranges
 two_lines-cursor = refl
 
--- the removal can be made again
+-- the removal can be redone
 two_lines-undone : (reached two_lines).document.log.undone ≡ (record { place = (1, 0); symbols = Character 98 ∷ []; inserts = false }) ∷ []
 unfolding removed_before removed_behind part_removed yanked moved_ranges
 two_lines-undone = refl
@@ -192,7 +192,7 @@ cut_all-text : (reached cut_all).document.text ≡ []
 unfolding removed_before removed_behind part_removed yanked moved_ranges
 cut_all-text = refl
 
--- what is typed takes the place of what is selected, as two edits
+-- what is typed replaces the selected text, as two edits
 abbrev typed_over : List Call
 typed_over = InsertChar 97 ∷ StartSelection ∷ Move Back ∷ InsertChar 98 ∷ Undo ∷ []
 
@@ -200,7 +200,7 @@ typed_over-text : (reached typed_over).document.text ≡ []
 unfolding removed_before removed_behind part_removed yanked moved_ranges
 typed_over-text = refl
 
--- the removal of two symbols behind the cursor, a break among them
+-- the removal of two symbols after the cursor, one of them a break
 abbrev removed_count : List Call
 removed_count = InsertNewline ∷ InsertChar 97 ∷ Move Head ∷ Move Back ∷ DeleteStr 2 ∷ []
 
@@ -208,7 +208,7 @@ removed_count-yank : (reached removed_count).yank ≡ Break ∷ Character 97 ∷
 unfolding removed_before removed_behind part_removed yanked moved_ranges
 removed_count-yank = refl
 
--- a mask is read until it is taken away; before the first drawing there is no caret
+-- a mask is returned until it is cleared; before the first drawing there is no caret
 abbrev masked : List Call
 masked = SetMaskChar 42 ∷ MaskChar ∷ ClearMaskChar ∷ MaskChar ∷ RenderedCursorPosition ∷ []
 

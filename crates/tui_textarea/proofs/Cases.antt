@@ -23,7 +23,7 @@ lines_case = refl
 pub line_feed_case : lines (Character 97 ∷ Character 10 ∷ []) ≡ (97 ∷ 10 ∷ []) ∷ []
 line_feed_case = refl
 
--- the line `ab` and the line `c`: the place (1, 0) is the index 3, and back
+-- the line `ab` and the line `c`: the position (1, 0) is the index 3, and back
 pub index_case : index_of (Character 97 ∷ Character 98 ∷ Break ∷ Character 99 ∷ []) (1, 0) ≡ 3
 index_case = refl
 
@@ -43,25 +43,25 @@ removed_case = refl
 abbrev pub typed : List Symbol → Place → Splice
 typed symbols place = record { place = place; symbols = symbols; inserts = true }
 
--- the third change of a log of two: the oldest goes
+-- the third edit of a log of two: the oldest is dropped
 pub bound_case : (recorded (recorded (recorded (empty_log 2) (typed (Character 97 ∷ []) (0, 0)) false 0) (typed (Character 98 ∷ []) (0, 1)) false 0) (typed (Character 99 ∷ []) (0, 2)) false 0).done ≡ typed (Character 98 ∷ []) (0, 1) ∷ typed (Character 99 ∷ []) (0, 2) ∷ []
 bound_case = refl
 
--- a character and a blank typed with coalescing on, 499 ms apart, are one change; 500 ms apart they are two
+-- a character and a blank typed with coalescing on, 499 ms apart, are one edit; 500 ms apart two
 pub joined_run_case : (recorded (recorded (empty_log 2) (typed (Character 97 ∷ []) (0, 0)) true 0) (typed (Character 32 ∷ []) (0, 1)) true 499_000_000).done ≡ typed (Character 97 ∷ Character 32 ∷ []) (0, 0) ∷ []
 joined_run_case = refl
 
 pub parted_run_case : (recorded (recorded (empty_log 2) (typed (Character 97 ∷ []) (0, 0)) true 0) (typed (Character 32 ∷ []) (0, 1)) true 500_000_000).done ≡ typed (Character 97 ∷ []) (0, 0) ∷ typed (Character 32 ∷ []) (0, 1) ∷ []
 parted_run_case = refl
 
--- `a`, a line feed, `b`, the removal of `b`, and its undo: two lines, the cursor behind the `b`
+-- `a`, a line feed, `b`, the removal of `b`, and its undo: two lines, the cursor after the `b`
 abbrev pub undo_of : State → State
 undo_of state = with_document state (undone state.document)
 
 abbrev pub redo_of : State → State
 redo_of state = with_document state (redone state.document)
 
--- the first character is selected, and the cursor stands behind it
+-- the first character is selected, and the cursor is after it
 abbrev pub selected_first : State → State
 selected_first state = with_document state (record state.document { cursor = (0, 1); anchor = Some (0, 0) })
 
@@ -79,7 +79,7 @@ pub first_run_cursor_case : first_run.document.cursor ≡ (1, 1)
 unfolding removed_before moved_ranges
 first_run_cursor_case = refl
 
--- a change after an undo: there is nothing left to make again
+-- an edit after an undo: there is nothing left to redo
 pub redo_case : (redo_of (char_inserted (undo_of (char_inserted (new_state []) 97)) 98)).document.text ≡ Character 98 ∷ []
 unfolding moved_ranges
 redo_case = refl
@@ -88,7 +88,7 @@ redo_case = refl
 pub carriage_return_case : (char_inserted (new_state []) 13).document.text ≡ Break ∷ []
 carriage_return_case = refl
 
--- an insertion over a selection is two changes: the removal and the insertion
+-- an insertion over a selection is two edits: the removal and the insertion
 pub over_selection_case : (char_inserted (selected_first (new_state (Character 97 ∷ Character 98 ∷ []))) 120).document.log.done ≡ (record { place = (0, 0); symbols = Character 97 ∷ []; inserts = false }) ∷ (record { place = (0, 0); symbols = Character 120 ∷ []; inserts = true }) ∷ []
 unfolding part_removed moved_ranges
 over_selection_case = refl

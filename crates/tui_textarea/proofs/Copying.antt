@@ -1,4 +1,4 @@
--- A copy and a paste behind it.
+-- A copy and a paste after it.
 use Rattle.std.proofs.Common.{◌≡◌, ℕ, ◌-◌, ◌<◌, ◌==◌, ◌&&◌, ◌||◌, nat_lt, cond, Bool, true, false, List, [], ◌∷◌, length, drop, Option, None, Some, ap, sym, refl, subst, ◌∙◌, arith}
 use Rattle.std.specs.Option.{IfSome, MatchOption}
 use Rattle.std.proofs.lemmas.List.{length-drop, length-take-le}
@@ -19,7 +19,6 @@ use Rattle.tui_textarea.specs.Selection.{selection_copied, selection_cancelled}
 not_less : (n : ℕ) → nat_lt n n ≡ false
 not_less n = grind (arith, nat_tests)
 
--- a place does not come before itself
 not_before : (place : Place) → is_before place place ≡ false
 not_before place =
     ap (λ b. b || ((place.0 == place.0) && nat_lt place.1 place.1)) (not_less place.0)
@@ -30,13 +29,13 @@ not_before place =
     and_false true = refl
     and_false false = refl
 
--- nothing is selected where no selection is open
+-- nothing is selected if no selection is open
 none_selected : (document : DocumentState) → is_selected (unanchored document) ≡ false
 none_selected document =
     let place = document.cursor in
     ap (λ b. is_before (cond b place place) (cond b place place)) (not_before place) ∙ not_before place
 
--- what stands between two places of the text of which the one comes first
+-- there is text between two positions of which one comes first
 some_between : (text : List Symbol) (from to : Place) → IsPlace text to → index_of text from < index_of text to → 0 < length (part text from to)
 some_between text from to h ordered =
     omega (
@@ -82,7 +81,7 @@ pastes_copy state e place ordered =
     cursor_of [] h = absurd (omega (arith, h))
     cursor_of (symbol ∷ symbols) h = refl
 
--- what is known of the two ends of a selection of a symbol, where they were found if there are any
+-- the facts of the two ends of selected text, if they were found
 pub ends_known : (document : DocumentState) (found : Option (Place × Place)) → is_selected document ≡ true
     → MatchOption found (is_selected document ≡ false) (λ ends. is_selected document ≡ true)
     → IfSome found (λ ends. ends ≡ (selection_start document, selection_end document))

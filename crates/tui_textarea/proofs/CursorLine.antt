@@ -1,4 +1,4 @@
--- The cursor's line of the state, as a call reads it behind the state's view.
+-- The cursor's line of the state, as a call reads it from the state's view.
 use Rattle.std.proofs.Common.{◌≡◌, ◌≢◌, ◌==◌, ◌<◌, ◌||◌, ℕ, Bool, List, Result, true, false, not, length, ap, sym, ◌∙◌, arith}
 use Rattle.std.specs.Result.{IfOk}
 use Rattle.std.proofs.lemmas.Bool.{eq-eqb, ne_eqb, or_left, or_right}
@@ -11,7 +11,7 @@ use Rattle.tui_textarea.specs.Removals.{cursor_line, has_behind, has_line_behind
 use Rattle.tui_textarea.specs.State.{State, with_document}
 use Rattle.tui_textarea.proofs.Unselected.{answered_unselected, none_gone}
 
--- the place that was read is the state's cursor
+-- the position that was read is the state's cursor
 pub cursor_read : {view state : State} → view ≡ state → (place : Place) → place ≡ view.document.cursor → place ≡ state.document.cursor
 cursor_read is place at = at ∙ ap (λ (s : State). s.document.cursor) is
 
@@ -22,12 +22,12 @@ row_read {view} is rows place rows_are at =
     ap (λ (r : List (List ℕ)). line_of r place.0) rows_are ∙ ap (λ (p : Place). line_of (lines view.document.text) p.0) at
     ∙ ap (λ (s : State). cursor_line s.document) is
 
--- the end of its line is where its length says
+-- the end of its line is given by its length
 end_read : {view state : State} → view ≡ state → (rows : List (List ℕ)) (place stop : Place) → rows ≡ lines view.document.text → place ≡ view.document.cursor
     → stop ≡ line_end rows place.0 → stop.1 ≡ length (cursor_line state.document)
 end_read is rows place stop rows_are at stop_is = ap (λ (p : Place). p.1) stop_is ∙ ap length (row_read is rows place rows_are at)
 
--- so it stands there exactly where the columns are the same
+-- the cursor is there exactly if the columns are equal
 at_end_read : {view state : State} → view ≡ state → (rows : List (List ℕ)) (place stop : Place) → rows ≡ lines view.document.text → place ≡ view.document.cursor
     → stop ≡ line_end rows place.0 → place.1 ≡ stop.1 → is_at_line_end state.document ≡ true
 at_end_read {state = state} is rows place stop rows_are at stop_is same =
@@ -40,7 +40,7 @@ inside_read {state = state} is rows place stop rows_are at stop_is apart =
     ap (λ (p : Place). p.1 == length (cursor_line state.document)) (sym (cursor_read is place at))
     ∙ ne_eqb place.1 (length (cursor_line state.document)) (λ e. apart (e ∙ sym (end_read is rows place stop rows_are at stop_is)))
 
--- and its end comes behind it elsewhere
+-- elsewhere its line's end is after it
 pub end_behind : (text : List Symbol) (rows : List (List ℕ)) (place stop : Place) → rows ≡ lines text → IsPlace text place → stop ≡ line_end rows place.0 → place.1 ≢ stop.1
     → index_of text place < index_of text stop
 end_behind text rows place stop rows_are is_place stop_is apart =
@@ -48,19 +48,19 @@ end_behind text rows place stop rows_are is_place stop_is apart =
     let column : stop.1 ≡ length (line_of (lines text) place.0) = ap (λ (p : Place). p.1) stop_is ∙ ap (λ (r : List (List ℕ)). length (line_of r place.0)) rows_are in
     omega (arith, ap (row_start text) row, column, is_place.1, apart)
 
--- so something goes there
+-- so there is something to remove
 line_goes : (state : State) → is_at_line_end state.document ≡ false → true ≡ removes_or state (has_line_behind state)
 line_goes state inside =
     sym (or_right (is_selected state.document) _ (or_left (not (is_at_line_end state.document)) (has_behind state) (ap not inside)))
 
--- and so behind the removal of what is selected, where no symbol is
+-- the same after the removal of the selected text, if none is selected
 pub line_goes_unselected : {view state : State} → view ≡ state → (removed : DocumentState) → removed ≡ selected_removed view.document view.moment → is_selected view.document ≡ false
     → (rows : List (List ℕ)) (place stop : Place) → rows ≡ lines removed.text → place ≡ removed.cursor → stop ≡ line_end rows place.0 → place.1 ≢ stop.1
     → true ≡ removes_or state (has_line_behind state)
 line_goes_unselected {state = state} is removed gone none rows place stop rows_are at stop_is apart =
     line_goes state (inside_read (none_gone is removed gone none) rows place stop rows_are at stop_is apart)
 
--- at the line's end what goes is what the symbol behind is
+-- at the line's end the symbol after the cursor is removed, if there is one
 pub answered_at_end : {E : Type 0} (r : Result Bool E) {view state : State} → view ≡ state → (removed : DocumentState) → removed ≡ selected_removed view.document view.moment
     → is_selected view.document ≡ false → (rows : List (List ℕ)) (place stop : Place) → rows ≡ lines removed.text → place ≡ removed.cursor → stop ≡ line_end rows place.0
     → place.1 ≡ stop.1 → IfOk r (λ found. found ≡ has_behind (with_document view removed)) → IfOk r (λ found. found ≡ removes_or state (has_line_behind state))

@@ -1,10 +1,5 @@
--- What each outcome of an edit cuts: what the splices cut by which it is reached.
-use Rattle.std.proofs.Common.{◌≡◌, ℕ, Bool, List, [], ◌∷◌, ◌++◌, Option, None, Some, is_some, ap, refl, sym, subst, ◌∙◌}
-use Rattle.textarea_data.specs.declared.cursor.CursorMove.TheVariants as move
-use Rattle.textarea_calls.specs.declared.action.Action.{Action}
-use Rattle.textarea_calls.specs.declared.action.Action.TheVariants as action
-use Rattle.textarea_calls.specs.declared.kind.Edit.TheVariants as edit
-use Rattle.textarea_calls.specs.declared.kind.Write.TheVariants as write
+-- The lines that an edit wraps are those that its splices wrap.
+use Rattle.std.proofs.Common.{◌≡◌, ℕ, Bool, List, [], ◌∷◌, ◌++◌, Option, None, Some, ap, refl, sym, subst, ◌∙◌}
 use Rattle.textarea_history.specs.Log.{newest, next}
 use Rattle.textarea_lines.specs.Cuts.{AreSpliced}
 use Rattle.textarea_lines.specs.Layout.{LaidOut}
@@ -16,15 +11,10 @@ use Rattle.textarea_document.specs.Rows.{laid_out_of}
 use Rattle.textarea_document.specs.Sound.{IsSound}
 use Rattle.textarea_document.specs.Splices.{redo_splices_by, undo_splices_by}
 use Rattle.textarea_document.specs.State.{DocumentState}
-use Rattle.tui_textarea.specs.Drawing.{viewport_scrolled}
-use Rattle.tui_textarea.specs.Input.{IsActed}
-use Rattle.tui_textarea.specs.Removals.{line_end_removed, line_head_removed, symbol_before_removed, symbol_behind_removed, word_before_removed, word_behind_removed}
-use Rattle.tui_textarea.specs.State.{State}
-use Rattle.tui_textarea.specs.CallSplices.{splices_by}
-use Rattle.tui_textarea.proofs.Acting.{Past, acts_by, by_any_act}
-use Rattle.tui_textarea.proofs.Stepping.{Reckoning, Seen, seen}
+use Rattle.tui_textarea.proofs.Acting.{Past}
+use Rattle.tui_textarea.proofs.Stepping.{Reckoning, Seen}
 
--- what the law of documents says of a step, an undo and a redo
+-- the law of documents for a step, an undo and a redo
 abbrev pub StepsCut : Type 0
 StepsCut = (document : DocumentState) (step : Step) (typed : Bool) (now : ℕ) → IsSound document → IsMade document step → SplicesBy document (splice_of document step) (stepped document step typed now)
 
@@ -40,7 +30,7 @@ spliced_on : (old between new : LaidOut) (first second : List Splice) → AreSpl
 spliced_on old between new [] second h k = subst (λ (l : LaidOut). AreSpliced l second new) h k
 spliced_on old between new (splice ∷ first) second h k = (h.0, h.1, spliced_on h.0 between new first second h.2 k)
 
--- what the splice of a step, none, and one after another cut
+-- the lines that are wrapped by a step's splice, by none, and by several
 pub reckoned : StepsCut → Reckoning SplicedBy
 reckoned cut = record {
   none = λ old new same. ap (λ (s : Seen). s.0) same;
@@ -59,12 +49,10 @@ redone_by_splices : RedosCut → (document : DocumentState) (found : Option Spli
 redone_by_splices cut document None h is = ap (λ (f : Option Splice). laid_out_of (redone_by f document)) is
 redone_by_splices cut document (Some splice) h is = (laid_out_of (redone document), cut document splice h is, refl)
 
--- ---- inputs
+-- ---- calls
 
-pub acts_cut : StepsCut → UndosCut → RedosCut → (old new : State) (asked : Action) → IsSound old.document → IsActed old asked new → SplicedBy old.document (splices_by old asked) new.document
-acts_cut cut undos redos old new asked h k =
-    let past : Past SplicedBy = record {
-      undos = λ document sound. undone_by_splices undos document (newest document.log) sound refl;
-      redos = λ document sound. redone_by_splices redos document (next document.log) sound refl;
-    } in
-    by_any_act SplicedBy asked old.document new.document (splices_by old asked) (acts_by SplicedBy SplicedBy (reckoned cut) past old new asked h k)
+pub past_cut : UndosCut → RedosCut → Past SplicedBy
+past_cut undos redos = record {
+  undos = λ document sound. undone_by_splices undos document (newest document.log) sound refl;
+  redos = λ document sound. redone_by_splices redos document (next document.log) sound refl;
+}

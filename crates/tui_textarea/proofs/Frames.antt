@@ -1,4 +1,4 @@
--- What a drawing, a move and a scroll leave of how the text is laid out, and what is measured of it.
+-- The layout of the text after a drawing, a move and a scroll, and measures of it.
 use Rattle.std.proofs.Common.{◌≡◌, ℕ, ◌<◌, ◌&&◌, Bool, true, false, not, List, [], ◌∷◌, Option, None, Some, length, inl, inr, ap, refl, subst, sym, ◌∙◌}
 use Rattle.textarea_text.specs.Place.{Place}
 use Rattle.textarea_text.specs.Text.{Symbol, lines}
@@ -6,7 +6,7 @@ use Rattle.textarea_data.specs.declared.cursor.CursorMove.{CursorMove}
 use Rattle.textarea_document.specs.Edits.{is_filled}
 use Rattle.textarea_document.specs.Rows.{HasRowsAt, laid_out_of, with_inner_width}
 use Rattle.textarea_document.specs.State.{DocumentState}
-use Rattle.textarea_drawing.specs.Frame.{Parts, frame_of}
+use Rattle.tui_textarea.specs.DrawnFrame.{Parts, frame_of}
 use Rattle.textarea_view.specs.Frame.{has_lines, shows_placeholder}
 use Rattle.textarea_lines.specs.Layout.{LaidOut, Layout, at_width, laid_out_with, wrapping_at, wrapping_of}
 use Rattle.textarea_screen_map.specs.Lent.{LentRows}
@@ -28,7 +28,7 @@ use Rattle.tui_textarea.specs.Measure.{IsMeasured, IsMeasuredAround}
 use Rattle.tui_textarea.specs.Moves.{IsMovedWith, moved_by, pushed}
 use Rattle.tui_textarea.specs.State.{State}
 
--- ---- what the lines' laws say
+-- ---- the laws of lines
 
 abbrev pub KeepsText : Type 0
 KeepsText = (laid : LaidOut) (settings : LayoutSettings) → (laid_out_with laid settings).text ≡ laid.text
@@ -91,11 +91,11 @@ width_moved old new shift cursor_move width h put =
     ∙ put
     ∙ ap (λ (s : SurroundState). width_inside s.block width) (sym (surround_moved old new shift cursor_move h))
 
--- and for the width of an area that is as wide
+-- the same for the width of an area that is equally wide
 pub as_wide : (state : State) (area other : Rect) → other.width ≡ area.width → IsLaidOutFor state area.width → IsLaidOutFor state other.width
 as_wide state area other wide put = put ∙ ap (width_inside state.surround.block) (sym wide)
 
--- ---- what is measured
+-- ---- measures
 
 rows_without : (shown : List ShownLine) (rows : ℕ) (is_empty : Bool) → (is_empty && has_lines shown) ≡ false → rows_shown shown rows is_empty ≡ rows
 rows_without [] rows is_empty e = refl
@@ -108,7 +108,7 @@ rows_with [] rows false e = absurd cc
 rows_with (line ∷ shown) rows true e = refl
 rows_with (line ∷ shown) rows false e = absurd cc
 
--- the placeholder is shown before a drawing as it is after it
+-- the placeholder is shown before a drawing if it is shown after it
 shown_before : (old new : State) (area : Rect) (rows : LentRows) (b : Bool) → IsRendered old area new → shows_placeholder (frame_of (parts_of new) rows) ≡ b → (not (is_filled old.document.text) && has_lines old.surround.placeholder.lines) ≡ b
 shown_before old new area rows b h e =
     ap (λ (t : List Symbol). not (is_filled t) && has_lines old.surround.placeholder.lines) (ap (λ (d : DocumentState). d.text) (sym (drawn_document old new area h)))
@@ -164,6 +164,6 @@ measured_after puts old new area width measure drawn m =
           ∙ ap (λ (d : DocumentState). measure_of old.surround m.rows (not (is_filled d.text))) document;
     }
 
--- a measure before a drawing or after it is one before it
+-- a measure before or after a drawing is one before it
 pub measured_around : (puts : PutsSettings) (old new : State) (area : Rect) (measure : TextAreaMeasure) → IsRendered old area new → IsMeasuredAround old new area.width measure → IsMeasured old area.width measure
 measured_around puts old new area measure drawn m = elim m [ inl before ↦ before | inr after ↦ measured_after puts old new area area.width measure drawn after ]

@@ -1,4 +1,4 @@
--- Given texts, and runs of spaces.
+-- Texts as symbols, and runs of spaces.
 use Rattle.std.proofs.Common.{◌≡◌, ℕ, zero, suc, ◌==◌, ◌&&◌, Bool, true, false, not, List, [], ◌∷◌, ◌++◌, length, sym, ap, refl, ◌∙◌, arith, encode_utf8_all, String, string_bytes, cond, replicate}
 use Rattle.std.specs.Str.{chars, IsUtf8}
 use Rattle.std.proofs.lemmas.List.{append-nil, nil_from_length}
@@ -10,7 +10,7 @@ use Rattle.textarea_text.specs.Given.{begins_with_line_feed, given}
 use Rattle.textarea_document.specs.Edits.{is_filled}
 use Rattle.textarea_history.proofs.Joins.{right_of}
 
--- a character stands for a symbol, or one behind it does
+-- a character means a symbol, or one after it does
 given_some : (c : ℕ) (cs : List ℕ) → is_filled (given (c ∷ cs)) ≡ true
 given_some c cs = by (c == 10) (c == 13 && begins_with_line_feed cs) cs refl refl
   where
@@ -34,7 +34,7 @@ pub has_text_is : (text : List ℕ) (empty : Bool) → IsUtf8 text → empty ≡
 has_text_is text true utf8 e = sym (given_none text (sym e))
 has_text_is text false utf8 e = sym (given_filled text utf8 (sym e))
 
--- spaces as the text of one piece
+-- spaces as a fragment of one line
 replicate_bytes : (n : ℕ) → replicate n 32 ≡ encode_utf8_all (replicate n 32)
 replicate_bytes zero = refl
 replicate_bytes (suc n) =

@@ -1,10 +1,5 @@
--- How the atomic ranges go with the text, over each outcome of an edit.
-use Rattle.std.proofs.Common.{◌≡◌, ℕ, Bool, List, [], ◌∷◌, Option, None, Some, ap, refl, sym, subst, ◌∙◌, is_some}
-use Rattle.textarea_data.specs.declared.cursor.CursorMove.TheVariants as move
-use Rattle.textarea_calls.specs.declared.action.Action.{Action}
-use Rattle.textarea_calls.specs.declared.action.Action.TheVariants as action
-use Rattle.textarea_calls.specs.declared.kind.Edit.TheVariants as edit
-use Rattle.textarea_calls.specs.declared.kind.Write.TheVariants as write
+-- How the atomic ranges move with the text, over each edit.
+use Rattle.std.proofs.Common.{◌≡◌, ℕ, Bool, List, [], ◌∷◌, Option, None, Some, ap, refl, sym, subst, ◌∙◌}
 use Rattle.textarea_history.specs.Log.{newest, next}
 use Rattle.textarea_screen.specs.declared.screen.rect.Rect.{Rect}
 use Rattle.textarea_text.specs.Splice.{Splice, StoodBefore, inverse}
@@ -15,17 +10,13 @@ use Rattle.textarea_document.specs.Sound.{IsSound}
 use Rattle.textarea_document.specs.Splices.{redo_splices_by, undo_splices_by}
 use Rattle.textarea_document.specs.State.{DocumentState}
 use Rattle.textarea_document.proofs.Going.{goes_uncut_on, stays}
-use Rattle.tui_textarea.specs.Drawing.{IsRendered, viewport_scrolled}
-use Rattle.tui_textarea.specs.Goes.{GoesByAct}
-use Rattle.tui_textarea.specs.Input.{IsActed}
-use Rattle.tui_textarea.specs.Removals.{line_end_removed, line_head_removed, symbol_before_removed, symbol_behind_removed, word_before_removed, word_behind_removed}
+use Rattle.tui_textarea.specs.Drawing.{IsRendered}
 use Rattle.tui_textarea.specs.State.{State}
 use Rattle.tui_textarea.proofs.Frames.{drawn_document}
-use Rattle.tui_textarea.specs.CallSplices.{splices_by}
-use Rattle.tui_textarea.proofs.Acting.{ByAct, Past, acts_by}
+use Rattle.tui_textarea.proofs.Acting.{Past}
 use Rattle.tui_textarea.proofs.Stepping.{Reckoning, Seen, seen}
 
--- what the law of documents says of a step, an undo and a redo
+-- the law of documents for a step, an undo and a redo
 abbrev pub StepsGo : Type 0
 StepsGo = (document : DocumentState) (step : Step) (typed : Bool) (now : ℕ) → IsSound document → IsMade document step → GoesUncut document (splice_of document step ∷ []) (stepped document step typed now)
 
@@ -38,7 +29,7 @@ RedosGo = (document : DocumentState) (splice : Splice) → IsSound document → 
 still : (old new : DocumentState) → seen new ≡ seen old → GoesUncut old [] new
 still old new same = stays old new (ap (λ (s : Seen). s.0.text) same) (ap (λ (s : Seen). s.1) same)
 
--- a document with the text and the ranges of another goes over the same splices
+-- a document with the text and ranges of another is reached by the same splices
 goes_as : (old new other : DocumentState) (splices : List Splice) → seen other ≡ seen new → GoesUncut old splices new → GoesUncut old splices other
 goes_as old new other splices same h = (
   record {
@@ -65,24 +56,17 @@ redone_goes law document None h is =
     (still document (redone document) (ap seen same)).0
 redone_goes law document (Some splice) h is = law document splice h is
 
--- ---- what leaves text and ranges
+-- ---- what leaves text and ranges unchanged
 
 pub drawing_goes : (old new : State) (area : Rect) → IsRendered old area new → GoesUncut old.document [] new.document
 drawing_goes old new area h =
     let is = drawn_document old new area h in
     stays old.document new.document (ap (λ (d : DocumentState). d.text) is) (ap (λ (d : DocumentState). d.ranges) is)
 
--- ---- inputs
+-- ---- calls
 
-goes_by_act : (asked : Action) (old new : DocumentState) (splices : List Splice) → ByAct GoesUncut GoesOver asked old splices new → GoesByAct asked old splices new
-goes_by_act (action.Edit edit.Undo) old new splices h = h
-goes_by_act (action.Edit edit.Redo) old new splices h = h
-goes_by_act asked old new splices h = h
-
-pub acts_go : StepsGo → UndosGo → RedosGo → (old new : State) (asked : Action) → IsSound old.document → IsActed old asked new → GoesByAct asked old.document (splices_by old asked) new.document
-acts_go steps undos redos old new asked h k =
-    let past : Past GoesOver = record {
-      undos = λ document sound. undone_goes undos document (newest document.log) sound refl;
-      redos = λ document sound. redone_goes redos document (next document.log) sound refl;
-    } in
-    goes_by_act asked old.document new.document (splices_by old asked) (acts_by GoesUncut GoesOver (going steps) past old new asked h k)
+pub past_goes : UndosGo → RedosGo → Past GoesOver
+past_goes undos redos = record {
+  undos = λ document sound. undone_goes undos document (newest document.log) sound refl;
+  redos = λ document sound. redone_goes redos document (next document.log) sound refl;
+}

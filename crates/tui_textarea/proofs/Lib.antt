@@ -1,3 +1,13 @@
+mod CaretBack
+mod CaretShown
+mod DrawnRows
+mod OneDrawing
+mod OneHit
+mod OneInside
+mod OneRendering
+mod Rects
+mod Rendering
+mod Widths
 mod Acting
 pub mod Ahead
 pub mod Copying

@@ -1,4 +1,4 @@
--- What holds of the document's parts, told of the whole state.
+-- Facts of the document's parts, lifted to the whole state.
 use Rattle.std.proofs.Common.{◌≡◌, ℕ, Bool, List, Option, Some, Result, Ok, Err, ap, subst, ◌∙◌}
 use Rattle.std.specs.Result.{OnOk}
 use Rattle.textarea_text.specs.Place.{Place}
@@ -8,7 +8,7 @@ use Rattle.textarea_data.specs.declared.scroll.Scrolling.{Scrolling}
 use Rattle.textarea_document.specs.Outcomes.{moved}
 use Rattle.textarea_document.specs.Selection.{selected_removed}
 use Rattle.textarea_document.specs.State.{DocumentState}
-use Rattle.textarea_drawing.specs.State.{DrawingState}
+use Rattle.tui_textarea.specs.DrawingState.{DrawingState}
 use Rattle.textarea_data.specs.declared.range.AtomicRange.{AtomicRange}
 use Rattle.textarea_data.specs.declared.range.AtomicCursorBias.{AtomicCursorBias}
 use Rattle.textarea_ranges.specs.Held.{moved_out}
@@ -16,13 +16,13 @@ use Rattle.tui_textarea.specs.Drawing.{viewport_scrolled}
 use Rattle.tui_textarea.specs.Moves.{IsMovedWith, anchor_with, bias_of, moved_by, pushed}
 use Rattle.tui_textarea.specs.State.{State, with_document}
 
--- the document becomes what a call makes of it, if the call succeeds
+-- the document becomes the one after the call, if the call succeeds
 pub document_lifted : {T E : Type 0} (r : Result T E) (made : State → DocumentState) {view state : State} → view ≡ state → (new : DocumentState)
     → OnOk r (new ≡ made view) → OnOk r (with_document view new ≡ with_document state (made state))
 document_lifted (Ok x) made {view} is new h = ap (with_document view) h ∙ ap (λ (s : State). with_document s (made s)) is
 document_lifted (Err e) made is new h = h
 
--- and so behind the removal of what is selected
+-- the same after the removal of the selected text
 pub unselected_lifted : {T E : Type 0} (r : Result T E) (made : DocumentState → ℕ → DocumentState) {view state : State} → view ≡ state → (removed new : DocumentState)
     → removed ≡ selected_removed view.document view.moment → OnOk r (new ≡ made removed view.moment)
     → OnOk r (with_document view new ≡ with_document state (made (selected_removed state.document state.moment) state.moment))
@@ -31,7 +31,7 @@ unselected_lifted (Ok x) made {view} is removed new gone h =
     ∙ ap (λ (s : State). with_document s (made (selected_removed s.document s.moment) s.moment)) is
 unselected_lifted (Err e) made is removed new gone h = h
 
--- the document whose cursor goes to a place, out of the range that holds it, is that of the moved state
+-- the document whose cursor moves to a position, out of ranges, is that of the moved state
 pub move_lifted : {view state : State} → view ≡ state → (new : DocumentState) (shift : Bool) (cursor_move : CursorMove) (place out : Place)
     (ranges : List AtomicRange) (bias : AtomicCursorBias) (anchor : Option Place)
     → new ≡ moved view.document out anchor → out ≡ moved_out ranges place bias → ranges ≡ view.document.ranges → bias ≡ bias_of cursor_move
@@ -44,7 +44,7 @@ move_lifted {view} {state} is new shift cursor_move place out ranges bias anchor
     ∙ ap (λ (a : Option Place). moved view.document (moved_out view.document.ranges place (bias_of cursor_move)) a) anchor_is)
     ∙ ap (λ (s : State). with_document s (moved s.document (moved_out s.document.ranges place (bias_of cursor_move)) (anchor_with shift state.document))) is
 
--- a move in what is shown behind a scroll of the drawing is one behind a scroll of the state
+-- a move into the viewport after a scroll of the drawing is one after a scroll of the state
 pub scroll_lifted : {view state : State} → view ≡ state → (scrolling : Scrolling) (drawing : DrawingState) (shift : Bool) (new : State)
     → drawing ≡ (viewport_scrolled view scrolling).drawing → IsMovedWith (record view { drawing = drawing }) shift move.InViewport new
     → IsMovedWith (viewport_scrolled state scrolling) shift move.InViewport new

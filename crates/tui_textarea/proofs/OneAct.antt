@@ -1,4 +1,4 @@
--- What an input asks for leads to one state.
+-- The action of an input leads to one state.
 use Rattle.std.proofs.Common.{◌≡◌, Bool, is_some, sym, ◌∙◌}
 use Rattle.textarea_data.specs.declared.cursor.CursorMove.{CursorMove}
 use Rattle.textarea_data.specs.declared.cursor.CursorMove.TheVariants as move
@@ -9,7 +9,6 @@ use Rattle.tui_textarea.specs.Input.{IsActed}
 use Rattle.tui_textarea.specs.Moves.{IsMovedWith}
 use Rattle.tui_textarea.specs.State.{State}
 
--- what the law of moves says
 abbrev pub IsOneMove : Type 0
 IsOneMove = (old first second : State) (shift : Bool) (cursor_move : CursorMove) → IsMovedWith old shift cursor_move first → IsMovedWith old shift cursor_move second → first ≡ second
 

@@ -1,4 +1,4 @@
--- Where a move leads, and that it leads to one place, or nowhere, where up and down do.
+-- A move has at most one target, if Up and Down have.
 use Rattle.std.proofs.Common.{◌≡◌, false, List, Option, None, Some, ap, refl, subst, sym, ◌∙◌}
 use Rattle.textarea_text.specs.Text.{Symbol}
 use Rattle.textarea_text.specs.Place.{Place}
@@ -7,16 +7,16 @@ use Rattle.textarea_data.specs.declared.cursor.CursorMove.TheVariants as move
 use Rattle.textarea_document.specs.Rows.{IsAboveCursor, IsBelowCursor}
 use Rattle.textarea_document.specs.State.{DocumentState}
 use Rattle.textarea_document.specs.Target.{VisualTargets, is_visual, target}
-use Rattle.textarea_drawing.specs.Hit.{IsInside}
+use Rattle.tui_textarea.specs.Hit.{IsInside}
 use Rattle.textarea_view.specs.Viewport.{ViewportState}
 use Rattle.tui_textarea.specs.Moves.{IsTarget}
 use Rattle.tui_textarea.specs.State.{State}
 
--- what is found from a document's cursor is one
+-- what is found from a document's cursor is unique
 abbrev pub IsFoundOnce : (DocumentState → Option Place → Type 0) → Type 0
 IsFoundOnce Finds = (document : DocumentState) (found other : Option Place) → Finds document found → Finds document other → found ≡ other
 
--- and so is the nearest place that is shown
+-- the nearest visible position is unique
 abbrev pub IsInsideOnce : Type 0
 IsInsideOnce = (document : DocumentState) (viewport : ViewportState) (place other : Place) → IsInside document viewport place → IsInside document viewport other → place ≡ other
 
@@ -46,7 +46,7 @@ not_visual other not_up not_down not_inside = refl
 nowhere : VisualTargets
 nowhere = record { above = None; below = None; inside = (0, 0) }
 
--- a move that doesn't go over visual rows leads where the text says
+-- a move that doesn't depend on visual rows has the target that the text determines
 pub level_target : (state : State) (cursor_move : CursorMove) (found : Option Place) (text : List Symbol) (cursor : Place)
     → (cursor_move ≡ move.Up → ⊥) → (cursor_move ≡ move.Down → ⊥) → (cursor_move ≡ move.InViewport → ⊥)
     → ((visual : VisualTargets) → is_visual cursor_move ≡ false → found ≡ target visual text cursor cursor_move)
@@ -62,7 +62,7 @@ level_target state cursor_move found text cursor not_up not_down not_inside valu
       ∙ ap (λ p. target nowhere state.document.text p cursor_move) cursor_is;
 }
 
--- a move over visual rows leads to the place that is found for it
+-- a move over visual rows has the target that is found for it
 pub up_target : (state : State) (cursor_move : CursorMove) (found : Option Place) → cursor_move ≡ move.Up → IsAboveCursor state.document found → IsTarget state cursor_move found
 up_target state cursor_move found is above = subst (λ (m : CursorMove). IsTarget state m found) (sym is) (record {
   visual = record { above = found; below = None; inside = (0, 0) };

@@ -1,4 +1,4 @@
--- What each removal takes stands between two places of the text, the first one first.
+-- The text that each removal removes is between two positions, the first one first.
 use Rattle.std.proofs.Common.{◌≡◌, ℕ, zero, suc, ◌==◌, ◌<◌, ◌≤◌, nat_lt, Bool, true, false, cond, List, length, take, drop, Option, None, Some, unwrap_or, ap, refl, sym, subst, ◌∙◌, arith}
 use Rattle.std.proofs.lemmas.Bool.{and_parts}
 use Rattle.std.proofs.lemmas.Bool.Decides.{nat_tests}
@@ -22,7 +22,7 @@ use Rattle.textarea_document.proofs.Sounds.{start_is_place}
 use Rattle.textarea_document.specs.Target.{word_end_after, word_start_before}
 use Rattle.tui_textarea.specs.Removals.{cursor_line, in_line, index_ahead, is_at_line_end}
 
--- ---- what is selected
+-- ---- the selected text
 
 origin_is_place : (text : List Symbol) (anchor : Option Place) (cursor : Place) → IfSome anchor (IsPlace text) → IsPlace text cursor → IsPlace text (unwrap_or anchor cursor)
 origin_is_place text None cursor h h' = h'
@@ -41,7 +41,7 @@ selected_made document h selected =
     let stop = chosen text test (origin document) document.cursor from h.cursor in
     (start, stop, index_before text (selection_start document) (selection_end document) start stop selected)
 
--- ---- the range that is hit
+-- ---- the range at the cursor
 
 pub hit_made : (document : DocumentState) (direction : AtomicDeleteDirection) (range : AtomicRange) → IsSound document → hit_at_cursor document direction ≡ Some range → IsMade document (Remove (range_start range) (range_end range))
 hit_made document direction range h is =

@@ -1,13 +1,13 @@
--- A run goes on by one call, and leads to one state and to one screen.
+-- A run is extended by one call, and leads to one state and one screen.
 use Rattle.std.proofs.Common.{◌≡◌, ℕ, ◌+◌, ◌<◌, Bool, is_some, List, [], ◌∷◌, ◌++◌, map, take, length, get_or, ap, refl, sym, subst, ◌∙◌}
 use Rattle.std.proofs.lemmas.List.{map-append, take_more}
 use Rattle.textarea_calls.specs.declared.action.Action.{Action}
 use Rattle.textarea_data.specs.declared.cursor.CursorMove.{CursorMove}
 use Rattle.std.specs.Option.{option_map}
 use Rattle.textarea_view.specs.Cells.{AreLinesOf, frame_change}
-use Rattle.textarea_drawing.specs.Frame.{Parts, frame_of}
-use Rattle.textarea_drawing.specs.Rendered as rendered
-use Rattle.textarea_drawing.specs.Rendered.{IsDrawn}
+use Rattle.tui_textarea.specs.DrawnFrame.{Parts, frame_of}
+use Rattle.tui_textarea.specs.Rendered as rendered
+use Rattle.tui_textarea.specs.Rendered.{IsDrawn}
 use Rattle.textarea_screen.specs.Buffer.{cell_at}
 use Rattle.textarea_screen.specs.declared.screen.buffer.Buffer.{Buffer}
 use Rattle.textarea_screen.specs.declared.screen.rect.Rect.{Rect}
@@ -23,7 +23,7 @@ use Rattle.textarea_calls.specs.declared.call.Call.{Call}
 use Rattle.textarea_calls.specs.declared.call.Call.TheVariants.{Input, InputWithoutShortcuts, Move, Render, Scroll, SetSearchPattern}
 use Rattle.textarea_calls.specs.declared.answer.Answer.{Answer}
 
--- ---- one call more
+-- ---- one more call
 
 pub Leads-append : (old mid new : State) (buffer screen shown : Buffer) (calls : List Call) (answers : List Said) (call : Call) (answer : Said) → Leads old buffer calls answers mid screen → Makes mid screen call answer new shown → Leads old buffer (calls ++ call ∷ []) (answers ++ answer ∷ []) new shown
 Leads-append old mid new buffer screen shown [] [] call answer so_far made =
@@ -38,24 +38,22 @@ pub one_more : (calls : List Call) (index : ℕ) (call : Call) → index < lengt
 one_more calls index call within is_call =
     ap (λ (this : Call). take index calls ++ this ∷ []) is_call ∙ sym (take_more calls index call within)
 
--- the calls up to the one at the index lead to the state and the buffer behind that one
+-- the calls up to the one at the index lead to the state and buffer after that one
 pub leads_more : (old mid new : State) (buffer screen shown : Buffer) (calls : List Call) (answers : List Answer) (index : ℕ) (call : Call) (answer : Answer) → index < length calls → call ≡ get_or calls index call → Leads old buffer (take index calls) (map said answers) mid screen → Makes mid screen call (said answer) new shown → Leads old buffer (take (index + 1) calls) (map said (answers ++ answer ∷ [])) new shown
 leads_more old mid new buffer screen shown calls answers index call answer within is_call so_far made =
     subst (λ (a : List Said). Leads old buffer (take (index + 1) calls) a new shown) (sym (map-append said answers (answer ∷ [])))
     (subst (λ (done : List Call). Leads old buffer done (map said answers ++ said answer ∷ []) new shown) (one_more calls index call within is_call)
     (Leads-append old mid new buffer screen shown (take index calls) (map said answers) call (said answer) so_far made))
 
--- ---- one end
+-- ---- one final state
 
--- each move leads to one state
 abbrev pub OneMove : Type 0
 OneMove = (old first second : State) (shift : Bool) (cursor_move : CursorMove) → IsMovedWith old shift cursor_move first → IsMovedWith old shift cursor_move second → first ≡ second
 
--- what an input asks for leads to one state
 abbrev pub OneInput : Type 0
 OneInput = (old first second : State) (action : Action) → IsActed old action first → IsActed old action second → first ≡ second
 
--- and so does each drawing, of the parts that are drawn
+-- each drawing of the drawn parts leads to one result
 abbrev pub OneRendering : Type 0
 OneRendering = (old first second : Parts) (area : Rect) → rendered.IsRendered old area first → rendered.IsRendered old area second → first ≡ second
 
@@ -83,11 +81,11 @@ one_end moves inputs renderings (call ∷ calls) (answer ∷ answers) old first 
 
 -- ---- one screen
 
--- the cells after a drawing are settled
+-- the cells after a drawing are determined
 abbrev pub OneDrawing : Type 0
 OneDrawing = (parts : Parts) (area : Rect) (old first second : Buffer) → IsDrawn parts area old first → IsDrawn parts area old second → (x y : ℕ) → cell_at first x y ≡ cell_at second x y
 
--- what is drawn over a buffer is drawn over any of the same cells
+-- a drawing over a buffer is also one over any buffer with the same cells
 drawn_over : (parts : Parts) (area : Rect) (old other new : Buffer) → ShowsSame old other → IsDrawn parts area old new → IsDrawn parts area other new
 drawn_over parts area old other new same drawn = record {
   inner = drawn.inner;
@@ -110,7 +108,7 @@ drawn_same drawings parts area old other first second e f same =
       cells = drawings parts area other first second over f;
     }
 
--- the buffer stays where the call doesn't draw
+-- a call that doesn't draw leaves the buffer
 still_same : (old other first second : Buffer) → first ≡ old → second ≡ other → ShowsSame old other → ShowsSame first second
 still_same old other first second e f same =
     subst (λ (b : Buffer). ShowsSame b second) (sym e) (subst (ShowsSame old) (sym f) same)

@@ -1,4 +1,4 @@
--- Searches over lines, as searches over the text.
+-- Searches of lines, as searches of the text.
 use Rattle.std.proofs.Common.{◌≡◌, ◌∙◌, ℕ, ◌<◌, Bool, List, [], ◌∷◌, length, map, Option, Some, None, IfSome, Result, Ok, Err, IfOk, OnOk, ap, sym, refl, subst, arith, encode_utf8_all, String, string_bytes, Global}
 use Rattle.std.specs.declared.alloc.AllocError.{AllocError}
 use Rattle.std.proofs.lemmas.Str.{IsUtf8-string_bytes, encodes-chars}
@@ -23,20 +23,20 @@ starts_are None strings text e = refl
 starts_are (Some pattern) strings text e =
     ap (starts_from (match_columns pattern) 0) (bytes_of strings ∙ ap (map encode_utf8_all) e)
 
--- a search over the lines of a document's text, from its cursor, is one over the text
+-- a search of the lines of a document's text, from its cursor, is one of the text
 pub search_is : (leads : List Place → Place → Bool → Option Place) (pattern : Option (List ℕ)) (strings : List (String Global)) (document : DocumentState) (cursor : Place) (at_cursor : Bool) → lines_of strings ≡ lines document.text → cursor ≡ document.cursor → leads (starts_of pattern strings) cursor at_cursor ≡ leads (starts_in pattern document.text) document.cursor at_cursor
 search_is leads pattern strings document cursor at_cursor e at =
     ap (λ starts. leads starts cursor at_cursor) (starts_are pattern strings document.text e)
     ∙ ap (λ (place : Place). leads (starts_in pattern document.text) place at_cursor) at
 
--- a place of the lines is one of the text
+-- a position in the lines is one in the text
 in_text : (found : Option Place) (strings : List (String Global)) (text : List Symbol) → lines_of strings ≡ lines text → IfSome found (IsPlaceIn strings) → IfSome found (IsPlace text)
 in_text None strings text e within = tt
 in_text (Some place) strings text e within =
     let row : place.0 < length (lines_of strings) = omega (arith, within.0, length-map strings characters_of) in
     subst (λ (rows : List (List ℕ)). IsPlaceOf rows place) e (row, within.1)
 
--- so is what a search of the lines found
+-- the same for a position that a search of the lines found
 pub found_in_text : (result : Result (Option Place) AllocError) (leads : Option Place) (strings : List (String Global)) (text : List Symbol) → lines_of strings ≡ lines text → IfOk result (λ found. found ≡ leads) → IfOk result (λ found. IfSome found (IsPlaceIn strings)) → OnOk result (IfSome leads (IsPlace text))
 found_in_text (Ok found) leads strings text e is within =
     subst (λ (f : Option Place). IfSome f (IsPlace text)) is (in_text found strings text e within)

@@ -1,4 +1,4 @@
--- By which splices each outcome of an edit is reached: those of the list that the definitions give, each the splice of one step.
+-- The state after an edit is reached by the splices in the definitions, each that of one step.
 use Rattle.std.proofs.Common.{◌≡◌, ◌≢◌, ℕ, ◌==◌, ◌<◌, nat_lt, Bool, true, false, cond, if◌then◌else◌, List, [], ◌∷◌, ◌++◌, length, replicate, Option, None, Some, ap, refl, ◌∙◌, arith, eq-eqb}
 use Rattle.textarea_data.specs.declared.cursor.CursorMove.{CursorMove}
 use Rattle.textarea_lines.specs.Layout.{LaidOut}
@@ -30,24 +30,24 @@ use Rattle.tui_textarea.specs.Splices.{ahead_splices, char_splices, clear_splice
 use Rattle.tui_textarea.specs.State.{State}
 use Rattle.tui_textarea.proofs.Removing.{ahead_made, hit_made, line_end_made, line_head_made, selected_made, whole_made, word_end_made, word_start_made}
 
--- what is seen of a document's text: its layout, and its ranges
+-- the visible side of a document's text: its layout and ranges
 abbrev pub Seen : Type 0
 Seen = LaidOut × List AtomicRange
 
 abbrev pub seen : DocumentState → Seen
 seen document = (laid_out_of document, document.ranges)
 
--- what holds in both cases of a test
+-- a property that both cases of a test have
 pub by_test : {X : Type 0} (P : X → Type 0) (b : Bool) (x y : X) → (b ≡ true → P x) → (b ≡ false → P y) → P (cond b x y)
 by_test P true x y h k = h refl
 by_test P false x y h k = k refl
 
--- and so of two things that one test chooses
+-- the same for two values that one test chooses
 pub by_both : {X Y : Type 0} (P : Y → X → Type 0) (b : Bool) (u v : Y) (x y : X) → (b ≡ true → P u x) → (b ≡ false → P v y) → P (cond b u v) (cond b x y)
 by_both P true u v x y h k = h refl
 by_both P false u v x y h k = k refl
 
--- ---- what leaves text, layout and ranges
+-- ---- what leaves text, layout and ranges unchanged
 
 moved_seen : (state : State) (shift : Bool) (found : Option Place) → seen (moved_by state shift found).document ≡ seen state.document
 moved_seen state shift None = refl
@@ -62,7 +62,7 @@ copied_seen state = by_test (λ (s : State). seen s.document ≡ seen state.docu
 
 -- ---- steps
 
--- a number that fails the test for another is not that other
+-- two numbers that the test finds different are different
 apart : (m n : ℕ) → (m == n) ≡ false → m ≢ n
 apart m n e same = absurd (cc (e, eq-eqb m n same))
 
@@ -70,7 +70,7 @@ some_symbols : (symbols : List Symbol) → is_filled symbols ≡ true → 0 < le
 some_symbols [] e = absurd cc
 some_symbols (symbol ∷ symbols) e = omega arith
 
--- what is left without what was selected is sound too
+-- the document without the selected text is sound too
 sound_part : (document : DocumentState) (from to : Place) (now : ℕ) → IsSound document → IsMade document (Remove from to) → IsSound (part_removed document from to now)
 unfolding part_removed
 sound_part document from to now h made =
@@ -82,8 +82,9 @@ sound_unselected state h =
     (λ selected. sound_part state.document (selection_start state.document) (selection_end state.document) state.moment h (selected_made state.document h selected))
     (λ none. h)
 
--- What is reckoned of documents, from one to another, by splices: none lead to a document of the same text, layout and ranges; each
--- step's splice leads to what the step leaves, whatever its cursor and its anchor are; and splices come one after another.
+-- A relation of two documents and the splices between them. No splices relate documents of the same
+-- text, layout and ranges; the splice of a step relates a document to the one after the step,
+-- whatever its cursor and anchor; and splices compose.
 pub record Reckoning (By : DocumentState → List Splice → DocumentState → Type 0) : Type 0 where
   pub none : (old new : DocumentState) → seen new ≡ seen old → By old [] new
   pub same : (old new other : DocumentState) (splices : List Splice) → seen other ≡ seen new → By old splices new → By old splices other
@@ -91,7 +92,7 @@ pub record Reckoning (By : DocumentState → List Splice → DocumentState → T
   pub one : (document : DocumentState) (step : Step) (typed : Bool) (now : ℕ) → IsSound document → IsMade document step → By document (splice_of document step ∷ []) (stepped document step typed now)
 
 module _ (By : DocumentState → List Splice → DocumentState → Type 0) (by : Reckoning By) where
-  -- a state whose document is led to from that of another
+  -- the relation for the documents of two states
   abbrev From : State → List Splice → State → Type 0
   From old splices new = By old.document splices new.document
 

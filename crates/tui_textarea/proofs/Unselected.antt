@@ -1,4 +1,4 @@
--- What a call makes of the state behind the removal of what is selected.
+-- The state after a call that first removes the selected text.
 use Rattle.std.proofs.Common.{◌≡◌, ◌||◌, Bool, true, false, Option, None, Some, is_some, Result, Ok, Err, ap, sym, refl, ◌∙◌}
 use Rattle.std.proofs.lemmas.Bool.{cond-false, cond-true, or_left, or_parts, or_right}
 use Rattle.std.proofs.lemmas.Result.{IfOk-weaker}
@@ -16,19 +16,19 @@ pub unselected_is : {view state : State} → view ≡ state → (removed : Docum
     → with_document view removed ≡ unselected state
 unselected_is {view} is removed gone = ap (with_document view) gone ∙ ap unselected is
 
--- where a symbol is selected, that goes alone
+-- if text is selected, only that is removed
 pub selected_gone : {view state : State} → view ≡ state → (removed : DocumentState) → removed ≡ selected_removed view.document view.moment
     → is_selected view.document ≡ true → (other : State) → with_document view removed ≡ unselected_or state other
 selected_gone {view} {state} is removed gone some other =
     unselected_is is removed gone
     ∙ sym (cond-true (is_selected state.document) (unselected state) other (ap (λ (s : State). is_selected s.document) (sym is) ∙ some))
 
--- where none is, nothing goes
+-- if none is, nothing is removed
 pub none_gone : {view state : State} → view ≡ state → (removed : DocumentState) → removed ≡ selected_removed view.document view.moment
     → is_selected view.document ≡ false → with_document view removed ≡ state
 none_gone {view} is removed gone none = ap (with_document view) (gone ∙ cond-false (is_selected view.document) _ view.document none) ∙ is
 
--- what a call makes of the document then, if it succeeds
+-- the document after the call, if it succeeds
 pub made_unselected : {T E : Type 0} (r : Result T E) (made : State → DocumentState) {view state : State} → view ≡ state → (removed new : DocumentState)
     → removed ≡ selected_removed view.document view.moment → is_selected view.document ≡ false
     → OnOk r (new ≡ made (with_document view removed)) → OnOk r (with_document view new ≡ unselected_or state (with_document state (made state)))
@@ -38,7 +38,7 @@ made_unselected (Ok x) made {view} {state} is removed new gone none h =
     ∙ sym (cond-false (is_selected state.document) (unselected state) (with_document state (made state)) (ap (λ (s : State). is_selected s.document) (sym is) ∙ none))
 made_unselected (Err e) made is removed new gone none h = h
 
--- and what the call answers
+-- the call's result
 pub answered_unselected : {E : Type 0} (r : Result Bool E) (has : State → Bool) {view state : State} → view ≡ state → (removed : DocumentState)
     → removed ≡ selected_removed view.document view.moment → is_selected view.document ≡ false
     → IfOk r (λ found. found ≡ has (with_document view removed)) → IfOk r (λ found. found ≡ removes_or state (has state))
@@ -50,7 +50,7 @@ pub none_is : {A : Type 0} (found : Option A) → is_some found ≡ false → fo
 none_is None e = refl
 none_is (Some x) e = absurd (cc e)
 
--- what it answers where no range was hit either
+-- its result if there is no range at the cursor either
 pub answered_unhit : {E : Type 0} (r : Result Bool E) (has : State → Bool) (direction : AtomicDeleteDirection) {view state : State} → view ≡ state
     → (removed behind : DocumentState) (found : Option AtomicRange) → removed ≡ selected_removed view.document view.moment → is_selected view.document ≡ false
     → found ≡ hit_at_cursor removed direction → is_some found ≡ false → behind ≡ hit_removed removed direction view.moment
@@ -65,12 +65,12 @@ answered_unhit r has direction {view} is removed behind found gone none found_is
     stays : behind ≡ removed
     stays = behind_is ∙ ap (λ (o : Option AtomicRange). range_removed_or o removed view.moment removed) (sym found_is ∙ none_is found unhit)
 
--- a range that was looked for then is one of the state
+-- a range that was found at the cursor then is one of the state
 pub hit_found : {view state : State} → view ≡ state → (removed : DocumentState) → removed ≡ selected_removed view.document view.moment → is_selected view.document ≡ false
     → (direction : AtomicDeleteDirection) → hit_at_cursor removed direction ≡ hit_at_cursor state.document direction
 hit_found is removed gone none direction = ap (λ (s : State). hit_at_cursor s.document direction) (none_gone is removed gone none)
 
--- so something goes where a range was hit
+-- so something is removed if there is a range at the cursor
 pub hit_goes : {view state : State} → view ≡ state → (removed : DocumentState) → removed ≡ selected_removed view.document view.moment → is_selected view.document ≡ false
     → (direction : AtomicDeleteDirection) (found : Option AtomicRange) (other : Bool) → found ≡ hit_at_cursor removed direction → is_some found ≡ true
     → true ≡ removes_or state (is_some (hit_at_cursor state.document direction) || other)
@@ -78,7 +78,7 @@ hit_goes {state = state} is removed gone none direction found other found_is som
     sym (or_right (is_selected state.document) _ (or_left (is_some (hit_at_cursor state.document direction)) other
     (ap is_some (sym (found_is ∙ hit_found is removed gone none direction)) ∙ some)))
 
--- and none was hit where nothing goes
+-- there is no range at the cursor if nothing is removed
 pub none_hit : {view state : State} → view ≡ state → (removed : DocumentState) → removed ≡ selected_removed view.document view.moment → is_selected view.document ≡ false
     → (direction : AtomicDeleteDirection) (other : Bool) → removes_or state (is_some (hit_at_cursor state.document direction) || other) ≡ false
     → hit_at_cursor removed direction ≡ None

@@ -1,11 +1,11 @@
--- What the count grows by, in worked cases: each is computed from what a drawing, a move and an edit leave.
+-- What is added to the wrap counter, computed from the states after a drawing, a move and an edit.
 use Rattle.std.proofs.Common.{◌≡◌, ℕ, ◌+◌, Option, None, Some, is_some, ap, refl, subst, sym, ◌∙◌}
 use Rattle.std.specs.Fmt.{digits}
 use Rattle.textarea_data.specs.declared.cursor.CursorMove.TheVariants.{Bottom, End}
 use Rattle.textarea_document.specs.Cuts.{CutsNothing}
 use Rattle.textarea_document.specs.Rows.{laid_out_of, with_inner_width}
 use Rattle.textarea_document.specs.State.{DocumentState}
-use Rattle.textarea_drawing.specs.State.{DrawingState}
+use Rattle.tui_textarea.specs.DrawingState.{DrawingState}
 use Rattle.textarea_lines.specs.Cuts.{map_width}
 use Rattle.textarea_lines.specs.Layout.{Layout}
 use Rattle.textarea_screen.specs.declared.screen.rect.Rect.{Rect}
@@ -84,7 +84,7 @@ below_is old new h = h.new_is ∙ ap (λ (found : Option Place). moved_by old (i
 end_is : (old new : State) → IsMoved old End new → new ≡ at_end old
 end_is old new h = h.new_is ∙ ap (λ (found : Option Place). moved_by old (is_some old.document.anchor) (pushed old.document.ranges End found)) h.target_is.found_is
 
--- at the end of the last line, behind a drawing into an area of this width
+-- at the end of the last line, after a drawing into an area of this width
 abbrev nine : WrapMode → Style → ℕ → DrawingState → State
 nine mode style width drawing = at_end (below_all (drawn_at (nine_lines mode style) width drawing))
 
@@ -93,7 +93,7 @@ is_nine mode style drawn ended area width wide h k =
     end_is k.0 ended k.2 ∙ ap at_end (below_is drawn k.0 k.1)
     ∙ ap (λ (s : State). at_end (below_all s)) (drawn_is (nine_lines mode style) drawn area width wide h)
 
--- what holds of the computed state holds of this one
+-- a property of the computed state is one of this state
 abbrev Holds : WrapMode → ℕ → (State → Type 0) → Type 0
 Holds mode width P = (style : Style) (drawn ended : State) (area : Rect) → area.width ≡ width → IsRendered (nine_lines mode style) area drawn → IsAtEndOf drawn ended → P ended
 

@@ -1,4 +1,4 @@
--- Which lines each call cuts, and so what it adds to the count.
+-- Which lines each call wraps, and so what it adds to the wrap counter.
 use Rattle.textarea_document.specs.Cuts.{CutsAll, CutsBySettings, CutsByWidth, SplicedBy}
 use Rattle.tui_textarea.specs.Layout.{alignment_set, mode_set, numbers_set, tab_length_set}
 use Rattle.tui_textarea.specs.State.{State}
@@ -7,10 +7,11 @@ use Rattle.tui_textarea.specs.CallSplices.{splices_of}
 use Rattle.textarea_calls.specs.declared.call.Call.{Call}
 use Rattle.textarea_calls.specs.declared.call.Call.TheVariants.{SetLines, SetTabLength, SetWrapMode, SetLineNumberStyle, RemoveLineNumber, SetAlignment, Render}
 
--- Lines that replace the old ones are all cut. The calls that set how the text is cut cut all lines where they are cut in another way
--- then, and a drawing where it changes the width of the map. Every other call cuts what its splices cut, one after another: where the
--- width of the map stays, one line for each removal, and for each insertion as many as it has breaks and one; so a call without a
--- splice leaves the text, its rows and the count.
+-- Lines that replace the old ones are all wrapped. A layout setting wraps all lines if it changes
+-- the layout, a drawing if it changes the width of the map of visual rows. Every other call wraps
+-- what its splices wrap, one after another: where the width of the map stays, a removal wraps one
+-- line, and an insertion one line more than it has breaks. A call without a splice leaves the text,
+-- its rows and the counter.
 abbrev pub CutsByCall : State → Call → State → Type 0
 CutsByCall old (SetLines lines cursor) new = CutsAll old.document new.document
 CutsByCall old (SetTabLength columns) new = CutsBySettings old.document (tab_length_set old columns) new.document

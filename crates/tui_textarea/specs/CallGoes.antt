@@ -1,4 +1,4 @@
--- How the atomic ranges go with the text over calls, and from which ranges those stem that a run leaves.
+-- How the atomic ranges move with the text over calls, and where those after a run come from.
 use Rattle.std.specs.Prelude.{◌≡◌, ◌⊎◌, List, [], ◌∷◌, ◌++◌, length, map, take}
 use Rattle.textarea_text.specs.Splice.{Splice}
 use Rattle.textarea_document.specs.Goes.{AllStayOrAreDropped, AllStemFrom, GoesOver, GoesUncut}
@@ -22,18 +22,18 @@ use Rattle.textarea_calls.specs.declared.call.Call.TheVariants.{Undo, Redo, SetL
 
 -- ---- one call
 
--- no range is held
+-- there are no ranges
 abbrev pub HoldsNone : State → Type 0
 HoldsNone state = state.document.ranges ≡ []
 
--- the ranges given are held, in order, and the text stays
+-- the ranges are replaced by these, sorted, and the text stays
 pub record Holds (old : State) (given : List AtomicRange) (new : State) : Type 0 where
   pub text : new.document.text ≡ old.document.text
   pub ranges : new.document.ranges ≡ in_order given
 
--- The splices of the call lead from the old text to the new one, none where nothing is edited, and the ranges go with it; only those
--- of an undo and a redo may cut a range. Other lines and the call that clears leave no range, and ranges that are set replace the old
--- ones.
+-- The call's splices lead from the old text to the new one, none if nothing is edited, and the
+-- ranges move with the text; only the splices of undo and redo may split a range. New lines and the
+-- call that clears leave no range, and ranges that are set replace the old ones.
 abbrev pub GoesByCall : State → Call → Said → State → Type 0
 GoesByCall old Undo answer new = GoesOver old.document (splices_of old Undo) new.document
 GoesByCall old Redo answer new = GoesOver old.document (splices_of old Redo) new.document
@@ -46,21 +46,20 @@ GoesByCall old call answer new = GoesUncut old.document (splices_of old call) ne
 
 -- ---- a run
 
--- the call gives the ranges anew: it sets them, and answers that they are accepted; it clears them; or it sets other lines, which have
--- none
+-- the call replaces the ranges: it sets some that are accepted, or clears them, or sets lines
 abbrev pub GivesRanges : Call → Said → Type 0
 GivesRanges (TrySetAtomicRanges ranges) Done = Unit {0}
 GivesRanges ClearAtomicRanges answer = Unit {0}
 GivesRanges (SetLines lines cursor) answer = Unit {0}
 GivesRanges call answer = ⊥
 
--- none of the calls, which answer so, gives ranges anew
+-- none of the calls, with these results, replaces the ranges
 abbrev pub NoneGives : List Call → List Said → Type 0
 NoneGives [] [] = Unit {0}
 NoneGives (call ∷ calls) (answer ∷ answers) = (¬ GivesRanges call answer) × NoneGives calls answers
 NoneGives calls answers = ⊥
 
--- the last of the calls, which answer so, gives ranges anew
+-- the last of the calls, with these results, replaces the ranges
 pub record LastGives (calls : List Call) (answers : List Said) : Type 0 where
   pub front : List Call
   pub last : Call
@@ -70,8 +69,9 @@ pub record LastGives (calls : List Call) (answers : List Said) : Type 0 where
   pub answers_are : answers ≡ before ++ answer ∷ []
   pub gives : GivesRanges last answer
 
--- The calls, where they answer so, lead to the newest state over the last one in which the ranges were given: the state after the last
--- call that gave them anew, or without such a call the one at the start. From there the later calls lead on by these splices.
+-- The calls, with these results, lead to the newest state by way of the state after the last call
+-- that replaced the ranges, or of the initial state if there is no such call. From there the later
+-- calls lead on by these splices.
 pub record SinceGiven (old : State) (buffer : Buffer) (calls : List Call) (answers : List Said) (newest : State) (shown : Buffer) : Type 0 where
   pub until : List Call
   pub later : List Call
@@ -87,16 +87,18 @@ pub record SinceGiven (old : State) (buffer : Buffer) (calls : List Call) (answe
   pub splices : List Splice
   pub led_on : LeadsBy then screen later answers_later splices newest shown
 
--- What becomes of the ranges of the first document over these splices: they go with the text; each that is held in the end stems
--- from one of them, and covers the same characters, all in one line; and each of them is held in the end, as the splices carry it, or
--- one of the splices disturbs it.
+-- What happens to the ranges of the first document over these splices. They move with the text.
+-- Each range of the last document comes from one of them, and covers the same characters, all in
+-- one line. Each of them is in the last document, as the splices move it, or one of the splices
+-- disturbs it.
 pub record RangesGo (first : DocumentState) (splices : List Splice) (last : DocumentState) : Type 0 where
   pub goes : GoesOver first splices last
   pub stem : AllStemFrom first splices last
   pub dropped : AllStayOrAreDropped first splices last
 
--- What becomes of the ranges over the calls, where these answer so and lead to the newest state, and a last call that ran out of
--- memory leads on by the splices left, if there is one: those given last go with the text over the splices of the later calls.
+-- What happens to the ranges over calls that lead with these results to the newest state, and then
+-- over the splices left by a call that ran out of memory, if there is one: the ranges set last move
+-- with the text over the splices of the later calls.
 pub record RangesInRun (old : State) (buffer : Buffer) (calls : List Call) (answers : List Said) (left : List Splice) (new : State) : Type 0 where
   pub newest : State
   pub shown : Buffer
@@ -104,14 +106,14 @@ pub record RangesInRun (old : State) (buffer : Buffer) (calls : List Call) (answ
   pub left_are : (left ≡ []) ⊎ (left ≡ selected_splices newest.document)
   pub go : RangesGo since.then.document (since.splices ++ left) new.document
 
--- and so over a run, of the calls that were answered
+-- the same over a run, for the calls that have results
 abbrev pub RangesOfRun : State → Buffer → List Call → List Answer → State → Type 0
 RangesOfRun old buffer calls answers new =
     (left : List Splice) × RangesInRun old buffer (take (length answers) calls) (map said answers) left new
 
--- ---- no call cuts a range
+-- ---- no call splits a range
 
--- the call takes back an edit or makes one again, which may cut a range
+-- the call is an undo or a redo, which may split a range
 abbrev pub IsUndoOrRedoAct : Action → Type 0
 IsUndoOrRedoAct (action.Edit edit.Undo) = Unit {0}
 IsUndoOrRedoAct (action.Edit edit.Redo) = Unit {0}

@@ -1,4 +1,4 @@
--- By which splices each call changes the text: one function from the state and the call to their list, and those of a run of calls.
+-- The splices by which each call changes the text: a list for a state and a call, and for a run.
 use Rattle.std.specs.Prelude.{◌≡◌, ◌⊎◌, List, [], ◌∷◌, ◌++◌}
 use Rattle.std.specs.Str.{chars}
 use Rattle.textarea_text.specs.Splice.{Splice}
@@ -17,9 +17,10 @@ use Rattle.tui_textarea.specs.Said.{Said}
 use Rattle.textarea_calls.specs.declared.call.Call.{Call}
 use Rattle.textarea_calls.specs.declared.call.Call.TheVariants.{InsertChar, InsertStr, InsertTab, InsertNewline, DeleteStr, DeleteNewline, DeleteChar, DeleteNextChar, DeleteLineByEnd, DeleteLineByHead, DeleteWord, DeleteNextWord, Clear, Cut, Paste, Undo, Redo, DeleteAtomicRangeAtCursor, Input, InputWithoutShortcuts}
 
--- The splices of the call in this state, one after another. An insertion has two where a symbol is selected, the first of them the
--- removal of what is selected; any other edit, an undo and a redo have one; where nothing changes, and of every other call, there is
--- none. The call that sets other lines replaces the text, and has none. Those of inputs are said below.
+-- The splices of the call in this state, one after another. An insertion over selected text has
+-- two, first the removal of that text; any other edit, undo or redo has one; a call that changes
+-- nothing in the text has none. The call that sets lines replaces the text, and has none. Those of
+-- inputs are defined below.
 abbrev pub call_splices : State → Call → List Splice
 call_splices state (InsertChar c) = char_splices state c
 call_splices state (InsertStr text) = str_splices state (given (chars text.now))
@@ -41,7 +42,7 @@ call_splices state Redo = redo_splices state.document
 call_splices state (DeleteAtomicRangeAtCursor direction) = hit_splices state.document direction
 call_splices state call = []
 
--- the splices of an input that asks for the action: those of its call
+-- the splices of an input with this action: those of the action's call
 abbrev pub splices_by : State → Action → List Splice
 splices_by state (action.Edit edit) = call_splices state (call_of_edit edit)
 splices_by state (action.Write write) = call_splices state (call_of_write write)
@@ -53,12 +54,13 @@ splices_of state (Input input) = splices_by state (asked_by input.now)
 splices_of state (InputWithoutShortcuts input) = splices_by state (asked_without_shortcuts input.now)
 splices_of state call = call_splices state call
 
--- the fact holds of the splices that a call leaves which ran out of memory: none, or the removal of what was selected
+-- the fact is true of the splices of a call that ran out of memory: none, or the selection's
+-- removal
 abbrev pub OfLeft : State → (List Splice → Type 0) → Type 0
 OfLeft state Fact = Fact [] ⊎ Fact (selected_splices state.document)
 
--- the calls lead from the old state and the old buffer to the new ones where they answer so, and these are their splices: those of
--- each call in the state in which it is made, one call's after another's
+-- the calls lead with these results from the old state and buffer to the new ones, and these are
+-- their splices: those of each call in the state that it is made in, one call's after another's
 abbrev pub LeadsBy : State → Buffer → List Call → List Said → List Splice → State → Buffer → Type 0
 LeadsBy old buffer [] [] splices new shown = (splices ≡ []) × (new ≡ old) × (shown ≡ buffer)
 LeadsBy old buffer (call ∷ calls) (answer ∷ answers) splices new shown =

@@ -1,4 +1,4 @@
--- What each call answers and makes of the state of a text area, and where it may answer out of memory.
+-- The result of each call, the state after it, and where it may run out of memory.
 use Rattle.std.specs.Prelude.{◌≡◌, ◌≢◌, ◌<◌, true, false, List, [], ◌∷◌, length, is_some, not, None, Some, String}
 use Rattle.std.specs.Coded.{le_prop, Unit-prop}
 use Rattle.std.specs.Duration.{as_nanos}
@@ -39,21 +39,22 @@ use Rattle.tui_textarea.specs.Said.{Said, Done, Flag, Range, Rejected, Text}
 use Rattle.textarea_calls.specs.declared.call.Call.{Call}
 use Rattle.textarea_calls.specs.declared.call.Call.TheVariants.{InsertChar, InsertStr, InsertTab, InsertNewline, DeleteStr, DeleteNewline, DeleteChar, DeleteNextChar, DeleteLineByEnd, DeleteLineByHead, DeleteWord, DeleteNextWord, Clear, Cut, Copy, Paste, Undo, Redo, StartSelection, CancelSelection, SelectAll, SetYankText, YankText, SetTabLength, SetHardTabIndent, SetMaxHistories, SetUndoCoalescing, SetNow, SetLines, TrySetAtomicRanges, ClearAtomicRanges, NormalizeCursorAroundAtomicRanges, AtomicRangeAtCursor, DeleteAtomicRangeAtCursor, SetSearchPattern, SearchForward, SearchBack, SetWrapMode, SetLineNumberStyle, RemoveLineNumber, Measure, SetBlock, RemoveBlock, SetPlaceholderText, SetStyledPlaceholder, SetPlaceholderStyle, SetMinRows, SetMaxRows, SetStyle, Style, SetCursorStyle, CursorStyle, SetCursorLineStyle, CursorLineStyle, SetSelectionStyle, SelectionStyle, SetSearchStyle, SearchStyle, SetMaskChar, ClearMaskChar, MaskChar, SetCursorRenderMode, CursorRenderMode, SetAlignment, Alignment, CustomHighlight, ClearCustomHighlight, Render, RenderedCursorPosition, CursorAtPosition, Cursor, IsEmpty, IsSelecting, SelectionRange, TabLength, HardTabIndent, MaxHistories, UndoCoalescing, WrapMode, LineNumberStyle, PlaceholderStyle, MinRows, MaxRows}
 
--- the given ranges that are rejected, in their order, each with its reason
+-- those of the ranges that are rejected, in their order, each with its reason
 abbrev pub rejected_ranges : State → List AtomicRange → List RejectedAtomicRange
 rejected_ranges state ranges = rejected_of (lines state.document.text) (in_order ranges)
 
--- the rejected ranges are named; where there are none, the ranges were set
+-- the result of setting ranges: the rejected ranges, or done if there are none
 abbrev pub ranges_answer : List RejectedAtomicRange → Said
 ranges_answer [] = Done
 ranges_answer (range ∷ rejected) = Rejected (range ∷ rejected)
 
--- the ranges are set where none is rejected, and else nothing changes
+-- the ranges are set if none is rejected, and otherwise nothing changes
 abbrev pub with_ranges_if : List RejectedAtomicRange → State → List AtomicRange → State
 with_ranges_if [] state ranges = ranges_accepted state ranges
 with_ranges_if (range ∷ rejected) state ranges = state
 
--- what the call answers; a pattern that is set, where it isn't refused. What is measured or hit, and what an input answers, isn't said here
+-- the result of the call; of one that sets a pattern, if the pattern is accepted. The results of a
+-- measure, a hit test and an input are defined elsewhere
 abbrev pub answer_of : State → Call → Said
 answer_of state (InsertStr text) = Flag (inserts_text state (given (chars text.now)))
 answer_of state InsertTab = Flag (inserts_tab state)
@@ -101,14 +102,14 @@ answer_of state MinRows = told.Number state.surround.min_rows
 answer_of state MaxRows = told.Number state.surround.max_rows
 answer_of state call = Done
 
--- the lines take the place of the old ones, and all edits and highlights of the caller's own are forgotten: the cursor goes to the
--- nearest place of theirs, nothing is selected, and nothing is scrolled
+-- the lines replace the old ones, and all edits and custom highlights are forgotten: the cursor
+-- moves to the nearest position in them, nothing is selected, and nothing is scrolled
 abbrev pub with_lines : {Z : Type 0} → State → List (String Z) → Place → State
 with_lines state lines cursor =
     with_other_lines state (fresh_document (text_of lines) state.document.layout.settings state.document.layout.count (clip (lines_of lines) cursor) state.document.log.maximum)
 
--- the state after the call; after a pattern that is set, where it isn't refused. Where a move, a scroll or an input leads, and what a
--- drawing leaves, isn't said here
+-- the state after the call; after one that sets a pattern, if the pattern is accepted. The states
+-- after moves, scrolls, inputs and drawings are defined elsewhere
 abbrev pub state_after : State → Call → State
 state_after state (InsertChar c) = char_inserted state c
 state_after state (InsertStr text) = str_inserted state (given (chars text.now))
@@ -172,9 +173,10 @@ state_after state (CustomHighlight range style priority) = highlighted state ran
 state_after state ClearCustomHighlight = unhighlighted state
 state_after state call = state
 
--- the call may ask for memory: not where it has nothing to do, where a setting cuts no line, where a measure reads the rows that are
--- kept, and where a hit is in rows at the left; and a move, a scroll, any other setting and what reads one, a begun, dropped
--- or whole selection, ranges that are forgotten or looked up, and highlights that are forgotten never
+-- the call may need memory: not if it has nothing to do, if a setting keeps the layout, if a
+-- measure reads the cached rows, or for a hit test with left alignment; and never a move, a scroll,
+-- any other setting or a call that reads one, a call that begins, drops or completes a selection,
+-- one that clears or looks up ranges, or one that clears highlights
 abbrev pub NeedsMemory : State → Call → Type 0
 NeedsMemory state (InsertChar c) = Unit {0}
 NeedsMemory state (InsertStr text) = inserts_text state (given (chars text.now)) ≢ false
@@ -216,7 +218,8 @@ NeedsMemory state (Render area) = Unit {0}
 NeedsMemory state (CursorAtPosition position) = state.drawing.look.alignment ≢ Left
 NeedsMemory state call = ⊥
 
--- what a call that answered out of memory leaves: the state as it was, or, of an insertion, the one without what was selected
+-- the state after a call that ran out of memory: the old state, or, after an insertion, that
+-- without the selected text
 abbrev pub LeftRefused : State → Call → State → Type 0
 LeftRefused old (InsertChar c) new = selection.IsLeft old new
 LeftRefused old (InsertStr text) new = selection.IsLeft old new

@@ -1,9 +1,9 @@
--- What is drawn of a text area, and what drawing and scrolling make of its state.
+-- The drawn parts of a text area, and the state after drawing and scrolling.
 use Rattle.std.specs.Prelude.{◌≡◌, ℕ, [], ◌∷◌, ◌++◌}
 use Rattle.textarea_data.specs.declared.scroll.Scrolling.{Scrolling}
-use Rattle.textarea_drawing.specs.Frame.{Parts}
-use Rattle.textarea_drawing.specs.Rendered as drawing
-use Rattle.textarea_drawing.specs.State.{DrawingState, with_viewport}
+use Rattle.tui_textarea.specs.DrawnFrame.{Parts}
+use Rattle.tui_textarea.specs.Rendered as drawing
+use Rattle.tui_textarea.specs.DrawingState.{DrawingState, with_viewport}
 use Rattle.textarea_view.specs.declared.look.Look.{Look}
 use Rattle.textarea_screen.specs.declared.screen.rect.Rect.{Rect}
 use Rattle.textarea_screen.specs.declared.screen.style.Style.{Style}
@@ -11,35 +11,32 @@ use Rattle.textarea_text.specs.Place.{Place}
 use Rattle.textarea_view.specs.Scrolled.{scrolled_by}
 use Rattle.tui_textarea.specs.State.{State}
 
--- what of a text area is drawn
+-- the parts of a text area that are drawn
 abbrev pub parts_of : State → Parts
 parts_of state = record { document = state.document; pattern = state.pattern; surround = state.surround; drawing = state.drawing }
 
--- what is drawn changes, and all else stays
 abbrev pub with_drawing : State → DrawingState → State
 with_drawing state drawing = record state { drawing = drawing }
 
--- the look changes, and all else stays
 abbrev pub with_look : State → Look → State
 with_look state look = with_drawing state (record state.drawing { look = look })
 
--- a highlight of the caller's own is added behind the others: from a row and a byte of it to a row and a byte of it
+-- a custom highlight is added after the others, from a row and byte to a row and byte
 abbrev pub highlighted : State → Place × Place → Style → ℕ → State
 highlighted state range style priority = with_drawing state (record state.drawing {
   highlights = state.drawing.highlights ++ record { start = range.0; end = range.1; style = style; priority = priority } ∷ [];
 })
 
--- there are none of them any more
+-- all custom highlights are removed
 abbrev pub unhighlighted : State → State
 unhighlighted state = with_drawing state (record state.drawing { highlights = [] })
 
--- another part of the visual rows is shown
 abbrev pub viewport_scrolled : State → Scrolling → State
 viewport_scrolled state scrolling =
     with_drawing state (with_viewport state.drawing (scrolled_by state.drawing.viewport scrolling))
 
--- The state after a drawing into the area: the text laid out for the width inside of the block, the part that is shown then, the
--- inner area and the caret. All else is as it was.
+-- The state after a drawing into the area: the layout has the width inside the block, and the
+-- viewport, the inner area and the caret are those of this drawing. All else is as before.
 pub record IsRendered (old : State) (area : Rect) (new : State) : Type 0 where
   pub parts : drawing.IsRendered (parts_of old) area (parts_of new)
   pub rest : new ≡ record old { document = new.document; drawing = new.drawing }

@@ -1,4 +1,4 @@
--- What the insertions make of the state: what is selected goes first, as an edit of its own.
+-- The states after insertions, which first remove the selected text, as its own edit.
 use Rattle.std.specs.Prelude.{ℕ, ◌-◌, ◌%◌, ◌==◌, ◌||◌, Bool, not, List, [], take, replicate, slice_index_or, if◌then◌else◌}
 use Rattle.textarea_text.specs.Text.{Symbol, Character, lines}
 use Rattle.textarea_document.specs.State.{DocumentState}
@@ -13,33 +13,33 @@ use Rattle.tui_textarea.specs.Layout.{tab_length}
 abbrev pub breaks_line : ℕ → Bool
 breaks_line c = (c == 10) || (c == 13)
 
--- the character is inserted where an insertion goes, as a typed one
+-- the character is inserted at the insertion position, as typed
 abbrev pub typed_character_inserted : State → ℕ → State
 typed_character_inserted state c = with_document state (character_inserted state.document c state.settings.undo_coalescing state.moment)
 
--- the line is broken there
 abbrev pub line_broken : State → State
 line_broken state = with_document state (break_inserted state.document state.moment)
 
--- what stands for a character is inserted
+-- the character, or the break that it means, is inserted
 abbrev pub char_or_break_inserted : State → ℕ → State
 char_or_break_inserted state c = if breaks_line c then line_broken state else typed_character_inserted state c
 
--- the symbols are inserted there; where there are none, the cursor goes there and nothing is selected any more
+-- the symbols are inserted; without any, the cursor moves to the insertion position, and nothing is
+-- selected any more
 abbrev pub symbols_or_none_inserted : State → List Symbol → State
 symbols_or_none_inserted state symbols = with_document state (symbols_inserted state.document symbols state.moment)
 
--- the characters of its line before the place where an insertion goes: before the cursor, or before the end of the atomic
--- range that strictly holds it
+-- the characters before the insertion position in its line: before the cursor, or before the end of
+-- the atomic range that strictly contains it
 abbrev pub before_insertion : DocumentState → List ℕ
 before_insertion document = take (insertion_place document).1 (slice_index_or (lines document.text) (insertion_place document).0 [])
 
--- how many spaces reach from there to the next tab stop: the tab length less the remainder of the width of what stands
--- before it in its line
+-- the spaces to the next tab stop: the tab length minus the width before them modulo the tab length
 abbrev pub spaces_to_stop : DocumentState → ℕ → ℕ
 spaces_to_stop document tab_length = tab_length - width_of (before_insertion document) % tab_length
 
--- a tab of this length is inserted: at tab length 0 nothing, else a tab character, typed, or the spaces to the next tab stop
+-- a tab of this length is inserted: nothing at tab length 0, otherwise a tab character, typed, or
+-- the spaces to the next tab stop
 abbrev pub tab_or_spaces_inserted : State → ℕ → State
 tab_or_spaces_inserted state tab_length =
     if tab_length == 0 then selection_cancelled state

@@ -3,7 +3,7 @@ use Rattle.std.specs.Prelude.{◌≡◌, ℕ}
 use Rattle.textarea_view.specs.Measure.{width_inside}
 use Rattle.tui_textarea.specs.State.{State}
 
--- the text is laid out for the width that is left inside of the block of an area of this width
+-- the layout has the width inside the block of an area of this width
 abbrev pub IsLaidOutFor : State → ℕ → Type 0
 IsLaidOutFor state width =
     state.document.layout.settings.inner_width ≡ width_inside state.surround.block width

@@ -1,5 +1,5 @@
--- What the inputs make of the state. Each input asks for an action, by one of the two tables of keys; what an action answers, what it
--- makes of the state, and where it may run out of memory, is that of the call for which it stands.
+-- The states after inputs. Each input has an action, by one of the two key tables. The action's
+-- result, the state after it, and where it may run out of memory, are those of its call.
 use Rattle.std.specs.Prelude.{◌≡◌, Bool, false}
 use Rattle.textarea_data.specs.declared.input.Input.{Input}
 use Rattle.textarea_calls.specs.Answer as answer
@@ -14,29 +14,29 @@ use Rattle.tui_textarea.specs.Moves.{IsMovedWith, IsScrolled, IsScrolledWith}
 use Rattle.tui_textarea.specs.Said.{Said, Flag}
 use Rattle.tui_textarea.specs.State.{State}
 
--- what an input asks for: by the table with shortcuts, and by the one without them
+-- the action of an input: by the table with shortcuts, and by the one without
 abbrev pub asked_by : Input → Action
 asked_by input = action_by keys input
 
 abbrev pub asked_without_shortcuts : Input → Action
 asked_without_shortcuts input = action_by keys_without_shortcuts input
 
--- whether an answer says that there was something to do
+-- whether the result states that there was something to do
 abbrev pub flag_of : Said → Bool
 flag_of (Flag found) = found
 flag_of other = false
 
--- what the call answers, where it says itself whether it changed the text
+-- the result of the call, if it returns itself whether it changed the text
 abbrev pub called : State → Action → Bool
 called state (Edit edit) = flag_of (answer_of state (call_of_edit edit))
 called state action = false
 
--- what an input that asks for the action answers: true for a character or a line break, false for a copy, a move, a scroll and where
--- it asks for nothing, and else what the call answers
+-- the result of an input with this action: true for a character or a line break; false for a copy,
+-- a move, a scroll or no action; otherwise the result of the call
 abbrev pub acts : State → Action → Bool
 acts state action = told (answer.answer_of action) (called state action)
 
--- this is the state behind an input that asks for the action
+-- the state after an input with this action
 abbrev pub IsActed : State → Action → State → Type 0
 IsActed old Nothing new = new ≡ old
 IsActed old (Edit edit) new = new ≡ state_after old (call_of_edit edit)
@@ -45,13 +45,13 @@ IsActed old (MoveWithShift cursor_move shift) new = IsMovedWith old shift cursor
 IsActed old (ScrollWithShift scrolling shift) new = IsScrolledWith old shift scrolling new
 IsActed old (Scroll scrolling) new = IsScrolled old scrolling new
 
--- an input that asks for the action may answer out of memory: where its call may
+-- an input with this action may run out of memory, because its call may
 abbrev pub MayRefuseAct : State → Action → Type 0
 MayRefuseAct state (Edit edit) = NeedsMemory state (call_of_edit edit)
 MayRefuseAct state (Write write) = NeedsMemory state (call_of_write write)
 MayRefuseAct state action = ⊥
 
--- what an input that answered out of memory leaves: what its call leaves
+-- the state after an input that ran out of memory: that of its call
 abbrev pub IsLeftBy : State → Action → State → Type 0
 IsLeftBy old (Edit edit) new = LeftRefused old (call_of_edit edit) new
 IsLeftBy old (Write write) new = LeftRefused old (call_of_write write) new

@@ -1,4 +1,4 @@
--- What one call after another does, and what the visual rows are at any time.
+-- A copy followed by a paste, and the visual rows at any time.
 use Rattle.std.specs.Prelude.{◌≡◌, ◌<◌, ℕ, List, true, encode_utf8_all, length, max}
 use Rattle.textarea_text.specs.Place.{end, inserted, line_of}
 use Rattle.textarea_text.specs.Text.{lines}
@@ -15,13 +15,12 @@ use Rattle.tui_textarea.specs.State.{State}
 use Rattle.tui_textarea.specs.Edits.{str_inserted}
 use Rattle.tui_textarea.specs.Selection.{selection_copied}
 
--- the state after a `copy` and a `paste`
 abbrev pub copied_and_pasted : State → State
 copied_and_pasted state = str_inserted (selection_copied state) (selection_copied state).yank
 
--- A `paste` behind a `copy` of a text area in which a symbol is selected: the text is the one with exactly the symbols that were
--- selected inserted at the cursor, or at the end of the atomic range that strictly holds it; the cursor stands behind them; and
--- the paste answers that there was something to insert.
+-- A `paste` after a `copy` with selected text: the text has exactly the selected symbols inserted,
+-- at the cursor or at the end of the atomic range that strictly contains it; the cursor is after
+-- them; and the paste returns that there was something to insert.
 pub record PastesCopy (state : State) : Type 0 where
   pub text : (copied_and_pasted state).document.text
       ≡ inserted state.document.text (insertion_place state.document) (selected state.document)
@@ -29,14 +28,14 @@ pub record PastesCopy (state : State) : Type 0 where
       ≡ end (insertion_place state.document) (selected state.document)
   pub answer : is_filled (selection_copied state).yank ≡ true
 
--- The ranges are those that `line_ranges` returns for this line, given by its characters, in that mode, at that width and with such tab
--- stops: the right ones, of which there are no others.
+-- The ranges are those that `line_ranges` returns for the characters of this line, with that mode,
+-- width and tab length: the only correct ones.
 abbrev pub AreLineRanges : Wrapping → List ℕ → List (ℕ × ℕ) → Type 0
 AreLineRanges wrapping line ranges = IsWrapped wrapping.mode wrapping.tab_len (max wrapping.width 1) (encode_utf8_all line) ranges
 
--- The visual rows of a text as it stands, from scratch. There is one list of them, and whatever a clause says of right rows it says of
--- this list: each line has the rows that `line_ranges` returns for it, in the mode, with the tab stops and at the width that is left
--- beside line numbers, and no others; and each line was cut when the state says.
+-- The visual rows of the text, computed from scratch. There is exactly one correct list: each line
+-- has the rows that `line_ranges` returns for it, with the mode, the tab length and the width
+-- beside the line numbers, and each line was last wrapped at the tick that the state records.
 pub record HasRowsAnew (state : State) : Type 0 where
   pub rows : List RowsView
   pub right : IsLaidOutAs (laid_out_of state.document) rows

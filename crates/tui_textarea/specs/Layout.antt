@@ -1,4 +1,4 @@
--- What the calls that decide how the text is laid out make of the state.
+-- The states after the calls that set the layout.
 use Rattle.std.specs.Prelude.{ℕ, Bool, true, false, List, [], ◌∷◌, replicate, Option, Some, None, if◌then◌else◌}
 use Rattle.textarea_screen.specs.declared.screen.alignment.Alignment.{Alignment}
 use Rattle.textarea_screen.specs.declared.screen.alignment.Alignment.TheVariants.{Left, Center, Right}
@@ -11,15 +11,15 @@ use Rattle.textarea_document.specs.Rows.{laid_out_of, with_layout_settings}
 use Rattle.tui_textarea.specs.Drawing.{with_look}
 use Rattle.tui_textarea.specs.State.{State, with_document}
 
--- the columns between two tab stops
+-- the distance of tab stops, in columns
 abbrev pub tab_length : DocumentState → ℕ
 tab_length document = document.layout.settings.tab_len
 
--- the text is laid out in another way, and its lines are cut anew where they are cut in another way
+-- the layout settings change, and all lines are wrapped again if that changes the layout
 abbrev pub with_layout : State → LayoutSettings → State
 with_layout state settings = with_document state (with_layout_settings state.document settings)
 
--- whether the text is cut as it stands where it is laid out in this way
+-- whether these settings keep the layout
 abbrev pub stays_cut : State → LayoutSettings → Bool
 stays_cut state settings = layout.stays_cut (laid_out_of state.document) settings
 
@@ -33,40 +33,37 @@ tab_length_set state columns = record state.document.layout.settings { tab_len =
 abbrev pub numbers_set : State → Bool → LayoutSettings
 numbers_set state shown = record state.document.layout.settings { line_numbers = shown }
 
--- lines are wrapped in this mode
 abbrev pub with_wrap_mode : State → WrapMode → State
 with_wrap_mode state mode = with_layout state (mode_set state mode)
 
--- tab stops stand so many columns apart
 abbrev pub with_tab_length : State → ℕ → State
 with_tab_length state columns = with_layout state (tab_length_set state columns)
 
--- each line has its number beside it, in this style
+-- line numbers are shown, in this style
 abbrev pub with_line_numbers : State → Style → State
 with_line_numbers state style =
     with_look (with_layout state (numbers_set state true))
     (record state.drawing.look { line_number_style = style })
 
--- no line has its number beside it
 abbrev pub without_line_numbers : State → State
 without_line_numbers state = with_layout state (numbers_set state false)
 
--- the style of line numbers, if there are any
+-- the style of the line numbers, if they are shown
 abbrev pub number_style : State → Option Style
 number_style state = if state.document.layout.settings.line_numbers then Some state.drawing.look.line_number_style else None
 
--- the settings of the layout where rows stand so: in the middle and at the right there are no line numbers
+-- the layout settings for this alignment: in the middle and at the right there are no line numbers
 abbrev pub alignment_set : State → Alignment → LayoutSettings
 alignment_set state Left = state.document.layout.settings
 alignment_set state Center = numbers_set state false
 alignment_set state Right = numbers_set state false
 
--- rows stand so in the inner area
 abbrev pub with_alignment : State → Alignment → State
 with_alignment state alignment =
     with_look (with_layout state (alignment_set state alignment))
     (record state.drawing.look { alignment = alignment })
 
--- what a tab at a line's start is, by its bytes: a tab character where hard tabs are on, else as many spaces as the tab length
+-- the bytes of a tab at a line's start: a tab character with hard tabs, otherwise a space for each
+-- column of the tab length
 abbrev pub indent_of : State → List ℕ
 indent_of state = if state.settings.hard_tab_indent then 9 ∷ [] else replicate (tab_length state.document) 32

@@ -1,3 +1,11 @@
+pub mod DrawingState
+pub mod DrawnFrame
+pub mod Hit
+pub mod Rendered
+pub mod DrawingSteps
+pub mod CaretBack
+pub mod CaretShown
+pub mod DrawingPrelude
 pub mod State
 pub mod Drawing
 pub mod Edits

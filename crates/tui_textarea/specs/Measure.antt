@@ -1,4 +1,4 @@
--- The height that is measured.
+-- The measured height.
 use Rattle.std.specs.Prelude.{◌≡◌, ◌⊎◌, ℕ, Bool, not}
 use Rattle.textarea_lines.specs.Layout.{is_cut_at}
 use Rattle.textarea_view.specs.Measure.{measure_of, width_inside}
@@ -8,21 +8,20 @@ use Rattle.textarea_document.specs.Rows.{HasRowsAt, laid_out_of}
 use Rattle.tui_textarea.specs.State.{State}
 use Rattle.textarea_view.specs.State.{SurroundState}
 
--- the measure of an area of this width: that of the surround, for as many rows as the text has where it is laid out anew
--- inside of the block
+-- the measure of an area of this width: that of the surround, for the number of rows of the text in
+-- a layout from scratch inside the block
 pub record IsMeasured (state : State) (width : ℕ) (measure : TextAreaMeasure) : Type 0 where
   pub rows : ℕ
   pub rows_are : HasRowsAt state.document (width_inside state.surround.block width) rows
   pub measure_is : measure ≡ measure_of state.surround rows (not (is_filled state.document.text))
 
--- it is that of an area of this width before a change of the state, or after it
+-- it is the measure of an area of this width before or after a change of the state
 abbrev pub IsMeasuredAround : State → State → ℕ → TextAreaMeasure → Type 0
 IsMeasuredAround old new width measure = IsMeasured old width measure ⊎ IsMeasured new width measure
 
--- the surround changes, and all else stays
 abbrev pub with_surround : State → SurroundState → State
 with_surround state surround = record state { surround = surround }
 
--- whether the rows that the text has as it is cut now are those that a measure at this width asks for
+-- whether the layout has the width inside the block of an area of this width
 abbrev pub reads_rows : State → ℕ → Bool
 reads_rows state width = is_cut_at (laid_out_of state.document) (width_inside state.surround.block width)

@@ -1,4 +1,4 @@
--- What the moves make of the state.
+-- The states after moves.
 use Rattle.std.specs.Prelude.{◌≡◌, Bool, true, false, List, Option, Some, None, is_some, option_map, unwrap_or}
 use Rattle.textarea_text.specs.Place.{Place}
 use Rattle.textarea_data.specs.declared.cursor.CursorMove.{CursorMove}
@@ -11,22 +11,23 @@ use Rattle.textarea_ranges.specs.Held.{moved_out}
 use Rattle.textarea_document.specs.Outcomes.{moved}
 use Rattle.textarea_document.specs.State.{DocumentState}
 use Rattle.textarea_document.specs.Rows.{IsAboveCursor, IsBelowCursor}
-use Rattle.textarea_drawing.specs.Hit.{IsInside}
+use Rattle.tui_textarea.specs.Hit.{IsInside}
 use Rattle.textarea_document.specs.Target.{VisualTargets, target}
 use Rattle.tui_textarea.specs.Drawing.{viewport_scrolled}
 use Rattle.tui_textarea.specs.State.{State, with_document}
 
--- where a selection begins behind a move: with Shift the open one stays, or one begins at the old cursor; without it none is open
+-- the selection's beginning after a move: with Shift the open selection's, or the old cursor;
+-- without Shift there is none
 abbrev pub anchor_with : Bool → DocumentState → Option Place
 anchor_with true document = Some (unwrap_or document.anchor document.cursor)
 anchor_with false document = None
 
--- the cursor goes to the target, if there is one, with Shift or without it; where there is none nothing changes, also no selection
+-- the cursor moves to the target, with or without Shift; without a target nothing changes
 abbrev pub moved_by : State → Bool → Option Place → State
 moved_by state shift None = state
 moved_by state shift (Some place) = with_document state (moved state.document place (anchor_with shift state.document))
 
--- the moves that lead to a range's start where they would end strictly inside it; the others lead to its end
+-- which end of an atomic range replaces the move's target if that is strictly inside it
 abbrev pub bias_of : CursorMove → AtomicCursorBias
 bias_of move.Back = Backward
 bias_of move.Up = Backward
@@ -36,13 +37,13 @@ bias_of move.WordBack = Backward
 bias_of move.ParagraphBack = Backward
 bias_of other = Forward
 
--- the target, moved out of the atomic range that strictly holds it
+-- the target, moved out of the atomic range that strictly contains it
 abbrev pub pushed : List AtomicRange → CursorMove → Option Place → Option Place
 pushed ranges cursor_move found = option_map (λ place. moved_out ranges place (bias_of cursor_move)) found
 
--- Where the move leads to, if anywhere. Up goes to the place one visual row above the cursor, Down to the one below it, and InViewport
--- to the nearest one that is shown, in the rows of the text as it stands; any other move's target is told from the text alone,
--- whatever those places are.
+-- The target of the move, if it has one: for Up the position one visual row above the cursor, for
+-- Down the one below it, for InViewport the nearest visible one, in the layout as it is; for any
+-- other move it depends only on the text and the cursor.
 pub record IsTarget (state : State) (cursor_move : CursorMove) (found : Option Place) : Type 0 where
   pub visual : VisualTargets
   pub above_is : cursor_move ≡ move.Up → IsAboveCursor state.document visual.above
@@ -50,18 +51,17 @@ pub record IsTarget (state : State) (cursor_move : CursorMove) (found : Option P
   pub inside_is : cursor_move ≡ move.InViewport → IsInside state.document state.drawing.viewport visual.inside
   pub found_is : found ≡ target visual state.document.text state.document.cursor cursor_move
 
--- the state after the move, with Shift or without it: the cursor has gone to the target, if there is one
+-- the state after the move, with or without Shift: the cursor is at the target, if there is one
 pub record IsMovedWith (old : State) (shift : Bool) (cursor_move : CursorMove) (new : State) : Type 0 where
   pub found : Option Place
   pub target_is : IsTarget old cursor_move found
   pub new_is : new ≡ moved_by old shift (pushed old.document.ranges cursor_move found)
 
--- the state after a scroll, with Shift or without it: another part is shown, and then the cursor has gone to the nearest place that
--- is shown
+-- the state after a scroll, with or without Shift, with the cursor at the nearest visible position
 abbrev pub IsScrolledWith : State → Bool → Scrolling → State → Type 0
 IsScrolledWith old shift scrolling new = IsMovedWith (viewport_scrolled old scrolling) shift move.InViewport new
 
--- the calls that move and scroll do so with Shift exactly if a selection is open, so an open one stays open, and none begins
+-- the calls that move and scroll use Shift exactly if a selection is open, so none begins or ends
 abbrev pub IsMoved : State → CursorMove → State → Type 0
 IsMoved old cursor_move new = IsMovedWith old (is_some old.document.anchor) cursor_move new
 

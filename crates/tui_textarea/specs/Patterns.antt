@@ -1,4 +1,4 @@
--- Why a call that sets a pattern may not do so.
+-- Why a call that sets a pattern may fail.
 use Rattle.std.specs.Prelude.{◌≡◌, ◌≢◌, ℕ, List, [], Some, Result, Ok, Err, IfOk, IsOk, IsErr}
 use Rattle.regex.specs.declared.error.Error.{Error}
 use Rattle.textarea_search.specs.Failures.{IsCarried, IsPatternFailure}
@@ -8,21 +8,21 @@ use Rattle.tui_textarea.specs.Said.{said, Done, PatternRefused}
 use Rattle.textarea_calls.specs.declared.answer.Answer.{Answer}
 use Rattle.tui_textarea.specs.State.{State}
 
--- the text is neither empty nor the present pattern, so that a pattern has to be built
+-- the text is neither empty nor the present pattern, so a pattern has to be built
 pub record IsNewPattern (state : State) (text : List ℕ) : Type 0 where
   pub some : text ≢ []
   pub other : state.pattern ≢ Some text
 
--- `regex` may refuse the text as a pattern: it has an error for it, and one of syntax only where the text has no reading as
--- a pattern or nests too deep
+-- `regex` may reject the text as a pattern: it has an error for it, and a syntax error only if the
+-- text is no pattern or nests too deep
 pub record MayRefusePattern (state : State) (text : List ℕ) : Type 0 where
   pub is_new : IsNewPattern state text
   pub error : Error
   pub because : IsPatternFailure text (Pattern error)
   pub carried : IsCarried text (Pattern error)
 
--- how it is told that a pattern was set: done where it is; refused where `regex` gave an error; and out of memory where that was
--- the reason
+-- how the result of setting a pattern is converted: done if it was set; rejected if `regex`
+-- returned an error; and out of memory if that was the reason
 abbrev pub IsToldAs : {T E : Type 0} → Result T SearchError → Result Answer E → Type 0
 IsToldAs (Ok set) told = IsOk told × IfOk told (λ answer. said answer ≡ Done)
 IsToldAs (Err (Pattern error)) told = IsOk told × IfOk told (λ answer. said answer ≡ PatternRefused)

@@ -1,4 +1,4 @@
--- What the calls for atomic ranges make of the state.
+-- The states after the calls for atomic ranges.
 use Rattle.std.specs.Prelude.{List}
 use Rattle.textarea_data.specs.declared.range.AtomicRange.{AtomicRange}
 use Rattle.textarea_data.specs.declared.range.AtomicCursorBias.{AtomicCursorBias}
@@ -7,18 +7,16 @@ use Rattle.textarea_document.specs.Edits.{hit_at_cursor}
 use Rattle.textarea_document.specs.Ranges.{accepted, normalized, range_removed, ranges_forgotten}
 use Rattle.tui_textarea.specs.State.{State, with_document}
 
--- the ranges are accepted
 abbrev pub ranges_accepted : State → List AtomicRange → State
 ranges_accepted state ranges = with_document state (accepted state.document ranges)
 
--- no range is held any more
 abbrev pub ranges_cleared : State → State
 ranges_cleared state = with_document state (ranges_forgotten state.document)
 
--- the cursor goes out of the range that strictly holds it
+-- the cursor moves out of the range that strictly contains it
 abbrev pub cursor_normalized : State → AtomicCursorBias → State
 cursor_normalized state bias = with_document state (normalized state.document bias)
 
--- the range that is hit is removed, and the selection kept
+-- the range at the cursor is removed, and the selection stays
 abbrev pub hit_range_removed : State → AtomicDeleteDirection → State
 hit_range_removed state direction = with_document state (range_removed (hit_at_cursor state.document direction) state.document state.moment)

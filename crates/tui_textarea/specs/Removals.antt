@@ -1,4 +1,4 @@
--- What the removals make of the state: where a symbol is selected, that goes alone and nothing is yanked.
+-- The states after removals. If text is selected, only that is removed, and nothing is yanked.
 use Rattle.std.specs.Prelude.{ℕ, ◌+◌, ◌==◌, ◌||◌, nat_lt, Bool, not, List, [], length, min, slice_index_or, if◌then◌else◌, Option, None, Some, is_some}
 use Rattle.textarea_text.specs.Text.{lines}
 use Rattle.textarea_text.specs.Place.{Place, place_of}
@@ -13,12 +13,12 @@ use Rattle.tui_textarea.specs.Selection.{selection_cancelled, unselected}
 
 -- ---- where nothing is selected
 
--- what stands between the two places is removed, with the atomic ranges that it overlaps, and what went is yanked
+-- the text between the two positions is removed and yanked, with the atomic ranges that it overlaps
 unfoldable pub yanked : State → Place → Place → State
 yanked state from to = record state { document = part_removed state.document from to state.moment; yank = taken_symbols state.document from to }
 
--- the atomic range that is hit before the cursor is removed, or else the symbol there as a typed edit, if there is one;
--- and so for the one behind it
+-- the atomic range at the cursor, backward, is removed, or else the symbol before the cursor, if
+-- there is one, as a typed edit; and the same forward
 abbrev pub symbol_before_removed : State → State
 symbol_before_removed state = with_document state (removed_before state.document state.settings.undo_coalescing state.moment)
 
@@ -29,66 +29,64 @@ symbol_behind_removed state = with_document state (removed_behind state.document
 abbrev pub break_before_removed : State → State
 break_before_removed state = with_document state (break_removed state.document state.moment)
 
--- the characters of the cursor's line
 abbrev pub cursor_line : DocumentState → List ℕ
 cursor_line document = slice_index_or (lines document.text) document.cursor.0 []
 
--- whether the cursor stands at its line's end
 abbrev pub is_at_line_end : DocumentState → Bool
 is_at_line_end document = document.cursor.1 == length (cursor_line document)
 
--- the place of this column in the cursor's line
+-- the position of this column in the cursor's line
 abbrev pub in_line : DocumentState → ℕ → Place
 in_line document column = (document.cursor.0, column)
 
--- the index that lies this many symbols behind the cursor, or at the text's end
+-- the index this number of symbols after the cursor, or the text's end
 abbrev pub index_ahead : DocumentState → ℕ → ℕ
 index_ahead document count = min (cursor_index document + count) (length document.text)
 
--- the symbols behind the cursor, this many or all that there are, are removed and yanked, if there are any
+-- this number of symbols after the cursor, or all if there are fewer, are removed and yanked
 abbrev pub symbols_ahead_removed : State → ℕ → State
 symbols_ahead_removed state count =
     if nat_lt (cursor_index state.document) (index_ahead state.document count)
     then yanked state state.document.cursor (place_of state.document.text (index_ahead state.document count)) else selection_cancelled state
 
--- from the cursor to the line's end; at the line's end as the symbol behind
+-- the text from the cursor to the line's end, or at the end the symbol after it
 abbrev pub line_end_removed : State → State
 line_end_removed state =
     if is_at_line_end state.document then symbol_behind_removed state
     else yanked state state.document.cursor (in_line state.document (length (cursor_line state.document)))
 
--- from the line's start to the cursor; at the line's start as the break before
+-- the text from the line's start to the cursor, or at the start the break before it
 abbrev pub line_head_removed : State → State
 line_head_removed state =
     if state.document.cursor.1 == 0 then break_before_removed state else yanked state (in_line state.document 0) state.document.cursor
 
--- the atomic range is removed and not yanked, where one was hit; else it is the other state
+-- the range is removed and not yanked, if there is one; otherwise it is the other state
 abbrev pub hit_removed_or : Option AtomicRange → State → State → State
 hit_removed_or None state other = other
 hit_removed_or (Some range) state other = with_document state (part_removed state.document (range_start range) (range_end range) state.moment)
 
--- from the start of the word before the cursor, or the line's start, to the cursor; at the line's start as the break
--- before
+-- the text from the start of the word before the cursor, or from the line's start, to the cursor;
+-- at the line's start the break before it
 unfoldable pub back_to_word_removed : State → State
 back_to_word_removed state =
     if state.document.cursor.1 == 0 then break_before_removed state
     else yanked state (in_line state.document (word_start_before (cursor_line state.document) state.document.cursor.1)) state.document.cursor
 
--- the range that is hit before the cursor, or else back to the word's start
+-- the range at the cursor, backward, or else back to the word's start
 abbrev pub word_before_removed : State → State
 word_before_removed state = hit_removed_or (hit_before state.document) state (back_to_word_removed state)
 
--- from the cursor to behind the word, or to the line's end; at the line's end as the symbol behind
+-- the text from the cursor to the word's end, or to the line's end; there the symbol after it
 unfoldable pub on_to_word_end_removed : State → State
 on_to_word_end_removed state =
     if is_at_line_end state.document then symbol_behind_removed state
     else yanked state state.document.cursor (in_line state.document (word_end_after (cursor_line state.document) state.document.cursor.1))
 
--- the range that is hit behind the cursor, or else on to the word's end
+-- the range at the cursor, forward, or else up to the word's end
 abbrev pub word_behind_removed : State → State
 word_behind_removed state = hit_removed_or (hit_behind state.document) state (on_to_word_end_removed state)
 
--- whether there is a symbol for each
+-- whether each of them has a symbol to remove
 abbrev pub has_before : State → Bool
 has_before state = not (is_at_start state.document)
 
@@ -101,14 +99,14 @@ has_break_before state = not (state.document.cursor.0 == 0)
 abbrev pub has_ahead : State → ℕ → Bool
 has_ahead state count = nat_lt (cursor_index state.document) (index_ahead state.document count)
 
--- something behind the cursor: a character of its line, or what the symbol behind is; and before it
+-- whether there is text after the cursor, in its line or after that; and the same before it
 abbrev pub has_line_behind : State → Bool
 has_line_behind state = not (is_at_line_end state.document) || has_behind state
 
 abbrev pub has_line_before : State → Bool
 has_line_before state = not (state.document.cursor.1 == 0) || has_break_before state
 
--- a range that is hit, or something in the line
+-- whether there is a range at the cursor, or text in that direction
 abbrev pub has_word_before : State → Bool
 has_word_before state = is_some (hit_before state.document) || has_line_before state
 
@@ -117,14 +115,14 @@ has_word_behind state = is_some (hit_behind state.document) || has_line_behind s
 
 -- ---- the calls
 
--- where a symbol is selected, that is removed, and else it is the other state
+-- if text is selected, that is removed, and otherwise it is the other state
 abbrev pub unselected_or : State → State → State
 unselected_or state other = if is_selected state.document then unselected state else other
 
 abbrev pub removes_or : State → Bool → Bool
 removes_or state other = is_selected state.document || other
 
--- all the text is removed and yanked, as one removal from its start; of an empty text nothing changes
+-- all text is removed and yanked, as one removal from its start; an empty text stays unchanged
 abbrev pub text_cleared : State → State
 text_cleared state =
     if is_filled state.document.text then yanked state (0, 0) (place_of state.document.text (length state.document.text)) else state

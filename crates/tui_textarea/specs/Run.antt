@@ -1,4 +1,4 @@
--- A run of calls: the outcomes one after another, up to the first call that runs out of memory.
+-- A run of calls: the states and buffers after them, up to the first call that runs out of memory.
 use Rattle.std.specs.Prelude.{◌≡◌, ◌<◌, ◌⊎◌, ℕ, List, [], ◌∷◌, length, map, take, slice_get, Option, Some, None}
 use Rattle.textarea_screen.specs.Buffer.{area_of, cell_at}
 use Rattle.textarea_screen.specs.declared.screen.buffer.Buffer.{Buffer}
@@ -8,14 +8,14 @@ use Rattle.textarea_calls.specs.declared.answer.Answer.{Answer}
 use Rattle.tui_textarea.specs.Said.{Said, said}
 use Rattle.tui_textarea.specs.Outcomes.{IsAnswer, IsBehind, IsShown, IsSpared, Refused}
 
--- the call may answer so in the old state and over the old buffer, and leave the new ones
+-- the call may have this result in the old state and over the old buffer, and leave the new ones
 pub record Makes (old : State) (buffer : Buffer) (call : Call) (answer : Said) (new : State) (shown : Buffer) : Type 0 where
   pub answered : IsAnswer old call answer
   pub behind : IsBehind old call answer new
   pub drawn : IsShown call new buffer shown
 
--- the calls lead from the old state and the old buffer to the new ones where they answer so, one answer a call: behind each call are
--- a state and a buffer from which the later ones go on
+-- the calls lead with these results, one for each call, from the old state and buffer to the new
+-- ones: each call starts from the state and buffer after the one before it
 abbrev pub Leads : State → Buffer → List Call → List Said → State → Buffer → Type 0
 Leads old buffer [] [] new shown = (new ≡ old) × (shown ≡ buffer)
 Leads old buffer (call ∷ calls) (answer ∷ answers) new shown =
@@ -26,7 +26,8 @@ Leads old buffer calls answers new shown = ⊥
 abbrev pub Completes : State → Buffer → List Call → List Answer → State → Buffer → Type 0
 Completes old buffer calls answers new shown = Leads old buffer calls (map said answers) new shown
 
--- the calls before the one of this index were made, and that one was refused in the state and over the buffer that they led to
+-- the calls before this index were made, and the one at it ran out of memory, in the state and over
+-- the buffer after them
 pub record StopsAt (old : State) (buffer : Buffer) (calls : List Call) (answers : List Answer) (index : ℕ) (new : State) (shown : Buffer) : Type 0 where
   pub call : Call
   pub here : slice_get calls index ≡ Some call
@@ -36,7 +37,7 @@ pub record StopsAt (old : State) (buffer : Buffer) (calls : List Call) (answers 
   pub refused : Refused before call new
   pub spared : IsSpared call screen shown
 
--- there is a call and no room for its answer, so none was made
+-- there is a call, but memory runs out for the list of results, so none was made
 pub record NeverBegins (old : State) (buffer : Buffer) (calls : List Call) (answers : List Answer) (index : ℕ) (new : State) (shown : Buffer) : Type 0 where
   pub some : 0 < length calls
   pub first : index ≡ 0
@@ -44,12 +45,13 @@ pub record NeverBegins (old : State) (buffer : Buffer) (calls : List Call) (answ
   pub state : new ≡ old
   pub screen : shown ≡ buffer
 
--- the run of the calls gives these answers, this new state and this new buffer, and was refused at that index if there is one
+-- the run of the calls has these results, state and buffer; it ran out of memory at the index, if
+-- any
 abbrev pub Run : State → Buffer → List Call → List Answer → Option ℕ → State → Buffer → Type 0
 Run old buffer calls answers None new shown = Completes old buffer calls answers new shown
 Run old buffer calls answers (Some index) new shown = NeverBegins old buffer calls answers index new shown ⊎ StopsAt old buffer calls answers index new shown
 
--- the buffers have the same cells: the area is the same, and so is what is seen of each cell
+-- the buffers show the same: their areas are equal, and so is each visible cell
 pub record ShowsSame (buffer other : Buffer) : Type 0 where
   pub area : area_of buffer ≡ area_of other
   pub cells : (x y : ℕ) → cell_at buffer x y ≡ cell_at other x y

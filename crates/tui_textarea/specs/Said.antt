@@ -1,5 +1,5 @@
--- What answers say. A `String` that clauses see whole has a capacity and a place in memory too, which no reader of an answer
--- asks for, so a text is compared by its characters, and the cell of a caret by its column and its row.
+-- The results of calls, without what a caller doesn't use: a text by its characters, without the
+-- capacity and address of its `String`; the cell of the caret by column and row.
 use Rattle.std.specs.Prelude.{ℕ, Bool, List, Option, string_bytes}
 use Rattle.std.specs.Option.{option_map}
 use Rattle.std.specs.Str.{chars}
@@ -15,11 +15,11 @@ use Rattle.textarea_wrap.specs.declared.wrap.WrapMode as modes_of_wrapping
 use Rattle.textarea_calls.specs.declared.answer.Answer.{Answer}
 use Rattle.textarea_calls.specs.declared.answer.Answer.TheVariants as answer
 
--- nothing but that the call was made; whether it found something to do; a text; the range that it found, if there was one;
--- the ranges that were rejected; the heights that were measured; that the pattern is refused; the place that a cell shows, if it
--- shows one; the column and the row of the caret, if it is shown; a style; the mask, if there is one; how the cursor is drawn; where
--- rows stand; a number that is set; the cursor's place; the two ends of the selection, if one is open; a style, if what it is for is
--- shown; or how lines are wrapped
+-- done and nothing else; whether there was something to do; a text; the range that was found, if
+-- any; the rejected ranges; the measured heights; that the pattern is rejected; the position that a
+-- cell shows, if any; the column and row of the caret, if it is shown; a style; the mask, if there
+-- is one; how the cursor is drawn; the alignment of rows; a number that is set; the cursor; the two
+-- ends of the selection, if one is open; a style, if its part is shown; or how lines are wrapped
 pub data Said : Type 0 where
   Done : Said
   Flag : Bool → Said

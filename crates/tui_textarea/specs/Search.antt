@@ -1,4 +1,4 @@
--- Where the searches lead, and what they make of the state.
+-- The positions that searches find, and the states after them.
 use Rattle.std.specs.Prelude.{ℕ, Bool, List, [], ◌∷◌, map, Option, Some, None}
 use Rattle.std.specs.Str.{encode_utf8_all}
 use Rattle.textarea_text.specs.Text.{Symbol, lines}
@@ -10,7 +10,7 @@ use Rattle.textarea_search.specs.declared.search.direction.Direction.TheVariants
 use Rattle.textarea_document.specs.Outcomes.{moved}
 use Rattle.tui_textarea.specs.State.{State, with_document}
 
--- the pattern that a text sets: none where it is empty
+-- the pattern that a text sets: none if it is empty
 abbrev pub pattern_in : List ℕ → Option (List ℕ)
 pattern_in [] = None
 pattern_in (byte ∷ bytes) = Some (byte ∷ bytes)
@@ -19,26 +19,25 @@ pattern_in (byte ∷ bytes) = Some (byte ∷ bytes)
 abbrev pub with_pattern : State → List ℕ → State
 with_pattern state text = record state { pattern = pattern_in text }
 
--- the places at which the matches of a pattern start in a text, in the order of the text: those of each line's listed
--- matches, and none without a pattern
+-- the positions at which the pattern's matches in a text start, in order; none without a pattern
 abbrev pub starts_in : Option (List ℕ) → List Symbol → List Place
 starts_in None text = []
 starts_in (Some pattern) text = starts_from (match_columns pattern) 0 (map encode_utf8_all (lines text))
 
--- where a search from the cursor leads
+-- the position that a search from the cursor finds
 abbrev pub found_match : Direction → State → Bool → Option Place
 found_match direction state at_cursor =
     found_start direction (starts_in state.pattern state.document.text) state.document.cursor at_cursor
 
--- to the next start behind the cursor or, where that counts, at it, and past the end of the text to its first start
+-- the next start after the cursor or, if that counts, at it; past the text's end its first start
 abbrev pub next_match : State → Bool → Option Place
 next_match state at_cursor = found_match Forward state at_cursor
 
--- to the last start before the cursor or, where that counts, at it, and past the beginning of the text to its last start
+-- the last start before the cursor or, if that counts, at it; before all starts the last of all
 abbrev pub previous_match : State → Bool → Option Place
 previous_match state at_cursor = found_match Back state at_cursor
 
--- the cursor goes to the place that was found, if one was; the anchor stays, and a run of typing ends
+-- the cursor moves to the found position, if any; the anchor stays, and a run of typing ends
 abbrev pub searched : State → Option Place → State
 searched state None = state
 searched state (Some place) = with_document state (moved state.document place state.document.anchor)

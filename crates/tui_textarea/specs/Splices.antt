@@ -1,4 +1,4 @@
--- The splices of each edit: functions from the state to their list.
+-- The splices of each edit, as functions of the state.
 use Rattle.std.specs.Prelude.{ℕ, ◌==◌, List, [], ◌∷◌, ◌++◌, length, nat_lt, replicate, if◌then◌else◌}
 use Rattle.textarea_text.specs.Place.{place_of}
 use Rattle.textarea_text.specs.Splice.{Splice}
@@ -16,17 +16,17 @@ use Rattle.tui_textarea.specs.State.{State}
 
 -- ---- insertions
 
--- the removal of what is selected, and then the insertion of the symbols into the text that this leaves
+-- the removal of the selected text, and then the insertion of the symbols into the remaining text
 abbrev pub str_splices : State → List Symbol → List Splice
 str_splices state symbols =
     selected_splices state.document ++ insertion_splices (unselected state).document symbols
 
--- a character, or the break that a line feed and a carriage return stand for
+-- a character, or the break that a line feed or a carriage return means
 abbrev pub char_splices : State → ℕ → List Splice
 char_splices state c =
     if breaks_line c then str_splices state (Break ∷ []) else str_splices state (Character c ∷ [])
 
--- a tab: nothing at tab length 0, else a tab character or the spaces to the next tab stop
+-- a tab: nothing at tab length 0, otherwise a tab character or the spaces to the next tab stop
 abbrev pub tab_splices : State → List Splice
 tab_splices state =
     if tab_length state.document == 0 then str_splices state []
@@ -35,36 +35,38 @@ tab_splices state =
 
 -- ---- removals
 
--- the removal of what is selected, where a symbol is, and else the other splices
+-- the removal of the selected text, if there is any, and otherwise the other splices
 abbrev pub selected_splices_or : DocumentState → List Splice → List Splice
 selected_splices_or document other = if is_selected document then selected_splices document else other
 
--- this many symbols after the cursor, or all that there are
+-- this number of symbols after the cursor, or all if there are fewer
 abbrev pub ahead_splices : DocumentState → ℕ → List Splice
 ahead_splices document count =
     if nat_lt (cursor_index document) (index_ahead document count)
     then removal_splices document document.cursor (place_of document.text (index_ahead document count)) else []
 
--- from the cursor to the line's end, and there the symbol after the cursor
+-- from the cursor to the line's end, or at the end the symbol after it
 abbrev pub line_end_splices : DocumentState → List Splice
 line_end_splices document =
     if is_at_line_end document then after_splices document
     else removal_splices document document.cursor (in_line document (length (cursor_line document)))
 
--- from the line's start to the cursor, and there the break before
+-- from the line's start to the cursor, or at the start the break before it
 abbrev pub line_head_splices : DocumentState → List Splice
 line_head_splices document =
     if document.cursor.1 == 0 then break_splices document
     else removal_splices document (in_line document 0) document.cursor
 
--- the range that is hit before the cursor, or else from the word's start to the cursor, and at the line's start the break before
+-- the range at the cursor, backward, or else from the word's start to the cursor, at the line's
+-- start the break before it
 abbrev pub word_before_splices : DocumentState → List Splice
 word_before_splices document =
     range_splices_or (hit_before document) document
     (if document.cursor.1 == 0 then break_splices document
     else removal_splices document (in_line document (word_start_before (cursor_line document) document.cursor.1)) document.cursor)
 
--- the range that is hit after the cursor, or else from the cursor to the word's end, and at the line's end the symbol after the cursor
+-- the range at the cursor, forward, or else up to the word's end, at the line's end the symbol
+-- after it
 abbrev pub word_after_splices : DocumentState → List Splice
 word_after_splices document =
     range_splices_or (hit_behind document) document

@@ -1,4 +1,4 @@
--- The state of a text area, by parts.
+-- The state of a text area.
 use Rattle.std.specs.Prelude.{ℕ, List, [], false, map, Option, None}
 use Rattle.std.specs.Borrow.{Bor}
 use Rattle.std.specs.Str.{chars}
@@ -7,12 +7,12 @@ use Rattle.textarea_document.specs.State.{DocumentState, new_document}
 use Rattle.textarea_wrap.specs.declared.wrap.WrapMode.TheVariants as mode
 use Rattle.textarea_lines.specs.declared.settings.LayoutSettings.{LayoutSettings}
 use Rattle.textarea_view.specs.State.{SurroundState, new_surround}
-use Rattle.textarea_drawing.specs.State.{DrawingState, for_other_lines, new_drawing}
+use Rattle.tui_textarea.specs.DrawingState.{DrawingState, for_other_lines, new_drawing}
 use Rattle.tui_textarea.specs.declared.textarea.settings.Settings.{Settings}
 
--- a text area as its callers see it: the document; what was yanked last; the settings; the moment that was handed in last,
--- in nanoseconds; the pattern that is searched for, by its bytes, if there is one; the surround around the rows; and how it is drawn,
--- and what was drawn last
+-- a text area as its callers see it: the document; the yanked text; the settings; the time that was
+-- set last, in nanoseconds; the search pattern, by its bytes, if there is one; the surround around
+-- the rows; and the styles, the viewport and what was drawn last
 pub record State : Type 0 where
   pub document : DocumentState
   pub yank : List Symbol
@@ -22,31 +22,31 @@ pub record State : Type 0 where
   pub surround : SurroundState
   pub drawing : DrawingState
 
--- the settings at first: a tab made of spaces, and no joining of typed edits
+-- the initial settings: tabs as spaces, and typed edits do not join
 abbrev pub default_settings : Settings
 default_settings = record { hard_tab_indent = false; undo_coalescing = false }
 
--- how the text is laid out at first: one row a line, tab stops at each fourth column, no line numbers, and no area drawn yet
+-- the initial layout: one visual row per line, tab stops at each fourth column, no line numbers, no
+-- area drawn yet
 abbrev pub default_layout : LayoutSettings
 default_layout = record { mode = mode.None; tab_len = 4; line_numbers = false; inner_width = 0 }
 
--- a new text area: the cursor at the start, nothing selected, at most 50 edits remembered and none yet, nothing yanked,
--- no pattern, no block and no placeholder, the first look, and nothing drawn
+-- a new text area: the cursor at the start, nothing selected, at most 50 edits remembered and none
+-- yet, nothing yanked, no pattern, no block and no placeholder, the initial look, and nothing drawn
 abbrev pub new_state : List Symbol → State
 new_state text = record { document = new_document text default_layout 50; yank = []; settings = default_settings; moment = 0; pattern = None; surround = new_surround; drawing = new_drawing }
 
--- the document changes, and all else stays
 abbrev pub with_document : State → DocumentState → State
 with_document state document = record state { document = document }
 
--- other lines take the place of the old ones: no highlight of the caller's own is left, nothing is scrolled, and all else stays
+-- other lines replace the old ones: no custom highlight stays, nothing is scrolled; all else stays
 abbrev pub with_other_lines : State → DocumentState → State
 with_other_lines state document = record state { document = document; drawing = for_other_lines state.drawing }
 
--- the characters of a text that is lent
+-- the characters of a borrowed text
 abbrev pub lent_characters : Bor (List ℕ) → List ℕ
 lent_characters text = chars text.now
 
--- the text of which each of these is a line
+-- the text with each of these as a line
 abbrev pub text_of_each : List (Bor (List ℕ)) → List Symbol
 text_of_each texts = joined (map lent_characters texts)

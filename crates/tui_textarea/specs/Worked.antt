@@ -1,4 +1,4 @@
--- Text areas of worked cases of the count, and what is done to them.
+-- Text areas of the worked cases of the wrap counter, and calls on them.
 use Rattle.std.specs.Prelude.{ℕ, List, [], ◌∷◌, replicate}
 use Rattle.std.specs.List.{range_with_len}
 use Rattle.textarea_data.specs.declared.cursor.CursorMove.TheVariants.{Bottom, End}
@@ -13,23 +13,22 @@ use Rattle.tui_textarea.specs.Layout.{with_line_numbers, with_wrap_mode}
 use Rattle.tui_textarea.specs.Moves.{IsMoved}
 use Rattle.tui_textarea.specs.State.{State, new_state, with_document}
 
--- how many lines were cut so far
+-- the number of lines that were wrapped so far
 abbrev pub cut_so_far : State → ℕ
 cut_so_far state = state.document.layout.count
 
--- so many lines of so many letters each, from `a` on
+-- this number of equal lines, each of this number of letters from `a` on
 abbrev pub lettered : ℕ → ℕ → List Symbol
 lettered lines letters = joined (replicate lines (range_with_len 97 letters))
 
--- a hundred lines `abcdefgh`, wrapped by clusters
+-- a hundred lines `abcdefgh`, wrapped by grapheme clusters
 abbrev pub hundred_lines : State
 hundred_lines = with_wrap_mode (new_state (lettered 100 8)) mode.Glyph
 
--- nine lines `abcdefg` with their numbers, in a mode
+-- nine lines `abcdefg` with line numbers, in a mode
 abbrev pub nine_lines : WrapMode → Style → State
 nine_lines mode style = with_line_numbers (with_wrap_mode (new_state (lettered 9 7)) mode) style
 
--- `a` is typed
 abbrev pub with_a : State → State
 with_a state = char_inserted state 97
 
@@ -37,13 +36,13 @@ with_a state = char_inserted state 97
 abbrev pub with_x_y_z : State → State
 with_x_y_z state = str_inserted state (given (120 ∷ 10 ∷ 121 ∷ 10 ∷ 122 ∷ []))
 
--- the newest edit is taken back, and made again
+-- the newest edit is undone; and redone
 abbrev pub taken_back : State → State
 taken_back state = with_document state (undone state.document)
 
 abbrev pub made_again : State → State
 made_again state = with_document state (redone state.document)
 
--- the cursor has gone to the last line, and to its end
+-- the cursor has moved to the last line, and to its end
 abbrev pub IsAtEndOf : State → State → Type 0
 IsAtEndOf old new = (below : State) × IsMoved old Bottom below × IsMoved below End new

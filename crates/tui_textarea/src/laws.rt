@@ -1,56 +1,38 @@
 //! Laws of text areas and their visual rows, each the contract of a function that does nothing.
-ghost use Rattle.std.specs.Prelude.{◌≡◌, ◌<◌, ◌^◌, ℕ, Bool, List, [], true, false, length};
+ghost use Rattle.std.specs.Prelude.{◌≡◌, ◌<◌, ◌^◌, ℕ, Bool, [], true, false, length};
 ghost use Rattle.textarea_util.specs.Limit.{size_limit};
 ghost use Rattle.textarea_data.specs.declared.cursor.CursorMove.{CursorMove};
 ghost use Rattle.textarea_data.specs.declared.scroll.Scrolling.{Scrolling};
-ghost use Rattle.textarea_document.specs.Goes.{GoesUncut};
-ghost use Rattle.textarea_document.specs.Cuts.{CutsAll, CutsBySettings, CutsByWidth, SplicedBy};
 ghost use Rattle.textarea_document.specs.Rows.{laid_out_of};
 ghost use Rattle.textarea_document.specs.Sound.{IsSound};
-ghost use Rattle.textarea_document.specs.Splices.{break_splices, hit_splices, selected_splices};
-ghost use Rattle.textarea_document.specs.State.{fresh_document};
-ghost use Rattle.textarea_drawing.specs.Back.{IsHitBack};
-ghost use Rattle.textarea_drawing.specs.Frame.{frame_of};
+ghost use Rattle.tui_textarea.specs.CaretBack.{IsHitBack};
+ghost use Rattle.tui_textarea.specs.DrawnFrame.{frame_of};
 ghost use Rattle.textarea_view.specs.Frame.{shows_placeholder};
-ghost use Rattle.textarea_drawing.specs.Shown.{IsCaretShown};
+ghost use Rattle.tui_textarea.specs.CaretShown.{IsCaretShown};
 ghost use Rattle.textarea_calls.specs.declared.action.Action.{Action};
-ghost use Rattle.textarea_lines.specs.declared.settings.LayoutSettings.{LayoutSettings};
 ghost use Rattle.textarea_screen_map.specs.Lent.{LentRows};
 ghost use Rattle.textarea_lines.specs.View.{IsViewOf};
 ghost use Rattle.textarea_blocks.specs.Sums.{row_total};
-ghost use Rattle.textarea_data.specs.declared.range.AtomicDeleteDirection.{AtomicDeleteDirection};
 ghost use Rattle.textarea_screen.specs.declared.screen.rect.Rect.{Rect};
 ghost use Rattle.textarea_view.specs.Measure.{saturated, width_inside};
 ghost use Rattle.textarea_view.specs.declared.surround.measure.TextAreaMeasure.{TextAreaMeasure};
-ghost use Rattle.textarea_text.specs.Place.{Place};
 ghost use Rattle.textarea_text.specs.Size.{weight};
-ghost use Rattle.textarea_text.specs.Text.{Symbol};
 ghost use Rattle.tui_textarea.specs.Drawing.{IsRendered, parts_of};
-ghost use Rattle.tui_textarea.specs.Edits.{str_inserted};
 ghost use Rattle.tui_textarea.specs.Frames.{IsLaidOutFor};
 ghost use Rattle.tui_textarea.specs.Measure.{IsMeasured, IsMeasuredAround};
-ghost use Rattle.tui_textarea.specs.Goes.{GoesByAct};
 ghost use Rattle.tui_textarea.specs.Input.{IsActed};
-ghost use Rattle.tui_textarea.specs.Layout.{with_layout};
 ghost use Rattle.tui_textarea.specs.Moves.{IsMovedWith, IsScrolledWith};
-ghost use Rattle.tui_textarea.specs.Ranges.{hit_range_removed};
-ghost use Rattle.tui_textarea.specs.Removals.{break_before_removed, symbols_ahead_removed, text_cleared, unselected_or};
-ghost use Rattle.tui_textarea.specs.Selection.{unselected};
-ghost use Rattle.tui_textarea.specs.Splices.{ahead_splices, clear_splices, selected_splices_or, str_splices};
-ghost use Rattle.tui_textarea.specs.CallSplices.{splices_by};
-ghost use Rattle.tui_textarea.specs.State.{State, with_other_lines};
+ghost use Rattle.tui_textarea.specs.State.{State};
 
+use crate::drawing::laws::{caret_is_hit_back, caret_is_shown, one_place_inside};
 pub use crate::textarea::laws::{
     copy_then_paste, cursor_and_anchor_are_places, edits_fit, is_sound, redo_gives_all_back,
     rows_are_laid_out_anew, undos_give_back,
 };
-use textarea_document::laws::{
-    edits_cut, layouts_cut, one_place_up_and_down, one_row_count, ranges_go_along,
-};
-use textarea_drawing::laws::{caret_is_hit_back, caret_is_shown, one_place_inside};
+use textarea_document::laws::{one_place_up_and_down, one_row_count};
 use textarea_lines::laws::{cut_as_measured, settings_stay};
 
-/// A move leads from a state to one state, with Shift and without it.
+/// A move determines the state after it, with or without Shift.
 pub fn one_move()
     ensures { (old first second : State) (shift : Bool) (cursor_move : CursorMove) →
         IsMovedWith old shift cursor_move first → IsMovedWith old shift cursor_move second →
@@ -60,7 +42,7 @@ pub fn one_move()
     one_place_inside();
 }
 
-/// What an input asks for leads from a state to one state.
+/// The action of an input determines the state after it.
 pub fn one_input()
     ensures { (old first second : State) (action : Action) →
         IsActed old action first → IsActed old action second → first ≡ second }
@@ -68,7 +50,7 @@ pub fn one_input()
     one_move();
 }
 
-/// An area of a width, in columns, has one measure.
+/// The measure of an area is determined by the area's width, in columns.
 pub fn one_measure()
     ensures { (state : State) (width : ℕ) (measure other : TextAreaMeasure) →
         IsMeasured state width measure → IsMeasured state width other → measure ≡ other }
@@ -76,9 +58,9 @@ pub fn one_measure()
     one_row_count();
 }
 
-/// What is measured for the width of an area, before a drawing into that area or after it, is what the drawing has, but 65535 at
-/// most: its visual rows, where a column is left inside of the block, or the lines of the placeholder, where these are shown
-/// instead of the rows.
+/// A measure for the width of an area, before or after a drawing into that area, counts what the
+/// drawing shows, up to 65535: its visual rows, if a column is left inside the block, or the
+/// placeholder's lines, if these are shown instead.
 pub fn measured_as_drawn()
     ensures rows { (old new : State) (area : Rect) (measure : TextAreaMeasure) (view : LentRows) →
         IsMeasuredAround old new area.width measure → IsRendered old area new →
@@ -97,8 +79,8 @@ pub fn measured_as_drawn()
     settings_stay();
 }
 
-/// After a drawing the text is laid out for the width of its area, and where it is laid out for the width of an area, a drawing
-/// into that area leaves the document as it is: nothing is cut.
+/// After a drawing the layout has the width of the drawn area. If it has the width of an area
+/// already, a drawing into that area leaves the document unchanged: no line is wrapped.
 pub fn drawn_at_its_width()
     ensures put { (old new : State) (area : Rect) →
         IsRendered old area new → IsLaidOutFor new area.width }
@@ -108,8 +90,7 @@ pub fn drawn_at_its_width()
     settings_stay();
 }
 
-/// A move and a scroll, with Shift or without it, leave the layout of the text, so they cut nothing; and it stays laid out for the
-/// width of an area.
+/// A move or scroll, with or without Shift, leaves the layout and its width: no line is wrapped.
 pub fn moves_cut_nothing()
     ensures moved { (old new : State) (shift : Bool) (cursor_move : CursorMove) →
         IsMovedWith old shift cursor_move new → new.document.layout ≡ old.document.layout }
@@ -123,8 +104,8 @@ pub fn moves_cut_nothing()
         IsLaidOutFor old width → IsLaidOutFor new width }
 {}
 
-/// The text is cut once for all drawings at one width: a second drawing into an area as wide leaves the document as it is, also
-/// where a move or a scroll came between.
+/// The text is wrapped once for all drawings at one width: a second drawing into an area of the
+/// same width leaves the document unchanged, even after a move or a scroll between the two.
 pub fn frame_cuts_once()
     ensures again { (old first second : State) (area other : Rect) → other.width ≡ area.width →
         IsRendered old area first → IsRendered first other second →
@@ -142,85 +123,9 @@ pub fn frame_cuts_once()
     moves_cut_nothing();
 }
 
-/// What an input cuts: its splices lead from the old text and its rows to the new ones, one after another, and each cuts the lines
-/// that a splice cuts, so that the count grows by just as many. What asks for no edit has no splice, and leaves text, rows and count.
-pub fn inputs_cut()
-    ensures { (old new : State) (action : Action) → IsSound old.document →
-        IsActed old action new →
-        SplicedBy old.document (splices_by old action) new.document }
-{
-    edits_cut();
-}
-
-/// What the calls cut that no input asks for and that edit the text, and what the removal of what is selected cuts, which an
-/// insertion leaves that then runs out of memory: their splices do as those of an input.
-pub fn calls_cut()
-    ensures text { (state : State) (symbols : List Symbol) → IsSound state.document →
-        SplicedBy state.document (str_splices state symbols) (str_inserted state symbols).document }
-    ensures ahead { (state : State) (count : ℕ) → IsSound state.document →
-        SplicedBy state.document
-        (selected_splices_or state.document (ahead_splices state.document count))
-        (unselected_or state (symbols_ahead_removed state count)).document }
-    ensures range { (state : State) (direction : AtomicDeleteDirection) →
-        IsSound state.document →
-        SplicedBy state.document (hit_splices state.document direction)
-        (hit_range_removed state direction).document }
-    ensures selection { (state : State) → IsSound state.document →
-        SplicedBy state.document (selected_splices state.document) (unselected state).document }
-{
-    edits_cut();
-}
-
-/// What else cuts lines. A drawing cuts all lines where it changes the width of the map, and else none; other settings cut all
-/// lines where they cut the text in another way, and else none; and other lines that take the place of the old ones are all cut.
-pub fn layouts_are_cut()
-    ensures drawing { (old new : State) (area : Rect) → IsRendered old area new →
-        CutsByWidth old.document new.document }
-    ensures settings { (state : State) (settings : LayoutSettings) →
-        CutsBySettings state.document settings (with_layout state settings).document }
-    ensures lines { (state : State) (text : List Symbol) (cursor : Place) (maximum : ℕ) →
-        CutsAll state.document
-        (with_other_lines state
-        (fresh_document text state.document.layout.settings state.document.layout.count cursor
-        maximum)).document }
-{
-    layouts_cut();
-}
-
-/// The ranges go with the text over an input: over its splices, which lead from the old text to the new one. Only those of an undo
-/// and a redo may cut a range.
-pub fn ranges_go_behind_inputs()
-    ensures { (old new : State) (action : Action) → IsSound old.document →
-        IsActed old action new →
-        GoesByAct action old.document (splices_by old action) new.document }
-{
-    ranges_go_along();
-}
-
-/// And so they do over the calls that no input asks for and that edit the text, over the removal of what is selected, which an
-/// insertion leaves that then runs out of memory, and over a drawing, which has no splice. None of these splices cuts a range.
-pub fn ranges_go_behind_calls()
-    ensures text { (state : State) (symbols : List Symbol) → IsSound state.document →
-        GoesUncut state.document (str_splices state symbols) (str_inserted state symbols).document }
-    ensures ahead { (state : State) (count : ℕ) → IsSound state.document →
-        GoesUncut state.document
-        (selected_splices_or state.document (ahead_splices state.document count))
-        (unselected_or state (symbols_ahead_removed state count)).document }
-    ensures range { (state : State) (direction : AtomicDeleteDirection) →
-        IsSound state.document →
-        GoesUncut state.document (hit_splices state.document direction)
-        (hit_range_removed state direction).document }
-    ensures selection { (state : State) → IsSound state.document →
-        GoesUncut state.document (selected_splices state.document) (unselected state).document }
-    ensures drawing { (old new : State) (area : Rect) → IsRendered old area new →
-        GoesUncut old.document [] new.document }
-{
-    ranges_go_along();
-}
-
-/// In each state that a drawing leaves, a caret that is shown is hit back, where no character of the cursor's visual row has display
-/// width 0: its cell shows the cursor. And with rows at the left the caret is shown where the inner area has room for it. Every text
-/// area is so small, and its tabs are so short, as is asked here.
+/// After every drawing, the position at the caret's cell is the cursor, if the caret is shown and
+/// no character of the cursor's visual row has display width 0. With left alignment the caret is
+/// shown if the inner area has room for it. Every text area satisfies the assumed limits of size.
 pub fn carets_are_kept()
     ensures back { (old new : State) (area : Rect) → IsSound new.document →
         IsRendered old area new → IsHitBack (parts_of new) }

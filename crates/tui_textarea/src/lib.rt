@@ -1,6 +1,7 @@
-//! The text area over one flat text, by groups of calls, and what each call does as definitions and laws.
+//! The text area, a multi-line editor widget for terminals, with definitions and laws of its calls.
 #![tactic(auto)]
 
+mod drawing;
 pub mod laws;
 pub mod outcomes;
 pub mod textarea;
@@ -25,29 +26,12 @@ pub use textarea_view::look::CursorRenderMode;
 pub use textarea_view::surround::measure::TextAreaMeasure;
 pub use textarea_wrap::wrap::WrapMode;
 
-/// The spans of a drawn row.
+/// The spans of a visual row, as it is drawn.
 pub mod highlight {
     pub use textarea_highlight::highlight::{CursorCellRender, LineHighlighter};
 }
 
-/// The history of a text's edits, and the laws of undo and redo.
-pub mod history {
-    pub use textarea_history::history::{Edit, EditKind, History};
-
-    /// What undo and redo give back, whatever was edited.
-    pub mod laws {
-        pub use textarea_history::history::laws::{
-            each_edit_fits, redo_gives_back, stays_sound, undos_give_back,
-        };
-    }
-}
-
-/// Layout numbers, and the digits of a number.
-pub mod layout {
-    pub use textarea_wrap::layout::{LayoutMetrics, num_digits};
-}
-
-/// The visual rows of all lines, kept line by line.
+/// The visual rows of all lines, updated line by line.
 pub mod screen_map {
     pub use textarea_screen_map::screen_map::{PreparedRows, ScreenMap};
 }
@@ -57,15 +41,6 @@ pub mod search {
     pub use textarea_search::search::{Matches, Search, SearchError};
 }
 
-/// Classes of characters, and searches for the words of a line.
-pub mod word {
-    pub use textarea_text::word::{
-        CharKind, find_word_exclusive_end_forward, find_word_inclusive_end_forward,
-        find_word_start_backward, find_word_start_forward,
-    };
-}
-
-/// The rows of one line at a width.
-pub mod wrap {
-    pub use textarea_wrap::wrap::{Rows, WrapCount, WrapMode, line_ranges};
-}
+pub use textarea_history::history;
+pub use textarea_text::word;
+pub use textarea_wrap::{layout, wrap};

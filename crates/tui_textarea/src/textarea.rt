@@ -1,4 +1,5 @@
-//! The text area: a document, what was yanked, the settings, the clock, a pattern, a surround, and how all is drawn.
+//! The text area: a document, the yanked text, the settings, the clock, a search pattern, a
+//! surround, and the state of drawing.
 mod constructors;
 mod edits;
 mod input;
@@ -22,25 +23,23 @@ ghost use Rattle.textarea_text.specs.Text.{lines, lines_of, text_of};
 ghost use Rattle.textarea_text.specs.Place.{IsPlace};
 ghost use Rattle.textarea_text.specs.Size.{size_of};
 ghost use Rattle.textarea_document.specs.State.{fresh_document};
-ghost use Rattle.textarea_text.specs.Given.{written};
 ghost use Rattle.textarea_text.specs.Part.{clip};
 ghost use Rattle.tui_textarea.specs.State.{new_state, with_other_lines};
 
+use crate::drawing::Drawing;
 use crate::textarea::settings::Settings;
 use std::alloc::{AllocError, Global};
 use std::marker::Model;
 use std::time::Duration;
 use textarea_document::Document;
-use textarea_drawing::Drawing;
 use textarea_lines::settings::LayoutSettings;
 use textarea_search::search::Search;
 use textarea_view::surround::Surround;
 use textarea_wrap::wrap::WrapMode;
 
-/// How many edits a new text area remembers.
 const DEFAULT_MAX_HISTORIES: usize = 50;
 
-/// How a new text area's text is laid out: one row a line, and no area is drawn yet.
+/// The layout of a new text area: one visual row per line, and no area drawn yet.
 const DEFAULT_LAYOUT: LayoutSettings = LayoutSettings {
     mode: WrapMode::None,
     tab_len: 4,
@@ -48,11 +47,12 @@ const DEFAULT_LAYOUT: LayoutSettings = LayoutSettings {
     inner_width: 0,
 };
 
-/// A multi-line text editor: lines of text, a cursor, a selection, a yanked text, settings, a pattern to search for, a
-/// history of edits, a surround of a block, a placeholder and the least and the greatest height, and how it is drawn.
+/// A multi-line text editor: lines with a cursor, a selection, a yanked text and an undo history;
+/// settings; a search pattern; a block, a placeholder and height limits around it; and its styles
+/// and viewport.
 ///
-/// Rows and columns count from 0, columns in characters. A call that runs out of memory leaves the text area as it was,
-/// or, where it inserts over a selection, as it is after what was selected was removed.
+/// Rows and columns count from 0, columns in characters. A call that runs out of memory leaves the
+/// text area unchanged; only an insertion may have removed the selected text.
 #[derive(Drop)]
 pub struct TextArea<'a> {
     document: Document,
@@ -85,7 +85,7 @@ impl<'a> Model for TextArea<'a> {
 impl<'a> Clone for TextArea<'a> {
     ghost is_clone = { λ area copy. copy ≡ area };
 
-    /// The same text area with its history, or an error where there is no memory for it.
+    /// Returns a copy of the text area with its history, or an error if memory runs out.
     fn clone(&self) -> Result<TextArea<'a>, AllocError> {
         let (search, surround, drawing) = self.clone_shown()?;
         let (document, yank) = self.clone_text()?;
@@ -102,7 +102,7 @@ impl<'a> Clone for TextArea<'a> {
 }
 
 impl<'a> TextArea<'a> {
-    // Copies of the document and of what was yanked.
+    // Returns copies of the document and of the yanked text.
     fn clone_text(&self) -> Result<(Document, Vec<String>), AllocError>
         ensures document { IfOk result (λ copies. copies.0 ≡ self.now.document) }
         ensures yank { IfOk result (λ copies. text_of copies.1.items ≡ self.now.yank) }
@@ -111,7 +111,7 @@ impl<'a> TextArea<'a> {
         Ok((self.document.clone()?, yank))
     }
 
-    // Copies of the pattern, of the surround, and of how all is drawn.
+    // Returns copies of the search pattern, of the surround, and of the state of drawing.
     fn clone_shown(&self) -> Result<(Search, Surround<'a>, Drawing), AllocError>
         ensures pattern { IfOk result (λ copies. copies.0 ≡ self.now.pattern) }
         ensures surround { IfOk result (λ copies. copies.1 ≡ self.now.surround) }
@@ -122,8 +122,8 @@ impl<'a> TextArea<'a> {
         Ok((search, surround, self.drawing.clone()?))
     }
 
-    /// A text area of these lines, the cursor at the start; no line at all becomes one empty line. A line feed inside a
-    /// line stays a character of that line.
+    /// Returns a text area with these lines and the cursor at the start. An empty list becomes one
+    /// empty line. A line feed inside a line stays a character of that line.
     pub fn new(lines: Vec<String>) -> Result<Self, AllocError>
         ensures { IfOk result (λ area. area ≡ new_state (text_of lines.items)) }
     {
@@ -139,7 +139,7 @@ impl<'a> TextArea<'a> {
         })
     }
 
-    /// An empty text area: one empty line.
+    /// Returns an empty text area, with one empty line.
     pub fn try_default(alloc: Global) -> Result<Self, AllocError>
         ensures { IfOk result (λ area. area ≡ new_state []) }
     {
@@ -147,9 +147,10 @@ impl<'a> TextArea<'a> {
         TextArea::new(lines)
     }
 
-    /// Holds these lines in place of the old ones, the cursor at the nearest place of theirs. All edits are forgotten,
-    /// nothing is selected, no custom highlight is left, and the viewport's numbers are 0; the settings, the pattern, what
-    /// was yanked, the last area and the caret stay. A line feed inside a line stays a character of that line.
+    /// Replaces all lines, and moves the cursor to the position in them that is nearest to
+    /// `cursor`. Forgets all edits, the selection, the atomic ranges and the custom highlights, and
+    /// resets the viewport's numbers to 0. Settings, search pattern, yanked text, the last area and
+    /// the caret stay. A line feed inside a line stays a character of that line.
     pub fn set_lines(
         &mut self,
         lines: Vec<String>,
@@ -168,7 +169,7 @@ impl<'a> TextArea<'a> {
         Ok(())
     }
 
-    /// The lines, one at least. Their bytes and their number together are at most 2^48.
+    /// Returns the lines, at least one. Their bytes and their number together are at most 2^48.
     pub fn lines(&self) -> &[String]
         ensures lines { lines_of result.now ≡ lines self.now.document.text }
         ensures some { 0 < length result.now }
@@ -177,7 +178,7 @@ impl<'a> TextArea<'a> {
         self.document.lines()
     }
 
-    /// The lines alone.
+    /// Drops everything but the lines, and returns these.
     pub fn into_lines(self) -> Vec<String>
         ensures lines { text_of result.items ≡ self.entry.document.text }
         ensures some { 0 < vec_len result }
@@ -186,7 +187,7 @@ impl<'a> TextArea<'a> {
         document.into_lines()
     }
 
-    /// The cursor's (row, column), which is always a place of the text.
+    /// Returns the cursor's (row, column), which is always a position of the text.
     pub fn cursor(&self) -> (usize, usize)
         ensures value { result ≡ self.now.document.cursor }
         ensures place { IsPlace self.now.document.text result }
@@ -194,14 +195,13 @@ impl<'a> TextArea<'a> {
         self.document.cursor()
     }
 
-    /// Whether the text is one empty line.
+    /// Returns whether the text is one empty line.
     pub fn is_empty(&self) -> bool
         ensures { IsTrue result ↔ (self.now.document.text ≡ []) }
     {
         self.document.is_empty()
     }
 
-    // Where all memory of the text area comes from.
     fn allocator(&self) -> Global {
         self.document.allocator()
     }

@@ -1,6 +1,6 @@
-//! Worked cases of the count, each the contract of a function that does nothing: what it grows by where lines are cut.
+//! Worked cases of the number of wrapped lines, each the contract of a function that does nothing.
 ghost use Rattle.std.specs.Prelude.{◌≡◌, ◌+◌, Bool, Some};
-ghost use Rattle.textarea_data.specs.declared.cursor.CursorMove.TheVariants.{Bottom, Down, End};
+ghost use Rattle.textarea_data.specs.declared.cursor.CursorMove.TheVariants.{Down};
 ghost use Rattle.textarea_data.specs.declared.scroll.Scrolling.{Scrolling};
 ghost use Rattle.textarea_document.specs.Cuts.{CutsNothing};
 ghost use Rattle.textarea_document.specs.Rows.{laid_out_of};
@@ -17,8 +17,9 @@ ghost use Rattle.tui_textarea.specs.Worked.{IsAtEndOf, cut_so_far, hundred_lines
 
 use crate::laws::{drawn_at_its_width, moves_cut_nothing};
 
-/// A hundred lines `abcdefgh`, wrapped by clusters, are drawn into an area of 6 columns. Then a typed `a` cuts one line; three lines
-/// `x`, `y` and `z`, inserted at once, cut three; taken back, one, and made again, three.
+/// A hundred lines `abcdefgh`, wrapped by grapheme clusters, are drawn into an area of 6 columns.
+/// Then a typed `a` wraps one line; `x`, `y` and `z`, three lines inserted at once, wrap three
+/// lines; the undo of that wraps one, and the redo three.
 pub fn hundred_lines_are_cut()
     ensures typed { (drawn : State) (area : Rect) → area.width ≡ 6 →
         IsRendered hundred_lines area drawn →
@@ -36,9 +37,10 @@ pub fn hundred_lines_are_cut()
         ≡ cut_so_far (taken_back (with_x_y_z (with_a drawn))) + 3 }
 {}
 
-/// Nine lines `abcdefg` with line numbers, wrapped by clusters, are drawn into an area of 11 columns, and the cursor goes to the end
-/// of the last one. Then a line break makes a tenth line, whose number takes a column more: the map is 7 columns wide before and 6
-/// after, and all ten lines are cut. Taken back, all nine are cut.
+/// Nine lines `abcdefg` with line numbers, wrapped by clusters, are drawn into an area of 11
+/// columns, and the cursor moves to the end of the last one. Then a line break makes a tenth line,
+/// whose number needs one more column: the map of visual rows shrinks from 7 columns to 6, and all
+/// ten lines are wrapped. Its undo wraps all nine.
 pub fn tenth_line_is_cut()
     ensures width { (style : Style) (drawn ended : State) (area : Rect) → area.width ≡ 11 →
         IsRendered (nine_lines mode.Glyph style) area drawn → IsAtEndOf drawn ended →
@@ -55,8 +57,8 @@ pub fn tenth_line_is_cut()
         ≡ cut_so_far (newline_inserted ended) + 9 }
 {}
 
-/// The same lines in an area of 3 columns, where the map is one column wide with nine lines and with ten, and in the mode `None`: the
-/// line break cuts the two lines that it makes, and no other.
+/// The same lines in an area of 3 columns, where the map is one column wide with nine lines and
+/// with ten, and in the mode `None`: the line break wraps only the two lines that it makes.
 pub fn tenth_line_is_cut_alone()
     ensures narrow { (style : Style) (drawn ended : State) (area : Rect) → area.width ≡ 3 →
         IsRendered (nine_lines mode.Glyph style) area drawn → IsAtEndOf drawn ended →
@@ -66,7 +68,7 @@ pub fn tenth_line_is_cut_alone()
         cut_so_far (newline_inserted ended) ≡ cut_so_far ended + 2 }
 {}
 
-/// Behind a drawing a Down, a scroll, a search and a second drawing into the same area leave count and ticks.
+/// After a drawing, a Down, a scroll, a search and a drawing into the same area wrap no line.
 pub fn frames_cut_nothing()
     ensures { (old drawn down scrolled again : State) (area : Rect) (scrolling : Scrolling)
         (at_cursor : Bool) → IsRendered old area drawn →

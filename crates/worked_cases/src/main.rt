@@ -1,15 +1,15 @@
-//! Runs worked cases, and compares what comes of them with what stands beside them.
+//! Runs worked cases, and compares their results with the expected ones.
 //!
-//! Standard input has sections. A line `== KIND TITLE` begins one, and its cases stand behind it, with an empty line between each
-//! two. The first lines of a case may be comments, which begin with `# `. A blank at a line's end is written `\u{20}`. The kinds:
+//! Standard input has sections. A line `== KIND TITLE` begins one; cases follow, separated by empty
+//! lines. Comments, lines with `# `, may begin a case. `\u{20}` is a blank at a line's end. Kinds:
 //!
-//! - `transcripts`: calls and what they answer, and the text area on the way (`transcript`).
-//! - `unread`: lines, none of which is a script.
-//! - `sessions`: behind `> `, the keys of a session of the modal editor, with the escapes of scripts; and what is printed of it.
-//! - `runs`: behind `> `, keys of the modal editor with Ctrl and Alt, and what is told at their end (`runs`).
+//! - `transcripts`: calls, their results, and states of the text area between them (`transcript`).
+//! - `unread`: lines that scripts can't have.
+//! - `sessions`: after `> `, keys of the modal editor with the escapes of scripts; then the output.
+//! - `runs`: after `> `, keys of the modal editor with Ctrl and Alt; then the end state (`runs`).
 //!
-//! A line is printed for each section, and one more for each case that isn't as it is written. The exit status is 0 where all are,
-//! 1 where a stream failed, 3 where memory was refused, and 4 where a case isn't as it is written or can't be read.
+//! A line is printed for each section and for each case that fails. The exit status is 0 if no case
+//! fails, 1 if a stream failed, 3 if memory ran out, and 4 if a case fails or can't be read.
 #![tactic(auto)]
 
 mod runs;
@@ -37,7 +37,7 @@ fn main(rt: HostRuntime) -> ExitCode {
     ExitCode::from(status)
 }
 
-// Runs the cases of a section, and tells how many are as they are written.
+// Runs the cases of a section, and prints the number of those that pass.
 fn tell_section(rt: &(impl Print + AllocGlobal), section: &str) -> u8 {
     let (head, cases) = section.split_once("\n\n").unwrap_or((section, ""));
     let (kind, title) = head.split_once(' ').unwrap_or((head, ""));

@@ -1,8 +1,9 @@
-//! Runs of keys of the modal editor, with Ctrl and Alt, over what no session has: a search, a drawing, and what was yanked.
+//! Runs of keys of the modal editor with what sessions lack: Ctrl, Alt, search, drawing, yanked
+//! text.
 //!
-//! The keys of runs stand one behind another, each but the last followed by `%`, behind which the text area is drawn into 20
-//! columns and 4 rows. `^` holds Ctrl for the key behind it, and `~` Alt. The pattern is a small o. At the end is told the mode, how
-//! the last run ended, the text area, and what was yanked.
+//! Runs of keys are separated by `%`. Between two runs the text area is drawn into 20 columns and 4
+//! rows. `^` holds Ctrl for the next key, and `~` Alt. The search pattern is `o`. At the end the
+//! mode, the end of the last run, the text area and the yanked text are printed.
 use std::alloc::{AllocError, Global};
 use textarea_cases::lines::keys_and_rest;
 use textarea_cases::stop::{Stop, compare};
@@ -11,14 +12,14 @@ use textarea_modal::{Modal, ModalEnd};
 use textarea_run::printing::Report;
 use tui_textarea::{Buffer, Rect, TextArea};
 
-/// Runs keys, at whose end this must be told.
+/// Runs the keys of a case, and compares the printed end.
 pub fn check(alloc: Global, case: &str) -> Result<(), Stop> {
     let (keys, wanted) = keys_and_rest(alloc, case)?;
     let found = end_of(alloc, keys.as_str())?;
     compare(found, wanted)
 }
 
-// What is told at the end of these runs. What is drawn into and the text area have an owner each.
+// The printed end of these runs. Separate functions own the buffer and the text area.
 fn end_of(alloc: Global, keys: &str) -> Result<String, Stop> {
     let mut buffer = Buffer::empty(alloc, Rect::new(0, 0, 20, 4))?;
     let end = end_drawn_into(alloc, &mut buffer, keys);
@@ -33,7 +34,7 @@ fn end_drawn_into(alloc: Global, buffer: &mut Buffer, keys: &str) -> Result<Stri
     end
 }
 
-// The same, in a text area that is still empty.
+// The printed end of these runs in an empty text area.
 fn end_in(
     alloc: Global,
     area: &mut TextArea<'_>,

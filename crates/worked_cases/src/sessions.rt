@@ -1,11 +1,11 @@
-//! Sessions of the modal editor, and lines that are no scripts.
+//! Sessions of the modal editor, and lines that are no script.
 use std::alloc::Global;
 use std::str::from_utf8;
 use textarea_cases::lines::keys_and_rest;
 use textarea_cases::stop::{Stop, compare};
 use textarea_script::{modal, script, streams};
 
-/// Runs a session, of which this must be printed and nothing else.
+/// Runs a session, and compares its whole output.
 pub fn check(alloc: Global, case: &str) -> Result<(), Stop> {
     let (keys, wanted) = keys_and_rest(alloc, case)?;
     check_keys(alloc, keys.as_str(), wanted)
@@ -18,7 +18,7 @@ fn check_keys(alloc: Global, keys: &str, wanted: &str) -> Result<(), Stop> {
     check_end(alloc, status, output.as_slice(), errors.as_slice(), wanted)
 }
 
-/// Runs a script, of which this must be printed and nothing else.
+/// Runs a script, and compares its whole output.
 pub fn check_script(alloc: Global, text: &str, wanted: &str) -> Result<(), Stop> {
     let mut output = Vec::new(alloc);
     let mut errors = Vec::new(alloc);
@@ -26,7 +26,7 @@ pub fn check_script(alloc: Global, text: &str, wanted: &str) -> Result<(), Stop>
     check_end(alloc, status, output.as_slice(), errors.as_slice(), wanted)
 }
 
-/// Runs each line as a script; each must not be read.
+/// Runs each line as a script. Each must be unparsed.
 pub fn check_unread(alloc: Global, case: &str) -> Result<(), Stop> {
     for line in case.lines() {
         check_unread_line(alloc, line)?;
@@ -48,7 +48,7 @@ fn check_unread_line(alloc: Global, line: &str) -> Result<(), Stop> {
     compare(found, "a line that isn't read")
 }
 
-// The program ended so, and must have printed this and nothing else.
+// Compares the output with the expected one. The status must be `DONE`, and `errors` empty.
 fn check_end(
     alloc: Global,
     status: u8,

@@ -1,12 +1,13 @@
-//! Transcripts: calls and what they answer, and the text area on the way.
+//! Transcripts: calls with their results, and states of the text area between them.
 //!
-//! A line `CALL => ANSWER` is a call, as a line of a script or as words (`textarea_cases`), and what it answers; `*` stands for any
-//! answer. `input_without_shortcuts` has the words of `input`, and other words tell what no call answers (`textarea_cases::told`).
-//! The inputs of a line `input HELD KEY | HELD KEY .. => ANSWER` are tried one after another, each in a text area of its own.
+//! A line `CALL => ANSWER` has a script command, a test command (`textarea_cases::words`) or a
+//! question (`textarea_cases::told`), and its result, or `*` for any. `input_without_shortcuts` has
+//! the arguments of `input`. The inputs of a line `input HELD KEY | HELD KEY .. => ANSWER` are
+//! tried each in its own text area.
 //!
-//! Any other line is as `tascript` prints it of the text area at that place: its lines, its cursor, its selection, its screen; what
-//! isn't shown is as it was shown last, also at the end, and before that there is no screen. Where all calls are lines of scripts,
-//! `tascript` must print the same of the script.
+//! Any other line is from the text area's state at that point, as `tascript` prints it: lines,
+//! cursor, selection, screen. What isn't written is unchanged, also at the end; at first there is
+//! no screen. If all calls are script commands, `tascript` must print the same for them.
 ghost use Rattle.std.specs.Prelude.{IfSome};
 ghost use Rattle.textarea_calls.specs.Made.{CanBeMade};
 
@@ -26,7 +27,7 @@ use textarea_run::printing::{Report, Screen};
 use textarea_script::script::{COLUMNS, ROWS};
 use tui_textarea::{Borders, Buffer, Color, Rect, Style, TextArea};
 
-// The script of a transcript's calls: its lines, each with a line feed, and what `tascript` must print of it.
+// The script of a transcript's calls: its lines, and the expected output of `tascript`.
 #[derive(Drop)]
 struct Tried {
     lines: String,
@@ -42,7 +43,7 @@ pub fn check(alloc: Global, case: &str) -> Result<(), Stop> {
     Ok(())
 }
 
-// What is lent to the calls of transcripts: a block in green on yellow, a placeholder of two lines, and a letter's key.
+// The values that calls borrow: a block in green on yellow, a placeholder of two lines, a letter.
 fn lent(alloc: Global) -> Result<Lent, AllocError> {
     let block = titled(alloc, Borders::ALL, "hi")?
         .style(Style::new().bg(Color::Yellow))
@@ -54,7 +55,7 @@ fn lent(alloc: Global) -> Result<Lent, AllocError> {
     })
 }
 
-// How many inputs the line with the most has, and 1 at least.
+// The number of inputs in the line with the most, at least 1.
 fn choices(case: &str) -> usize {
     let mut most = 1usize;
     for line in case.lines() {
@@ -65,7 +66,7 @@ fn choices(case: &str) -> usize {
     most
 }
 
-// Makes the calls with the input of this number. `tascript` must print the same of the script, where all are lines of one.
+// Makes the calls with the input of this number. For a script, `tascript` must print the same.
 fn check_input(alloc: Global, case: &str, choice: usize, lent: &Lent) -> Result<(), Stop> {
     match check_choice(alloc, case, choice, lent)? {
         Some(tried) => check_script(alloc, tried.lines.as_str(), tried.wanted.as_str()),
@@ -73,8 +74,8 @@ fn check_input(alloc: Global, case: &str, choice: usize, lent: &Lent) -> Result<
     }
 }
 
-// Makes the calls in a new text area, and compares what comes of them with what stands there. Where all are lines of scripts, their
-// script is given.
+// Makes the calls in a new text area, and compares the results. Returns the script of the calls if
+// all are lines of scripts.
 fn check_choice(
     alloc: Global,
     case: &str,
@@ -114,7 +115,7 @@ fn check_area(
     Ok(trial.tried(alloc, area)?)
 }
 
-// The line with the input of this number alone, where it has several.
+// The line with only the input of this number, if it has several.
 fn chosen(alloc: Global, call: &str, choice: usize) -> Result<String, AllocError> {
     match call.split_once(' ') {
         Some((name, inputs)) if name.starts_with("input") => {
@@ -125,10 +126,10 @@ fn chosen(alloc: Global, call: &str, choice: usize) -> Result<String, AllocError
     }
 }
 
-// What the lines of a transcript come to.
+// A run of a transcript's lines.
 #[derive(Drop)]
 struct Trial {
-    // The number of the input that is tried, where a line has several.
+    // The number of the input that is tried, if a line has several.
     choice: usize,
     cells: Cells,
     shown: Shown,
@@ -148,7 +149,7 @@ impl Trial {
         })
     }
 
-    // Makes the call of a line, behind which it must answer so, or takes in what it shows.
+    // Makes the call of a line and compares its result, or reads a part of the state.
     fn try_line(
         &mut self,
         alloc: Global,
@@ -165,7 +166,7 @@ impl Trial {
         }
     }
 
-    // Makes a call, which must answer so.
+    // Makes a call and compares its result.
     fn try_call(
         &mut self,
         alloc: Global,
@@ -181,7 +182,7 @@ impl Trial {
         }
     }
 
-    // What the call of a line answers, or what is told where it is none.
+    // The printed result of a line: of a call, or of a question that no call answers.
     fn answer_to(
         &mut self,
         alloc: Global,
@@ -201,7 +202,7 @@ impl Trial {
         Ok(told)
     }
 
-    // What was shown since the last call, if anything was, must be what is printed of the text area.
+    // Compares the text area with the state that was read since the last call, if there is any.
     fn compare_shown(&mut self, alloc: Global, area: &TextArea<'_>) -> Result<(), Stop> {
         if !self.shown.is_new {
             return Ok(());
@@ -211,7 +212,7 @@ impl Trial {
         compare(self.cells.printed(alloc, area)?, wanted.as_str())
     }
 
-    // Hands the script out, where all calls are lines of one.
+    // Returns the script, if all calls are lines of scripts.
     fn tried(&mut self, alloc: Global, area: &TextArea<'_>) -> Result<Option<Tried>, AllocError> {
         if self.script.has_words {
             return Ok(None);
@@ -223,7 +224,7 @@ impl Trial {
     }
 }
 
-// What calls draw into, and the area that was drawn last.
+// The buffer that calls draw into, and the area that was drawn last.
 #[derive(Drop)]
 struct Cells {
     buffer: Buffer,
@@ -231,7 +232,7 @@ struct Cells {
 }
 
 impl Cells {
-    // What the call of words answers, if the line is one.
+    // The printed result of a test command, if the line is one.
     fn told_words(
         &mut self,
         alloc: Global,
@@ -249,7 +250,7 @@ impl Cells {
         }
     }
 
-    // What an input answers, without shortcuts.
+    // The printed result of an input, without shortcuts.
     fn told_input(
         &mut self,
         alloc: Global,
@@ -266,7 +267,7 @@ impl Cells {
         }
     }
 
-    // What a line of a script answers.
+    // The printed result of a script's line.
     fn told_line(
         &mut self,
         alloc: Global,
@@ -295,7 +296,7 @@ impl Cells {
         Ok(told_answer(alloc, &answer)?)
     }
 
-    // What is printed of a text area, and of what was drawn last.
+    // The printed text area, and the cells that were drawn last.
     fn printed(&self, alloc: Global, area: &TextArea<'_>) -> Result<String, AllocError> {
         let buffer = &self.buffer;
         let report = Report {

@@ -1,22 +1,22 @@
-//! The calls of such rows, as they are written.
+//! The calls of `history ..` cases, as they are written.
 //!
-//! Places are a row and a column, from 0. `|` in a text is a break. `typed MS` before an edit makes it one typed with coalescing
-//! at that many milliseconds.
+//! A position is a row and a column, from 0. `|` in a text is a line break. `typed MS` before an
+//! edit means that it is typed with coalescing at that many milliseconds.
 //!
-//! - `lines TEXT`, `maximum N`: these lines, or those that are there, and a new history of at most n edits.
-//! - `char R C X`, `break R C`, `insert R C TEXT`: an insertion of a character, of a break, of a text or a chunk.
-//! - `delete R C`, `remove R C N`: a removal of the symbol before the place, or of n symbols from it on as a text or a chunk.
-//! - `both_ways R C TEXT`: the insertion is made on a copy of the lines, and then undone there.
+//! - `lines TEXT`, `maximum N`: sets or keeps the lines, with a new history (of at most N edits).
+//! - `char R C X`, `break R C`, `insert R C TEXT`: inserts a character, a line break, or a text.
+//! - `delete R C`, `remove R C N`: removes the symbol before the position, or N symbols from it on.
+//! - `both_ways R C TEXT`: makes the insertion on a copy of the lines, and undoes it there.
 //! - `undo`, `redo`, `break_run`.
 //!
-//! An edit answers the lines after it, with `|` for breaks; an undo and a redo where the cursor goes, and these lines, or `none`;
-//! `both_ways` the lines on the way, `, ` and those at the end.
+//! The result of an edit is the lines after it, with `|` for breaks; of an undo and a redo, the
+//! cursor's position and the lines, or `none`; of `both_ways`, the lines before the undo, `, ` and
+//! those after it.
 use std::time::Duration;
 
 /// A position: row and column.
 pub type Place = (usize, usize);
 
-/// A call of a row.
 #[derive(Clone, Copy)]
 pub enum Call<'a> {
     Lines(&'a str),
@@ -28,7 +28,7 @@ pub enum Call<'a> {
     Redo,
 }
 
-/// When an edit was typed with coalescing, if it was.
+/// Whether an edit is typed with coalescing, and when.
 #[derive(Clone, Copy)]
 pub struct Typed {
     pub coalesce: bool,
@@ -45,7 +45,7 @@ pub enum Edit<'a> {
     Remove(Place, usize),
 }
 
-/// The call that a line stands for.
+/// Returns the call of a line.
 pub fn call_of(line: &str) -> Option<Call<'_>> {
     match line {
         "undo" => return Some(Call::Undo),
@@ -73,7 +73,7 @@ fn untyped() -> Typed {
     }
 }
 
-// The edit after the moment at which it is typed.
+// The edit after the time at which it is typed.
 fn typed_of(text: &str) -> Option<Call<'_>> {
     let (now, edit) = text.split_once(' ')?;
     let now = Duration::from_millis(now.parse().ok()?);
@@ -97,7 +97,7 @@ fn edit_of(line: &str) -> Option<Edit<'_>> {
     }
 }
 
-// The place that begins a text, and what is after it.
+// The position at the start of a text, and the text after it.
 fn place_of(text: &str) -> Option<(Place, &str)> {
     let (row, rest) = text.split_once(' ')?;
     let (column, rest) = rest.split_once(' ').unwrap_or((rest, ""));

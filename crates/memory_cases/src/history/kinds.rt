@@ -1,4 +1,4 @@
-//! Kinds of edits, and texts as pieces.
+//! Kinds of edits, and texts as fragments.
 ghost use Rattle.std.specs.Prelude.{◌≡◌, ◌<◌, ◌≤◌, ◌∷◌, [], false, true, length, vec_len, IfOk, IfSome, None};
 ghost use Rattle.textarea_text.specs.Text.{symbol_in, text_of};
 ghost use Rattle.textarea_history.specs.Edit.{inserts_of, pieces_of, symbols_of};
@@ -6,7 +6,7 @@ ghost use Rattle.textarea_history.specs.Edit.{inserts_of, pieces_of, symbols_of}
 use std::alloc::{AllocError, Global};
 use textarea_history::edit::EditKind;
 
-/// The text as pieces, cut at each `|`.
+/// Returns the fragment of a text, which is split into lines at each `|`.
 pub fn pieces_in(alloc: Global, text: &str) -> Result<Vec<String>, AllocError>
     ensures { IfOk result (λ pieces. 0 < vec_len pieces) }
 {
@@ -20,7 +20,7 @@ pub fn pieces_in(alloc: Global, text: &str) -> Result<Vec<String>, AllocError>
     Ok(pieces)
 }
 
-/// The kind that inserts or removes the pieces.
+/// Returns the kind that inserts or removes the fragment.
 pub fn kind_of(mut pieces: Vec<String>, inserts: bool) -> EditKind
     requires { 0 < vec_len pieces }
     ensures symbols { symbols_of result ≡ text_of pieces.items }
@@ -42,7 +42,7 @@ pub fn kind_of(mut pieces: Vec<String>, inserts: bool) -> EditKind
     }
 }
 
-/// The kind that removes a character, or a break where there is none.
+/// Returns the kind that removes a character or, without one, a line break.
 pub fn deletion_of(character: Option<char>) -> EditKind
     ensures symbols { symbols_of result ≡ symbol_in character ∷ [] }
     ensures inserts { inserts_of result ≡ false }

@@ -1,4 +1,4 @@
-//! Edits that rows ask for, ready to be made of lines. A place that the lines don't have is taken as the nearest one.
+//! Edits of cases, prepared for lines. A position outside the lines becomes the nearest one.
 ghost use Rattle.std.specs.Prelude.{◌≡◌, ◌<◌, ◌≤◌, ◌↔◌, ◌^◌, length, vec_len, IsTrue, IfOk, IfSome};
 ghost use Rattle.textarea_text.specs.Text.{lines_of, symbol_in, text_of};
 ghost use Rattle.textarea_text.specs.Place.{IsPlace, IsPlaceOf, IsSymbolBefore};
@@ -17,7 +17,7 @@ use textarea_text::rows::{SymbolBefore, byte_offset, size_within_limit, symbol_b
 /// The greatest row and column that are edited.
 const LIMIT: usize = 4294967296;
 
-/// An edit: what it inserts or removes, and the cursor's places before and after it.
+/// An edit: what it inserts or removes, and the cursor's positions before and after it.
 #[derive(Drop)]
 pub struct Plan {
     pub kind: EditKind,
@@ -25,7 +25,7 @@ pub struct Plan {
     pub after: Place,
 }
 
-/// The edit that a row asks for, of these lines. None where it would change nothing.
+/// Returns the edit of a case on these lines, or none if it would change nothing.
 pub fn plan_of(alloc: Global, lines: &[String], edit: Edit<'_>) -> Result<Option<Plan>, AllocError>
     requires { 0 < length lines.now }
     ensures { IfOk result (λ found. IfSome found
@@ -66,7 +66,7 @@ fn line_break(lines: &[String], place: Place) -> Option<Plan>
     })
 }
 
-/// The insertion of a text, if it has a symbol.
+/// Returns the insertion of a text, if the text has a symbol.
 pub fn insertion(
     alloc: Global,
     lines: &[String],
@@ -104,7 +104,7 @@ fn insertion_of(lines: &[String], before: Place, pieces: Vec<String>) -> Option<
     })
 }
 
-// The removal of the symbol before the place, if there is one.
+// The removal of the symbol before the position, if there is one.
 fn deletion(lines: &[String], place: Place) -> Option<Plan>
     requires { 0 < length lines.now }
     ensures { IfSome result
@@ -119,7 +119,7 @@ fn deletion(lines: &[String], place: Place) -> Option<Plan>
     })
 }
 
-// The removal of n symbols from the place on, or of as many as there are, if there is one.
+// The removal of at most n symbols from the position on, if there is one.
 fn removal(
     alloc: Global,
     lines: &[String],
@@ -148,7 +148,7 @@ fn removal(
     }))
 }
 
-// The nearest place of the lines, if it is within the limits.
+// The nearest position of the lines, if it is within the limits.
 fn nearest(lines: &[String], place: Place) -> Option<Place>
     requires { 0 < length lines.now }
     ensures place { IfSome result (IsPlaceOf (lines_of lines.now)) }
@@ -163,7 +163,7 @@ fn nearest(lines: &[String], place: Place) -> Option<Place>
     }
 }
 
-// The symbol before a place of the lines.
+// The symbol before a position of the lines.
 fn symbol_at(lines: &[String], place: Place) -> Option<SymbolBefore>
     requires { IsPlaceOf (lines_of lines.now) place }
     ensures { IfSome result (λ before. IsSymbolBefore (text_of lines.now) place before.start

@@ -33,7 +33,7 @@ impl Model for Recorded {
         × IsSound (logged_of recorded.lines.items recorded.history.log) };
 }
 
-/// Lines that an edit made, and what its undo made of them.
+/// The lines after an edit, and the lines after its undo.
 #[derive(Drop)]
 pub struct BothWays {
     pub there: Vec<String>,
@@ -41,7 +41,7 @@ pub struct BothWays {
 }
 
 impl Recorded {
-    /// The lines, of which there is one at least, and an empty history of at most that many edits.
+    /// Returns the lines, at least one, with an empty history of at most this many edits.
     pub fn new(lines: Vec<String>, maximum: usize) -> Recorded
         requires { 0 < vec_len lines }
     {
@@ -56,14 +56,14 @@ impl Recorded {
         self.lines.as_slice()
     }
 
-    /// The same lines and history, or out of memory for them.
+    /// Returns a copy of the lines and the history.
     pub fn copy(&self) -> Result<Recorded, AllocError> {
         let lines = copied(self.lines.as_slice(), *self.lines.allocator())?;
         let history = self.history.clone()?;
         Ok(Recorded { lines, history })
     }
 
-    /// The lines from here on, with an empty history.
+    /// Keeps the lines, and begins an empty history.
     pub fn restart(&mut self, maximum: usize) {
         self.history = History::new(*self.lines.allocator(), maximum);
     }
@@ -72,17 +72,17 @@ impl Recorded {
         self.history.break_run();
     }
 
-    /// Undoes the newest edit, if there is one, and says where the cursor goes.
+    /// Undoes the newest edit, if there is one, and returns the cursor's new position.
     pub fn undo(&mut self) -> Result<Option<Place>, AllocError> {
         self.history.undo(&mut self.lines)
     }
 
-    /// Makes the edit again that was undone last, if there is one, and says where the cursor goes.
+    /// Redoes the edit that was undone last, if there is one; returns the cursor's new position.
     pub fn redo(&mut self) -> Result<Option<Place>, AllocError> {
         self.history.redo(&mut self.lines)
     }
 
-    /// Makes the edit, and records it. Out of memory leaves all as it was.
+    /// Makes the edit, and records it. If memory runs out, nothing changes.
     pub fn edit(&mut self, wanted: Wanted<'_>, typed: Typed) -> Result<(), AllocError> {
         let alloc = *self.lines.allocator();
         match plan_of(alloc, self.lines(), wanted)? {
@@ -102,7 +102,7 @@ impl Recorded {
         Ok(())
     }
 
-    /// What an insertion makes of a copy of the lines, and its undo of that.
+    /// Makes an insertion on a copy of the lines, and undoes it there.
     pub fn both_ways(&self, place: Place, text: &str) -> Result<BothWays, AllocError> {
         let alloc = *self.lines.allocator();
         match insertion(alloc, self.lines(), place, text)? {
@@ -112,7 +112,7 @@ impl Recorded {
     }
 }
 
-// The edit of a copy of the plan's kind.
+// The edit with a copy of the plan's kind.
 fn edit_of(plan: &Plan) -> Result<Edit, AllocError>
     requires some { 0 < length (symbols_of plan.now.kind) }
     requires pieces { IfSome (pieces_of plan.now.kind) (λ n. 2 ≤ n) }
@@ -151,7 +151,7 @@ fn stay(lines: &[String], alloc: Global) -> Result<BothWays, AllocError>
     })
 }
 
-// Lines of the same texts.
+// A copy of the lines.
 fn copied(lines: &[String], alloc: Global) -> Result<Vec<String>, AllocError>
     requires { 0 < length lines.now }
     ensures some { IfOk result (λ copy. 0 < vec_len copy) }

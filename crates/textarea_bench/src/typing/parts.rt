@@ -1,5 +1,5 @@
-//! The parts of a line break alone, in the middle of many lines: in their screen map, and among their headers; and the part of a
-//! character in the middle of a long line that moves what stands behind it.
+//! Single steps of a line break in the middle of many lines, in the screen map and among the lines'
+//! headers; and the move of the bytes after a character that is typed in a long line.
 ghost use Rattle.std.specs.Prelude.{◌≡◌, ◌+◌, ◌<◌, ◌≤◌, length, vec_len, IfOk, OnOk};
 
 use std::alloc::{AllocError, Global};
@@ -15,8 +15,8 @@ const WRAPPED: Wrapping = Wrapping {
     tab_len: 4,
 };
 
-/// Breaks a line in the screen map of the lines, in the middle of the block in their middle, and takes the break back, so many times.
-/// Answers with the number of visual rows.
+/// Breaks a line in the screen map, in the middle of the block in the lines' middle, and joins it
+/// again, `times` times. Returns the number of visual rows.
 pub fn break_in_map(alloc: Global, lines: &[String], times: usize) -> Result<usize, AllocError> {
     let mut counter = WrapCount::new();
     let mut map = ScreenMap::new(alloc, lines, WRAPPED, &mut counter)?;
@@ -31,7 +31,7 @@ pub fn break_in_map(alloc: Global, lines: &[String], times: usize) -> Result<usi
     Ok(rows)
 }
 
-// Two lines take the place of one, and one of these two, so many times.
+// Replaces one line by two, and these two by one, `times` times.
 fn break_rows(
     alloc: Global,
     map: &mut ScreenMap,
@@ -59,7 +59,7 @@ fn break_rows(
     Ok(())
 }
 
-// The rows of lines take the place of those of others.
+// Replaces the rows of `count` lines by those of others.
 fn put_rows(
     alloc: Global,
     map: &mut ScreenMap,
@@ -86,7 +86,7 @@ fn texts(alloc: Global, given: &[&str]) -> Result<Vec<String>, AllocError>
     Ok(lines)
 }
 
-/// Moves the headers of the lines as a line break in their middle does, and back, so many times. Answers with their number.
+/// Moves the lines' headers as a break in their middle does, and back. Returns their number.
 pub fn break_headers(
     alloc: Global,
     lines: &mut Vec<String>,
@@ -110,8 +110,8 @@ fn move_headers(alloc: Global, lines: &mut Vec<String>) -> Result<(), AllocError
     Ok(())
 }
 
-/// Moves bytes as a character of two bytes does in the middle of a line of so many characters of two bytes, and back, so many times.
-/// Answers with the number of bytes.
+/// Moves bytes as a character of two bytes does in the middle of a line of `characters` such
+/// characters, and back, `times` times. Returns the number of bytes.
 pub fn move_bytes(alloc: Global, characters: usize, times: usize) -> Result<usize, AllocError> {
     let mut bytes = Vec::new(alloc);
     bytes.resize(characters.saturating_mul(2), 0u8)?;

@@ -1,5 +1,5 @@
-//! Changes of blocks: rows that take the place of others, in one block or by whole blocks, without memory, and what has to be made
-//! ready for them before.
+//! Changes of blocks: replacing rows in one block or by whole blocks, which allocates nothing, and
+//! the calls that prepare room and block edges for that.
 ghost use Rattle.std.specs.Prelude.{◌≡◌, ◌+◌, ◌-◌, ◌*◌, ◌<◌, ◌≤◌, ◌++◌, ◌∷◌, [], length, take, drop, get_or, set, vec_len, IfOk, OnErr, OnOk};
 ghost use Rattle.textarea_util.specs.Limit.{size_limit};
 ghost use Rattle.textarea_util.specs.Replaced.{replaced};
@@ -13,11 +13,11 @@ use std::alloc::AllocError;
 use textarea_util::replace::replace_items;
 use textarea_wrap::rows::Rows;
 
-/// How many lines a block gets at most where lines come into it, as long as it can be halved for them.
+/// The number of lines above which a block is halved before lines are added to it.
 const FULL: usize = 1024;
 
 impl RowBlocks {
-    // Rows of some lines take the place of those of other lines of one block, without memory.
+    // Replaces the rows of `count` lines of one block. Allocates nothing.
     pub(super) fn exchange(&mut self, block: usize, start: usize, count: usize, rows: Vec<Rows>)
         requires block { block < length self.old.blocks }
         requires within { start + count ≤ length (get_or self.old.blocks block []) }
@@ -36,7 +36,7 @@ impl RowBlocks {
         self.rows.turn_from(block + 1, rows_gone, rows_come);
     }
 
-    // Whole blocks take the place of the blocks from one on up to another, without memory.
+    // Replaces the blocks `from..to`. Allocates nothing.
     pub(super) fn exchange_blocks(&mut self, from: usize, to: usize, new: RowBlocks)
         requires ordered { from ≤ to }
         requires within { to ≤ length self.old.blocks }
@@ -72,7 +72,8 @@ impl RowBlocks {
         self.rows.exchange(rows, rows_exchanged);
     }
 
-    // Removes the first `count` lines from this block on, without memory. A block that has no line any more goes with them.
+    // Removes `count` lines from this block's start on, with blocks that become empty. Allocates
+    // nothing.
     fn remove_first(&mut self, block: usize, count: usize)
         requires block { block ≤ length self.old.blocks }
         requires count { lines_before self.old.blocks block + count
@@ -93,8 +94,8 @@ impl RowBlocks {
         self.exchange_blocks(block, last, RowBlocks::new(alloc));
     }
 
-    /// Rows of a few lines take the place of those of the `count` lines from `row` on, in the block where these begin, without
-    /// memory.
+    /// Replaces the rows of the `count` lines from `row` on by those of a few lines, in the block
+    /// of the line `row`. Allocates nothing.
     pub fn replace_few(&mut self, row: usize, count: usize, rows: Vec<Rows>)
         requires within { row + count ≤ length (all_rows self.old.blocks) }
         requires there { row < length (all_rows self.old.blocks) }
@@ -111,7 +112,7 @@ impl RowBlocks {
         self.remove_first(block + 1, count - shared);
     }
 
-    /// Rows in blocks take the place of those of the `count` lines from `row` on, without memory.
+    /// Replaces the rows of the `count` lines from `row` on by whole blocks. Allocates nothing.
     pub fn replace_many(&mut self, row: usize, count: usize, rows: RowBlocks)
         requires within { row + count ≤ length (all_rows self.old.blocks) }
         requires edge { IsEdge self.old.blocks row }
@@ -129,8 +130,8 @@ impl RowBlocks {
         self.remove_first(self.block_count() - behind, count);
     }
 
-    /// Makes room for the rows of `come` lines that are to take the place of those of the `count` lines from `row` on, in the block
-    /// where these begin. A block that would get more than 1,024 lines is halved before.
+    /// Reserves room for `replace_few` to replace the `count` lines from `row` on by `come` lines.
+    /// A block that would get more than 1,024 lines is halved first.
     pub fn reserve_lines(&mut self, row: usize, count: usize, come: usize) -> Result<(), AllocError>
         requires { row < length (all_rows self.old.blocks) }
         ensures same { all_rows self.new.blocks ≡ all_rows self.old.blocks }
@@ -142,7 +143,7 @@ impl RowBlocks {
         self.blocks[block].reserve(come.saturating_sub(shared))
     }
 
-    // Halves the block of a line where it would get more than 1,024 lines with so many more.
+    // Halves the block of a line if `come` lines more would make it longer than 1,024 lines.
     fn halve_full(&mut self, line: usize, come: usize) -> Result<(), AllocError>
         requires { line < length (all_rows self.old.blocks) }
         ensures { all_rows self.new.blocks ≡ all_rows self.old.blocks }
@@ -155,7 +156,7 @@ impl RowBlocks {
         self.split(block, len / 2)
     }
 
-    /// Has a block begin with this line, or end before it where the line is behind all others.
+    /// Makes a block begin at this line, or does nothing if the line is after all others.
     pub fn make_edge(&mut self, line: usize) -> Result<(), AllocError>
         requires { line ≤ length (all_rows self.old.blocks) }
         ensures same { all_rows self.new.blocks ≡ all_rows self.old.blocks }
@@ -171,7 +172,7 @@ impl RowBlocks {
         self.split(block, index)
     }
 
-    // Makes two blocks of one, of which the first has so many lines.
+    // Splits a block in two, of which the first has `at` lines.
     fn split(&mut self, block: usize, at: usize) -> Result<(), AllocError>
         requires block { block < length self.old.blocks }
         requires at { at ≤ length (get_or self.old.blocks block []) }
@@ -188,7 +189,7 @@ impl RowBlocks {
         Ok(())
     }
 
-    // Takes the rows of all lines of a block but for the first `at`.
+    // Removes the rows of all lines of a block from the line `at` on, and returns them.
     fn take_behind(&mut self, block: usize, at: usize) -> Result<Vec<Rows>, AllocError>
         requires block { block < length self.old.blocks }
         requires at { at ≤ length (get_or self.old.blocks block []) }
@@ -206,7 +207,7 @@ impl RowBlocks {
         Ok(rows)
     }
 
-    // Puts rows as the one block where there is none; there is room for it.
+    // Adds the rows as the only block. There must be room for it.
     fn put_first(&mut self, rows: Vec<Rows>)
         requires none { self.old.blocks ≡ [] }
         requires room { 1 ≤ self.old.more }

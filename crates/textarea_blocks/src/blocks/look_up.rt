@@ -1,4 +1,4 @@
-//! Look-ups in blocks: the line of a number, its rows, and what stands before it.
+//! Look-ups in blocks: the line at an index, its visual rows, and the totals before it.
 ghost use Rattle.std.specs.Prelude.{◌≡◌, ◌+◌, ◌<◌, ◌≤◌, [], length, take, drop, get_or, min};
 ghost use Rattle.textarea_blocks.specs.Blocks.{IsBlockOf, IsEdge, all_rows, lines_before};
 ghost use Rattle.textarea_blocks.specs.Sums.{ranges_at, row_total, size_total};
@@ -8,7 +8,7 @@ use crate::sums::{count_rows, size_of_rows};
 use textarea_wrap::rows::Rows;
 
 impl RowBlocks {
-    // How many lines the blocks before this one have.
+    // Returns the number of lines before this block.
     pub(super) fn lines_before(&self, block: usize) -> usize
         requires { block ≤ length self.now.blocks }
         ensures { result ≡ lines_before self.now.blocks block }
@@ -19,7 +19,7 @@ impl RowBlocks {
         self.lines.at(block - 1) + self.blocks[block - 1].len()
     }
 
-    // How many visual rows the blocks before this one have.
+    // Returns the number of visual rows before this block.
     pub(super) fn rows_before(&self, block: usize) -> usize
         requires { block ≤ length self.now.blocks }
         ensures { result ≡ row_total (all_rows (take block self.now.blocks)) }
@@ -30,7 +30,7 @@ impl RowBlocks {
         self.rows.at(block - 1) + count_rows(self.blocks[block - 1].as_slice())
     }
 
-    // The block of a line, and the line's number among those of its block.
+    // Returns the block of a line, and the line's index in it.
     pub(super) fn place_of(&self, line: usize) -> (usize, usize)
         requires { line < length (all_rows self.now.blocks) }
         ensures block { IsBlockOf self.now.blocks line result.0 }
@@ -41,7 +41,8 @@ impl RowBlocks {
         (block, line - self.lines.at(block))
     }
 
-    // The block that begins with the line, or the number of blocks where the line is behind all others.
+    // Returns the block that begins with the line, or the number of blocks if it is after all
+    // lines.
     pub(super) fn edge_of(&self, line: usize) -> usize
         requires { IsEdge self.now.blocks line }
         ensures within { result ≤ length self.now.blocks }
@@ -53,7 +54,7 @@ impl RowBlocks {
         self.place_of(line).0
     }
 
-    /// For each row of the line the offset in bytes of its first byte, and the offset behind its last one.
+    /// Returns for each row of the line the byte offsets of its start and its end in the line.
     pub fn rows_of(&self, line: usize) -> &[(usize, usize)]
         requires { line < length (all_rows self.now.blocks) }
         ensures { result.now ≡ ranges_at (all_rows self.now.blocks) line }
@@ -62,7 +63,7 @@ impl RowBlocks {
         self.blocks[block][index].as_slice()
     }
 
-    /// The first visual row of the line.
+    /// Returns the first visual row of the line.
     pub fn first_row(&self, line: usize) -> usize
         requires { line < length (all_rows self.now.blocks) }
         ensures { result ≡ row_total (take line (all_rows self.now.blocks)) }
@@ -71,7 +72,7 @@ impl RowBlocks {
         self.rows.at(block) + count_rows(&self.blocks[block].as_slice()[..index])
     }
 
-    /// The line of the visual row, and the row's number among the rows of that line.
+    /// Returns the line of the visual row, and the row's index in that line.
     pub fn line_of_row(&self, row: usize) -> (usize, usize)
         requires { row < row_total (all_rows self.now.blocks) }
         ensures line { result.0 < length (all_rows self.now.blocks) }
@@ -83,8 +84,8 @@ impl RowBlocks {
         (self.lines.at(block) + index, left)
     }
 
-    /// How many rows the `count` lines from this one on have, and the bytes and the number of these lines, summed, or the greatest
-    /// `usize` where that is less.
+    /// Returns the number of visual rows of the `count` lines from `line` on, and the sum of the
+    /// bytes and the number of these lines. The sum is at most the greatest `usize`.
     pub fn sums_of(&self, line: usize, count: usize) -> (usize, usize)
         requires { line + count ≤ length (all_rows self.now.blocks) }
         ensures rows { result.0 ≡ row_total (take count (drop line (all_rows self.now.blocks))) }
@@ -111,7 +112,7 @@ impl RowBlocks {
     }
 }
 
-// The line of a row among the rows of these lines, and the row's number among the rows of that line.
+// Returns the line of a visual row of these lines, and the row's index in that line.
 fn row_in(rows: &[Rows], row: usize) -> (usize, usize)
     requires { row < row_total rows.now }
     ensures line { result.0 < length rows.now }

@@ -1,4 +1,4 @@
-//! Numbers that stand beside blocks: for each block how many items stand before it.
+//! For each block, the number of items (lines or visual rows) before it.
 ghost use Rattle.std.specs.Prelude.{◌≡◌, ℕ, ◌+◌, ◌-◌, ◌<◌, ◌≤◌, ◌++◌, ◌∷◌, [], length, get_or, vec_len, vec_capacity, OnOk};
 ghost use Rattle.textarea_blocks.specs.Numbered.{AreExchanged};
 
@@ -6,9 +6,9 @@ use std::alloc::{AllocError, Global};
 use std::marker::Model;
 use textarea_util::replace::replace_items;
 
-/// For each block how many items stand before it. The numbers of all blocks from one on may have a difference that isn't added to
-/// them yet: such a number is its item with `more` added and `less` taken away. So where changes of one block follow one another, no
-/// item of the blocks behind it is touched.
+/// For each block, the number of items before it. From the block `from` on, a pending difference is
+/// not yet added: the number is the stored item plus `more`, minus `less`. So successive changes in
+/// one block change no stored item of later blocks.
 #[derive(Drop)]
 pub(super) struct Numbers {
     items: Vec<usize>,
@@ -34,7 +34,7 @@ impl Model for Numbers {
 impl Clone for Numbers {
     ghost is_clone = { λ kept copy. copy.numbers ≡ kept.numbers };
 
-    /// The same numbers, or an error where there is no memory for them.
+    /// Returns the same numbers, or an error if memory runs out.
     fn clone(&self) -> Result<Numbers, AllocError> {
         Ok(Numbers {
             items: self.items.clone()?,
@@ -45,8 +45,8 @@ impl Clone for Numbers {
     }
 }
 
-/// Blocks that take the place of others, from one block on up to another: how many items stand before them, and how many of them
-/// went and came.
+/// A replacement of the blocks `from..to`: the number of items before them, removed with them
+/// (`gone`), and added by the new blocks (`come`).
 #[derive(Clone, Copy)]
 pub(super) struct Exchanged {
     pub from: usize,
@@ -57,7 +57,7 @@ pub(super) struct Exchanged {
 }
 
 impl Numbers {
-    /// No number. It takes no memory.
+    /// Returns no numbers. Allocates nothing.
     pub(super) fn new(alloc: Global) -> Numbers
         ensures { result.numbers ≡ [] }
     {
@@ -69,7 +69,7 @@ impl Numbers {
         }
     }
 
-    /// Makes room for so many numbers more.
+    /// Reserves room for `more` numbers.
     pub(super) fn reserve(&mut self, more: usize) -> Result<(), AllocError>
         ensures same { self.new.numbers ≡ self.old.numbers }
         ensures room { OnOk result (more ≤ self.new.spare) }
@@ -77,7 +77,7 @@ impl Numbers {
         self.items.reserve(more)
     }
 
-    /// Puts a number behind all others, without memory.
+    /// Appends a number. Allocates nothing.
     pub(super) fn push(&mut self, number: usize)
         requires { 1 ≤ self.old.spare }
         ensures { self.new.numbers ≡ self.old.numbers ++ number ∷ [] }
@@ -89,7 +89,7 @@ impl Numbers {
         self.more = 0;
     }
 
-    /// The number of this block.
+    /// Returns the number of this block.
     pub(super) fn at(&self, block: usize) -> usize
         requires { block < length self.now.numbers }
         ensures { result ≡ get_or self.now.numbers block 0 }
@@ -101,7 +101,7 @@ impl Numbers {
         item + self.more - self.less
     }
 
-    /// The last block whose number is at most this one.
+    /// Returns the last block whose number is at most this one.
     pub(super) fn last_at_most(&self, number: usize) -> usize
         requires some { 0 < length self.now.numbers }
         requires first { get_or self.now.numbers 0 0 ≤ number }
@@ -123,8 +123,9 @@ impl Numbers {
         low
     }
 
-    /// Has each number from one on say so many less and so many more, without memory. Where the difference that isn't added yet is of
-    /// the numbers from the same one on, it becomes one with this. Otherwise it is added, and this one isn't yet.
+    /// Adds `come` to each number from `from` on and subtracts `gone`. Allocates nothing. A pending
+    /// difference with the same `from` is combined with this one, unless a sum overflows. Otherwise
+    /// it is added to the items, and this one is pending.
     pub(super) fn turn_from(&mut self, from: usize, gone: usize, come: usize)
         requires enough { (k : ℕ) → from ≤ k → k < length self.old.numbers
             → gone ≤ get_or self.old.numbers k 0 + come }
@@ -154,8 +155,8 @@ impl Numbers {
         self.more = come.saturating_sub(gone);
     }
 
-    /// Puts the numbers of blocks that came, counted from 0, in the place of those of blocks that went, and turns those behind,
-    /// without memory.
+    /// Replaces the numbers of removed blocks by those of new blocks, which count from 0, and
+    /// adjusts the numbers after them. Allocates nothing.
     pub(super) fn exchange(&mut self, new: Numbers, exchanged: Exchanged)
         requires ordered { exchanged.from ≤ exchanged.to }
         requires within { exchanged.to ≤ length self.old.numbers }
@@ -183,7 +184,7 @@ impl Numbers {
     }
 }
 
-// Has each number from one on say so many less and so many more.
+// Adds `come` to each number from `from` on, and subtracts `gone`.
 fn move_numbers(numbers: &mut Vec<usize>, from: usize, gone: usize, come: usize)
     requires enough { (k : ℕ) → from ≤ k → k < vec_len numbers.old
         → gone ≤ get_or numbers.old.items k 0 + come }
@@ -216,7 +217,7 @@ fn move_slice(numbers: &mut [usize], from: usize, gone: usize, come: usize)
     }
 }
 
-// Puts the numbers of blocks that came, counted from 0, in the place of those of blocks that went, and turns those behind.
+// Replaces the numbers of removed blocks by those of new blocks, and adjusts those after them.
 fn exchange_numbers(numbers: &mut Vec<usize>, mut new: Vec<usize>, exchanged: Exchanged)
     requires ordered { exchanged.from ≤ exchanged.to }
     requires within { exchanged.to ≤ vec_len numbers.old }

@@ -1,4 +1,4 @@
-//! The table of keys with shortcuts, by what is held.
+//! The key table with shortcuts, by the modifier keys that are held.
 #![tactic(auto, unfolding(crate::specs::Keys::keys, crate::specs::Table::action_by))]
 
 ghost use Rattle.std.specs.Prelude.{◌≡◌, true, false};
@@ -13,7 +13,7 @@ use textarea_data::cursor::CursorMove;
 use textarea_data::input::Key;
 use textarea_data::scroll::Scrolling;
 
-/// What a key asks for with neither Ctrl nor Alt.
+/// Returns what a key asks for with neither Ctrl nor Alt.
 pub(super) fn plain(key: Key, shift: bool) -> Action
     ensures { result ≡ action_by keys (pressed key false false shift) }
 {
@@ -31,7 +31,7 @@ pub(super) fn plain(key: Key, shift: bool) -> Action
     }
 }
 
-/// What a key asks for with Ctrl and not Alt.
+/// Returns what a key asks for with Ctrl but not Alt.
 pub(super) fn with_ctrl(key: Key, shift: bool) -> Action
     ensures { result ≡ action_by keys (pressed key true false shift) }
 {
@@ -45,7 +45,7 @@ pub(super) fn with_ctrl(key: Key, shift: bool) -> Action
     }
 }
 
-/// What a character asks for with Ctrl and not Alt.
+/// Returns what a character asks for with Ctrl but not Alt.
 fn character_with_ctrl(character: char, shift: bool) -> Action
     ensures { result ≡ action_by keys (pressed (Char character) true false shift) }
 {
@@ -72,7 +72,7 @@ fn character_with_ctrl(character: char, shift: bool) -> Action
     }
 }
 
-/// What a key asks for with Alt and not Ctrl.
+/// Returns what a key asks for with Alt but not Ctrl.
 pub(super) fn with_alt(key: Key, shift: bool) -> Action
     ensures { result ≡ action_by keys (pressed key false true shift) }
 {
@@ -84,7 +84,7 @@ pub(super) fn with_alt(key: Key, shift: bool) -> Action
     }
 }
 
-/// What a character asks for with Alt and not Ctrl.
+/// Returns what a character asks for with Alt but not Ctrl.
 fn character_with_alt(character: char, shift: bool) -> Action
     ensures { result ≡ action_by keys (pressed (Char character) false true shift) }
 {
@@ -102,7 +102,7 @@ fn character_with_alt(character: char, shift: bool) -> Action
     }
 }
 
-/// What a key asks for with both Ctrl and Alt.
+/// Returns what a key asks for with both Ctrl and Alt.
 pub(super) fn with_ctrl_and_alt(key: Key, shift: bool) -> Action
     ensures { result ≡ action_by keys (pressed key true true shift) }
 {
@@ -115,7 +115,7 @@ pub(super) fn with_ctrl_and_alt(key: Key, shift: bool) -> Action
     }
 }
 
-/// What a key asks for by those parts of the table for which it doesn't matter what is held.
+/// Returns what a key asks for by the cases of the table that ignore Ctrl and Alt.
 fn whatever_is_held(key: Key, shift: bool) -> Action
     ensures { result ≡ action_by (whatever_held keys) (pressed key false false shift) }
 {

@@ -1,10 +1,10 @@
-//! Edits of what the calls hand in and cut out.
+//! Edits built from the arguments of calls and from removed text.
 ghost use Rattle.std.specs.Prelude.{◌≡◌, ◌<◌, ◌≤◌, ◌∷◌, [], false, vec_len, IfSome, None};
 ghost use Rattle.textarea_document.specs.Prelude.{symbol_in, text_of, inserts_of, pieces_of, symbols_of};
 
 use textarea_history::edit::{Edit, EditKind};
 
-// The edit that inserts the pieces between two places of the cursor, or removes what they hold from between them.
+// Returns the edit that inserts the fragment between two positions, or removes it from there.
 pub(super) fn edit_of(
     mut pieces: Vec<String>,
     inserts: bool,
@@ -32,7 +32,7 @@ pub(super) fn edit_of(
     }
 }
 
-// The removal of a character, or of a break where there is none.
+// Returns the removal of a character, or of a break for `None`.
 pub(super) fn deletion_of(character: Option<char>) -> EditKind
     ensures symbols { symbols_of result ≡ symbol_in character ∷ [] }
     ensures inserts { inserts_of result ≡ false }

@@ -1,4 +1,4 @@
-//! Insertions at the cursor of a document, or at the end of the atomic range that strictly holds it.
+//! Insertions at the cursor, or at the end of the atomic range that strictly contains it.
 ghost use Rattle.std.specs.Prelude.{◌≡◌, ◌<◌, ◌≤◌, true, OnOk, OnErr, IsOk, IfOk, All, []};
 ghost use Rattle.textarea_document.specs.Prelude.{as_nanos, size_limit, text_of, IsPlace, size_of, IsInside, break_inserted, character_inserted, insertion_place, is_filled, nothing_inserted, symbols_inserted};
 
@@ -13,7 +13,7 @@ use textarea_text::places::end_of;
 use textarea_text::rows;
 
 impl Document {
-    /// Where an insertion goes: to the cursor, or to the end of the atomic range that strictly holds it.
+    /// Returns the insertion position: the cursor, or the end of the range strictly containing it.
     pub fn insertion_place(&self) -> (usize, usize)
         ensures value { result ≡ insertion_place self.now }
         ensures place { IsPlace self.now.text result }
@@ -28,7 +28,7 @@ impl Document {
         )
     }
 
-    /// Puts the cursor where an insertion goes, and drops the selection; nothing is recorded.
+    /// Moves the cursor to the insertion position, and drops the selection; nothing is recorded.
     pub fn insert_nothing(&mut self)
         ensures { self.new ≡ nothing_inserted self.old }
     {
@@ -36,7 +36,7 @@ impl Document {
         self.anchor = None;
     }
 
-    /// Inserts the character where an insertion goes, as a typed one or not. A line feed stays a character of the line.
+    /// Inserts the character at the insertion position, as typed or not, even if it is a line feed.
     pub fn insert_character(
         &mut self,
         c: char,
@@ -55,7 +55,7 @@ impl Document {
         )
     }
 
-    /// Breaks the line where an insertion goes.
+    /// Breaks the line at the insertion position.
     pub fn insert_break(&mut self, now: Duration) -> Result<(), AllocError>
         ensures ok { OnOk result (self.new ≡ break_inserted self.old (as_nanos now)) }
         ensures err { OnErr result (self.new ≡ self.old) }
@@ -69,9 +69,9 @@ impl Document {
         )
     }
 
-    /// Inserts the pieces, with a line break between each two, where an insertion goes, and says whether there was a
-    /// symbol to insert. Without one the cursor goes there and the selection is dropped. Pieces too large for any
-    /// text are answered as out of memory.
+    /// Inserts the fragment at the insertion position, with a line break between each two of its
+    /// strings, and returns whether it has a symbol. Without one the cursor moves there and the
+    /// selection is dropped. A fragment larger than any text is an out-of-memory error.
     pub fn insert(&mut self, pieces: Vec<String>, now: Duration) -> Result<bool, AllocError>
         ensures inserted { IfOk result (λ inserted. inserted ≡ is_filled (text_of pieces.items)) }
         ensures ok { OnOk result
@@ -92,7 +92,7 @@ impl Document {
     }
 }
 
-/// Whether the pieces hold a symbol: a break between two of them, or a character.
+/// Returns whether the fragment has a symbol: a break between two of its strings, or a character.
 pub fn has_symbol(pieces: &[String]) -> bool
     ensures { result ≡ is_filled (text_of pieces.now) }
 {

@@ -1,4 +1,4 @@
-//! Atomic ranges: parts of a line that are edited as a whole.
+//! Atomic ranges: spans of characters in a line that are edited as a whole.
 ghost use Rattle.std.specs.Prelude.{◌≡◌, ◌<◌, IfOk, IfSome, IsOk, MatchResult, None, OnErr, OnOk, false, is_some};
 ghost use Rattle.textarea_document.specs.Prelude.{as_nanos, lines, IsPlace, index_of, inside, range_start, range_end, AreInOrder, AreRefused, AreValid, Backward, Forward, hit_at_cursor, is_at_end, is_at_start, accepted, anchor_out, anchored, holding, normalized, unless_empty, range_removed, ranges_forgotten};
 
@@ -13,7 +13,8 @@ use textarea_ranges::validate::validate;
 use textarea_text::places::clip;
 
 impl Document {
-    /// The atomic ranges, by row and start: each has a character at least and lies in one line, and no two share one.
+    /// Returns the atomic ranges, sorted by row and start: each has at least one character, within
+    /// one line, and no two share one.
     pub fn ranges(&self) -> &[AtomicRange]
         ensures value { result.now ≡ self.now.ranges }
         ensures valid { AreValid (lines self.now.text) result.now }
@@ -22,9 +23,9 @@ impl Document {
         self.ranges.as_slice()
     }
 
-    /// Holds these ranges in place of the old ones, where they are valid for the text; else names the rejected ones, and
-    /// changes nothing. The cursor goes to the end of the range that strictly holds it, the place where the selection began
-    /// to such a range's start, and a selection that is empty then is dropped.
+    /// Replaces the atomic ranges if they are valid for the text; otherwise returns the rejected
+    /// ones, and changes nothing. A cursor strictly inside a range moves to its end, a selection's
+    /// beginning to its start, and a selection that is empty after that is dropped.
     pub fn try_set_ranges(
         &mut self,
         ranges: Vec<AtomicRange>,
@@ -46,7 +47,7 @@ impl Document {
         }
     }
 
-    // Holds these ranges, which are in order.
+    // Replaces the atomic ranges by these, which are sorted.
     fn hold(&mut self, ranges: Vec<AtomicRange>)
         requires valid { AreValid (lines self.old.text) ranges.items }
         requires in_order { AreInOrder ranges.items }
@@ -59,15 +60,15 @@ impl Document {
         self.ranges = ranges;
     }
 
-    /// Holds no range any more; all else stays.
+    /// Drops all atomic ranges; all else stays.
     pub fn clear_ranges(&mut self)
         ensures { self.new ≡ ranges_forgotten self.old }
     {
         self.ranges.clear();
     }
 
-    /// Moves the cursor out of the range that strictly holds it, to its start for Backward, to its end for Forward, and says
-    /// whether there was one. The selection stays, and so does a run of typing.
+    /// Moves a cursor strictly inside an atomic range to its start for Backward, to its end for
+    /// Forward, and returns whether it was inside one. The selection and a run of typing stay.
     pub fn normalize_cursor(&mut self, bias: AtomicCursorBias) -> bool
         ensures moved { result ≡ is_some (inside self.old.ranges self.old.cursor) }
         ensures new { self.new ≡ normalized self.old bias }
@@ -77,8 +78,8 @@ impl Document {
         found
     }
 
-    /// The range that the direction hits from the cursor; its two ends are places of the text, the first one first. Where one
-    /// is hit before the cursor that isn't the text's start, and where one is hit behind it, not the text's end.
+    /// Returns the atomic range at the cursor in this direction. Its two ends are positions of the
+    /// text, the first one first; backward it starts before the cursor, forward it ends after it.
     pub fn range_at_cursor(&self, direction: AtomicDeleteDirection) -> Option<AtomicRange>
         ensures value { result ≡ hit_at_cursor self.now direction }
         ensures start { IfSome result (λ range. IsPlace self.now.text (range_start range)) }
@@ -91,9 +92,9 @@ impl Document {
         held::hit(self.ranges.as_slice(), self.cursor, direction)
     }
 
-    /// Removes the range that the direction hits from the cursor, and hands it out; the selection stays open, and
-    /// where it began behind the end of its shorter line, it begins at that end. None where no range is hit, and then
-    /// nothing changes.
+    /// Removes the atomic range at the cursor in this direction, and returns it. The selection
+    /// stays open; if its beginning is past the end of its shorter line then, it moves to that end.
+    /// Without such a range returns `None`, and nothing changes.
     pub fn remove_range_at_cursor(
         &mut self,
         direction: AtomicDeleteDirection,
@@ -113,7 +114,7 @@ impl Document {
         Ok(Some(range))
     }
 
-    // Begins the selection at the nearest place of the text.
+    // Sets the selection's beginning to the nearest position of the text.
     fn set_clipped_anchor(&mut self, anchor: Option<(usize, usize)>)
         ensures { self.new ≡ anchored self.old anchor }
     {
@@ -125,7 +126,7 @@ impl Document {
     }
 }
 
-// The place where a selection began, moved out of the range that strictly holds it, to its start.
+// Returns the selection's beginning; if it is strictly inside a range, that range's start.
 fn anchor_out(ranges: &[AtomicRange], anchor: Option<(usize, usize)>) -> Option<(usize, usize)>
     ensures { result ≡ anchor_out ranges.now anchor }
 {
@@ -133,7 +134,7 @@ fn anchor_out(ranges: &[AtomicRange], anchor: Option<(usize, usize)>) -> Option<
     Some(held::move_out(ranges, place, AtomicCursorBias::Backward))
 }
 
-// Where a selection began, or none where it began at the cursor.
+// Returns the selection's beginning, or `None` if it is the cursor.
 fn unless_empty(anchor: Option<(usize, usize)>, cursor: (usize, usize)) -> Option<(usize, usize)>
     ensures { result ≡ unless_empty anchor cursor }
 {

@@ -1,5 +1,5 @@
 //! Removals from a document.
-ghost use Rattle.std.specs.Prelude.{◌≡◌, ◌<◌, ◌≤◌, OnOk, OnErr, IsOk, IfOk, IfSome, MatchOption, not, true, false, ◌==◌, ◌++◌, ◌∷◌, ◌+◌, None, [], drop, take, encode_utf8_all, length, vec_len};
+ghost use Rattle.std.specs.Prelude.{◌≡◌, ◌<◌, ◌≤◌, OnOk, OnErr, IsOk, IfOk, IfSome, MatchOption, not, true, false, ◌==◌, ◌++◌, ◌∷◌, ◌+◌, None, [], drop, take, encode_utf8_all, length};
 ghost use Rattle.textarea_document.specs.Prelude.{chars, as_nanos, offset_at, lines_of, symbol_in, text_of, IsPlace, IsPlaceOf, index_of, part, Backward, Forward, TakesWhole, widened, IsSymbolBehind, hit_at_cursor, hit_before, hit_behind, hit_removed, is_at_end, is_at_start, removal, taken_symbols, removed_before, removed_behind, break_removed, part_removed, symbol_removed_before, symbol_removed_behind, edited};
 
 use crate::document::Document;
@@ -15,7 +15,7 @@ use textarea_text::places::line_end;
 use textarea_text::rows;
 
 impl Document {
-    /// Removes what stands between two places of the text, and each range that it overlaps.
+    /// Removes the text between two positions, and each range that it overlaps.
     #[tactic(auto, unfolding(crate::specs::Edits::part_removed))]
     pub fn remove(
         &mut self,
@@ -34,8 +34,8 @@ impl Document {
         self.remove_whole(pieces, start, end, now)
     }
 
-    /// Removes what stands between two places of the text, and each range that it overlaps, and hands that out as pieces
-    /// with a line break between each two.
+    /// Removes the text between two positions, and each range that it overlaps, and returns it as a
+    /// fragment, with a line break between each two of its strings.
     #[tactic(auto, unfolding(crate::specs::Edits::part_removed))]
     pub fn take(
         &mut self,
@@ -58,7 +58,8 @@ impl Document {
         Ok(taken)
     }
 
-    // Removes these pieces, which stand between two places of the text; that takes each range whole or not at all.
+    // Removes this fragment, which is between two positions of the text. It covers each range
+    // completely or not at all.
     fn remove_whole(
         &mut self,
         pieces: Vec<String>,
@@ -78,7 +79,7 @@ impl Document {
         self.edit(edit_of(pieces, false, from, to), false, now)
     }
 
-    // The two ends of a removal, widened over each range that it overlaps.
+    // Returns the two ends of a removal, widened over each range that it overlaps.
     fn widen(&self, from: (usize, usize), to: (usize, usize)) -> ((usize, usize), (usize, usize))
         requires from { IsPlace self.now.text from }
         requires to { IsPlace self.now.text to }
@@ -92,8 +93,8 @@ impl Document {
         held::widen(self.ranges(), from, to)
     }
 
-    /// Removes the range that the direction hits from the cursor, and hands it out; nothing is selected then. None
-    /// where no range is hit, and then nothing changes.
+    /// Removes the atomic range at the cursor in this direction, and returns it; nothing is
+    /// selected then. Without such a range returns `None`, and nothing changes.
     pub fn remove_hit(
         &mut self,
         direction: AtomicDeleteDirection,
@@ -118,8 +119,8 @@ impl Document {
         Ok(Some(range))
     }
 
-    /// Removes the range before the cursor that is hit, or else the character there, or at column 0 the line break,
-    /// as a typed edit or not, and says whether there was one.
+    /// Removes the atomic range at the cursor, backward, or else the character before the cursor,
+    /// or at column 0 the line break there, as typed or not. Returns whether there was one.
     #[tactic(auto, unfolding(crate::specs::Edits::removed_before))]
     pub fn remove_before(&mut self, typed: bool, now: Duration) -> Result<bool, AllocError>
         ensures removed { IfOk result (λ removed. removed ≡ not (is_at_start self.old)) }
@@ -133,8 +134,8 @@ impl Document {
         }
     }
 
-    /// Removes the range behind the cursor that is hit, or else the character there, or at a line's end the line
-    /// break, as a typed edit or not, and says whether there was one.
+    /// Removes the atomic range at the cursor, forward, or else the character after the cursor, or
+    /// at a line's end the line break there, as typed or not. Returns whether there was one.
     #[tactic(auto, unfolding(crate::specs::Edits::removed_behind))]
     pub fn remove_behind(&mut self, typed: bool, now: Duration) -> Result<bool, AllocError>
         ensures removed { IfOk result (λ removed. removed ≡ not (is_at_end self.old)) }
@@ -148,8 +149,8 @@ impl Document {
         }
     }
 
-    // Removes the character before the cursor, or at column 0 the line break there, as a typed edit or not, and says
-    // whether there was one.
+    // Removes the character before the cursor, or at column 0 the line break there, as typed or
+    // not. Returns whether there was one.
     fn remove_symbol_before(&mut self, typed: bool, now: Duration) -> Result<bool, AllocError>
         requires none_hit { hit_before self.old ≡ None }
         ensures removed { IfOk result (λ removed. removed ≡ not (is_at_start self.old)) }
@@ -168,8 +169,8 @@ impl Document {
         Ok(true)
     }
 
-    // Removes the character behind the cursor, or at a line's end the line break there, as a typed edit or not, and
-    // says whether there was one.
+    // Removes the character after the cursor, or at a line's end the line break there, as typed or
+    // not. Returns whether there was one.
     fn remove_symbol_behind(&mut self, typed: bool, now: Duration) -> Result<bool, AllocError>
         requires none_hit { hit_behind self.old ≡ None }
         ensures removed { IfOk result (λ removed. removed ≡ not (is_at_end self.old)) }
@@ -188,7 +189,7 @@ impl Document {
         Ok(true)
     }
 
-    /// Removes the line break before the cursor's line, and says whether there was one.
+    /// Removes the line break before the cursor's line. Returns whether there was one.
     pub fn remove_break(&mut self, now: Duration) -> Result<bool, AllocError>
         ensures removed { IfOk result (λ removed. removed ≡ not (self.old.cursor.0 == 0)) }
         ensures ok { OnOk result (self.new ≡ break_removed self.old (as_nanos now)) }
@@ -210,14 +211,14 @@ impl Document {
     }
 }
 
-// What stands directly behind a place, and where it ends: a character, or none for the break between two lines.
+// The symbol after a position, and its end: a character, or `None` for the break between two lines.
 #[derive(Clone, Copy)]
 struct SymbolBehind {
     end: (usize, usize),
     character: Option<char>,
 }
 
-// The symbol behind the place, which stands behind so many bytes of its line; none at the end of the text.
+// Returns the symbol after the position, at byte `offset` of its line; `None` at the text's end.
 fn symbol_behind(lines: &[String], place: (usize, usize), offset: usize) -> Option<SymbolBehind>
     requires place { IsPlaceOf (lines_of lines.now) place }
     requires offset { offset ≡ offset_at (lines_of lines.now) place }
@@ -241,7 +242,7 @@ fn symbol_behind(lines: &[String], place: (usize, usize), offset: usize) -> Opti
     })
 }
 
-// The character behind the column of a line, which begins behind so many bytes; none at the line's end.
+// Returns the character after the column of a line, at byte `offset`; `None` at the line's end.
 fn character_behind(line: &str, column: usize, offset: usize) -> Option<char>
     requires column { column ≤ length (chars line.now) }
     requires offset { offset ≡ length (encode_utf8_all (take column (chars line.now))) }

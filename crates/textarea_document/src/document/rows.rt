@@ -9,15 +9,15 @@ use textarea_lines::settings::LayoutSettings;
 use textarea_screen_map::view::LaidOutView;
 
 impl Document {
-    /// What decides how the lines are cut and seen.
+    /// Returns the settings of the layout.
     pub fn layout_settings(&self) -> LayoutSettings
         ensures { result ≡ self.now.layout.settings }
     {
         self.laid.layout_settings()
     }
 
-    /// Sets what decides how the lines are cut and seen. They are cut anew, each once, only where they are cut in another
-    /// way, and only then memory is taken.
+    /// Sets the settings of the layout. If that changes how lines wrap, all are wrapped again, each
+    /// once; only then memory is needed.
     pub fn set_layout_settings(&mut self, settings: LayoutSettings) -> Result<(), AllocError>
         ensures ok { OnOk result (self.new ≡ with_layout_settings self.old settings) }
         ensures err { OnErr result (self.new ≡ self.old) }
@@ -26,7 +26,7 @@ impl Document {
         self.laid.set_layout_settings(settings)
     }
 
-    /// Where the cursor goes one visual row up; none from the first visual row.
+    /// Returns the position one visual row above the cursor; `None` in the first visual row.
     #[tactic(auto, unfolding(crate::specs::Rows::IsAboveCursor))]
     pub fn above(&self) -> Option<(usize, usize)>
         ensures place { IfSome result (IsPlace self.now.text) }
@@ -35,7 +35,7 @@ impl Document {
         self.laid.above(self.cursor)
     }
 
-    /// Where the cursor goes one visual row down; none from the last visual row.
+    /// Returns the position one visual row below the cursor; `None` in the last visual row.
     #[tactic(auto, unfolding(crate::specs::Rows::IsBelowCursor))]
     pub fn below(&self) -> Option<(usize, usize)>
         ensures place { IfSome result (IsPlace self.now.text) }
@@ -44,23 +44,23 @@ impl Document {
         self.laid.below(self.cursor)
     }
 
-    /// How many visual rows the text has in all.
+    /// Returns the number of visual rows of the whole text.
     pub fn row_count(&self) -> usize
         ensures { OfRows (laid_out_of self.now) (λ rows. result ≡ row_total rows) }
     {
         self.laid.row_count()
     }
 
-    /// The lines with their visual rows, as they stand.
+    /// Returns the lines with their visual rows.
     pub fn view(&self) -> LaidOutView<'_>
         ensures { IsViewOf (laid_out_of self.now) result }
     {
         self.laid.view()
     }
 
-    /// Makes the lines ready for an inner width, in columns. They are cut for it, each once, only where they are cut in another
-    /// way at it, and only then memory is taken; where they were measured so last, they aren't cut again. Nothing that is seen
-    /// of the document changes.
+    /// Prepares the visual rows for an inner width, in columns. If it changes how lines wrap, all
+    /// are wrapped, each once; only then memory is needed. Lines that were last measured at this
+    /// width are not wrapped again. The document does not change for its callers.
     pub fn prepare_width(&mut self, inner_width: u16) -> Result<PreparedWidth, AllocError>
         ensures same { self.new ≡ self.old }
         ensures prepared { IfOk result (IsPrepared (laid_out_of self.old)) }
@@ -71,7 +71,7 @@ impl Document {
         self.laid.prepare_width(inner_width)
     }
 
-    /// The lines with their visual rows, as they will stand once the width is put in.
+    /// Returns the lines with their visual rows as they will be once the prepared width is set.
     pub fn view_with<'a>(&'a self, prepared: &'a PreparedWidth) -> LaidOutView<'a>
         requires { IsPrepared (laid_out_of self.now) prepared.now }
         ensures { IsViewOf
@@ -80,7 +80,7 @@ impl Document {
         self.laid.view_with(prepared)
     }
 
-    /// Sets the inner width that is prepared, without memory; no line is cut.
+    /// Sets the prepared inner width; this needs no memory and wraps no line.
     pub fn put_width(&mut self, prepared: PreparedWidth)
         requires { IsPrepared (laid_out_of self.old) prepared }
         ensures { self.new ≡ with_inner_width self.old prepared.inner_width }
@@ -88,8 +88,9 @@ impl Document {
         self.laid.put_width(prepared);
     }
 
-    /// How many visual rows the text would have in all in an inner area of this width, in columns. Where the lines are cut so
-    /// as they stand, no memory is taken. Nothing that is seen of the document changes.
+    /// Returns the number of visual rows that the whole text would have in an inner area of this
+    /// width, in columns. If lines wrap as in the present layout, no memory is needed. The document
+    /// does not change for its callers.
     #[tactic(auto, unfolding(crate::specs::Rows::HasRowsAt))]
     pub fn rows_at_width(&mut self, inner_width: u16) -> Result<usize, AllocError>
         ensures same { self.new ≡ self.old }

@@ -1,4 +1,4 @@
-//! What is selected in a document.
+//! The selection of a document.
 ghost use Rattle.std.specs.Prelude.{◌≡◌, ◌<◌, ◌≤◌, OnOk, OnErr, IsOk, IfOk, IfSome, MatchOption, is_some, true, false};
 ghost use Rattle.textarea_document.specs.Prelude.{as_nanos, text_of, IsPlace, IsUpTo, index_of, is_before, is_selected, selected_removed, selected_taken, selection, selection_end, selection_start};
 
@@ -7,7 +7,7 @@ use std::alloc::AllocError;
 use std::time::Duration;
 
 impl Document {
-    /// The two ends of the selection, the first one first; of an empty selection too.
+    /// Returns the two ends of the selection, the first one first, even if it is empty.
     pub fn selection(&self) -> Option<((usize, usize), (usize, usize))>
         ensures value { result ≡ selection self.now }
         ensures places { IfSome result (λ ends.
@@ -23,7 +23,7 @@ impl Document {
         })
     }
 
-    /// The two ends of what is selected, the first one first; none where no symbol is selected.
+    /// Returns the two ends of the selection, the first one first; `None` if no symbol is selected.
     pub fn filled_selection(&self) -> Option<((usize, usize), (usize, usize))>
         ensures found { MatchOption result (is_selected self.now ≡ false)
             (λ ends. is_selected self.now ≡ true) }
@@ -42,7 +42,7 @@ impl Document {
         }
     }
 
-    /// Removes what is selected, and says whether there was a symbol; an empty selection stays.
+    /// Removes the selected text, and returns whether there was any; an empty selection stays.
     pub fn remove_selection(&mut self, now: Duration) -> Result<bool, AllocError>
         ensures removed { IfOk result (λ removed. removed ≡ is_selected self.old) }
         ensures ok { OnOk result (self.new ≡ selected_removed self.old (as_nanos now)) }
@@ -56,8 +56,8 @@ impl Document {
         Ok(true)
     }
 
-    /// Removes what is selected, and hands out what went as pieces, with a line break between each two. None where no
-    /// symbol is selected: an empty selection stays.
+    /// Removes the selected text, and returns what was removed as a fragment, with a line break
+    /// between each two of its strings. `None` if no symbol is selected; an empty selection stays.
     pub fn take_selection(&mut self, now: Duration) -> Result<Option<Vec<String>>, AllocError>
         ensures found { IfOk result (λ taken. is_some taken ≡ is_selected self.old) }
         ensures taken { IfOk result (λ taken.
@@ -74,7 +74,6 @@ impl Document {
     }
 }
 
-// Whether a place comes before another.
 fn comes_before(first: (usize, usize), second: (usize, usize)) -> bool
     ensures { result ≡ is_before first second }
 {

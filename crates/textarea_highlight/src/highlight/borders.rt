@@ -1,4 +1,4 @@
-//! Where highlights start and end on a row.
+//! Where highlights start and end in a row.
 ghost use Rattle.std.specs.Prelude.{◌≡◌, [], ◌++◌, ℕ, List, IfOk, IsOk, OnOk, OnErr, IsCharBoundary, IsPermutation};
 ghost use Rattle.std.specs.Iterator.{IsFinite, Drains};
 ghost use Rattle.std.specs.List.Sorted.{IsSortedByKey, IsStableByKey};
@@ -7,14 +7,14 @@ ghost use Rattle.textarea_highlight.specs.Borders.{ArePlaced, IsEmptyAt, MarkNot
 use std::alloc::{AllocError, Global};
 use textarea_screen::screen::Style;
 
-/// What a border does: it starts a highlight in this style, or ends the newest one that is open.
+/// The effect of a border: it starts a highlight in this style, or ends the newest open one.
 #[derive(Clone, Copy, Debug, PartialEq, Eq)]
 pub enum Mark {
     Start(Style),
     End,
 }
 
-/// A place of a row at which a highlight starts or ends.
+/// An offset in a row at which a highlight starts or ends.
 #[derive(Clone, Copy, Debug, PartialEq, Eq)]
 pub struct Border {
     /// In bytes from the row's start.
@@ -26,11 +26,10 @@ pub struct Border {
 
 const END_RANK: u8 = 0;
 
-/// The rank of a match's highlight.
 const MATCH_RANK: u8 = 20;
 
-/// Adds the start and the end of a highlight from one byte of the row to another, each rounded down
-/// to a character's start and clipped to the row; nothing where no character lies between them.
+/// Adds the start and the end of a highlight between two byte offsets, each clipped to the row and
+/// rounded down to a character's start. Adds nothing if no character is between them.
 pub fn push_highlight(
     borders: &mut Vec<Border>,
     row: &str,
@@ -64,7 +63,7 @@ pub fn push_highlight(
     Ok(())
 }
 
-/// The borders of the matches' highlights, in the order of the matches.
+/// Returns the borders of the matches' highlights, in the order of the matches.
 pub fn borders_of_matches<I: Iterator<Item = (usize, usize)> + Drop>(
     alloc: Global,
     row: &str,
@@ -87,7 +86,7 @@ pub fn borders_of_matches<I: Iterator<Item = (usize, usize)> + Drop>(
     Ok(borders)
 }
 
-/// The last place up to an offset, and in the row, at which a character starts or the row ends.
+/// Returns the last offset up to this one at which a character starts or the row ends.
 fn round_down(row: &str, offset: usize) -> usize
     ensures value { result ≡ rounded_down row.now offset }
     ensures boundary { IsCharBoundary row.now result }
@@ -95,7 +94,7 @@ fn round_down(row: &str, offset: usize) -> usize
     row.floor_char_boundary(offset)
 }
 
-/// Puts the borders in order: by offset, then by rank, and else as they were added.
+/// Sorts the borders by offset, then by rank, then as they were added.
 pub fn sort(borders: &mut Vec<Border>) -> Result<(), AllocError>
     ensures permutation { IsPermutation borders.old.items borders.new.items }
     ensures sorted { OnOk result (IsSortedByKey place_of place_cmp borders.new.items) }

@@ -1,11 +1,11 @@
-//! Which style stands behind a list of starts and ends.
+//! The style after a list of starts and ends of highlights.
 ghost use Rattle.std.specs.Prelude.{◌≡◌, OnOk, [], ◌∷◌, ◌++◌};
 
 use super::borders::Mark;
 use std::alloc::{AllocError, Global};
 use textarea_screen::screen::Style;
 
-/// The styles that were started and not ended again, the newest last.
+/// The styles of highlights that are started and not ended, the newest last.
 #[derive(Drop)]
 pub struct OpenStyles {
     base: Style,
@@ -16,7 +16,7 @@ impl OpenStyles {
     ghost use Rattle.textarea_highlight.specs.OpenStyles.{base_of, IsBehind};
     ghost use Rattle.textarea_highlight.specs.Brackets.{IsStyleBehind};
 
-    /// No style is open, so the base style holds.
+    /// Returns the state without an open style. The current style is the base style.
     pub fn new(alloc: Global, base: Style) -> OpenStyles
         ensures base { base_of result ≡ base }
         ensures none { IsBehind result [] }
@@ -27,7 +27,7 @@ impl OpenStyles {
         }
     }
 
-    /// No style is open any more, and another base style holds.
+    /// Closes all styles, and sets another base style.
     pub fn restart(&mut self, base: Style)
         ensures base { base_of self.new ≡ base }
         ensures none { IsBehind self.new [] }
@@ -36,7 +36,7 @@ impl OpenStyles {
         self.started.clear();
     }
 
-    /// Goes on behind one more mark.
+    /// Applies one more mark.
     pub fn pass(&mut self, mark: Mark) -> Result<(), AllocError>
         ensures base { base_of self.new ≡ base_of self.old }
         ensures ok { OnOk result ((marks : _) → IsBehind self.old marks
@@ -51,7 +51,7 @@ impl OpenStyles {
         Ok(())
     }
 
-    /// The style behind the marks that were passed.
+    /// Returns the style after the marks so far.
     pub fn style(&self) -> Style
         ensures { (marks : _) → IsBehind self.now marks
             → IsStyleBehind marks (base_of self.now) result }

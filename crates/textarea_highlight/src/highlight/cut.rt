@@ -1,4 +1,4 @@
-//! A row cut into spans at its borders.
+//! Splitting a row into spans at its borders.
 ghost use Rattle.std.specs.Prelude.{◌≡◌, ◌+◌, ◌-◌, ◌*◌, ◌^◌, ◌<◌, ◌≤◌, [], ◌++◌, map, length, None, IsOk, OnOk, IsCharBoundary};
 ghost use Rattle.textarea_screen.specs.Text.{shown_span};
 ghost use Rattle.textarea_wrap.specs.Columns.{end_column};
@@ -12,7 +12,7 @@ use super::display::Display;
 use std::alloc::{AllocError, Global};
 use textarea_screen::screen::{Span, SpanText, Style};
 
-/// What holds for all pieces of a row.
+/// The settings for all segments of a row.
 #[derive(Clone, Copy)]
 pub struct RowStyle {
     pub base: Style,
@@ -20,8 +20,8 @@ pub struct RowStyle {
     pub mask: Option<char>,
 }
 
-/// Cuts a row at each border, and adds the pieces to the spans, each in the style that the borders
-/// before it leave, which is kept in `styles` on the way.
+/// Splits a row at each border and appends the segments to the spans, each in the style after the
+/// borders before it. `styles` tracks the open styles.
 pub fn cut<'a>(
     alloc: Global,
     spans: &mut Vec<Span<'a>>,
@@ -55,7 +55,7 @@ pub fn cut<'a>(
     Ok(())
 }
 
-/// Adds the piece of the row between two offsets, if it is not empty.
+/// Appends the segment of the row between two offsets, if it is not empty.
 fn cut_to<'a>(
     row: &'a str,
     display: &mut Display,
@@ -84,7 +84,7 @@ fn cut_to<'a>(
     Ok(())
 }
 
-/// Adds a blank in this style for the cell behind the row, or nothing.
+/// Appends a blank in this style for the cell after the row, or nothing.
 pub fn push_end_cell(spans: &mut Vec<Span<'_>>, style: Option<Style>) -> Result<(), AllocError>
     ensures added { OnOk result (map shown_span spans.new.items
         ≡ map shown_span spans.old.items ++ end_cell style) }

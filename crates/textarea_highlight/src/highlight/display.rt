@@ -1,5 +1,5 @@
-//! What stands on the screen for the pieces of a row.
-ghost use Rattle.std.specs.Prelude.{◌≡◌, ◌+◌, ◌*◌, ◌^◌, ◌<◌, ◌≤◌, ◌↔◌, IsTrue, ◌++◌, map, length, drop, None, IfOk, OnOk, chars, encode_utf8_all, string_bytes};
+//! The text on the screen for the segments of a row.
+ghost use Rattle.std.specs.Prelude.{◌≡◌, ◌+◌, ◌*◌, ◌^◌, ◌<◌, ◌≤◌, ◌↔◌, ◌++◌, map, length, drop, None, IfOk, OnOk, chars, encode_utf8_all, string_bytes};
 ghost use Rattle.std.specs.List.{list_any};
 ghost use Rattle.textarea_screen.specs.Text.{shown_content};
 ghost use Rattle.textarea_highlight.specs.Texts.{bytes_of, IsLent};
@@ -11,19 +11,19 @@ use textarea_screen::screen::SpanText;
 use textarea_text::util::spaces;
 use textarea_wrap::wrap::columns::{column_behind, column_behind_text};
 
-/// What is shown for the pieces of one row, which come from left to right.
+/// The text on the screen for the segments of one row, from left to right.
 #[derive(Drop)]
 pub struct Display {
     pub alloc: Global,
     pub tab_len: u8,
     pub mask: Option<char>,
-    /// The column at which the next piece begins.
+    /// The column at which the next segment begins.
     pub column: usize,
 }
 
 impl Display {
-    /// The text that is shown for the next piece: the piece itself where there is no mask and it
-    /// stays as it is, and else a text of its own.
+    /// Returns the text on the screen for the next segment: the segment itself if there is no mask
+    /// and it is shown unchanged, otherwise a new text.
     pub fn show<'a>(&mut self, piece: &'a str) -> Result<SpanText<'a>, AllocError>
         requires { self.old.column + 255 * length piece.now < 2 ^ 63 }
         ensures text { IfOk result (λ content. bytes_of (shown_content content)
@@ -81,7 +81,7 @@ fn has_tab_behind_start(piece: &str) -> bool
     piece.chars().skip(1).any(|c| c == '\t')
 }
 
-/// The mask character for each character.
+/// Returns the mask character for each character.
 fn mask_text(alloc: Global, piece: &str, mask: char) -> Result<String, AllocError>
     ensures { IfOk result (λ s. string_bytes s
         ≡ encode_utf8_all (map (λ _. mask) (chars piece.now))) }
@@ -89,7 +89,7 @@ fn mask_text(alloc: Global, piece: &str, mask: char) -> Result<String, AllocErro
     piece.chars().map(|_| mask).collect(alloc)
 }
 
-/// The text without its tabs, but for one at its very start.
+/// Returns the text without its tabs, except one at its very start.
 fn drop_tabs(alloc: Global, piece: &str) -> Result<String, AllocError>
     ensures { IfOk result (λ s. string_bytes s ≡ encode_utf8_all (without_tabs (chars piece.now))) }
 {
@@ -98,7 +98,7 @@ fn drop_tabs(alloc: Global, piece: &str) -> Result<String, AllocError>
     first.chain(others).collect(alloc)
 }
 
-/// The text with spaces in the place of each tab, up to the next tab stop.
+/// Returns the text with each tab replaced by spaces up to the next tab stop.
 fn expand_tabs(alloc: Global, piece: &str, tab_len: u8, column: usize) -> Result<String, AllocError>
     requires { column + 255 * length piece.now < 2 ^ 63 }
     ensures { IfOk result (λ s. string_bytes s
@@ -114,7 +114,7 @@ fn expand_tabs(alloc: Global, piece: &str, tab_len: u8, column: usize) -> Result
     Ok(expanded)
 }
 
-/// Adds what is shown for a character between two columns.
+/// Appends the text on the screen for a character between two columns.
 fn push_shown(
     text: &mut String,
     c: char,

@@ -1,4 +1,4 @@
-//! What is highlighted in a row, and the spans that it gives.
+//! The highlights of a row, and its spans.
 ghost use Rattle.std.specs.Prelude.{◌≡◌, ◌+◌, ◌^◌, ◌<◌, ◌≤◌, ℕ, None, List, [], map, length, chars, IfOk, IfNone, IfSome, OnOk, OnErr, IsErr, IsOk};
 ghost use Rattle.std.specs.Fmt.{decimal};
 ghost use Rattle.std.specs.Iterator.{IsFinite, Drains};
@@ -25,7 +25,7 @@ use textarea_wrap::wrap::is_short;
 pub enum CursorCellRender {
     /// In this style.
     Draw(Style),
-    /// As any other cell, since a terminal's own cursor stands there.
+    /// Like any other cell, since the terminal's own cursor is there.
     Hidden,
 }
 
@@ -44,11 +44,11 @@ const CURSOR_RANK: u8 = 30;
 
 const SELECTION_RANK: u8 = 10;
 
-/// A row of text with its highlights, which `into_spans` cuts into styled spans.
+/// A row of text with its highlights, which `into_spans` splits into styled spans.
 ///
-/// Offsets are in bytes of the row. Each is clipped to the row and, inside a character, rounded down
-/// to its start; a highlight that is then empty is dropped. Highlights replace one another where they
-/// meet, and an end restores what stood before the newest start that is open.
+/// Offsets are in bytes of the row. Each is clipped to the row and, inside a character, rounded
+/// down to its start. A highlight that is then empty is dropped. Where highlights overlap, the one
+/// that starts last is shown, and an end restores the style before the newest open start.
 #[derive(Drop)]
 pub struct LineHighlighter<'a> {
     alloc: Global,
@@ -90,8 +90,8 @@ impl<'a> Model for LineHighlighter<'a> {
 }
 
 impl<'a> LineHighlighter<'a> {
-    /// The row with no highlight, in the empty style, with nothing in front of it. At a `tab_len` of 0
-    /// tabs are dropped; under a mask each character is shown as the mask character.
+    /// Returns the row without highlights, in the empty style, with nothing in front of it. A mask
+    /// is shown for each character; a `tab_len` of 0 drops tabs, except at the start of a segment.
     pub fn new(
         alloc: Global,
         line: &'a str,
@@ -118,7 +118,7 @@ impl<'a> LineHighlighter<'a> {
         }
     }
 
-    /// Begins with another row, as `new` does. It is cut in the memory that the rows before it took.
+    /// Starts another row, as `new` does. Reuses the memory of the rows before.
     pub fn restart(
         &mut self,
         line: &'a str,
@@ -142,7 +142,7 @@ impl<'a> LineHighlighter<'a> {
     }
 
     /// Puts the number of the line with this index in front of the row: `row + 1` at the right of
-    /// `lnum_len` columns, with a space on either side, `lnum_len + 2` columns in all.
+    /// `lnum_len` columns, with a space on each side, `lnum_len + 2` columns in all.
     pub fn line_number(&mut self, row: usize, lnum_len: u8, style: Style) -> Result<(), AllocError>
         requires counted { row + 1 < 2 ^ 64 }
         requires fits { length (decimal (row + 1)) ≤ lnum_len }
@@ -155,7 +155,7 @@ impl<'a> LineHighlighter<'a> {
         Ok(())
     }
 
-    /// Puts `lnum_len + 2` spaces in front of the row, as wide as a line's number.
+    /// Puts `lnum_len + 2` spaces in front of the row, the width of a line number.
     pub fn line_number_placeholder(&mut self, lnum_len: u8, style: Style) -> Result<(), AllocError>
         requires room { lnum_len ≤ 253 }
         ensures ok { OnOk result (self.new ≡ with_placeholder self.old lnum_len style) }
@@ -166,8 +166,8 @@ impl<'a> LineHighlighter<'a> {
         Ok(())
     }
 
-    /// The cursor stands at this column, in characters of the row, and `style` is that of its line. Its
-    /// cell is a highlight where the row has that character and the cell is drawn.
+    /// Sets the cursor's column, in characters of the row, and the style of its line. The cursor's
+    /// cell is a highlight if the row has that character and the cell is drawn.
     pub fn cursor_line(&mut self, cursor_column: usize, style: Style) -> Result<(), AllocError>
         ensures ok { OnOk result (self.new ≡ with_cursor_line self.old cursor_column style) }
         ensures nothing { AddsNoCursor self.old cursor_column → IsOk result }
@@ -192,7 +192,7 @@ impl<'a> LineHighlighter<'a> {
         Ok(())
     }
 
-    /// The style where no highlight is.
+    /// Sets the style outside of highlights.
     pub fn set_line_style(&mut self, style: Style)
         ensures { self.new ≡ with_base self.old style }
     {
@@ -216,8 +216,8 @@ impl<'a> LineHighlighter<'a> {
         self.borders.extend_from_slice(&borders)
     }
 
-    /// Adds the part of a selection that is in the row with the index `current_row`. The row's break is
-    /// selected too where the selection goes on behind that row.
+    /// Adds the selection in the row with the index `current_row`. The row's break is selected too
+    /// if the selection continues after that row.
     pub fn selection(
         &mut self,
         current_row: usize,
@@ -236,7 +236,7 @@ impl<'a> LineHighlighter<'a> {
         self.custom(current_row, range, self.select_style, SELECTION_RANK)
     }
 
-    /// Adds a part of a selection in this row, and with `select_at_end` the row's break.
+    /// Adds a range of a selection in this row, and with `select_at_end` the row's break.
     pub fn selection_segment(
         &mut self,
         start_offset: usize,
@@ -262,9 +262,9 @@ impl<'a> LineHighlighter<'a> {
         Ok(())
     }
 
-    /// Adds the part of a range that is in the row with the index `current_row`. A range has a row and an
-    /// offset for its start and for its end. Of the highlights that start at one offset, the one of the
-    /// highest priority is seen: the cursor's is 30, a match's 20 and a selection's 10.
+    /// Adds a range in the row with the index `current_row`. The start and the end of the range are
+    /// a row and an offset each. Of the highlights that start at one offset, the one of the highest
+    /// priority is shown: the cursor's is 30, a match's 20 and a selection's 10.
     pub fn custom(
         &mut self,
         current_row: usize,
@@ -297,9 +297,9 @@ impl<'a> LineHighlighter<'a> {
         Ok(())
     }
 
-    /// The spans of the row: what stands in front of it, its pieces, and a blank for the cell behind it
-    /// where that is drawn. A piece borrows from the row where it is shown as it is. A row of 2^48
-    /// bytes or more is answered as out of memory, as `line_ranges` answers a line.
+    /// Returns the spans of the row: those in front of it, its segments, and a blank for the cell
+    /// after it if that is drawn. A segment borrows from the row if it is shown unchanged. A row of
+    /// 2^48 bytes or more is out of memory, as a line in `line_ranges`.
     pub fn into_spans(self) -> Result<Line<'a>, AllocError>
         ensures shown { IfOk result (λ line. ShowsRow self.entry (shown_line line)) }
         ensures too_long { size_limit ≤ length self.entry.row → IsErr result }
@@ -314,8 +314,8 @@ impl<'a> LineHighlighter<'a> {
         Ok(line)
     }
 
-    /// Puts the spans that `into_spans` gives into a line, in the place of those that it holds and in
-    /// their memory. What the highlighter holds then is open: it goes on with `restart`.
+    /// Replaces the spans of a line by those that `into_spans` returns, and reuses its memory. What
+    /// the highlighter contains then is not specified; `restart` must come next.
     pub fn show_in(&mut self, line: &mut Line<'a>) -> Result<(), AllocError>
         ensures shown { OnOk result (ShowsRow self.old (shown_line line.new)) }
         ensures too_long { size_limit ≤ length self.old.row → IsErr result }
@@ -330,7 +330,7 @@ impl<'a> LineHighlighter<'a> {
         self.push_row(&mut line.spans)
     }
 
-    // Adds the row's pieces to the spans, and behind them a blank for the cell behind the row where that is drawn.
+    // Appends the row's segments, and a blank for the cell after the row if that is drawn.
     fn push_row(&mut self, spans: &mut Vec<Span<'a>>) -> Result<(), AllocError>
         requires short { length self.old.row < size_limit }
         requires ordered { IsAscending self.old.borders }
@@ -351,7 +351,7 @@ impl<'a> LineHighlighter<'a> {
         push_end_cell(spans, end_style)
     }
 
-    /// The style of the cell behind the row, if it is drawn.
+    /// Returns the style of the cell after the row, if it is drawn.
     fn end_style(&self) -> Option<Style>
         ensures { result ≡ end_style self.now }
     {
@@ -364,7 +364,7 @@ impl<'a> LineHighlighter<'a> {
     }
 }
 
-/// The bytes at which the character of this column begins and ends, if the row has it.
+/// Returns the bytes at which the character of this column begins and ends, if the row has it.
 fn bytes_of_character(row: &str, column: usize) -> Option<(usize, usize)>
     ensures found { IfSome result (λ bytes. bytes
         ≡ (byte_of row.now column, byte_of row.now (column + 1))) }

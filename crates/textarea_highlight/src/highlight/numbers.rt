@@ -1,4 +1,4 @@
-//! The text in front of a row that shows its line's number.
+//! The line number in front of a row.
 ghost use Rattle.std.specs.Prelude.{◌≡◌, ◌≤◌, length, string_bytes, IfOk};
 ghost use Rattle.std.specs.Fmt.{decimal};
 ghost use Rattle.textarea_highlight.specs.Numbers.{number_text};
@@ -7,7 +7,7 @@ use std::alloc::{AllocError, Global};
 use textarea_text::util::spaces;
 use textarea_wrap::layout::num_digits;
 
-/// The number at the right of a field of `width` columns, with a space on either side.
+/// Returns the number at the right of a field of `width` columns, with a space on each side.
 pub(super) fn number_text(alloc: Global, number: usize, width: u8) -> Result<String, AllocError>
     requires fits { length (decimal number) ≤ width }
     requires room { width ≤ 253 }

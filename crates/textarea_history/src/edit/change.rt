@@ -1,5 +1,5 @@
-//! Changes: edits that are lent with the direction in which they go.
-ghost use Rattle.std.specs.Prelude.{◌≡◌, ◌<◌, ◌≤◌, ◌+◌, ◌++◌, ◌↔◌, length, min, reverse, IsTrue, IsOk, OnOk, OnErr, IfOk, true, false, vec_len};
+//! Changes: borrowed edits with a direction.
+ghost use Rattle.std.specs.Prelude.{◌≡◌, ◌<◌, ◌≤◌, ◌+◌, ◌++◌, ◌↔◌, length, min, IsTrue, IsOk, OnOk, OnErr, IfOk, true, false, vec_len};
 ghost use Rattle.textarea_history.specs.Prelude.{chars, characters, following, lines_of, text_of, weight, offset_at, IsPlaceOf, end, Fits, place_after, place_before, IsReplacementFor, breaks_of, IsRemovalInLine, Makes};
 
 use super::{Content, Edit};
@@ -9,7 +9,7 @@ use std::marker::Model;
 use textarea_text::inside::{insert_inside, remove_inside};
 use textarea_text::rows::{Replacement, byte_offset, prepare_replacement, size_of};
 
-/// A well-formed edit with the direction in which it goes: as it was made, or taken back. Clauses see it as its splice.
+/// A borrowed, well-formed edit with a direction: as it is made, or undone. Its model is a splice.
 #[derive(Drop)]
 pub struct Change<'a> {
     pub(super) edit: &'a Edit,
@@ -29,14 +29,14 @@ impl<'a> Model for Change<'a> {
 }
 
 impl<'a> Change<'a> {
-    /// Whether it inserts its symbols, or removes them.
+    /// Returns whether it inserts its symbols. Else it removes them.
     pub fn inserts(&self) -> bool
         ensures { result ≡ self.now.inserts }
     {
         self.inserts
     }
 
-    /// Where its symbols begin, as (row, column).
+    /// Returns where its symbols begin, as (row, column).
     pub fn start(&self) -> (usize, usize)
         ensures { result ≡ self.now.place }
     {
@@ -44,7 +44,7 @@ impl<'a> Change<'a> {
         edit.start
     }
 
-    // Where its symbols end, once they are inserted or before they are removed.
+    // Where its symbols end, after an insertion or before a removal.
     fn end(&self) -> (usize, usize)
         ensures { result ≡ end self.now.place self.now.symbols }
     {
@@ -52,7 +52,7 @@ impl<'a> Change<'a> {
         edit.end
     }
 
-    /// The cursor's (row, column) before the change.
+    /// Returns the cursor's (row, column) before the change.
     pub fn cursor_before(&self) -> (usize, usize)
         ensures { result ≡ place_before self.now }
     {
@@ -63,7 +63,7 @@ impl<'a> Change<'a> {
         }
     }
 
-    /// The cursor's (row, column) after the change.
+    /// Returns the cursor's (row, column) after the change.
     pub fn cursor_after(&self) -> (usize, usize)
         ensures { result ≡ place_after self.now }
     {
@@ -74,14 +74,14 @@ impl<'a> Change<'a> {
         }
     }
 
-    /// Whether it has no line break, so that it stays within one line.
+    /// Returns whether it has no line break, so that it changes only one line.
     pub fn is_inside_line(&self) -> bool
         ensures { IsTrue result ↔ (breaks_of self.now.symbols ≡ 0) }
     {
         self.start().0 == self.end().0
     }
 
-    /// The bytes that its symbols take, a line break counting one; the greatest `usize` where they are more.
+    /// Returns the bytes of its symbols, with one for each line break; at most `usize::MAX`.
     pub fn weight(&self) -> usize
         ensures { result ≡ min (weight self.now.symbols) usize.MAX }
     {
@@ -95,7 +95,7 @@ impl<'a> Change<'a> {
         }
     }
 
-    /// Makes the change on lines that it fits, in place where it has no line break.
+    /// Makes the change on lines that it fits, in place if it has no line break.
     pub fn apply(&self, lines: &mut Vec<String>) -> Result<(), AllocError>
         requires nonempty { 0 < vec_len lines.old }
         requires fits { Fits (text_of lines.old.items) self.now }
@@ -113,8 +113,8 @@ impl<'a> Change<'a> {
         replacement.apply(lines)
     }
 
-    /// Makes a change without a line break, in place. Its start stands behind so many bytes of its line, before the change and
-    /// behind it.
+    /// Makes a change without a line break, in place. `offset` is the byte offset of its start in
+    /// the line, which is the same before and after the change.
     pub fn apply_inside(&self, lines: &mut Vec<String>, offset: usize) -> Result<(), AllocError>
         requires inside { breaks_of self.now.symbols ≡ 0 }
         requires nonempty { 0 < vec_len lines.old }
@@ -152,7 +152,7 @@ impl<'a> Change<'a> {
         }
     }
 
-    // Inserts its symbols, which are this text, in place, behind so many bytes of their line.
+    // Inserts its symbols, which are `text`, in place at the byte offset of its start.
     fn insert_inside(
         &self,
         lines: &mut Vec<String>,
@@ -173,7 +173,7 @@ impl<'a> Change<'a> {
         insert_inside(lines, self.start(), offset, text)
     }
 
-    /// The lines that take the place of others when the change is made; the lines stay.
+    /// Builds the replacement that makes the change; `lines` stay unchanged.
     pub fn prepare(&self, alloc: Global, lines: &[String]) -> Result<Replacement, AllocError>
         requires nonempty { 0 < length lines.now }
         requires fits { Fits (text_of lines.now) self.now }
@@ -205,7 +205,7 @@ impl<'a> Change<'a> {
         }
     }
 
-    // The lines with its symbols, which are the first piece, and each further one behind a break.
+    // Builds the replacement that inserts `first` and, each after a break, the lines of `rest`.
     fn prepare_insertion(
         &self,
         alloc: Global,
@@ -225,7 +225,7 @@ impl<'a> Change<'a> {
     }
 }
 
-// The bytes of the pieces, with one for each break between two.
+// The bytes of a fragment: those of its lines, and one for each break.
 fn weight_of_pieces(pieces: &[String]) -> usize
     ensures { result ≡ min (weight (text_of pieces.now)) usize.MAX }
 {

@@ -1,4 +1,4 @@
-//! How a run of typing grows in an edit.
+//! Edits that grow as a run of typing.
 ghost use Rattle.std.specs.Prelude.{◌≡◌, ◌≤◌, ◌∷◌, [], IfSome, OnOk, true};
 ghost use Rattle.textarea_history.specs.Prelude.{Character, place_after, place_before, IsWellFormed, character_of, merged};
 
@@ -7,7 +7,7 @@ use crate::texts::only_character;
 use std::alloc::{AllocError, Global};
 
 impl Edit {
-    /// For a history: the character of an edit that has just one symbol, and that a character. Only such an edit
+    /// For a history: returns the character, if it is the edit's only symbol. Only such an edit
     /// begins a run of typing or joins one.
     pub fn character(&self) -> Option<char>
         requires { IsWellFormed self.now }
@@ -22,7 +22,7 @@ impl Edit {
         }
     }
 
-    /// For a history: makes a run of an edit that counts as typed, so that it can grow.
+    /// For a history: turns an edit that counts as typed into a run, which can grow.
     pub fn start_run(&mut self, typed: Option<char>)
         requires well_formed { IsWellFormed self.old }
         requires typed { IfSome typed (λ c. self.old.splice.symbols ≡ Character c ∷ []) }
@@ -35,7 +35,7 @@ impl Edit {
         }
     }
 
-    /// For a history: makes room for one more character of the run, so that `grow` takes no memory.
+    /// For a history: makes room for one more character, so that `grow` does not allocate.
     pub fn reserve(&mut self, alloc: Global) -> Result<(), AllocError>
         requires well_formed { IsWellFormed self.old }
         requires grows { self.old.grows ≡ true }
@@ -57,7 +57,7 @@ impl Edit {
         }
     }
 
-    /// For a history: takes the typed edit of the character into the run, for which there is room.
+    /// For a history: adds the typed edit of the character to the run, in which there is room.
     pub fn grow(&mut self, edit: &Edit, c: char)
         requires well_formed { IsWellFormed self.old }
         requires other { IsWellFormed edit.now }

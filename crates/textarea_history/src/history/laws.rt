@@ -1,11 +1,11 @@
-//! Laws of a text and the log of its edits, each the contract of a function without a body. They hold for every history
-//! whose edits were each made on the lines when they were recorded. Lines of the same text are the same lines
-//! (`lines_are_the_text`).
+//! Laws of a text and the log of its edits, each stated as the contract of a function without a
+//! body. They hold for every history whose edits were each made on the lines when they were
+//! recorded. Lines with the same text are the same lines (`lines_are_the_text`).
 ghost use Rattle.std.specs.Prelude.{◌≡◌, ◌≤◌, ℕ, Bool, List, Option, Some, length};
 ghost use Rattle.textarea_history.specs.Prelude.{Symbol, Place, Splice, Fits, Logged, Redoes, Undoes, empty_log, newest, redone, undone, EachFits, GivesBack, IsRedone, IsSound, edited};
 
-/// What the other laws ask for, that the done edits can be taken back from the text and the undone ones made again,
-/// holds of a text without a past, and still after each edit that fits and is recorded, each undo and each redo.
+/// The other laws require that the done edits can be undone and the undone ones redone. This holds
+/// for a text without edits, and still after each recorded edit that fits, each undo and each redo.
 pub fn stays_sound()
     ensures fresh { (text : List Symbol) (maximum : ℕ) →
         IsSound (record { text = text; log = empty_log maximum }) }
@@ -15,21 +15,21 @@ pub fn stays_sound()
     ensures redone { (logged : Logged) → IsSound logged → IsSound (redone logged) }
 {}
 
-/// Each done edit, from the newest on, has a symbol, and its inverse fits the text that it left; each undone one, from
-/// the next on, has a symbol, and fits. So each undo and each redo may be called.
+/// Each done edit, from the newest on, has a symbol, and its inverse fits the text after it. Each
+/// undone one, from the next on, has a symbol, and fits. So each undo and each redo can be called.
 pub fn each_edit_fits()
     ensures { (logged : Logged) → IsSound logged → EachFits logged }
 {}
 
-/// That many undos, at most as many as there are done edits, give the text before the last that many of them, and as
-/// many redos behind them give back the text and both lists of edits.
+/// `count` undos, at most the number of done edits, give the text before the last `count` of them.
+/// The same number of redos gives back the text and both lists of edits.
 pub fn undos_give_back()
     ensures { (logged : Logged) (count : ℕ) →
         IsSound logged → count ≤ length logged.log.done → GivesBack logged count }
 {}
 
-/// An undo and a redo behind it give back the text and both lists of edits, and leave the cursor where the edit had left
-/// it.
+/// A redo after an undo gives back the text and both lists of edits, and puts the cursor where the
+/// edit had left it.
 pub fn redo_gives_back()
     ensures { (old back again : Logged) (splice : Splice) (undo_cursor redo_cursor : Option Place) →
         IsSound old → newest old.log ≡ Some splice →

@@ -1,4 +1,4 @@
-//! A change of the inner width, in two steps: what takes memory first, which leaves the lines as they are.
+//! Changes of the inner width in two steps: the first may allocate, but doesn't change the lines.
 ghost use Rattle.std.specs.Prelude.{◌≡◌, true, IfOk, IfSome, IsOk};
 ghost use Rattle.textarea_lines.specs.Layout.{at_width, laid_out_with, stays_cut};
 ghost use Rattle.textarea_lines.specs.View.{IsCutWhereOther, IsPrepared, IsViewOf, IsWholeCut};
@@ -12,7 +12,7 @@ use textarea_screen_map::layout::Wrapping;
 use textarea_screen_map::screen_map::{ScreenMap, set_tab_len};
 use textarea_screen_map::view::LaidOutView;
 
-/// An inner width for which lines are ready. It fits the lines only as they stand where it was made.
+/// A prepared inner width. It fits only the lines for which it was prepared.
 #[derive(Drop)]
 pub struct PreparedWidth {
     inner_width: u16,
@@ -31,15 +31,15 @@ impl Model for PreparedWidth {
 }
 
 impl LaidOutLines {
-    /// The lines with their rows, as they stand.
+    /// Returns the lines with their current rows.
     pub fn view(&self) -> LaidOutView<'_>
         ensures { IsViewOf self.now result }
     {
         LaidOutView::new(self.lines.as_slice(), &self.map)
     }
 
-    // All lines, each cut once for these settings, where they are cut in another way under them, by what was kept when they were
-    // measured, if it is that; otherwise none, and no memory is taken.
+    // Returns all lines wrapped for these settings, if the settings change how lines are wrapped,
+    // from the cache if it has them. Otherwise returns `None` and allocates nothing.
     pub(super) fn cut_for(
         &mut self,
         settings: LayoutSettings,
@@ -59,7 +59,7 @@ impl LaidOutLines {
         Ok(Some(self.cut_anew(after)?))
     }
 
-    // All lines as they were cut when they were measured, if that was so. Nothing is kept any more.
+    // Empties the cache, and returns its rows of all lines if they have this wrapping.
     pub(super) fn take_kept(&mut self, wrapping: Wrapping) -> Option<CutAnew>
         ensures same { self.new ≡ self.old }
         ensures kept { IfSome result (IsWholeCut self.old wrapping) }
@@ -71,7 +71,7 @@ impl LaidOutLines {
         Some(cut)
     }
 
-    // All lines, each cut once.
+    // Wraps all lines, each once.
     pub(super) fn cut_anew(&self, wrapping: Wrapping) -> Result<CutAnew, AllocError>
         ensures { IfOk result (IsWholeCut self.now wrapping) }
     {
@@ -81,7 +81,7 @@ impl LaidOutLines {
         Ok(CutAnew { map, count })
     }
 
-    // Sets what decides how the lines are cut and seen, with what was cut for it, without memory.
+    // Sets the settings, with the rows that were wrapped for them. Allocates nothing.
     pub(super) fn put(&mut self, settings: LayoutSettings, cut: Option<CutAnew>)
         requires { IsCutWhereOther self.old settings cut }
         ensures { self.new ≡ laid_out_with self.old settings }
@@ -101,9 +101,9 @@ impl LaidOutLines {
         self.settings = settings;
     }
 
-    /// Makes the lines ready for an inner width, in columns. They are cut for it, each once, only where they are cut in another
-    /// way at it, and only then memory is taken; where they were measured so last, they aren't cut again. What is seen of them
-    /// stays as it is.
+    /// Prepares an inner width, in columns. If lines are wrapped in another way at that width, this
+    /// wraps each line once, unless `rows_at_width` cached these rows. Otherwise it allocates
+    /// nothing. The current rows don't change.
     pub fn prepare_width(&mut self, inner_width: u16) -> Result<PreparedWidth, AllocError>
         ensures same { self.new ≡ self.old }
         ensures prepared { IfOk result (IsPrepared self.old) }
@@ -119,7 +119,7 @@ impl LaidOutLines {
         Ok(PreparedWidth { inner_width, cut })
     }
 
-    /// The lines with their rows, as they will stand once the width is put in.
+    /// Returns the lines with the rows that they will have after `put_width`.
     pub fn view_with<'a>(&'a self, prepared: &'a PreparedWidth) -> LaidOutView<'a>
         requires { IsPrepared self.now prepared.now }
         ensures { IsViewOf
@@ -132,7 +132,7 @@ impl LaidOutLines {
         LaidOutView::new(self.lines.as_slice(), map)
     }
 
-    /// Sets the inner width that is prepared, without memory; no line is cut.
+    /// Sets the prepared inner width. Allocates nothing and wraps no line.
     pub fn put_width(&mut self, prepared: PreparedWidth)
         requires { IsPrepared self.old prepared }
         ensures { self.new

@@ -1,4 +1,4 @@
-// Calls of keys, made on a text area.
+// Makes the calls of keys on a text area.
 ghost use Rattle.std.specs.Prelude.{◌≡◌, ◌∷◌, [], map, IfOk, OnErr, OnOk};
 ghost use Rattle.textarea_calls.specs.declared.call.Call.TheVariants.{Move};
 ghost use Rattle.textarea_modal.specs.Calls.{call_of, shown};
@@ -16,7 +16,7 @@ use textarea_run::perform::write;
 use textarea_run::settings::set;
 use tui_textarea::TextArea;
 
-// Makes the calls of the step, up to the first that runs out of memory.
+// Makes the calls of the step, until one runs out of memory.
 pub fn make_step(area: &mut TextArea<'_>, step: &Step) -> Result<(), AllocError>
     ensures ok { OnOk result (AllMade area.old (shown step.now).calls area.new) }
     ensures err { OnErr result (OneRefused area.old (shown step.now).calls area.new) }
@@ -27,7 +27,7 @@ pub fn make_step(area: &mut TextArea<'_>, step: &Step) -> Result<(), AllocError>
     }
 }
 
-// Makes the move, and then the calls.
+// Makes the move, then the calls.
 fn move_and_make(
     area: &mut TextArea<'_>,
     cursor_move: CursorMove,
@@ -42,7 +42,7 @@ fn move_and_make(
     make_all(area, calls)
 }
 
-// Makes the calls one after another, up to the first that runs out of memory.
+// Makes the calls one after another, until one runs out of memory.
 fn make_all(area: &mut TextArea<'_>, calls: &[KeyCall]) -> Result<(), AllocError>
     ensures ok { OnOk result (AllMade area.old (map call_of calls.now) area.new) }
     ensures err { OnErr result (OneRefused area.old (map call_of calls.now) area.new) }
@@ -53,7 +53,7 @@ fn make_all(area: &mut TextArea<'_>, calls: &[KeyCall]) -> Result<(), AllocError
     Ok(())
 }
 
-// Makes one call, and hands out its answer.
+// Makes one call and returns its result.
 fn make(area: &mut TextArea<'_>, call: KeyCall) -> Result<Answer, AllocError>
     ensures answer { IfOk result (λ answer. IsAnswer area.old (call_of call) (said answer)) }
     ensures ok { IfOk result (λ answer. IsBehind area.old (call_of call) (said answer) area.new) }
@@ -71,23 +71,11 @@ fn make(area: &mut TextArea<'_>, call: KeyCall) -> Result<Answer, AllocError>
     }
 }
 
-// Hands an input on to the text area.
+// Passes an input to the text area.
 pub fn hand_on(area: &mut TextArea<'_>, input: &Input) -> Result<(), AllocError>
     ensures ok { OnOk result (AllMade area.old (handed_on input.now ∷ []) area.new) }
     ensures err { OnErr result (OneRefused area.old (handed_on input.now ∷ []) area.new) }
 {
-    area.input(same(input))?;
+    area.input(*input)?;
     Ok(())
-}
-
-// An input like this one. `Input::clone` may answer out of memory, as each clone may.
-fn same(input: &Input) -> Input
-    ensures { result ≡ input.now }
-{
-    Input {
-        key: input.key,
-        ctrl: input.ctrl,
-        alt: input.alt,
-        shift: input.shift,
-    }
 }

@@ -1,5 +1,5 @@
-//! A block: its sides, its corners and its title.
-ghost use Rattle.std.specs.Prelude.{◌≡◌, ◌+◌, ◌<◌, ◌≤◌, ◌&&◌, ℕ, length, IsOk, IfSome, OnOk, OnErr, if◌then◌else◌};
+//! A block's borders, corners and title.
+ghost use Rattle.std.specs.Prelude.{◌≡◌, ◌+◌, ◌<◌, ◌≤◌, ◌&&◌, length, IsOk, IfSome, OnOk, OnErr, if◌then◌else◌};
 ghost use Rattle.textarea_screen.specs.Block.{shown_block};
 ghost use Rattle.textarea_screen.specs.Buffer.{Changes, KeepsOutside};
 ghost use Rattle.textarea_screen.specs.Cell.{with_symbol};
@@ -15,9 +15,8 @@ use super::row::draw_left;
 use std::alloc::AllocError;
 use textarea_screen::screen::{Block, Borders, Buffer, Rect, Style};
 
-/// Draws a block over an area, or nothing where the area has no cell: its style, its sides, its
-/// corners, and its title, each over what came before. Out of memory, cells of the area may be drawn
-/// already.
+/// Draws a block over an area, if that has a cell: its style, its borders, its corners and its
+/// title, each over the one before. After out of memory, cells of the area may be changed already.
 pub fn draw_block(buffer: &mut Buffer, area: Rect, block: &Block) -> Result<(), AllocError>
     ensures ok { OnOk result
         (Changes buffer.old buffer.new (block_cell (shown_block block.now) area)) }
@@ -118,14 +117,14 @@ fn draw_title(buffer: &mut Buffer, area: Rect, block: &Block) -> Result<(), Allo
     }
 }
 
-/// The columns of a side.
+/// Returns the number of columns that a side takes.
 fn side_width(is_drawn: bool) -> u16
     ensures { result ≡ inset_of is_drawn 0 }
 {
     u16::from(is_drawn)
 }
 
-/// Puts a text into each cell of an area, if it is to be drawn.
+/// If `is_drawn`, puts a text into each cell of an area.
 fn draw_border(
     buffer: &mut Buffer,
     is_drawn: bool,

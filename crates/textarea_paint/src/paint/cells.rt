@@ -1,4 +1,4 @@
-//! Clusters in the cells of a row, from left to right.
+//! Grapheme clusters in the cells of a row, from left to right.
 ghost use Rattle.std.specs.Prelude.{◌≡◌, ◌+◌, ◌≤◌, ◌==◌, ℕ, max, length, [], ◌∷◌, IfOk, IsOk, OnOk, OnErr, if◌then◌else◌};
 ghost use Rattle.textarea_screen.specs.Buffer.{Changes, KeepsOutside};
 ghost use Rattle.textarea_screen.specs.Cell.{with_symbol};
@@ -12,7 +12,7 @@ use super::columns::cluster_columns;
 use std::alloc::AllocError;
 use textarea_screen::screen::{Buffer, Style};
 
-/// Cells of one row of a screen: `width` of them, from column `x` on.
+/// Cells of one row of a screen: `width` cells from column `x` on.
 #[derive(Clone, Copy)]
 pub(crate) struct RowCells {
     pub(crate) x: u16,
@@ -20,16 +20,15 @@ pub(crate) struct RowCells {
     pub(crate) width: u16,
 }
 
-/// The place of the next cluster in a row of cells: so many of its columns are not shown, left of
-/// the cells, and the others begin in column `x` of the screen.
+/// The position of the next cluster in a row of cells: `hidden` of its columns are left of the
+/// cells, and the others begin in column `x` of the screen.
 #[derive(Clone, Copy)]
 pub(crate) struct Pen {
     pub(crate) hidden: usize,
     pub(crate) x: u16,
 }
 
-/// Draws a cluster where the pen stands, and moves the pen behind it, at most to the end of the
-/// cells.
+/// Draws a cluster at the pen, and moves the pen after it, at most to the end of the cells.
 pub(crate) fn draw_cluster(
     buffer: &mut Buffer,
     cells: RowCells,
@@ -59,7 +58,7 @@ pub(crate) fn draw_cluster(
     })
 }
 
-/// Draws a cluster into the cells from column `x` up to column `end`, those of the buffer alone.
+/// Draws a cluster into those cells from column `x` up to column `end` that the buffer has.
 fn draw_columns(
     buffer: &mut Buffer,
     y: u16,
@@ -85,8 +84,8 @@ fn draw_columns(
     Ok(())
 }
 
-/// What a cluster leaves in a cell: its text in its first one and the empty text in the others, or
-/// a blank in each where an edge cuts it.
+/// Returns the text that a cluster puts into a cell: its own text in its first cell and the empty
+/// text in the others, or a blank in each if an edge cuts the cluster.
 fn symbol_of<'a>(is_whole: bool, is_first: bool, text: &'a str) -> &'a str
     ensures value { result.now ≡ symbol_of is_whole is_first text.now }
     ensures len { length result.now ≤ max (length text.now) 1 }

@@ -1,4 +1,4 @@
-//! The clusters of a line.
+//! The grapheme clusters of a line.
 ghost use Rattle.std.specs.Prelude.{◌≡◌, ◌<◌, ◌≤◌, ◌↔◌, true, length, ◌∷◌, IsTrue, IfSome};
 ghost use Rattle.unicode_segmentation.specs.Grapheme.{graphemes};
 ghost use Rattle.std.specs.Iterator.{YieldsFirstBy, item_count};
@@ -10,7 +10,7 @@ use std::slice;
 use textarea_screen::screen::{Line, Span, Style};
 use unicode_segmentation::{Graphemes, UnicodeSegmentation};
 
-/// A cluster, and its style under the styles of line and span.
+/// A grapheme cluster and its style: the span's style over the line's.
 #[derive(Clone, Copy)]
 pub(crate) struct StyledCluster<'a> {
     pub(crate) text: &'a str,
@@ -23,7 +23,7 @@ pub(crate) struct LineClusters<'a, 'b> {
     base: Style,
     style: Style,
     texts: Graphemes<'a>,
-    /// What of the span's text stands behind `texts`.
+    /// The rest of the span's text, after `texts`.
     behind: &'a str,
     spans: slice::Iter<'a, Span<'b>>,
 }
@@ -31,7 +31,7 @@ pub(crate) struct LineClusters<'a, 'b> {
 impl<'a, 'b> LineClusters<'a, 'b> {
     ghost use Rattle.textarea_paint.specs.LineClusters.{clusters_left};
 
-    /// The clusters of a line, whose style is patched over `style`.
+    /// Returns an iterator over the clusters of a line, whose style is patched over `style`.
     pub(crate) fn new(line: &'a Line<'b>, style: Style) -> LineClusters<'a, 'b>
         ensures { clusters_left result ≡ row_clusters style (shown_line line.now) }
     {
@@ -82,8 +82,8 @@ impl<'a, 'b> Iterator for LineClusters<'a, 'b> {
     }
 }
 
-/// The first character of a text, and the text behind it, where the text begins with printable ASCII: the first is a cluster by
-/// itself, and is found without a table.
+/// Splits the first character off a text that begins with printable ASCII. The character is a
+/// cluster by itself and is found without a table.
 fn split_plain<'a>(text: &'a str) -> Option<(&'a str, &'a str)>
     ensures first { IfSome result (λ parts.
         graphemes true text.now ≡ parts.0.now ∷ graphemes true parts.1.now) }
@@ -96,7 +96,8 @@ fn split_plain<'a>(text: &'a str) -> Option<(&'a str, &'a str)>
     }
 }
 
-/// Whether a text of these bytes begins with printable ASCII: its first two characters are, or the only one that it has.
+/// Returns whether a text of these bytes begins with printable ASCII: its first two characters are
+/// printable ASCII, or its only one is.
 fn begins_plain(bytes: &[u8]) -> bool
     ensures { IsTrue result ↔ BeginsPlain bytes.now }
 {

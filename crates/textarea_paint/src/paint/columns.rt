@@ -1,4 +1,4 @@
-//! The columns that a cluster takes.
+//! The columns that a grapheme cluster takes.
 ghost use Rattle.std.specs.Prelude.{◌≡◌, ◌^◌, ◌<◌, chars, sum_by};
 ghost use Rattle.std.specs.Char.{is_control};
 ghost use Rattle.std.specs.List.{list_any};
@@ -6,8 +6,8 @@ ghost use Rattle.textarea_paint.specs.Columns.{columns_of, char_columns};
 
 use unicode_width::UnicodeWidthChar;
 
-/// The columns that a cluster takes: those of its characters together, or none where it has a
-/// control character.
+/// Returns the number of columns that a grapheme cluster takes: the sum of its characters' columns
+/// (UAX #11), or 0 if it has a control character.
 pub fn cluster_columns(cluster: &str) -> usize
     ensures { result ≡ columns_of cluster.now }
 {

@@ -1,5 +1,5 @@
-//! A line drawn in a row of cells.
-ghost use Rattle.std.specs.Prelude.{◌≡◌, ◌+◌, ◌≤◌, ℕ, min, IsOk, OnOk, OnErr};
+//! A line drawn in one row of cells.
+ghost use Rattle.std.specs.Prelude.{◌≡◌, ◌+◌, ◌≤◌, min, IsOk, OnOk, OnErr};
 ghost use Rattle.textarea_screen.specs.Buffer.{area_of, Changes, HasNone, KeepsOutside};
 ghost use Rattle.textarea_screen.specs.Rect.{is_in_row};
 ghost use Rattle.textarea_screen.specs.Text.{shown_line};
@@ -13,21 +13,21 @@ use super::columns::cluster_columns;
 use std::alloc::AllocError;
 use textarea_screen::screen::{Alignment, Buffer, Line, Position, Rect, Style};
 
-/// Where lines are drawn, one in each row of an area, and how.
+/// The area in which lines are drawn, one in each row, and their alignment and style.
 #[derive(Clone, Copy, Debug, PartialEq, Eq)]
 pub struct RowArea {
     pub area: Rect,
     pub alignment: Alignment,
-    /// The first column of a line that is shown, with `Alignment::Left` alone.
+    /// The first column of a line that is drawn. It is used only with `Alignment::Left`.
     pub left: usize,
     /// The style under those of lines and spans.
     pub style: Style,
 }
 
-/// Draws a line in row `y` of an area, or nothing where the area has no such row.
+/// Draws a line in row `y` of an area, or nothing if the area has no such row.
 ///
-/// A cell on which no cluster stands is left as it is. A row that the buffer doesn't have costs
-/// nothing. Out of memory, cells of the row may be drawn already.
+/// A cell without a grapheme cluster is unchanged. For a row that the buffer doesn't have, nothing
+/// is done. After out of memory, cells of the row may be changed already.
 pub fn draw_row(buffer: &mut Buffer, rows: RowArea, y: u16, line: &Line) -> Result<(), AllocError>
     ensures ok { OnOk result
         (Changes buffer.old buffer.new (row_cell rows y (shown_line line.now))) }
@@ -54,8 +54,8 @@ pub fn draw_row(buffer: &mut Buffer, rows: RowArea, y: u16, line: &Line) -> Resu
     }
 }
 
-/// How many columns behind the left edge of the area a line begins that is drawn in it: 0 at the left, else as many as leave
-/// it in the middle or at the right.
+/// Returns the number of columns between the left edge of the area and the start of a line: 0 with
+/// `Alignment::Left`, and else the number that centers the line or aligns it at the right.
 pub fn row_start(rows: RowArea, line: &Line) -> u16
     ensures { result ≡ row_start rows.alignment rows.area.width
         (row_clusters rows.style (shown_line line.now)) }
@@ -68,7 +68,7 @@ pub fn row_start(rows: RowArea, line: &Line) -> u16
     }
 }
 
-/// Draws a line whose column `left` stands in the first of the cells.
+/// Draws a line from its column `left` on, which is in the first of the cells.
 pub(super) fn draw_left(
     buffer: &mut Buffer,
     cells: RowCells,
@@ -96,7 +96,7 @@ pub(super) fn draw_left(
     Ok(())
 }
 
-/// How many columns the clusters take that are drawn where there is room for `width`.
+/// Returns the number of columns of those clusters that are drawn in an area of `width` columns.
 fn fitting_columns(line: &Line, style: Style, width: u16) -> u16
     ensures value { result ≡ row_width (fitting width (row_clusters style (shown_line line.now))) }
     ensures bound { result ≤ width }
@@ -114,8 +114,8 @@ fn fitting_columns(line: &Line, style: Style, width: u16) -> u16
     width - room
 }
 
-/// Draws the clusters of a line that are drawn where there is room for so many columns as there are
-/// cells. The first stands `start` columns behind the first of the cells.
+/// Draws those clusters of a line that fit into the cells. The first one starts `start` columns
+/// after the first of the cells.
 fn draw_fitting(
     buffer: &mut Buffer,
     cells: RowCells,
@@ -152,7 +152,7 @@ fn draw_fitting(
     Ok(())
 }
 
-/// The column behind the last of the cells that the buffer may have: nothing is drawn from there.
+/// Returns the column after the last of the cells that the buffer may have, where drawing ends.
 fn seen_end(buffer: &Buffer, cells: RowCells) -> u16
     requires edge { cells.x + cells.width ≤ 65535 }
     ensures { result ≡ min (cells.x + cells.width)

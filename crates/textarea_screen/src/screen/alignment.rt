@@ -1,4 +1,4 @@
-/// Where in its row a text stands.
+/// How a line of text is aligned in the columns that it has.
 #[derive(Clone, Copy, Debug, Default, PartialEq, Eq)]
 pub enum Alignment {
     #[default]

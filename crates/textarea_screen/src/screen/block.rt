@@ -8,7 +8,7 @@ use super::text::Line;
 use bitflags::{Flag, Flags, bitflag_items};
 use std::alloc::AllocError;
 
-/// The sides of a block that are drawn: a set, one bit each.
+/// The sides of a block that have a border: a set with one bit for each side.
 #[derive(Clone, Copy, Debug, Default, PartialEq, Eq)]
 pub struct Borders(pub u8);
 
@@ -22,20 +22,18 @@ bitflag_items! {
 }
 
 impl Borders {
-    /// No side.
     pub const NONE: Borders = Borders(0);
 
-    /// All four sides.
     pub const ALL: Borders = Borders(15);
 
-    /// The sides of either set.
+    /// Returns the sides that are in either set.
     pub fn union(self, other: Borders) -> Borders
         ensures { result ≡ record { 0 = bit_or self.0 other.0 } }
     {
         Borders(self.0 | other.0)
     }
 
-    /// Whether all sides of the other set are in this one.
+    /// Returns whether all sides of the other set are in this one.
     pub fn contains(self, other: Borders) -> bool
         ensures { result ≡ (bit_and self.0 other.0 == other.0) }
     {
@@ -66,7 +64,7 @@ impl Flags for Borders {
     }
 }
 
-/// A frame: sides, a title in the top row, and free rows and columns inside.
+/// A frame around an area: borders, a title in the top row, and free rows and columns inside.
 #[derive(Debug, Drop)]
 pub struct Block<'a> {
     pub borders: Borders,
@@ -87,7 +85,7 @@ impl<'a> Block<'a> {
     };
     ghost use Rattle.textarea_screen.specs.Rect.{contains};
 
-    /// A block with no side, no padding and no title, in empty styles.
+    /// Returns a block with no border, no padding and no title, in empty styles.
     pub fn new() -> Block<'a>
         ensures { result ≡ plain_block }
     {
@@ -100,21 +98,21 @@ impl<'a> Block<'a> {
         }
     }
 
-    /// The block with these sides.
+    /// Returns the block with borders at these sides.
     pub fn borders(self, borders: Borders) -> Block<'a>
         ensures { result ≡ record self.entry { borders = borders } }
     {
         Block { borders, ..self }
     }
 
-    /// The block with this padding, between its sides and what is inside.
+    /// Returns the block with this padding between its borders and the inner area.
     pub fn padding(self, padding: Padding) -> Block<'a>
         ensures { result ≡ record self.entry { padding = padding } }
     {
         Block { padding, ..self }
     }
 
-    /// The block with this title.
+    /// Returns the block with this title.
     pub fn title(self, title: Line<'a>) -> Block<'a>
         ensures { result ≡ record self.entry { title = Some title.entry } }
     {
@@ -124,14 +122,14 @@ impl<'a> Block<'a> {
         }
     }
 
-    /// The block with this style, for all of its cells.
+    /// Returns the block with this style for all of its cells.
     pub fn style(self, style: Style) -> Block<'a>
         ensures { result ≡ record self.entry { style = style } }
     {
         Block { style, ..self }
     }
 
-    /// The block with this style for its sides.
+    /// Returns the block with this style for its borders.
     pub fn border_style(self, style: Style) -> Block<'a>
         ensures { result ≡ record self.entry { border_style = style } }
     {
@@ -141,9 +139,9 @@ impl<'a> Block<'a> {
         }
     }
 
-    /// What of the area is left inside the block: a side takes one row or column, and so does a
-    /// title the top row, where there is no top side; the padding comes off beyond that. What is
-    /// left is never below 0 columns and rows.
+    /// Returns the area inside the block. A border takes one row or column of its side, and a title
+    /// takes the top row if there is no top border; the padding is inside of these. The result has
+    /// no column or no row if the block takes them all.
     pub fn inner(&self, area: Rect) -> Rect
         ensures x { result.x ≡ area.x + min (left_inset (shown_block self.now)) area.width }
         ensures y { result.y ≡ area.y + min (top_inset (shown_block self.now)) area.height }
@@ -164,7 +162,7 @@ impl<'a> Block<'a> {
         }
     }
 
-    /// The same block, the texts copied that its title owns.
+    /// Returns a copy of the block; the owned texts of its title are copied.
     pub fn clone(&self) -> Result<Block<'a>, AllocError>
         ensures { IfOk result (λ block. shown_block block ≡ shown_block self.now) }
     {
@@ -187,13 +185,13 @@ impl<'a> Default for Block<'a> {
 
     ghost is_default = { λ block. block ≡ plain_block };
 
-    /// A block with no side, no padding and no title, in empty styles.
+    /// Returns a block with no border, no padding and no title, in empty styles.
     fn default() -> Block<'a> {
         Block::new()
     }
 }
 
-/// How many rows or columns come off at a side, at most 65535, which is more than an area has.
+/// Returns the number of rows or columns that a block takes at one side, at most 65535.
 fn inset(is_taken: bool, padding: u16) -> u16
     ensures { result ≡ min (inset_of is_taken padding) 65535 }
 {

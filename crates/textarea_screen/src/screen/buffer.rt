@@ -20,7 +20,7 @@ impl Buffer {
     ghost use Rattle.textarea_screen.specs.Cell.{shown_cell, fresh_cell, styled, with_symbol};
     ghost use Rattle.textarea_screen.specs.Buffer.{area_of, cell_at, place_in, Changes};
 
-    /// A buffer of fresh cells, which lie in one allocation.
+    /// Returns a buffer of fresh cells, in one allocation.
     pub fn empty(alloc: Global, area: Rect) -> Result<Buffer, AllocError>
         ensures area { IfOk result (λ buffer. area_of buffer ≡ area) }
         ensures cells { IfOk result (λ buffer. (x y : ℕ) → cell_at buffer x y
@@ -34,14 +34,14 @@ impl Buffer {
         Ok(Buffer { area, cells })
     }
 
-    /// The rectangle whose cells it has.
+    /// Returns the rectangle whose cells the buffer has.
     pub fn area(&self) -> Rect
         ensures { result ≡ area_of self.now }
     {
         self.area
     }
 
-    /// The cell at column `x` and row `y`, or `None` outside of the buffer's area.
+    /// Returns the cell at column `x` and row `y`, or `None` outside of the buffer's area.
     pub fn cell(&self, x: u16, y: u16) -> Option<&Cell>
         ensures inside { IsSome result ↔ IsTrue (contains (area_of self.now) x y) }
         ensures value { option_map (λ cell. shown_cell cell.now) result ≡ cell_at self.now x y }
@@ -53,8 +53,9 @@ impl Buffer {
         }
     }
 
-    /// Puts a text into the cell at column `x` and row `y`, and applies a style to it. Outside of
-    /// the buffer's area nothing happens.
+    /// Replaces the text of the cell at column `x` and row `y` and applies a style to it. Does
+    /// nothing outside of the buffer's area. If it runs out of memory, which needs a text of more
+    /// than `INLINE_BYTES` bytes, the buffer is unchanged.
     pub fn put(&mut self, x: u16, y: u16, text: &str, style: Style) -> Result<(), AllocError>
         ensures ok { OnOk result (Changes self.old self.new (λ column row cell.
             if (column == x) && (row == y) then with_symbol text.now style cell else cell)) }
@@ -71,7 +72,7 @@ impl Buffer {
         Ok(())
     }
 
-    /// Applies a style to the cells of an area, those outside of the buffer's left out.
+    /// Applies a style to those cells of an area that the buffer has.
     pub fn set_style(&mut self, area: Rect, style: Style)
         ensures { Changes self.old self.new (λ x y cell.
             if contains area x y then styled style cell else cell) }
@@ -103,7 +104,7 @@ impl Buffer {
         }
     }
 
-    /// Where the cell stands in the list of all cells.
+    /// Returns the index of the cell in the list of all cells.
     fn place(&self, x: u16, y: u16) -> usize
         requires { IsTrue (contains self.now.area x y) }
         ensures value { result ≡ place_in self.now.area x y }

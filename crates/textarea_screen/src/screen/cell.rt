@@ -6,7 +6,7 @@ use super::style::Style;
 use arrayvec::ArrayString;
 use std::alloc::{AllocError, Global};
 
-/// The length in bytes up to which a cell's text lies in the cell; a longer one takes memory.
+/// The greatest length in bytes of a text that is stored in the cell itself, without allocation.
 pub const INLINE_BYTES: usize = 24;
 
 /// The text of a cell.
@@ -19,7 +19,7 @@ enum CellText {
 impl CellText {
     ghost use Rattle.textarea_screen.specs.Cell.{cell_text};
 
-    /// The text, in memory of its own where it is longer than `INLINE_BYTES`.
+    /// Returns a cell's text. Takes memory if it is longer than `INLINE_BYTES`.
     fn new(alloc: Global, text: &str) -> Result<CellText, AllocError>
         ensures value { IfOk result (λ kept. cell_text kept ≡ text.now) }
         ensures inline { length text.now ≤ INLINE_BYTES → IsOk result }
@@ -30,7 +30,7 @@ impl CellText {
         }
     }
 
-    /// Replaces the text, in the same place where both lie in the cell.
+    /// Replaces the text. If a text longer than `INLINE_BYTES` runs out of memory, nothing changes.
     fn replace(&mut self, alloc: Global, text: &str) -> Result<(), AllocError>
         ensures value { OnOk result (cell_text self.new ≡ text.now) }
         ensures inline { length text.now ≤ INLINE_BYTES → IsOk result }
@@ -56,9 +56,9 @@ impl CellText {
     }
 }
 
-/// One cell of a screen: its text, mostly one character, and how that is shown.
+/// One cell of a screen: its text, mostly one character, its colours and its modifiers.
 ///
-/// A text of up to `INLINE_BYTES` bytes lies in the cell itself, and takes no memory.
+/// A text of up to `INLINE_BYTES` bytes is stored in the cell itself, without allocation.
 #[derive(Drop)]
 pub struct Cell {
     text: CellText,
@@ -70,7 +70,7 @@ pub struct Cell {
 impl Cell {
     ghost use Rattle.textarea_screen.specs.Cell.{shown_cell, styled, style_of, fresh_cell};
 
-    /// A fresh cell: one blank, in the terminal's colours, with no modifier.
+    /// Returns a fresh cell: a blank in the terminal's own colours, without modifiers.
     pub fn fresh() -> Cell
         ensures { shown_cell result ≡ fresh_cell }
     {
@@ -84,14 +84,15 @@ impl Cell {
         }
     }
 
-    /// The text.
+    /// Returns the text.
     pub fn symbol(&self) -> &str
         ensures { result.now ≡ (shown_cell self.now).symbol }
     {
         self.text.as_str()
     }
 
-    /// Replaces the text, and leaves colours and modifiers.
+    /// Replaces the text and keeps the colours and modifiers. If it runs out of memory, which needs
+    /// a text of more than `INLINE_BYTES` bytes, the cell is unchanged.
     pub fn set_symbol(&mut self, alloc: Global, text: &str) -> Result<(), AllocError>
         ensures ok { OnOk result
             (shown_cell self.new ≡ record (shown_cell self.old) { symbol = text.now }) }
@@ -101,7 +102,7 @@ impl Cell {
         self.text.replace(alloc, text)
     }
 
-    /// The style that brings any cell to these colours, and adds these modifiers.
+    /// Returns the style that sets these colours and adds these modifiers.
     pub fn style(&self) -> Style
         ensures { result ≡ style_of (shown_cell self.now) }
     {
@@ -113,8 +114,7 @@ impl Cell {
         }
     }
 
-    /// Replaces the colours that the style sets, puts in the modifiers that it adds, and then takes
-    /// away those that it takes away. The text stays.
+    /// Applies a style: sets its colours, adds its modifiers, then removes those that it removes.
     pub fn set_style(&mut self, style: Style)
         ensures { shown_cell self.new ≡ styled style (shown_cell self.old) }
     {
@@ -132,7 +132,6 @@ impl Default for Cell {
 
     ghost is_default = { λ cell. shown_cell cell ≡ fresh_cell };
 
-    /// A fresh cell.
     fn default() -> Cell {
         Cell::fresh()
     }

@@ -3,7 +3,7 @@ ghost use Rattle.std.specs.Int.RustNames.{bit_and};
 
 use bitflags::{Flag, Flags, bitflag_items};
 
-/// How a terminal shows a text besides its colours: a set, one bit each.
+/// Attributes of a text besides its colours, such as bold: a set with one bit for each.
 #[derive(Clone, Copy, Debug, Default, PartialEq, Eq)]
 pub struct Modifier(pub u16);
 
@@ -24,21 +24,21 @@ bitflag_items! {
 impl Modifier {
     ghost use Rattle.textarea_screen.specs.Modifier.{union_of, difference_of};
 
-    /// The modifiers of either set.
+    /// Returns the modifiers that are in either set.
     pub fn union(self, other: Modifier) -> Modifier
         ensures { result ≡ union_of self other }
     {
         Modifier(self.0 | other.0)
     }
 
-    /// The modifiers of this set that are not in the other.
+    /// Returns the modifiers of this set that are not in the other.
     pub fn difference(self, other: Modifier) -> Modifier
         ensures { result ≡ difference_of self other }
     {
         Modifier(self.0 & !other.0)
     }
 
-    /// Whether all modifiers of the other set are in this one.
+    /// Returns whether all modifiers of the other set are in this one.
     pub fn contains(self, other: Modifier) -> bool
         ensures { result ≡ (bit_and self.0 other.0 == other.0) }
     {

@@ -1,13 +1,13 @@
 ghost use Rattle.std.specs.Prelude.{◌≡◌, ◌+◌, ◌-◌, ◌≤◌, ◌⊎◌, ◌↔◌, ◌&&◌, ℕ, false, IsTrue, min};
 
-/// The place of a cell, counted from 0: `x` columns from the left and `y` rows from the top.
+/// The position of a cell, counted from 0: `x` columns from the left and `y` rows from the top.
 #[derive(Clone, Copy, Debug, Default, PartialEq, Eq)]
 pub struct Position {
     pub x: u16,
     pub y: u16,
 }
 
-/// Columns and rows that stay free at the four sides of a rectangle.
+/// The numbers of free columns and rows at the four sides of a rectangle.
 #[derive(Clone, Copy, Debug, Default, PartialEq, Eq)]
 pub struct Padding {
     pub left: u16,
@@ -17,7 +17,6 @@ pub struct Padding {
 }
 
 impl Padding {
-    /// No free column or row.
     pub const ZERO: Padding = Padding {
         left: 0,
         right: 0,
@@ -25,7 +24,7 @@ impl Padding {
         bottom: 0,
     };
 
-    /// Free columns and rows at the four sides.
+    /// Returns the padding with these numbers of free columns and rows.
     pub const fn new(left: u16, right: u16, top: u16, bottom: u16) -> Padding
         ensures { result ≡ record { left = left; right = right; top = top; bottom = bottom } }
     {
@@ -52,7 +51,7 @@ pub struct Rect {
 impl Rect {
     ghost use Rattle.textarea_screen.specs.Rect.{contains};
 
-    /// The rectangle at column `x` and row `y`, cut where it would reach past 65535.
+    /// Returns the rectangle at column `x` and row `y`. Columns and rows past 65535 are left out.
     pub fn new(x: u16, y: u16, width: u16, height: u16) -> Rect
         ensures x { result.x ≡ x }
         ensures y { result.y ≡ y }
@@ -67,35 +66,35 @@ impl Rect {
         }
     }
 
-    /// The first column.
+    /// Returns the first column.
     pub fn x(&self) -> u16
         ensures { result ≡ self.now.x }
     {
         self.x
     }
 
-    /// The first row.
+    /// Returns the first row.
     pub fn y(&self) -> u16
         ensures { result ≡ self.now.y }
     {
         self.y
     }
 
-    /// The number of columns.
+    /// Returns the number of columns.
     pub fn width(&self) -> u16
         ensures { result ≡ self.now.width }
     {
         self.width
     }
 
-    /// The number of rows.
+    /// Returns the number of rows.
     pub fn height(&self) -> u16
         ensures { result ≡ self.now.height }
     {
         self.height
     }
 
-    /// Whether it has no cell.
+    /// Returns whether the rectangle has no cell.
     pub fn is_empty(&self) -> bool
         ensures sides { IsTrue result ↔ ((self.now.width ≡ 0) ⊎ (self.now.height ≡ 0)) }
         ensures cells { IsTrue result → (x y : ℕ) → contains self.now x y ≡ false }
@@ -103,7 +102,7 @@ impl Rect {
         self.width == 0 || self.height == 0
     }
 
-    /// Whether the cell at this place is one of its cells.
+    /// Returns whether the cell at this position is in the rectangle.
     pub fn contains(&self, position: Position) -> bool
         ensures { result ≡ contains self.now position.x position.y }
     {
@@ -113,7 +112,7 @@ impl Rect {
             && position.y < self.y + self.height
     }
 
-    /// The cells that both rectangles have. Where they have none in common, it is empty.
+    /// Returns the rectangle of the cells that are in both; it is empty if there are none.
     pub fn intersection(&self, other: Rect) -> Rect
         ensures { (x y : ℕ) → contains result x y ≡ (contains self.now x y && contains other x y) }
     {
@@ -136,7 +135,7 @@ impl Default for Rect {
     ghost is_default = { λ area. (area.x ≡ 0) × (area.y ≡ 0) × (area.width ≡ 0)
         × (area.height ≡ 0) };
 
-    /// The rectangle with no cell at column 0 and row 0.
+    /// Returns the rectangle with no cell at column 0 and row 0.
     fn default() -> Rect {
         Rect::new(0, 0, 0, 0)
     }

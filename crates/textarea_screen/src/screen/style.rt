@@ -4,10 +4,10 @@ use super::color::Color;
 use super::modifier::Modifier;
 use bitflags::Flags;
 
-/// What a text changes of the cells that it is drawn on.
+/// A change to the colours and modifiers of cells.
 ///
-/// A colour that is `None` stays as it is. `add_modifier` is put in, and then `sub_modifier` is
-/// taken away.
+/// A colour of `None` leaves the cell's colour as it is. The modifiers of `add_modifier` are added
+/// first; then those of `sub_modifier` are removed.
 #[derive(Clone, Copy, Debug, PartialEq, Eq)]
 pub struct Style {
     pub fg: Option<Color>,
@@ -20,7 +20,7 @@ impl Style {
     ghost use Rattle.textarea_screen.specs.Modifier.{union_of, difference_of};
     ghost use Rattle.textarea_screen.specs.Style.{empty_style, patched};
 
-    /// The empty style, which changes nothing.
+    /// Returns the empty style, which changes nothing.
     pub const fn new() -> Style
         ensures { result ≡ empty_style }
     {
@@ -32,7 +32,7 @@ impl Style {
         }
     }
 
-    /// The style with this foreground colour.
+    /// Returns the style with this foreground colour.
     pub fn fg(self, color: Color) -> Style
         ensures { result ≡ record self { fg = Some color } }
     {
@@ -42,7 +42,7 @@ impl Style {
         }
     }
 
-    /// The style with this background colour.
+    /// Returns the style with this background colour.
     pub fn bg(self, color: Color) -> Style
         ensures { result ≡ record self { bg = Some color } }
     {
@@ -52,7 +52,7 @@ impl Style {
         }
     }
 
-    /// The style that adds these modifiers, and no longer takes them away.
+    /// Returns the style that also adds these modifiers and no longer removes them.
     pub fn add_modifier(self, modifier: Modifier) -> Style
         ensures { result ≡ record self {
           add_modifier = union_of self.add_modifier modifier;
@@ -66,7 +66,7 @@ impl Style {
         }
     }
 
-    /// The style that takes these modifiers away, and no longer adds them.
+    /// Returns the style that also removes these modifiers and no longer adds them.
     pub fn remove_modifier(self, modifier: Modifier) -> Style
         ensures { result ≡ record self {
           add_modifier = difference_of self.add_modifier modifier;
@@ -80,7 +80,7 @@ impl Style {
         }
     }
 
-    /// The style that changes what either changes, and what both change as `over` does.
+    /// Returns the style that applies this style and then `over`.
     pub fn patch(self, over: Style) -> Style
         ensures { result ≡ patched self over }
     {
@@ -104,7 +104,6 @@ impl Default for Style {
 
     ghost is_default = { λ style. style ≡ empty_style };
 
-    /// The empty style.
     fn default() -> Style {
         Style::new()
     }

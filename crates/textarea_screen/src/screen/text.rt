@@ -3,7 +3,7 @@ ghost use Rattle.std.specs.Prelude.{◌≡◌, [], ◌∷◌, IfOk, IsOk};
 use super::style::Style;
 use std::alloc::{AllocError, Global};
 
-/// A text that is lent or owned.
+/// A borrowed or an owned text.
 #[derive(Debug, Drop)]
 pub enum SpanText<'a> {
     Borrowed(&'a str),
@@ -13,7 +13,7 @@ pub enum SpanText<'a> {
 impl<'a> SpanText<'a> {
     ghost use Rattle.textarea_screen.specs.Text.{text_bytes, IsBorrowed, shown_content};
 
-    /// The text, whoever owns it.
+    /// Returns the text.
     pub fn as_str(&self) -> &str
         ensures { result.now ≡ text_bytes self.now }
     {
@@ -23,8 +23,7 @@ impl<'a> SpanText<'a> {
         }
     }
 
-    /// The same text, lent where this one is lent, which takes no memory, and copied where it is
-    /// owned.
+    /// Returns a copy of the text. It allocates only if the text is owned.
     pub fn clone(&self) -> Result<SpanText<'a>, AllocError>
         ensures value { IfOk result (λ text. shown_content text ≡ shown_content self.now) }
         ensures lent { IsBorrowed self.now → IsOk result }
@@ -48,14 +47,14 @@ impl<'a> Span<'a> {
     ghost use Rattle.textarea_screen.specs.Style.{empty_style};
     ghost use Rattle.textarea_screen.specs.Text.{IsBorrowed, shown_span};
 
-    /// A text that is lent, in the empty style. It takes no memory.
+    /// Returns a span of a borrowed text in the empty style. It allocates nothing.
     pub fn raw(text: &'a str) -> Span<'a>
         ensures { result ≡ record { content = Borrowed text.entry; style = empty_style } }
     {
         Span::styled(text, Style::new())
     }
 
-    /// A text that is lent, in a style. It takes no memory.
+    /// Returns a span of a borrowed text in a style. It allocates nothing.
     pub fn styled(text: &'a str, style: Style) -> Span<'a>
         ensures { result ≡ record { content = Borrowed text.entry; style = style } }
     {
@@ -65,7 +64,7 @@ impl<'a> Span<'a> {
         }
     }
 
-    /// The same span, its text copied where it is owned; a lent text takes no memory.
+    /// Returns a copy of the span. It allocates only if the text is owned.
     pub fn clone(&self) -> Result<Span<'a>, AllocError>
         ensures value { IfOk result (λ span. shown_span span ≡ shown_span self.now) }
         ensures lent { IsBorrowed self.now.content → IsOk result }
@@ -77,7 +76,7 @@ impl<'a> Span<'a> {
     }
 }
 
-/// Spans one after another, and a style under theirs.
+/// Spans one after another. The style of the line is under theirs.
 #[derive(Debug, Drop)]
 pub struct Line<'a> {
     pub spans: Vec<Span<'a>>,
@@ -89,14 +88,14 @@ impl<'a> Line<'a> {
     ghost use Rattle.textarea_screen.specs.Style.{empty_style};
     ghost use Rattle.textarea_screen.specs.Text.{shown_line};
 
-    /// A line without spans, in the empty style. It takes no memory.
+    /// Returns a line without spans, in the empty style. It allocates nothing.
     pub fn new(alloc: Global) -> Line<'a>
         ensures { (result.spans.items ≡ []) × (result.style ≡ empty_style) }
     {
         Line::from_spans(Vec::new(alloc))
     }
 
-    /// The spans one after another, in the empty style.
+    /// Returns a line of these spans, in the empty style.
     pub fn from_spans(spans: Vec<Span<'a>>) -> Line<'a>
         ensures { result ≡ record { spans = spans.entry; style = empty_style } }
     {
@@ -106,7 +105,7 @@ impl<'a> Line<'a> {
         }
     }
 
-    /// The whole text in one span, in no style of its own. A `\n` in it stays.
+    /// Returns a line of one span with this text, all in the empty style. A `\n` in the text stays.
     pub fn raw(text: String) -> Result<Line<'a>, AllocError>
         ensures spans { IfOk result (λ line. line.spans.items
             ≡ record { content = Owned text; style = empty_style } ∷ []) }
@@ -120,7 +119,7 @@ impl<'a> Line<'a> {
         Ok(Line::from_spans(spans))
     }
 
-    /// The same line, the texts copied that its spans own.
+    /// Returns a copy of the line; the owned texts of its spans are copied.
     pub fn clone(&self) -> Result<Line<'a>, AllocError>
         ensures { IfOk result (λ line. shown_line line ≡ shown_line self.now) }
     {
@@ -135,7 +134,7 @@ impl<'a> Line<'a> {
     }
 }
 
-/// Lines one below another, and a style under theirs.
+/// Lines one below another. The style of the text is under theirs.
 #[derive(Debug, Drop)]
 pub struct Text<'a> {
     pub lines: Vec<Line<'a>>,
@@ -146,14 +145,14 @@ impl<'a> Text<'a> {
     ghost use Rattle.textarea_screen.specs.Style.{empty_style};
     ghost use Rattle.textarea_screen.specs.Text.{shown_text};
 
-    /// A text without lines, in the empty style. It takes no memory.
+    /// Returns a text without lines, in the empty style. It allocates nothing.
     pub fn new(alloc: Global) -> Text<'a>
         ensures { (result.lines.items ≡ []) × (result.style ≡ empty_style) }
     {
         Text::from_lines(Vec::new(alloc))
     }
 
-    /// The lines one below another, in the empty style.
+    /// Returns a text of these lines, in the empty style.
     pub fn from_lines(lines: Vec<Line<'a>>) -> Text<'a>
         ensures { result ≡ record { lines = lines.entry; style = empty_style } }
     {
@@ -163,7 +162,7 @@ impl<'a> Text<'a> {
         }
     }
 
-    /// The same lines, the texts copied that their spans own.
+    /// Returns a copy of the text; the owned texts of its spans are copied.
     pub fn clone(&self) -> Result<Text<'a>, AllocError>
         ensures { IfOk result (λ text. shown_text text ≡ shown_text self.now) }
     {

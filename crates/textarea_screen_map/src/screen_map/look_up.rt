@@ -1,6 +1,6 @@
-//! Look-ups of a screen map: where a place is seen, which place a visual row and a display column lead back to, and where a
-//! cursor goes up and down. None of them takes memory. The lines that the map was made for are lent. A tab reaches to the next
-//! tab stop, and takes one column where there are none.
+//! Look-ups of a screen map: from a position to its visual position and back, and where a cursor
+//! moves up and down. They allocate nothing, and borrow the lines that the map was made for. A tab
+//! reaches to the next tab stop, and takes one column without tab stops.
 ghost use Rattle.std.specs.Prelude.{◌≡◌, ◌+◌, ◌<◌, ◌≤◌, length, min, take, MatchOption};
 ghost use Rattle.textarea_util.specs.Limit.{size_limit};
 ghost use Rattle.textarea_text.specs.Text.{lines_of};
@@ -16,9 +16,9 @@ use crate::columns::{character_at_column, greatest_cursor_column};
 use textarea_text::rows::{byte_offset, column_count};
 use textarea_wrap::wrap::columns::display_column_behind_text;
 
-/// A visual row: its line, its number among the rows of that line, what stands before it in that line, its own text, and whether
-/// it is its line's last row. Of the line's bytes it has those from `before.len()` on, up to `before.len() + text.len()`, and its
-/// first character is the line's character of the number `before.chars().count()`.
+/// A visual row: its line, its index among the rows of that line, the text before it in that line,
+/// its own text, and whether it is the last row of its line. It begins at the line's byte
+/// `before.len()` and at the line's column `before.chars().count()`.
 #[derive(Clone, Copy)]
 pub struct RowText<'a> {
     pub line: usize,
@@ -28,7 +28,7 @@ pub struct RowText<'a> {
     pub is_last: bool,
 }
 
-// The last of the rows of a line that begins at the offset or before it.
+// Returns the last row of a line that begins at or before the offset.
 fn row_holding(ranges: &[(usize, usize)], offset: usize) -> usize
     requires some { 0 < length ranges.now }
     requires first { (range_at ranges.now 0).0 ≤ offset }
@@ -50,7 +50,7 @@ fn row_holding(ranges: &[(usize, usize)], offset: usize) -> usize
 }
 
 impl ScreenMap {
-    /// A visual row, as parts of the lines that are lent.
+    /// Returns a visual row, as slices of `lines`.
     pub fn row_at<'a>(&self, lines: &'a [String], row: usize) -> RowText<'a>
         requires rows { AreRowsOf self.now.wrapping (lines_of lines.now) self.now.rows }
         requires row { row < row_total self.now.rows }
@@ -74,7 +74,7 @@ impl ScreenMap {
         }
     }
 
-    /// The display width of a visual row: the column behind all its characters, whitespace that hangs over included.
+    /// Returns the column after all characters of a visual row, with whitespace that hangs over.
     pub fn row_width(&self, lines: &[String], row: usize) -> usize
         requires rows { AreRowsOf self.now.wrapping (lines_of lines.now) self.now.rows }
         requires row { row < row_total self.now.rows }
@@ -85,8 +85,8 @@ impl ScreenMap {
         display_column_behind_text(shown.text, 0, self.wrapping.tab_len)
     }
 
-    /// The greatest display column of a visual row at which a cursor can stand: the row's width in its line's last row, else the
-    /// display column of its last character.
+    /// Returns the greatest display column of a visual row at which a cursor can be: the row's
+    /// width in the last row of its line, else the display column of the row's last character.
     pub fn greatest_column(&self, lines: &[String], row: usize) -> usize
         requires rows { AreRowsOf self.now.wrapping (lines_of lines.now) self.now.rows }
         requires row { row < row_total self.now.rows }
@@ -97,7 +97,7 @@ impl ScreenMap {
         greatest_cursor_column(shown.text, shown.is_last, self.wrapping.tab_len)
     }
 
-    /// The visual row in which a place of the map's lines is seen, and its display column there.
+    /// Returns the visual row and the display column of a position in the map's lines.
     pub fn visual_position(&self, lines: &[String], place: (usize, usize)) -> (usize, usize)
         requires rows { AreRowsOf self.now.wrapping (lines_of lines.now) self.now.rows }
         requires place { IsPlaceOf (lines_of lines.now) place }
@@ -114,9 +114,10 @@ impl ScreenMap {
         (self.first_row(place.0) + row, column)
     }
 
-    /// The place that a visual row and a display column lead back to: the row's first place at that column, else the character
-    /// that covers it, else the row's end. In a row that isn't its line's last, a column up to the row's greatest cursor column
-    /// leads to a place that is seen in that row; the row's end is seen in the next one.
+    /// Returns the position for a visual row and a display column: the first position of the row at
+    /// that column, else the character that covers it, else the row's end. If the row isn't its
+    /// line's last, its end is in the next row, and columns up to its greatest cursor column lead
+    /// into the row.
     pub fn place_at(&self, lines: &[String], seen: (usize, usize)) -> (usize, usize)
         requires rows { AreRowsOf self.now.wrapping (lines_of lines.now) self.now.rows }
         requires row { seen.0 < row_total self.now.rows }
@@ -129,8 +130,8 @@ impl ScreenMap {
         (shown.line, column_count(shown.before) + index)
     }
 
-    /// Where a cursor goes that is to stand in a visual row at a display column, or before it where the row's greatest cursor
-    /// column is less: a place that is seen in that row.
+    /// Returns the position for a cursor in a visual row at a display column, or at the row's
+    /// greatest cursor column if that is less. The position is in that visual row.
     pub fn place_near(&self, lines: &[String], seen: (usize, usize)) -> (usize, usize)
         requires rows { AreRowsOf self.now.wrapping (lines_of lines.now) self.now.rows }
         requires row { seen.0 < row_total self.now.rows }
@@ -142,7 +143,7 @@ impl ScreenMap {
         self.place_at(lines, (seen.0, seen.1.min(greatest)))
     }
 
-    /// Where a cursor goes from a place, one visual row up; none from the first visual row.
+    /// Returns where a cursor moves one visual row up; `None` in the first visual row.
     pub fn above(&self, lines: &[String], place: (usize, usize)) -> Option<(usize, usize)>
         requires rows { AreRowsOf self.now.wrapping (lines_of lines.now) self.now.rows }
         requires place { IsPlaceOf (lines_of lines.now) place }
@@ -159,7 +160,7 @@ impl ScreenMap {
         Some(self.place_near(lines, (row - 1, column)))
     }
 
-    /// Where a cursor goes from a place, one visual row down; none from the last visual row.
+    /// Returns where a cursor moves one visual row down; `None` in the last visual row.
     pub fn below(&self, lines: &[String], place: (usize, usize)) -> Option<(usize, usize)>
         requires rows { AreRowsOf self.now.wrapping (lines_of lines.now) self.now.rows }
         requires place { IsPlaceOf (lines_of lines.now) place }

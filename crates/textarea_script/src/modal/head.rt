@@ -1,4 +1,4 @@
-// The first lines that are printed of a session that came to its end.
+// The first printed lines of a session that didn't run out of memory.
 ghost use Rattle.std.specs.Prelude.{◌≡◌, IfOk, string_bytes};
 ghost use Rattle.textarea_script.specs.Session.{head, mode_name, stop_name};
 
@@ -6,7 +6,7 @@ use std::alloc::{AllocError, Global};
 use textarea_modal::mode::Mode;
 use textarea_modal::{ModalEnd, ModalStop};
 
-// A line each for the mode, for how many inputs were used, and for why that was all.
+// Three lines: the mode, the number of used inputs, and why the session ended.
 pub fn head(alloc: Global, mode: Mode, end: ModalEnd) -> Result<String, AllocError>
     ensures { IfOk result (λ text. string_bytes text ≡ head mode end.taken end.stop) }
 {

@@ -8,8 +8,8 @@ use crate::search::state::Search;
 use std::alloc::AllocError;
 use std::marker::Model;
 
-/// Lists the matches of line after line: those that were kept, and others with a matcher that is made for the first of them
-/// and keeps what it finds. Contracts see the text of the pattern, if there is one.
+/// Lists the matches of many lines, from a cache or, for a line that the cache lacks, with a
+/// matcher, and then stores them. Contracts see the text of the pattern, if there is one.
 #[derive(Drop)]
 pub struct KeepingMatcher<'a, 'k> {
     search: &'a Search,
@@ -38,8 +38,8 @@ impl<'a, 'k> KeepingMatcher<'a, 'k> {
         }
     }
 
-    /// Puts the matches of a line of this number, as `Search::matches` lists them, into a vector, in the place of what it
-    /// holds and in its memory; none without a pattern.
+    /// Replaces the content of a vector by the matches of a line, as `Search::matches` lists them,
+    /// or by nothing without a pattern. `number` is the line's number in the cache.
     pub fn spans_into(
         &mut self,
         number: usize,
@@ -65,7 +65,7 @@ impl<'a, 'k> KeepingMatcher<'a, 'k> {
         self.kept.put(number, pattern, line, spans.as_slice())
     }
 
-    // Looks for the matches of a line, whatever is kept.
+    // Finds the matches of a line without the cache.
     fn find(&mut self, line: &str, spans: &mut Vec<(usize, usize)>) -> Result<(), AllocError>
         ensures found { OnOk result (spans.new.items
             ≡ option_map_or (λ pattern. match_spans pattern line.now) self.old []) }

@@ -1,4 +1,4 @@
-ghost use Rattle.std.specs.Prelude.{◌≡◌, IfOk, IfSome, string_bytes};
+ghost use Rattle.std.specs.Prelude.{◌≡◌, IfSome, string_bytes};
 ghost use Rattle.textarea_search.specs.Matches.{match_spans};
 
 use std::alloc::{AllocError, Global};
@@ -6,8 +6,8 @@ use std::marker::Model;
 
 const LONGEST_KEPT: usize = 4096;
 
-/// Lists of matches that were found, each beside the pattern and the line's text that it was found for. What they say stays
-/// true whatever is changed, so contracts see nothing of them.
+/// Lists of matches that were found, each with the pattern and the line's text for which it was
+/// found. The lists stay true whatever changes, so contracts see nothing of them.
 #[derive(Drop)]
 pub struct KeptMatches {
     alloc: Global,
@@ -23,7 +23,7 @@ impl Model for KeptMatches {
 }
 
 impl KeptMatches {
-    /// None is kept.
+    /// Returns an empty cache, which allocates nothing.
     pub fn new(alloc: Global) -> KeptMatches {
         KeptMatches {
             alloc,
@@ -31,7 +31,7 @@ impl KeptMatches {
         }
     }
 
-    /// Has room for the matches of at least so many lines in a row.
+    /// Makes room for the matches of at least `count` successive lines.
     pub(crate) fn reserve(&mut self, count: usize) -> Result<(), AllocError> {
         for _ in self.lines.len()..count {
             self.lines.push(None)?;
@@ -39,7 +39,7 @@ impl KeptMatches {
         Ok(())
     }
 
-    /// The matches of a line, if they were kept for a line of its number.
+    /// Returns the matches of a line, if they are stored under its number.
     pub(crate) fn get(&self, number: usize, pattern: &str, line: &str) -> Option<&[(usize, usize)]>
         ensures { IfSome result (λ spans. spans.now ≡ match_spans pattern.now line.now) }
     {
@@ -52,8 +52,8 @@ impl KeptMatches {
         }
     }
 
-    /// Keeps the matches of a line, in the place of those of another whose number leaves the same remainder; not those of a
-    /// line of more than 4,096 bytes.
+    /// Stores the matches of a line under its number. They replace those of another line whose
+    /// number leaves the same remainder. Nothing is stored for a line of more than 4,096 bytes.
     pub(crate) fn put(
         &mut self,
         number: usize,
@@ -73,7 +73,7 @@ impl KeptMatches {
     }
 }
 
-// The matches of a pattern in a text.
+// The matches of a pattern in a line.
 #[derive(Drop)]
 struct KeptLine {
     pattern: String,
@@ -83,7 +83,7 @@ struct KeptLine {
 }
 
 impl KeptLine {
-    // Its matches, if they are those of this pattern in this line.
+    // Returns the matches, if they are those of this pattern in this line.
     fn spans_of(&self, pattern: &str, line: &str) -> Option<&[(usize, usize)]>
         ensures { IfSome result (λ spans. spans.now ≡ match_spans pattern.now line.now) }
     {
@@ -94,7 +94,7 @@ impl KeptLine {
     }
 }
 
-// The matches of a line to be kept, in the memory of those that were kept before.
+// Returns an entry with the matches of a line. It reuses the memory of the entry before.
 fn kept_line(
     alloc: Global,
     before: Option<KeptLine>,

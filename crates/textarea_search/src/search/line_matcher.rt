@@ -8,7 +8,7 @@ use regex::Matcher;
 use std::alloc::{AllocError, Global};
 use std::marker::Model;
 
-/// Lists the matches of line after line; it takes memory and time to make once. Contracts see the text of its pattern.
+/// Lists the matches of many lines; its creation takes memory and time. Contracts see its pattern.
 #[derive(Drop)]
 pub struct LineMatcher<'a> {
     matcher: Matcher<'a>,
@@ -40,8 +40,8 @@ impl<'a> LineMatcher<'a> {
         }
     }
 
-    /// The matches of a line as `regex` lists them: for each, from the left, the offset of its first byte and that behind
-    /// its last. None overlaps the one before.
+    /// Returns the matches of a line as `regex` lists them: from the left, the byte offsets of each
+    /// match's start and end (exclusive). None overlaps the one before.
     pub fn spans(&mut self, line: &str) -> Result<Vec<(usize, usize)>, AllocError>
         ensures found { IfOk result (λ spans. spans.items ≡ match_spans self.old line.now) }
         ensures same { self.new ≡ self.old }
@@ -51,7 +51,7 @@ impl<'a> LineMatcher<'a> {
         Ok(spans)
     }
 
-    /// The same, put into a vector in the place of what it holds and in its memory.
+    /// Does the same, but replaces the content of a vector, whose memory is reused.
     pub fn spans_into(
         &mut self,
         line: &str,

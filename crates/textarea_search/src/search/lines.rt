@@ -1,4 +1,4 @@
-//! The way from a cursor to a start of a match in a text, by one matcher for all lines.
+//! The search from a cursor to a match start in a text, with one matcher for all lines.
 ghost use Rattle.std.specs.Prelude.{◌≡◌, ◌+◌, ◌^◌, ◌<◌, length, reverse, slice_get, IfSome};
 ghost use Rattle.regex.specs.Strings.{matcher_pattern};
 ghost use Rattle.textarea_search.specs.Starts.{starts_by, found_start, IsPlaceFrom, IsPlaceIn};
@@ -7,7 +7,7 @@ use crate::search::direction::Direction;
 use crate::search::listed::{column_ahead, end_column};
 use regex::Matcher;
 
-/// The first place of these lines at which a match starts.
+/// Returns the first position in these lines at which a match starts.
 fn first_start(
     matcher: &mut Matcher<'_>,
     lines: &[String],
@@ -27,7 +27,7 @@ fn first_start(
     None
 }
 
-/// The last place of these lines at which a match starts.
+/// Returns the last position in these lines at which a match starts.
 fn last_start(
     matcher: &mut Matcher<'_>,
     lines: &[String],
@@ -49,8 +49,8 @@ fn last_start(
     None
 }
 
-/// The first start that a search meets on its way from the cursor or, where that counts, the one at it; past the last start of
-/// the text it goes on from the text's other end.
+/// Returns the first match start in the search's direction from the cursor or, with `match_cursor`,
+/// at it. It wraps around at either end of the text.
 pub(crate) fn found_start(
     matcher: &mut Matcher<'_>,
     direction: Direction,

@@ -1,5 +1,4 @@
-//! The matches that `regex` lists for a line, one after another, by a matcher whose pattern stays known, so that one
-//! serves line after line.
+//! The matches that `regex` lists for a line, one after another. A matcher serves for many lines.
 ghost use Rattle.std.specs.Prelude.{◌≡◌, ◌+◌, ◌≤◌, ◌<◌, [], ◌∷◌, length, take, find, reverse, slice_get, option_map, encode_utf8_all, IsCharBoundary, IsUtf8, IfSome, MatchOption, OnOk};
 ghost use Rattle.std.specs.Str.{chars};
 ghost use Rattle.regex.specs.Strings.{matcher_pattern, match_span, match_haystack};
@@ -12,7 +11,7 @@ use regex::{Match, Matcher};
 use std::alloc::AllocError;
 use textarea_text::rows::{byte_offset, column_count};
 
-/// The first listed match behind the one that ended at `after - 1`, or the first of all where `after` is 0.
+/// Returns the next listed match after one that ended at `after - 1`; for 0 the first of all.
 fn next_listed<'h>(matcher: &mut Matcher<'_>, line: &'h str, after: usize) -> Option<Match<'h>>
     ensures found { let left = spans_after (matcher_pattern matcher.old) line.now in
         MatchOption result (left after ≡ [])
@@ -29,8 +28,8 @@ fn next_listed<'h>(matcher: &mut Matcher<'_>, line: &'h str, after: usize) -> Op
     Some(found)
 }
 
-/// Puts all listed matches of a line into a vector, in the place of what it holds: each by the offset of its first byte and that
-/// behind its last.
+/// Replaces the content of a vector by all listed matches of a line: for each the byte offsets of
+/// its start and its end (exclusive).
 pub(crate) fn list_spans(
     matcher: &mut Matcher<'_>,
     line: &str,
@@ -50,14 +49,14 @@ pub(crate) fn list_spans(
     Ok(())
 }
 
-/// Whether a place of a line is past the mark or, where that counts, at it.
+/// Returns whether an offset or column is past the mark or, with `at_mark`, at it.
 fn is_past(mark: usize, at_mark: bool, place: usize) -> bool
     ensures { result ≡ is_past mark at_mark place }
 {
     place > mark || (at_mark && place == mark)
 }
 
-/// The first listed match that starts behind the byte or, where that counts, at it.
+/// Returns the first listed match that starts after the byte offset or, with `at_byte`, at it.
 fn first_ahead<'h>(
     matcher: &mut Matcher<'_>,
     line: &'h str,
@@ -79,7 +78,8 @@ fn first_ahead<'h>(
     }
 }
 
-/// The last listed match that starts before the byte or, where that counts, at it. It looks for none behind the byte.
+/// Returns the last listed match that starts before the byte offset or, with `at_byte`, at it. It
+/// searches for none after the offset.
 fn last_behind<'h>(
     matcher: &mut Matcher<'_>,
     line: &'h str,
@@ -106,7 +106,7 @@ fn last_behind<'h>(
     }
 }
 
-/// The first listed match that a search meets on its way from the byte or, where that counts, the one at it.
+/// Returns the first listed match from `byte` in the search's direction or, with `at_byte`, at it.
 fn nearest<'h>(
     matcher: &mut Matcher<'_>,
     line: &'h str,
@@ -126,8 +126,8 @@ fn nearest<'h>(
     }
 }
 
-/// The byte at which the column's character begins, or the length of the line for the column at its end. For a column
-/// past that it is greater than the length.
+/// Returns the byte offset at which the column's character begins, or the line's length for the
+/// column at its end. For a column past that, the result is greater than the length.
 fn byte_of(line: &str, column: usize) -> usize
     ensures inside { column ≤ length (chars line.now) →
         result ≡ length (encode_utf8_all (take column (chars line.now))) }
@@ -139,7 +139,7 @@ fn byte_of(line: &str, column: usize) -> usize
     byte_offset(line, column)
 }
 
-/// How many characters of a line stand before a byte.
+/// Returns the number of characters of a line before a byte offset.
 fn column_of(line: &str, byte: usize) -> usize
     requires { IsCharBoundary line.now byte }
     ensures { result ≡ column_at line.now byte }
@@ -147,7 +147,7 @@ fn column_of(line: &str, byte: usize) -> usize
     line[..byte].chars().count()
 }
 
-/// The column at which a match of a line starts.
+/// Returns the column at which a match of a line starts.
 fn start_column(line: &str, found: Option<Match<'_>>) -> Option<usize>
     requires { IfSome found (λ m. match_haystack m ≡ line.now) }
     ensures column { result
@@ -158,8 +158,8 @@ fn start_column(line: &str, found: Option<Match<'_>>) -> Option<usize>
     Some(column_of(line, found.start()))
 }
 
-/// The first column that a search meets on its way from the given one or, where that counts, at it, at which a listed match
-/// starts.
+/// Returns the first column in the search's direction from the given one or, with `at_column`, at
+/// it, at which a listed match starts.
 pub(crate) fn column_ahead(
     matcher: &mut Matcher<'_>,
     line: &str,
@@ -176,7 +176,7 @@ pub(crate) fn column_ahead(
     start_column(line, nearest(matcher, line, direction, byte, at_column))
 }
 
-/// The first column that a search meets in a whole line, at which a listed match starts.
+/// Returns the first column of a line, in the search's direction, at which a listed match starts.
 pub(crate) fn end_column(
     matcher: &mut Matcher<'_>,
     line: &str,

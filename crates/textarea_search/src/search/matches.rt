@@ -4,8 +4,8 @@ ghost use Rattle.std.specs.Iterator.{YieldsFirst, item_count};
 use std::marker::Model;
 use std::vec::IntoIter;
 
-/// The matches of a line that were found at the call: for each, from the left, the offset of its first byte and that
-/// behind its last. Contracts see the list of those that are left.
+/// An iterator over the matches of a line, all found beforehand: from the left, the byte offsets of
+/// each match's start and end (exclusive). Contracts see the list of those that are left.
 #[derive(Drop)]
 pub struct Matches {
     spans: IntoIter<(usize, usize)>,

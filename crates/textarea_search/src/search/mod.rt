@@ -1,4 +1,4 @@
-//! A pattern to search for, the matches that `regex` lists for a line, and the way from a cursor to the next of them.
+//! A pattern to search for, its matches in a line, and the search from a cursor to the next match.
 mod direction;
 mod keeping_matcher;
 mod kept_matches;

@@ -1,4 +1,4 @@
-ghost use Rattle.std.specs.Prelude.{◌≡◌, ◌≢◌, ◌<◌, [], length, option_map, IsNone, IsOk, IfOk, IfErr, IfSome, OnOk, OnErr};
+ghost use Rattle.std.specs.Prelude.{◌≡◌, ◌≢◌, ◌<◌, [], length, option_map, IsNone, IsOk, IfOk, IfErr, OnOk, OnErr};
 ghost use Rattle.std.specs.Option.{option_copied};
 ghost use Rattle.textarea_search.specs.Failures.{IsPatternFailure, IsCarried, IsOwnFailure};
 ghost use Rattle.textarea_search.specs.Matches.{match_spans};
@@ -16,7 +16,7 @@ use crate::search::matches::Matches;
 use std::alloc::{AllocError, Global};
 use std::marker::Model;
 
-/// The pattern that is searched for, if there is one. Contracts see its text. Clones share what was built of it.
+/// The pattern to search for, if any; clones share it. Contracts see its text.
 #[derive(Drop)]
 pub struct Search {
     pattern: Option<Pattern>,
@@ -31,7 +31,7 @@ impl Model for Search {
 }
 
 impl Search {
-    /// Searches for this pattern from now on, in the syntax of `regex`, and for none if it is empty.
+    /// Sets the pattern in `regex` syntax, or none for an empty text. An error changes nothing.
     pub fn set_pattern(&mut self, alloc: Global, pattern: &str) -> Result<(), SearchError>
         ensures empty { pattern.now ≡ [] → IsOk result × IsNone self.new }
         ensures set { pattern.now ≢ [] → OnOk result (self.new ≡ Some pattern.now) }
@@ -52,7 +52,7 @@ impl Search {
         Ok(())
     }
 
-    /// The text of the pattern.
+    /// Returns the text of the pattern.
     pub fn pattern(&self) -> Option<&str>
         ensures { option_copied result ≡ self.now }
     {
@@ -62,8 +62,8 @@ impl Search {
         }
     }
 
-    /// The matches of a line, as `regex` lists them: from the left, none overlapping the one before. None without a
-    /// pattern.
+    /// Returns the matches of a line as `regex` lists them: from the left, none overlapping the one
+    /// before. Returns `None` without a pattern.
     pub fn matches(&self, line: &str) -> Result<Option<Matches>, AllocError>
         ensures found { IfOk result (λ found. found
             ≡ option_map (λ pattern. match_spans pattern line.now) self.now) }
@@ -75,7 +75,7 @@ impl Search {
         }
     }
 
-    /// What lists the matches of line after line, as `matches` does; none without a pattern.
+    /// Returns a matcher that lists lines' matches as `matches` does, or `None` without a pattern.
     pub fn line_matcher(&self) -> Result<Option<LineMatcher<'_>>, AllocError>
         ensures pattern { IfOk result (λ matcher. matcher ≡ self.now) }
         ensures no_pattern { IsNone self.now → IsOk result }
@@ -87,8 +87,8 @@ impl Search {
         Ok(Some(LineMatcher::new(pattern.allocator(), matcher, pattern.text())))
     }
 
-    /// What lists the matches of line after line, as `matches` does, and looks only for those that aren't kept. It keeps those of
-    /// up to `count` lines in a row.
+    /// Returns a matcher that lists the matches of many lines, as `matches` does, and stores them
+    /// in `kept`, for up to `count` successive lines, so that none is searched for twice.
     pub fn keeping_matcher<'a, 'k>(
         &'a self,
         kept: &'k mut KeptMatches,
@@ -103,8 +103,8 @@ impl Search {
         Ok(KeepingMatcher::new(self, kept))
     }
 
-    /// The row and column, in characters, of the next start of a match behind the cursor or, with `match_cursor`, at
-    /// it; past the last of them the search goes on from the beginning of the text.
+    /// Returns the position (row, column in characters) of the next match start after the cursor
+    /// or, with `match_cursor`, at it. After the last match the search wraps around to the first.
     pub fn forward(
         &self,
         lines: &[String],
@@ -117,8 +117,8 @@ impl Search {
         self.find(Direction::Forward, lines, cursor, match_cursor)
     }
 
-    /// The row and column, in characters, of the last start of a match before the cursor or, with `match_cursor`, at
-    /// it; past the first of them the search goes on from the end of the text.
+    /// Returns the position (row, column in characters) of the last match start before the cursor
+    /// or, with `match_cursor`, at it. Before the first match the search wraps around to the last.
     pub fn back(
         &self,
         lines: &[String],
@@ -131,8 +131,8 @@ impl Search {
         self.find(Direction::Back, lines, cursor, match_cursor)
     }
 
-    /// The first start of a match on the way from the cursor or, with `match_cursor`, at it, as `forward` and `back` find it. It
-    /// reads no line past the one in which it finds.
+    /// Returns the match start that `forward` or `back` returns, by the direction. It reads no line
+    /// after the one in which it finds a match.
     pub fn find(
         &self,
         direction: Direction,
@@ -150,7 +150,7 @@ impl Search {
         Ok(found_start(&mut matcher, direction, lines, cursor, match_cursor))
     }
 
-    /// A search for the same pattern, which the two share.
+    /// Returns a search for the same pattern; the two share it.
     pub fn clone(&self) -> Result<Search, AllocError>
         ensures same { IfOk result (λ copy. copy ≡ self.now) }
         ensures no_pattern { IsNone self.now → IsOk result }

@@ -1,4 +1,4 @@
-//! One visual row after another, cut into spans.
+//! Visual rows that are split into styled spans, one after another.
 ghost use Rattle.std.specs.Prelude.{◌≡◌, ◌<◌, chars, encode_utf8_all, length, IfOk, OnOk};
 ghost use Rattle.textarea_view.specs.Prelude.{plain_row, ShowsRow, row_total, row_at, shown_row, shown_line, cursor_cell, matches_in, row_highlights, searched, HasPlaces};
 
@@ -11,8 +11,8 @@ use textarea_highlight::highlight::LineHighlighter;
 use textarea_screen::screen::Line;
 use textarea_screen_map::screen_map::RowText;
 
-/// A scene, and what each of its rows needs to know: the visual row that holds the cursor, and the lines' bytes at which the
-/// selection starts and ends.
+/// A scene with the data that each of its rows needs: the visual row of the cursor, and the byte
+/// offsets in their lines at which the selection starts and ends.
 #[derive(Drop)]
 pub(super) struct Frame<'f, 'a> {
     pub(super) scene: &'f Scene<'a>,
@@ -49,7 +49,7 @@ impl<'f, 'a> Frame<'f, 'a> {
         }
     }
 
-    /// What cuts one row after another into spans.
+    /// Returns the highlighter, which splits one row after another into spans.
     pub(super) fn highlighter(&self, alloc: Global) -> LineHighlighter<'a> {
         let scene = self.scene;
         LineHighlighter::new(
@@ -62,7 +62,7 @@ impl<'f, 'a> Frame<'f, 'a> {
         )
     }
 
-    /// Puts the spans of a visual row into a line.
+    /// Replaces the content of a line by the spans of a visual row.
     pub(super) fn show_in(
         &self,
         line: &mut Line<'a>,
@@ -79,7 +79,7 @@ impl<'f, 'a> Frame<'f, 'a> {
         highlighter.show_in(line)
     }
 
-    /// A new line with the spans of a visual row.
+    /// Returns a new line with the spans of a visual row.
     pub(super) fn row_line(
         &self,
         alloc: Global,
@@ -96,7 +96,7 @@ impl<'f, 'a> Frame<'f, 'a> {
         Ok(line)
     }
 
-    // Begins with the visual row of this number, and tells all that it shows.
+    // Restarts the highlighter with the visual row of this number, and adds all its highlights.
     fn tell_row(
         &self,
         highlighter: &mut LineHighlighter<'a>,
@@ -114,7 +114,7 @@ impl<'f, 'a> Frame<'f, 'a> {
         self.tell(highlighter, row, shown, matches.as_slice())
     }
 
-    // Begins with a visual row that is cut out already, and tells all that it shows.
+    // Restarts the highlighter with this visual row, and adds all highlights of the row.
     fn tell<'t>(
         &self,
         highlighter: &mut LineHighlighter<'t>,
@@ -136,7 +136,7 @@ impl<'f, 'a> Frame<'f, 'a> {
         self.add_customs(highlighter, shown)
     }
 
-    // Begins with a row of this text, with no highlight.
+    // Restarts the highlighter with a row of this text, without highlights.
     fn begin<'t>(&self, highlighter: &mut LineHighlighter<'t>, text: &'t str)
         ensures { highlighter.new ≡ plain_row (encode_utf8_all (chars text.now))
             (cursor_cell self.now.look) self.now.rows.wrapping.tab_len self.now.look.mask

@@ -1,10 +1,10 @@
-//! Laws of drawn rows, each the contract of a function that does nothing.
+//! Laws of drawn rows. Each is the contract of a function that does nothing.
 ghost use Rattle.std.specs.Prelude.{◌≡◌, ℕ, List};
 ghost use Rattle.textarea_view.specs.Prelude.{ShownLine, Rect, RowArea, FillsArea, IsRowStart, SceneState};
 
 use textarea_highlight::laws::one_line_shows_a_row;
 
-/// The lines that an area shows of a scene are settled by the scene, the first row, and the areas.
+/// The scene, the first row and the areas determine the lines that an area shows.
 pub fn one_filling()
     ensures { (scene : SceneState) (top : ℕ) (area buffer : Rect) (lines others : List ShownLine) →
         FillsArea scene top area buffer lines → FillsArea scene top area buffer others →
@@ -13,7 +13,7 @@ pub fn one_filling()
     one_line_shows_a_row();
 }
 
-/// A visual row begins at one column.
+/// A visual row begins at exactly one column.
 pub fn one_row_start()
     ensures { (scene : SceneState) (rows : RowArea) (row start other : ℕ) →
         IsRowStart scene rows row start → IsRowStart scene rows row other → start ≡ other }

@@ -1,4 +1,4 @@
-//! The matches of one line after another, looked for once a line.
+//! The matches of one line after another, found once for each line.
 ghost use Rattle.std.specs.Prelude.{◌≡◌, ◌<◌, length, IfOk, OnOk};
 ghost use Rattle.textarea_view.specs.Prelude.{lines_of, matches_in};
 
@@ -6,7 +6,7 @@ use std::alloc::{AllocError, Global};
 use std::marker::Model;
 use textarea_search::search::{KeepingMatcher, KeptMatches, Search};
 
-/// The matches of the line that was asked for last, kept or found by one matcher.
+/// The matches of the last requested line, from the cache or found by one matcher.
 #[derive(Drop)]
 pub(super) struct FoundMatches<'a, 'k> {
     matcher: KeepingMatcher<'a, 'k>,
@@ -31,7 +31,7 @@ impl<'a, 'k> Model for FoundMatches<'a, 'k> {
 }
 
 impl<'a, 'k> FoundMatches<'a, 'k> {
-    /// Keeps the matches of up to `count` lines in a row.
+    /// Stores the matches of up to `count` successive lines in `kept`.
     pub(super) fn new(
         alloc: Global,
         search: &'a Search,
@@ -50,7 +50,7 @@ impl<'a, 'k> FoundMatches<'a, 'k> {
         })
     }
 
-    /// Looks for the matches of this line, if they aren't those that are known.
+    /// Finds the matches of this line, unless it is the line whose matches are there already.
     pub(super) fn turn_to(&mut self, line: usize) -> Result<(), AllocError>
         requires { line < length self.old.searched.lines }
         ensures found { OnOk result (self.new.found ≡ matches_in self.old.searched line) }
@@ -66,7 +66,7 @@ impl<'a, 'k> FoundMatches<'a, 'k> {
         Ok(())
     }
 
-    /// For each match the bytes of its line at which it begins and ends, as `regex` lists them.
+    /// Returns the byte offsets of each match's start and end in its line, as `regex` lists them.
     pub(super) fn as_slice(&self) -> &[(usize, usize)]
         ensures { result.now ≡ self.now.found }
     {

@@ -1,4 +1,4 @@
-//! What a row's highlighter is told, one thing after another.
+//! The highlights of a row, added one after another.
 ghost use Rattle.std.specs.Prelude.{◌≡◌, ◌<◌, chars, encode_utf8_all, length, OnOk};
 ghost use Rattle.textarea_view.specs.Prelude.{row_total, row_at, shown_row, IsPlaceOf, lines_of, byte_place, from_in, holds, matches_in, numbered, part_of, searched, to_in, with_cursor, with_customs, with_found, with_part, with_selected};
 
@@ -10,12 +10,12 @@ use textarea_screen_map::screen_map::RowText;
 use textarea_text::rows::{byte_offset, column_count};
 use textarea_wrap::layout::num_digits;
 
-/// From a line and a byte of it to a line and a byte of it.
+/// A range of the text by (line, byte offset in that line): its start and its end.
 pub(super) type Range = ((usize, usize), (usize, usize));
 
 const SEARCH_RANK: u8 = 20;
 
-/// A place as its line and the line's byte there.
+/// Returns a position as its line and the byte offset in that line.
 pub(super) fn byte_place(lines: &[String], place: (usize, usize)) -> (usize, usize)
     requires { IsPlaceOf (lines_of lines.now) place }
     ensures { result ≡ byte_place (lines_of lines.now) place }
@@ -24,7 +24,7 @@ pub(super) fn byte_place(lines: &[String], place: (usize, usize)) -> (usize, usi
 }
 
 impl Frame<'_, '_> {
-    // On a line's first row its number, on the others as many blanks, if there are line numbers.
+    // Adds the number in a line's first row, and blanks in its other rows, if lines are numbered.
     pub(super) fn add_number(
         &self,
         highlighter: &mut LineHighlighter<'_>,
@@ -45,7 +45,7 @@ impl Frame<'_, '_> {
         highlighter.line_number_placeholder(digits, scene.look.line_number_style)
     }
 
-    // The cursor's cell in the row that holds it, and the style of its line in all rows of that line.
+    // Adds the cursor's cell in the cursor's row, and its line's style in all rows of that line.
     pub(super) fn add_cursor(
         &self,
         highlighter: &mut LineHighlighter<'_>,
@@ -68,7 +68,7 @@ impl Frame<'_, '_> {
         Ok(())
     }
 
-    // Whether the visual row holds the cursor.
+    // Returns whether the cursor is in the visual row.
     fn is_cursor_row(&self, row: usize) -> bool
         requires { row < row_total self.now.rows.rows }
         ensures { result ≡ holds (row_at self.now.rows.lines self.now.rows.rows row) self.now.cursor }
@@ -76,7 +76,7 @@ impl Frame<'_, '_> {
         row == self.cursor_row
     }
 
-    // The matches of the row's line.
+    // Adds the matches of the row's line.
     pub(super) fn add_matches(
         &self,
         highlighter: &mut LineHighlighter<'_>,
@@ -96,7 +96,7 @@ impl Frame<'_, '_> {
         Ok(())
     }
 
-    // The row's part of the selection.
+    // Adds the selected section of the row.
     pub(super) fn add_selection(
         &self,
         highlighter: &mut LineHighlighter<'_>,
@@ -115,7 +115,7 @@ impl Frame<'_, '_> {
         highlighter.selection_segment(from, to, shown.is_last && goes_on)
     }
 
-    // The caller's own highlights, in their order.
+    // Adds the caller's own highlights, in their order.
     pub(super) fn add_customs(
         &self,
         highlighter: &mut LineHighlighter<'_>,
@@ -138,7 +138,7 @@ impl Frame<'_, '_> {
     }
 }
 
-// A highlight of the row's part of a range, if it has one.
+// Adds a highlight for the row's section of a range, if it has one.
 fn add_part(
     highlighter: &mut LineHighlighter<'_>,
     shown: RowText<'_>,
@@ -162,7 +162,7 @@ fn add_part(
     }
 }
 
-// The row's part of a range, as bytes of the row; none where the row's line isn't one of the range's.
+// Returns the row's section of a range, as byte offsets in the row, if its line is in the range.
 fn part_of(shown: RowText<'_>, range: Range) -> Option<(usize, usize)>
     ensures { result ≡ part_of (shown_row shown.entry) range }
 {
@@ -172,7 +172,8 @@ fn part_of(shown: RowText<'_>, range: Range) -> Option<(usize, usize)>
     Some((from_in(shown, range), to_in(shown, range)))
 }
 
-// The byte of the row at which its part of a range begins; in the rows of the lines behind the range's first the row's start.
+// Returns the byte offset in the row at which its section of a range begins. In rows of the lines
+// after the range's first line it is the row's start.
 fn from_in(shown: RowText<'_>, range: Range) -> usize
     ensures { result ≡ from_in (shown_row shown.entry) range }
 {
@@ -183,7 +184,8 @@ fn from_in(shown: RowText<'_>, range: Range) -> usize
     }
 }
 
-// The byte of the row behind its part of a range; in the rows of the lines before the range's last the row's end.
+// Returns the byte offset in the row at which its section of a range ends (exclusive). In rows of
+// the lines before the range's last line it is the row's end.
 fn to_in(shown: RowText<'_>, range: Range) -> usize
     ensures { result ≡ to_in (shown_row shown.entry) range }
 {
@@ -194,7 +196,7 @@ fn to_in(shown: RowText<'_>, range: Range) -> usize
     }
 }
 
-// The bytes of the text.
+// Returns the number of bytes of the text.
 fn size_of(text: &str) -> usize
     ensures { result ≡ length (encode_utf8_all (chars text.now)) }
 {

@@ -1,4 +1,4 @@
-//! A placeholder, drawn in the place of the rows.
+//! A placeholder, drawn instead of the visual rows.
 ghost use Rattle.std.specs.Prelude.{◌≡◌, IfOk, IsOk, OnErr, OnOk, take};
 ghost use Rattle.textarea_view.specs.Prelude.{area_of, Changes, KeepsOutside, contains, is_in_row, shown_line, shown_text, AreInline, row_clusters, row_cell, lines_change, rows_above_end, AreLinesInline, behind_cursor, cell_of_line, in_style, lent_line, placeholder_lines};
 
@@ -8,11 +8,11 @@ use textarea_highlight::highlight::CursorCellRender;
 use textarea_paint::paint::row::{RowArea, draw_row};
 use textarea_screen::screen::{Buffer, Line, Span, Style, Text};
 
-/// Draws a placeholder into the rows of the area, each of its lines into one, as far as there are rows and the buffer goes.
+/// Draws a placeholder's lines into the rows of the area, while area and buffer have rows.
 ///
-/// Where the cursor's cell is drawn, one blank in the cursor's style stands in front of the first line. The placeholder's
-/// texts are lent; without the blank nothing is built. A cell on which nothing stands is left as it is. Out of memory, cells
-/// of the area may be drawn already.
+/// If the cursor's cell is drawn, one blank in the cursor's style is before the first line; that
+/// line is then built of borrowed texts, and else nothing is built. A cell without a grapheme
+/// cluster is unchanged. After out of memory, cells of the area may be changed already.
 pub fn draw_placeholder(
     alloc: Global,
     buffer: &mut Buffer,
@@ -40,7 +40,7 @@ pub fn draw_placeholder(
     Ok(())
 }
 
-// The rows, with a style over their own.
+// Returns the rows with a style over their own.
 fn in_style(rows: RowArea, style: Style) -> RowArea
     ensures { result ≡ in_style rows style }
 {
@@ -50,7 +50,7 @@ fn in_style(rows: RowArea, style: Style) -> RowArea
     }
 }
 
-// How the cursor's cell is drawn in front of the line of this number: it stands in front of the first alone.
+// Returns how the cursor's cell is drawn before this line: only the first line has it.
 fn cell_of_line(cursor_cell: CursorCellRender, line: usize) -> CursorCellRender
     ensures { result ≡ cell_of_line cursor_cell line }
 {
@@ -61,7 +61,7 @@ fn cell_of_line(cursor_cell: CursorCellRender, line: usize) -> CursorCellRender
     }
 }
 
-// Draws a line, with the cursor in front of it where its cell is drawn.
+// Draws a line, after the cursor's cell if that is drawn.
 fn draw_line(
     alloc: Global,
     buffer: &mut Buffer,
@@ -85,7 +85,7 @@ fn draw_line(
     }
 }
 
-// The line, its texts lent, behind one blank in a style.
+// Returns a line of one blank in a style and then the line's spans, their texts borrowed.
 fn behind_blank<'t>(alloc: Global, line: &'t Line<'_>, style: Style) -> Result<Line<'t>, AllocError>
     ensures { IfOk result (λ shown. shown_line shown
         ≡ behind_cursor (CursorCellRender.Draw style) (lent_line (shown_line line.now))) }

@@ -1,25 +1,25 @@
-//! What the surround takes of an area, and the height that is measured.
+//! The room that the block takes of an area, and the height that a text needs.
 ghost use Rattle.std.specs.Prelude.{◌≡◌, ◌≤◌, ℕ, IsTrue};
-ghost use Rattle.textarea_view.specs.Prelude.{contains, IsInner, AreBounds, chrome_of, measure_of, rows_shown, saturated, width_inside};
+ghost use Rattle.textarea_view.specs.Prelude.{contains, IsInner, AreBounds, chrome_of, measure_of, rows_shown, width_inside};
 
 use crate::surround::Surround;
 use textarea_screen::screen::Rect;
 
-/// A measured height, in rows.
+/// Measured heights, in screen rows.
 #[derive(Clone, Copy, Debug, PartialEq, Eq)]
 pub struct TextAreaMeasure {
-    /// The rows of the text, or of the placeholder where that is shown.
+    /// The rows of the text, or of the placeholder if that is drawn.
     pub content_rows: u16,
     /// The height of the whole area that shows the content, from `min_rows` to `max_rows`.
     pub preferred_rows: u16,
-    /// The least height: that which is set, or what the block takes and one row where that is more.
+    /// The least height: the one that is set, or the block's rows and one more if that is greater.
     pub min_rows: u16,
-    /// The greatest height: that which is set, or the least where that is more.
+    /// The greatest height: the one that is set, or the least if that is greater.
     pub max_rows: u16,
 }
 
 impl<'a> Surround<'a> {
-    /// What the block leaves of an area; all of it without a block.
+    /// Returns the area inside the block, or all of the area without a block.
     pub fn inner_area(&self, area: Rect) -> Rect
         ensures inner { IsInner self.now.block area result }
         ensures within { (x y : ℕ) → IsTrue (contains result x y) → IsTrue (contains area x y) }
@@ -30,7 +30,7 @@ impl<'a> Surround<'a> {
         }
     }
 
-    /// The columns that are left inside of the block of an area of this width; all of them without a block.
+    /// Returns the number of columns inside the block, if there is one, of an area of this width.
     pub fn inner_width(&self, width: u16) -> u16
         ensures { result ≡ width_inside self.now.block width }
     {
@@ -40,7 +40,7 @@ impl<'a> Surround<'a> {
         }
     }
 
-    /// The rows that the block takes of an area of this width and 65535 rows; 0 without a block.
+    /// Returns how many of 65535 rows of an area of this width the block takes, 0 without a block.
     pub fn chrome(&self, width: u16) -> u16
         ensures { result ≡ chrome_of self.now.block }
     {
@@ -50,8 +50,8 @@ impl<'a> Surround<'a> {
         }
     }
 
-    /// The height that is measured in an area of this width for a text that has so many visual rows at the inner width, and
-    /// that is empty or not.
+    /// Returns the measured heights, in an area of this width, of a text that has `rows` visual
+    /// rows at the inner width, and that is empty or not.
     pub fn measure(&self, width: u16, rows: usize, is_empty: bool) -> TextAreaMeasure
         ensures value { result ≡ measure_of self.now rows is_empty }
         ensures bounds { AreBounds result.min_rows result.max_rows }
@@ -74,7 +74,8 @@ impl<'a> Surround<'a> {
         }
     }
 
-    // The rows that are shown of a text of so many rows: the placeholder's where the text is empty and it has lines.
+    // Returns the number of rows to draw: those of the placeholder if the text is empty and the
+    // placeholder has lines, and else `rows`.
     fn shown_rows(&self, rows: usize, is_empty: bool) -> usize
         ensures { result ≡ rows_shown self.now.placeholder.lines rows is_empty }
     {

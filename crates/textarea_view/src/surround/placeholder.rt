@@ -1,4 +1,4 @@
-//! What is shown in place of an empty text.
+//! The placeholder, which is drawn instead of an empty text.
 ghost use Rattle.std.specs.Prelude.{◌≡◌, [], IfOk, IsOk, OnErr, OnOk, length, map};
 ghost use Rattle.textarea_view.specs.Prelude.{shown_line, shown_text, first_bytes, style_with_lines, plain_lines, with_placeholder_style, with_placeholder_text};
 
@@ -7,8 +7,8 @@ use std::alloc::{AllocError, Global};
 use textarea_screen::screen::{Line, Style, Text};
 
 impl<'a> Surround<'a> {
-    /// Sets the placeholder to one line of this text, a line feed in it included; with the empty text it has no line, so that
-    /// none is shown. The placeholder's style stays.
+    /// Sets the placeholder to one line of this text, including any line feed. The empty text gives
+    /// no line, so no placeholder is drawn. The placeholder's style is kept.
     pub fn set_placeholder_text(&mut self, text: &str) -> Result<(), AllocError>
         ensures ok { OnOk result (self.new ≡ with_placeholder_text self.old text.now) }
         ensures err { OnErr result (self.new ≡ self.old) }
@@ -19,28 +19,28 @@ impl<'a> Surround<'a> {
         Ok(())
     }
 
-    /// Sets the whole placeholder, its lines and its style; a text without lines means that none is shown.
+    /// Sets the placeholder's lines and style. A text without lines means that none is drawn.
     pub fn set_styled_placeholder(&mut self, placeholder: Text<'a>)
         ensures { self.new ≡ record self.old { placeholder = shown_text placeholder.entry } }
     {
         self.placeholder = placeholder;
     }
 
-    /// Sets the style under those of the placeholder's lines, also where it has none.
+    /// Sets the style under the styles of the placeholder's lines, also if it has no line.
     pub fn set_placeholder_style(&mut self, style: Style)
         ensures { self.new ≡ with_placeholder_style self.old style }
     {
         self.placeholder.style = style;
     }
 
-    /// The whole placeholder, its lines and its style, also where it has no line.
+    /// Returns the whole placeholder, its lines and its style, also if it has no line.
     pub fn placeholder(&self) -> &Text<'a>
         ensures { shown_text result.now ≡ self.now.placeholder }
     {
         &self.placeholder
     }
 
-    /// The text of the first span of the placeholder's first line, whichever call set it; empty where there is none.
+    /// Returns the text of the first span of the placeholder's first line, or the empty text.
     pub fn placeholder_text(&self) -> &str
         ensures { result.now ≡ first_bytes self.now.placeholder.lines }
     {
@@ -53,7 +53,7 @@ impl<'a> Surround<'a> {
         }
     }
 
-    /// The style of the placeholder, or `None` where it has no line.
+    /// Returns the style of the placeholder, or `None` if it has no line.
     pub fn placeholder_style(&self) -> Option<Style>
         ensures { result ≡ style_with_lines self.now.placeholder.lines self.now.placeholder.style }
     {
@@ -64,7 +64,7 @@ impl<'a> Surround<'a> {
         }
     }
 
-    /// How many lines the placeholder has; it is shown where it has one or more.
+    /// Returns the number of the placeholder's lines. It is drawn only if it has one or more.
     pub fn placeholder_rows(&self) -> usize
         ensures { result ≡ length self.now.placeholder.lines }
     {
@@ -72,7 +72,7 @@ impl<'a> Surround<'a> {
     }
 }
 
-// One line of this text, a line feed in it included, and of the empty text no line.
+// Returns one line of this text, including any line feed, or no line for the empty text.
 fn plain_lines<'a>(alloc: Global, text: &str) -> Result<Vec<Line<'a>>, AllocError>
     ensures ok { IfOk result (λ lines. map shown_line lines.items ≡ plain_lines text.now) }
     ensures empty { text.now ≡ [] → IsOk result }

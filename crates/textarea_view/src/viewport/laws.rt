@@ -1,9 +1,9 @@
-//! Laws of the caret, each the contract of a function that does nothing.
+//! Laws of the caret (the cursor on the screen), as contracts of functions that do nothing.
 ghost use Rattle.std.specs.Prelude.{◌≡◌, ◌⊎◌, ◌+◌, ◌*◌, ◌^◌, ◌<◌, ◌≤◌, ℕ, IsSome};
 ghost use Rattle.textarea_view.specs.Prelude.{Rect, caret_at, hit_column, hit_row, left_view, at_start, showing_row, showing_row_and_column, ViewportState, RowView};
 
-/// A caret that is shown is hit back: its cell leads to its row, and from there to its column, where the row is one of the
-/// text's and the column one at which a cursor can stand in it.
+/// A hit test of the caret's cell gives the cursor's visual row and display column, if the row is
+/// one of the text's and the column one that a cursor can have in it.
 pub fn shown_caret_is_hit_back()
     ensures row { (view : RowView) (row column last_row x y : ℕ) →
         caret_at view row column ≡ Some (x, y) → row ≤ last_row →
@@ -14,8 +14,8 @@ pub fn shown_caret_is_hit_back()
         hit_column view greatest x ≡ column }
 {}
 
-/// Where lines aren't wrapped and rows begin at the left, the caret is shown in an area that is wider than two line numbers
-/// and has a row.
+/// With unwrapped lines at the left, the caret is in view in an area wider than two line numbers
+/// that has a row.
 pub fn caret_is_shown()
     ensures { (viewport : ViewportState) (area : Rect) (row column line_number_width : ℕ) →
         0 < area.height → 2 * line_number_width < area.width →
@@ -24,8 +24,8 @@ pub fn caret_is_shown()
         IsSome (caret_at (left_view shown area line_number_width) row column) }
 {}
 
-/// Where lines are wrapped and rows begin at the left, the caret is shown in an area that has a row and is wider than the
-/// line number and the cursor's column together.
+/// With wrapped lines and left alignment, the caret is in view if the area has a row and is wider
+/// than the line number and the cursor's column together.
 pub fn wrapped_caret_is_shown()
     ensures { (viewport : ViewportState) (area : Rect) (row column line_number_width : ℕ) →
         0 < area.height → column + line_number_width < area.width → row < 2 ^ 64 →
@@ -33,8 +33,8 @@ pub fn wrapped_caret_is_shown()
         IsSome (caret_at (left_view shown area line_number_width) row column) }
 {}
 
-/// Where a placeholder is shown, the caret of row 0 and column 0 stands in the area's corner. In an area without a cell no
-/// caret is shown at all.
+/// With a placeholder, the caret of row 0 and column 0 is in the area's corner. In an area without
+/// a cell, no caret is in view.
 pub fn placeholder_has_its_caret_in_the_corner()
     ensures corner { (area : Rect) → 0 < area.width → 0 < area.height →
         caret_at (left_view (at_start area) area 0) 0 0 ≡ Some (area.x, area.y) }

@@ -1,15 +1,15 @@
-//! The columns that characters take, a tab reaching to the next tab stop. Columns count from 0 at the start of a row.
+//! The columns that characters take. Columns count from 0 at the start of a visual row, and a tab
+//! reaches to the next tab stop. Without tab stops a tab takes no column in wrapping and drawing,
+//! and one display column in moves of the cursor.
 //!
-//! Wrapping and drawing give a tab without tab stops no column; display columns, by which a cursor moves, give it one.
-//!
-//! These are calls between crates, which no facade passes on.
+//! Only other crates of this repository call these. No facade exports them.
 ghost use Rattle.std.specs.Prelude.{◌≡◌, ◌+◌, ◌*◌, ◌^◌, ◌<◌, ◌≤◌, ◌↔◌, length, chars, IsTrue};
 ghost use Rattle.textarea_wrap.specs.Columns.{plain_width, column_after, end_column, display_column_after, display_end_column};
 
 use unicode_width::UnicodeWidthChar;
 
-/// The columns of a character other than a tab: what `unicode_width` gives, and 0 where it gives none, as for a control
-/// character. At most 3.
+/// Returns the columns of a character other than a tab, at most 3: its width by `unicode_width`
+/// (UAX #11), or 0 where it has none, as a control character.
 pub fn plain_columns(c: char) -> usize
     ensures value { result ≡ plain_width c }
     ensures narrow { result ≤ 3 }
@@ -17,8 +17,8 @@ pub fn plain_columns(c: char) -> usize
     c.width().unwrap_or(0)
 }
 
-/// The column behind a character that begins at `column`. With a tab length of 1 to 255 a tab reaches to the next multiple of
-/// it; with tab length 0 it takes no column.
+/// Returns the column after a character that begins at `column`. A tab reaches to the next multiple
+/// of `tab_len`, and takes no column if that is 0.
 pub fn column_behind(c: char, column: usize, tab_len: u8) -> usize
     requires { column < 2 ^ 63 }
     ensures value { result ≡ column_after tab_len column c }
@@ -35,7 +35,7 @@ pub fn column_behind(c: char, column: usize, tab_len: u8) -> usize
     }
 }
 
-/// The column behind a text that begins at `column`, each character standing behind the one before it.
+/// Returns the column after a text that begins at `column`.
 pub fn column_behind_text(text: &str, column: usize, tab_len: u8) -> usize
     requires { column + 255 * length text.now < 2 ^ 63 }
     ensures value { result ≡ end_column tab_len column (chars text.now) }
@@ -49,8 +49,8 @@ pub fn column_behind_text(text: &str, column: usize, tab_len: u8) -> usize
     end
 }
 
-/// The display column behind a character that begins at `column`. As `column_behind`, but that with tab length 0 a tab takes
-/// one column.
+/// Returns the display column after a character that begins at `column`. As `column_behind`, but a
+/// tab takes one column if `tab_len` is 0.
 pub fn display_column_behind(c: char, column: usize, tab_len: u8) -> usize
     requires { column < 2 ^ 63 }
     ensures value { result ≡ display_column_after tab_len column c }
@@ -60,7 +60,7 @@ pub fn display_column_behind(c: char, column: usize, tab_len: u8) -> usize
     column_behind(c, column, tab_len.max(1))
 }
 
-/// The display column behind a text that begins at `column`, each character standing behind the one before it.
+/// Returns the display column after a text that begins at `column`.
 pub fn display_column_behind_text(text: &str, column: usize, tab_len: u8) -> usize
     requires { column + 255 * length text.now < 2 ^ 63 }
     ensures value { result ≡ display_end_column tab_len column (chars text.now) }
@@ -70,8 +70,8 @@ pub fn display_column_behind_text(text: &str, column: usize, tab_len: u8) -> usi
     column_behind_text(text, column, tab_len.max(1))
 }
 
-/// Whether a text that begins at column 0 ends at the column `width` or before it. It reads no further than the first character
-/// that ends behind that column.
+/// Returns whether a text that begins at column 0 ends at or before the column `width`. Reads no
+/// further than the first character that ends past it.
 pub fn fits_width(text: &str, width: usize, tab_len: u8) -> bool
     requires { 255 * length text.now < 2 ^ 63 }
     ensures { IsTrue result ↔ (end_column tab_len 0 (chars text.now) ≤ width) }

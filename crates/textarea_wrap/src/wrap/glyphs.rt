@@ -1,4 +1,4 @@
-//! Rows that are cut at the ends of clusters.
+//! Wrapping at the ends of grapheme clusters.
 ghost use Rattle.std.specs.Prelude.{◌≡◌, ℕ, ◌+◌, ◌*◌, ◌^◌, ◌<◌, ◌≤◌, List, ◌++◌, length, OnOk};
 ghost use Rattle.std.specs.List.{concat};
 ghost use Rattle.textarea_wrap.specs.Cutting.{IsGlyphCutting, ranges_from};
@@ -8,7 +8,7 @@ use super::columns::column_behind_text;
 use std::alloc::AllocError;
 use unicode_segmentation::UnicodeSegmentation;
 
-/// Adds the byte ranges of the text's rows, where the text begins at the offset `start`.
+/// Appends the byte ranges of the text's visual rows. The text begins at the offset `start`.
 pub fn push_glyph_rows(
     rows: &mut Ranges,
     text: &str,

@@ -1,4 +1,4 @@
-//! Rows that are cut at the ends of units.
+//! Wrapping at the ends of units.
 ghost use Rattle.std.specs.Prelude.{◌≡◌, ℕ, ◌+◌, ◌*◌, ◌^◌, ◌<◌, ◌≤◌, ◌↔◌, List, [], ◌∷◌, ◌++◌, length, map, IsTrue, IfOk, OnOk};
 ghost use Rattle.std.specs.List.{concat, flat_map, AllByRecursion};
 ghost use Rattle.textarea_wrap.specs.Cutting.{Stretch, Block, AreBlocks, HangsOver, begins_with_content, units_of, rows_of, ranges_from};
@@ -10,7 +10,7 @@ use super::glyphs::push_glyph_rows;
 use super::units::is_all_whitespace;
 use std::alloc::AllocError;
 
-/// Whether there is a unit, and the first is not all whitespace.
+/// Returns whether there is a unit and the first is not all whitespace.
 fn starts_with_content(units: &[&str]) -> bool
     ensures { result ≡ begins_with_content (map (λ unit. unit.now) units.now) }
 {
@@ -20,14 +20,14 @@ fn starts_with_content(units: &[&str]) -> bool
     }
 }
 
-/// Whether the unit, which ends at the column `end`, is whitespace that ends one column past the width, before content.
+/// Returns whether the unit is whitespace that ends one column past the width, before content.
 fn hangs_over(unit: &str, later: &[&str], end: usize, width: usize) -> bool
     ensures { IsTrue result ↔ HangsOver width end unit.now (map (λ unit. unit.now) later.now) }
 {
     width < end && end - 1 == width && is_all_whitespace(unit) && starts_with_content(later)
 }
 
-// A row that is being filled: the offset of its first byte, the offset behind its last one, and the column behind it.
+// A visual row that is being filled: its first offset, and the offset and column after it.
 #[derive(Clone, Copy)]
 struct OpenRow {
     start: usize,
@@ -35,7 +35,7 @@ struct OpenRow {
     column: usize,
 }
 
-// Puts a unit into the open row or into the next one, or cuts it into rows of its own, and gives the row that is open then.
+// Puts a unit into the open row or the next, or gives it rows of its own. Returns the open row.
 fn place_unit(
     rows: &mut Ranges,
     row: OpenRow,
@@ -84,7 +84,7 @@ fn place_unit(
     })
 }
 
-/// Adds the byte ranges of the rows of these units, which make up the line.
+/// Appends the byte ranges of the visual rows of these units, which make up the line.
 pub fn push_word_rows(
     rows: &mut Ranges,
     units: &[&str],

@@ -1,4 +1,4 @@
-//! Laws of runs, each the contract of a function that does nothing.
+//! Laws of runs of calls, each the contract of a function that does nothing.
 ghost use Rattle.std.specs.Prelude.{◌≡◌, ◌≤◌, List};
 ghost use Rattle.textarea_text.specs.Splice.{CanApply};
 ghost use Rattle.textarea_document.specs.Cuts.{SplicedBy};
@@ -14,13 +14,11 @@ ghost use Rattle.tui_textarea.specs.Run.{Leads, ShowsSame};
 ghost use Rattle.tui_textarea.specs.Said.{Said};
 ghost use Rattle.tui_textarea.specs.CallSplices.{OfLeft, splices_of};
 
-use crate::laws::{
-    calls_cut, inputs_cut, layouts_are_cut, one_input, one_move, ranges_go_behind_calls,
-    ranges_go_behind_inputs,
-};
-use textarea_drawing::laws::{one_drawing, one_rendering};
+use crate::drawing::laws::{one_drawing, one_rendering};
+use crate::laws::{one_input, one_move};
+use textarea_document::laws::{edits_cut, layouts_cut, ranges_go_along};
 
-/// Calls that answer so lead to one state, whatever the buffers: the answers settle all that a run leaves of a text area.
+/// Calls with these results lead to one state of the text area, whatever the buffers.
 pub fn one_end()
     ensures { (calls : List Call) (answers : List Said) (old first second : State)
         (buffer other shown drawn : Buffer) →
@@ -32,7 +30,7 @@ pub fn one_end()
     one_rendering();
 }
 
-/// And from buffers of the same cells they lead to buffers of the same cells.
+/// From buffers with the same cells they lead to buffers with the same cells.
 pub fn one_screen()
     ensures { (calls : List Call) (answers : List Said) (old first second : State)
         (buffer other shown drawn : Buffer) →
@@ -45,10 +43,11 @@ pub fn one_screen()
     one_drawing();
 }
 
-/// What each call cuts, of every state that a text area has: an edit, an undo and a redo what their splices cut, which lead from the
-/// old text and its rows to the new ones; lines that are set, a setting that cuts the text in another way and a drawing that changes
-/// the width of the map all lines; and every other call none, so that it leaves the text, its rows and the count. A call that runs out
-/// of memory has made none of its splices, or the one that removes what was selected.
+/// Which lines each call wraps, in every state that a text area has. Edits, undo and redo wrap what
+/// their splices wrap, which lead from the old text and rows to the new ones. New lines, a setting
+/// that changes the layout, and a drawing that changes the width of the map of visual rows wrap all
+/// lines. Every other call wraps none, and leaves the text, its rows and the wrap counter. A call
+/// that runs out of memory has made no splice, or only the one that removes the selected text.
 pub fn each_call_cuts()
     ensures made { (old new : State) (call : Call) (answer : Said) → IsSound old.document →
         IsBehind old call answer new → CutsByCall old call new }
@@ -56,12 +55,11 @@ pub fn each_call_cuts()
         IsLeft old call new →
         OfLeft old (λ splices. SplicedBy old.document splices new.document) }
 {
-    inputs_cut();
-    calls_cut();
-    layouts_are_cut();
+    edits_cut();
+    layouts_cut();
 }
 
-/// No call sets the count back, also none that runs out of memory.
+/// No call decreases the wrap counter, even if it runs out of memory.
 pub fn count_never_falls()
     ensures made { (old new : State) (call : Call) (answer : Said) → IsSound old.document →
         IsBehind old call answer new →
@@ -73,10 +71,11 @@ pub fn count_never_falls()
     textarea_lines::laws::count_never_falls();
 }
 
-/// How the ranges go over each call, of every state that a text area has: they go with the text over its splices, which lead from the
-/// old text to the new one, and only those of an undo and a redo may cut a range. Other lines and the call that clears leave none, and
-/// ranges that are accepted replace the old ones. A call that runs out of memory has made none of its splices, or the one that removes
-/// what was selected.
+/// How the atomic ranges move over each call, in every state that a text area has: with the text,
+/// over the call's splices, which lead from the old text to the new one; only those of undo and
+/// redo may split a range. New lines and the call that clears the ranges leave none, and accepted
+/// ranges replace the old ones. A call that runs out of memory has made no splice, or only the one
+/// that removes the selected text.
 pub fn ranges_go_with_each_call()
     ensures made { (old new : State) (call : Call) (answer : Said) → IsSound old.document →
         IsAnswer old call answer → IsBehind old call answer new →
@@ -85,18 +84,17 @@ pub fn ranges_go_with_each_call()
         IsLeft old call new →
         OfLeft old (λ splices. GoesUncut old.document splices new.document) }
 {
-    ranges_go_behind_inputs();
-    ranges_go_behind_calls();
+    ranges_go_along();
 }
 
-/// The splices of each call fit the text, one after another, of every state that a text area has; and those of no call but an undo and
-/// a redo cut a range: what they insert goes strictly inside none, and what they remove takes each whole or not at all.
+/// In every state that a text area has, the splices of each call fit the text, one after another.
+/// Except for undo and redo, none splits a range: each inserts outside the inside of every range,
+/// and removes a range completely or not at all.
 pub fn splices_cut_none()
     ensures fit { (state : State) (call : Call) → IsSound state.document →
         CanApply state.document.text (splices_of state call) }
     ensures cut_none { (state : State) (call : Call) → IsSound state.document →
         ¬ IsUndoOrRedo call → CutNone state.document.ranges (splices_of state call) }
 {
-    ranges_go_behind_inputs();
-    ranges_go_behind_calls();
+    ranges_go_along();
 }

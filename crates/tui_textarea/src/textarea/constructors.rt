@@ -1,4 +1,4 @@
-//! Text areas of lines that an iterator gives.
+//! Text areas with the lines of an iterator.
 ghost use Rattle.std.specs.Prelude.{◌≡◌, IfOk, List, ℕ, String};
 ghost use Rattle.std.specs.Borrow.{Bor};
 ghost use Rattle.std.specs.Iterator.{IsFinite, Drains};
@@ -9,8 +9,8 @@ use crate::textarea::TextArea;
 use std::alloc::{AllocError, Global};
 
 impl<'b> TextArea<'b> {
-    /// A text area of the lines that the iterator gives, the cursor at the start; no line at all becomes one empty line. A
-    /// line feed inside a line stays a character of that line.
+    /// Returns a text area with the iterator's lines and the cursor at the start. Without any it
+    /// has one empty line. A line feed inside a line stays a character of that line.
     pub fn from_strings<I: Iterator<Item = String> + Drop>(
         alloc: Global,
         lines: I,
@@ -25,8 +25,8 @@ impl<'b> TextArea<'b> {
         TextArea::new(all)
     }
 
-    /// A text area of copies of the lines that the iterator gives, the cursor at the start; no line at all becomes one
-    /// empty line. A line feed inside a line stays a character of that line.
+    /// Returns a text area with copies of the iterator's lines and the cursor at the start. Without
+    /// any it has one empty line. A line feed inside a line stays a character of that line.
     pub fn from_strs<'a, I: Iterator<Item = &'a str> + Drop>(
         alloc: Global,
         lines: I,
@@ -42,7 +42,6 @@ impl<'b> TextArea<'b> {
     }
 }
 
-// The strings that the iterator gives.
 fn collect_lines<I: Iterator<Item = String> + Drop>(
     alloc: Global,
     lines: I,
@@ -60,7 +59,6 @@ fn collect_lines<I: Iterator<Item = String> + Drop>(
     Ok(all)
 }
 
-// Copies of the texts that the iterator gives.
 fn copy_lines<'a, I: Iterator<Item = &'a str> + Drop>(
     alloc: Global,
     lines: I,

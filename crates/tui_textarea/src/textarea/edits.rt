@@ -1,5 +1,5 @@
-//! Insertions: what is selected goes first, as an edit of its own; then the cursor goes out of the atomic range that
-//! strictly holds it, to its end.
+//! Insertions. Each first removes the selected text, as its own edit, and then moves a cursor that
+//! is strictly inside an atomic range to the range's end.
 ghost use Rattle.std.specs.Prelude.{◌≡◌, ◌<◌, OnOk, OnErr, IsOk, IfOk, false, [], replicate, vec_len};
 ghost use Rattle.std.specs.Str.{chars};
 ghost use Rattle.textarea_text.specs.Text.{Character, text_of};
@@ -17,8 +17,8 @@ use textarea_text::tab::spaces_to_stop;
 use textarea_text::util::spaces;
 
 impl TextArea<'_> {
-    /// Inserts the character at the cursor, or at the end of the atomic range that strictly holds it, as typed; `\n`
-    /// and `\r` break the line.
+    /// Inserts the character at the cursor, or at the end of the atomic range that strictly
+    /// contains it, as typed; `\n` and `\r` break the line.
     pub fn insert_char(&mut self, c: char) -> Result<(), AllocError>
         ensures ok { OnOk result (self.new ≡ char_inserted self.old c) }
         ensures err { OnErr result (IsLeft self.old self.new) }
@@ -27,7 +27,7 @@ impl TextArea<'_> {
         self.insert_char_or_break(c)
     }
 
-    // Inserts the character where an insertion goes, or breaks the line there.
+    // Inserts the character at the insertion position, or breaks the line there.
     fn insert_char_or_break(&mut self, c: char) -> Result<(), AllocError>
         ensures ok { OnOk result (self.new ≡ char_or_break_inserted self.old c) }
         ensures err { OnErr result (self.new ≡ self.old) }
@@ -39,7 +39,7 @@ impl TextArea<'_> {
             .insert_character(c, self.settings.undo_coalescing, self.moment)
     }
 
-    /// Breaks the line at the cursor, or at the end of the atomic range that strictly holds it.
+    /// Breaks the line at the cursor, or at the end of the atomic range that strictly contains it.
     pub fn insert_newline(&mut self) -> Result<(), AllocError>
         ensures ok { OnOk result (self.new ≡ newline_inserted self.old) }
         ensures err { OnErr result (IsLeft self.old self.new) }
@@ -48,9 +48,9 @@ impl TextArea<'_> {
         self.document.insert_break(self.moment)
     }
 
-    /// Inserts the text at the cursor, or at the end of the atomic range that strictly holds it, and says whether
-    /// there was any or a selection went. The text is cut at each line feed; a carriage return directly before a line
-    /// feed goes with it.
+    /// Inserts the text at the cursor, or at the end of the atomic range that strictly contains it,
+    /// and returns whether it inserted something or removed a selection. Each line feed breaks the
+    /// line; a carriage return directly before it is dropped.
     pub fn insert_str(&mut self, text: &str) -> Result<bool, AllocError>
         ensures inserted { IfOk result
             (λ inserted. inserted ≡ inserts_text self.old (given (chars text.now))) }
@@ -66,7 +66,7 @@ impl TextArea<'_> {
         Ok(true)
     }
 
-    /// Inserts what was yanked last, where `insert_str` does, and says whether there was any.
+    /// Inserts the yanked text where `insert_str` inserts, and returns whether there was any.
     pub fn paste(&mut self) -> Result<bool, AllocError>
         ensures inserted { IfOk result (λ inserted. inserted ≡ is_filled self.old.yank) }
         ensures ok { OnOk result (self.new ≡ str_inserted self.old self.old.yank) }
@@ -81,7 +81,7 @@ impl TextArea<'_> {
         self.insert_over_selection(pieces)
     }
 
-    // Inserts a text in the place of what is selected, and says whether it has a symbol.
+    // Replaces the selected text by a fragment, and returns whether the fragment has a symbol.
     fn insert_over_selection(&mut self, pieces: Vec<String>) -> Result<bool, AllocError>
         ensures inserted { IfOk result (λ inserted. inserted ≡ is_filled (text_of pieces.items)) }
         ensures ok { OnOk result (self.new ≡ str_inserted self.old (text_of pieces.items)) }
@@ -91,9 +91,9 @@ impl TextArea<'_> {
         self.document.insert(pieces, self.moment)
     }
 
-    /// Inserts a tab at the cursor, or at the end of the atomic range that strictly holds it, and says whether it did
-    /// or a selection went: a tab character where hard tabs are on, as typed, and else as many spaces as reach to the
-    /// next tab stop. At tab length 0 it inserts nothing.
+    /// Inserts a tab at the cursor, or at the end of the atomic range that strictly contains it,
+    /// and returns whether it inserted something or removed a selection. With hard tabs that is a
+    /// tab character, as typed, otherwise spaces up to the next tab stop; at tab length 0 nothing.
     pub fn insert_tab(&mut self) -> Result<bool, AllocError>
         ensures inserted { IfOk result (λ inserted. inserted ≡ inserts_tab self.old) }
         ensures ok { OnOk result (self.new ≡ tab_inserted self.old) }
@@ -109,7 +109,7 @@ impl TextArea<'_> {
         Ok(true)
     }
 
-    // Inserts a tab of this length where an insertion goes.
+    // Inserts a tab of this length at the insertion position.
     fn insert_tab_or_spaces(&mut self, tab_length: u8) -> Result<(), AllocError>
         requires some { 0 < tab_length }
         ensures ok { OnOk result (self.new ≡ tab_or_spaces_inserted self.old tab_length) }
@@ -123,7 +123,7 @@ impl TextArea<'_> {
         self.insert_spaces(tab_length)
     }
 
-    // Inserts the spaces that reach from where they go to the next tab stop.
+    // Inserts spaces from the insertion position up to the next tab stop.
     fn insert_spaces(&mut self, tab_length: u8) -> Result<(), AllocError>
         requires some { 0 < tab_length }
         ensures ok { OnOk result
@@ -139,8 +139,8 @@ impl TextArea<'_> {
         Ok(())
     }
 
-    // Removes what is selected, says whether a symbol was, drops the selection, and puts the cursor where an insertion
-    // goes.
+    // Removes the selected text, returns whether there was any, drops the selection, and moves the
+    // cursor to the insertion position.
     fn insert_nothing(&mut self) -> Result<bool, AllocError>
         ensures removed { IfOk result (λ removed. removed ≡ is_selected self.old.document) }
         ensures ok { OnOk result (self.new ≡ str_inserted self.old []) }
@@ -152,7 +152,7 @@ impl TextArea<'_> {
         Ok(removed)
     }
 
-    // Removes what is selected, says whether a symbol was, and drops the selection.
+    // Removes the selected text, returns whether there was any, and drops the selection.
     fn drop_selection(&mut self) -> Result<bool, AllocError>
         ensures removed { IfOk result (λ removed. removed ≡ is_selected self.old.document) }
         ensures ok { OnOk result (self.new ≡ selection_cancelled (unselected self.old)) }
@@ -165,14 +165,13 @@ impl TextArea<'_> {
     }
 }
 
-// Whether a given text holds a symbol.
 fn has_text(text: &str) -> bool
     ensures { result ≡ is_filled (given (chars text.now)) }
 {
     !text.is_empty()
 }
 
-// One piece of that many spaces.
+// Returns a fragment of one line, of `count` spaces.
 fn spaces_as_piece(alloc: Global, count: u8) -> Result<Vec<String>, AllocError>
     ensures some { IfOk result (λ pieces. 0 < vec_len pieces) }
     ensures text { IfOk result (λ pieces. text_of pieces.items ≡ replicate count (Character 32)) }

@@ -1,4 +1,4 @@
-//! Keys: each input asks for one of the calls, by one of the two tables of `textarea_calls`.
+//! Keys: each input asks for one of the calls, by one of the two key tables of `textarea_calls`.
 ghost use Rattle.std.specs.Prelude.{◌≡◌, IfOk, OnErr, OnOk};
 ghost use Rattle.textarea_calls.specs.Kinds.{call_of_edit};
 ghost use Rattle.textarea_calls.specs.declared.action.Action.TheVariants as act;
@@ -14,11 +14,11 @@ use textarea_calls::kind::{Edit, Write};
 use textarea_data::input::Input;
 
 impl TextArea<'_> {
-    /// Makes the call that the input asks for by the table of keys with shortcuts, and says whether the text was changed:
-    /// true for a character or a line break; what the call answers for any other edit, `undo` and `redo`; false for `copy`,
-    /// a move, a scroll, and an input of no row, which changes nothing. Shift is handed to moves and scrolls: with it an open
-    /// selection stays open, or one begins where the cursor was; without it none is open behind the move. A move without a
-    /// target changes nothing, also no selection.
+    /// Makes the call that the key table with shortcuts has for the input, and returns whether the
+    /// text changed: true for a character or a line break; the result of the call for any other
+    /// edit, undo and redo; false for `copy`, a move, a scroll, and an input that is not in the
+    /// table, which changes nothing. With Shift, a move or scroll extends the selection, or begins
+    /// one; without Shift it drops the selection. A move without a target changes nothing.
     pub fn input(&mut self, input: Input) -> Result<bool, AllocError>
         ensures answer { IfOk result (λ changed. changed ≡ acts self.old (asked_by input)) }
         ensures ok { OnOk result (IsActed self.old (asked_by input) self.new) }
@@ -28,9 +28,9 @@ impl TextArea<'_> {
         self.act(action_of(&input))
     }
 
-    /// As `input`, by the table without shortcuts, for a caller that has shortcuts of its own: characters, Tab, Backspace,
-    /// Delete, Enter and the mouse's wheel alone. The wheel scrolls as `scroll` does, which follows an open selection and not
-    /// the input's Shift.
+    /// As `input`, but by the table without shortcuts, for a caller that has its own: only
+    /// characters, Tab, Backspace, Delete, Enter and the mouse wheel. The wheel scrolls as `scroll`
+    /// does: an open selection stays open, and the input's Shift is ignored.
     pub fn input_without_shortcuts(&mut self, input: Input) -> Result<bool, AllocError>
         ensures answer { IfOk result
             (λ changed. changed ≡ acts self.old (asked_without_shortcuts input)) }
@@ -41,7 +41,7 @@ impl TextArea<'_> {
         self.act(action_without_shortcuts(&input))
     }
 
-    // Makes the call for which the action stands, and says whether the text was changed.
+    // Makes the action's call, and returns whether the text changed.
     fn act(&mut self, action: Action) -> Result<bool, AllocError>
         ensures answer { IfOk result (λ changed. changed ≡ acts self.old action) }
         ensures ok { OnOk result (IsActed self.old action self.new) }
@@ -69,8 +69,8 @@ impl TextArea<'_> {
         }
     }
 
-    /// Makes the edit, the undo or the redo, as the method of its name does, and says whether there was something to do. Out of
-    /// memory leaves what that method leaves.
+    /// Calls the method that the edit, the undo or the redo is named after, and returns whether
+    /// there was something to do. After an error the state is as after an error of that method.
     pub fn edit(&mut self, edit: Edit) -> Result<bool, AllocError>
         ensures answer { IfOk result (λ done. IsAnswer self.old (call_of_edit edit) (Flag done)) }
         ensures behind { IfOk result

@@ -12,9 +12,9 @@ use crate::textarea::TextArea;
 use textarea_lines::laws::one_list_of_rows;
 use textarea_wrap::laws::one_cutting;
 
-/// The law of undo, for every text area: that many undos, at most as many as there are done edits, give the text
-/// before the last that many of them, and as many redos give back the text and both lists of edits, and leave the
-/// cursor where the newest edit leaves it.
+/// The law of undo, for every text area: `count` undos, at most one for each done edit, give the
+/// text before the last `count` edits; then `count` redos restore the text and both lists of edits,
+/// and leave the cursor where the newest edit leaves it.
 pub fn undos_give_back(area: &TextArea<'_>)
     ensures { (count : ℕ) → count ≤ length area.now.document.log.done
         → GivesBack area.now.document count }
@@ -22,8 +22,8 @@ pub fn undos_give_back(area: &TextArea<'_>)
     area.document.undos_give_back();
 }
 
-/// The law of one edit, for every text area that remembers edits: behind each edit that fits the text, an undo and a
-/// redo give back the text, both lists of edits, and the cursor where the edit had left it.
+/// The law of one edit, for every text area that remembers edits: after each edit that fits the
+/// text, an undo and a redo restore the text, both lists of edits, and the cursor.
 pub fn redo_gives_all_back(area: &TextArea<'_>)
     ensures { (splice : Splice) (typed : Bool) (now : ℕ) →
         Fits area.now.document.text splice → 0 < area.now.document.log.maximum
@@ -32,32 +32,34 @@ pub fn redo_gives_all_back(area: &TextArea<'_>)
     area.document.redo_gives_all_back();
 }
 
-/// The law of both history lists, for every text area: the done edits can be taken back one after another, the newest
-/// first, and the undone ones made again, the next one first; each has a symbol at least, and fits the text that is
-/// there then.
+/// The law of both history lists, for every text area: the done edits can be undone one after
+/// another, the newest first, and the undone ones redone, the next one first. Each has at least one
+/// symbol, and fits the text at that time.
 pub fn edits_fit(area: &TextArea<'_>)
     ensures { ListsFit area.now.document }
 {
     area.document.edits_fit();
 }
 
-/// The law of copying, for every text area in which a symbol is selected: a `paste` behind a `copy` inserts exactly the
-/// symbols that were selected, at the cursor or at the end of the atomic range that strictly holds it, and answers true.
+/// The law of copying, for every text area with selected text: a `paste` after a `copy` returns
+/// true, and inserts exactly the selected symbols, at the cursor or at the end of the atomic range
+/// that strictly contains it.
 pub fn copy_then_paste(area: &TextArea<'_>)
     ensures { is_selected area.now.document ≡ true → PastesCopy area.now }
 {
     let _ = area.document.filled_selection();
 }
 
-/// Of every text area the cursor and the anchor are places of the text, the ranges valid for it and in order, the done edits can
-/// be taken back and the undone ones made again, and both lists together are at most the maximum.
+/// In every text area the cursor and the anchor are positions of the text, the ranges are valid for
+/// it and sorted, the done edits can be undone and the undone ones redone, and together they are at
+/// most the maximum.
 pub fn is_sound(area: &TextArea<'_>)
     ensures { IsSound area.now.document }
 {
     area.document.is_sound();
 }
 
-/// The cursor, and the place where a selection began, are places of the text, of every text area.
+/// In every text area the cursor, and the beginning of a selection, are positions of the text.
 pub fn cursor_and_anchor_are_places(area: &TextArea<'_>)
     ensures cursor { IsPlace area.now.document.text area.now.document.cursor }
     ensures anchor { IfSome area.now.document.anchor (IsPlace area.now.document.text) }
@@ -65,9 +67,9 @@ pub fn cursor_and_anchor_are_places(area: &TextArea<'_>)
     let _ = (area.document.cursor(), area.document.anchor());
 }
 
-/// The law of visual rows, for every text area: there is one list of right rows of the text as it stands, and it has for each line
-/// those that `line_ranges` returns for that line, and no others. So whatever `measure`, `render`, `cursor_at_position` and the
-/// moves up and down say of right rows, they say of these.
+/// The law of visual rows, for every text area: there is exactly one correct list of visual rows of
+/// the text, with those that `line_ranges` returns for each line. The contracts of `measure`,
+/// `render`, `cursor_at_position` and the moves up and down are about these rows.
 pub fn rows_are_laid_out_anew(area: &TextArea<'_>)
     ensures { HasRowsAnew area.now }
 {

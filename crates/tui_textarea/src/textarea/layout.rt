@@ -1,4 +1,4 @@
-//! How the text is cut into rows and seen: the wrap mode, tab stops, line numbers and alignment.
+//! The layout of the text: wrap mode, tab stops, line numbers and alignment.
 ghost use Rattle.std.specs.Prelude.{◌≡◌, IsOk, OnErr, OnOk, false, true};
 ghost use Rattle.tui_textarea.specs.Layout.{
   alignment_set,
@@ -22,8 +22,8 @@ use textarea_view::look::Look;
 use textarea_wrap::wrap::WrapMode;
 
 impl TextArea<'_> {
-    /// Sets how lines are wrapped. All lines are cut anew, each once, where that cuts them in another way, and only
-    /// then memory is taken. Until there is an area to draw in, no line is wrapped.
+    /// Sets how lines are wrapped. If that changes the layout, all lines are wrapped again, each
+    /// once; only then memory is needed. Before the first `render` no line is wrapped.
     pub fn set_wrap_mode(&mut self, mode: WrapMode) -> Result<(), AllocError>
         ensures ok { OnOk result (self.new ≡ with_wrap_mode self.old mode) }
         ensures err { OnErr result (self.new ≡ self.old) }
@@ -34,15 +34,15 @@ impl TextArea<'_> {
         self.document.set_layout_settings(settings)
     }
 
-    /// How lines are wrapped.
+    /// Returns how lines are wrapped.
     pub fn wrap_mode(&self) -> WrapMode
         ensures { result ≡ self.now.document.layout.settings.mode }
     {
         self.document.layout_settings().mode
     }
 
-    /// Sets the columns between two tab stops; at 0 a tab inserts nothing. All lines are cut anew, each once, where
-    /// that cuts them in another way, and only then memory is taken.
+    /// Sets the distance of tab stops, in columns; at 0 a tab inserts nothing. If that changes the
+    /// layout, all lines are wrapped again, each once; only then memory is needed.
     pub fn set_tab_length(&mut self, tab_length: u8) -> Result<(), AllocError>
         ensures ok { OnOk result (self.new ≡ with_tab_length self.old tab_length) }
         ensures err { OnErr result (self.new ≡ self.old) }
@@ -54,15 +54,15 @@ impl TextArea<'_> {
         self.document.set_layout_settings(settings)
     }
 
-    /// The columns between two tab stops.
+    /// Returns the distance of tab stops, in columns.
     pub fn tab_length(&self) -> u8
         ensures { result ≡ tab_length self.now.document }
     {
         self.document.layout_settings().tab_len
     }
 
-    /// Sets that each line has its number beside it, counted from 1, and in which style. All lines are cut anew, each
-    /// once, where that cuts them in another way, and only then memory is taken.
+    /// Shows line numbers, counted from 1, in this style. If that changes the layout, all lines are
+    /// wrapped again, each once; only then memory is needed.
     pub fn set_line_number_style(&mut self, style: Style) -> Result<(), AllocError>
         ensures ok { OnOk result (self.new ≡ with_line_numbers self.old style) }
         ensures err { OnErr result (self.new ≡ self.old) }
@@ -79,8 +79,8 @@ impl TextArea<'_> {
         Ok(())
     }
 
-    /// Takes the line numbers away. All lines are cut anew, each once, where that cuts them in another way, and only
-    /// then memory is taken.
+    /// Hides the line numbers. If that changes the layout, all lines are wrapped again, each once;
+    /// only then memory is needed.
     pub fn remove_line_number(&mut self) -> Result<(), AllocError>
         ensures ok { OnOk result (self.new ≡ without_line_numbers self.old) }
         ensures err { OnErr result (self.new ≡ self.old) }
@@ -91,7 +91,7 @@ impl TextArea<'_> {
         self.document.set_layout_settings(settings)
     }
 
-    /// The style of the line numbers, if there are any.
+    /// Returns the style of the line numbers, or `None` if they are hidden.
     pub fn line_number_style(&self) -> Option<Style>
         ensures { result ≡ number_style self.now }
     {
@@ -102,8 +102,9 @@ impl TextArea<'_> {
         }
     }
 
-    /// Sets where rows stand in the inner area. In the middle and at the right there are no line numbers, so these are taken
-    /// away; where that cuts lines in another way, all are cut anew, each once, and only then memory is taken.
+    /// Sets the alignment of visual rows in the inner area. In the middle and at the right it also
+    /// hides the line numbers; if that changes the layout, all lines are wrapped again, each once,
+    /// and only then memory is needed.
     pub fn set_alignment(&mut self, alignment: Alignment) -> Result<(), AllocError>
         ensures ok { OnOk result (self.new ≡ with_alignment self.old alignment) }
         ensures err { OnErr result (self.new ≡ self.old) }
@@ -118,7 +119,7 @@ impl TextArea<'_> {
         Ok(())
     }
 
-    /// Where rows stand in the inner area.
+    /// Returns the alignment of visual rows in the inner area.
     pub fn alignment(&self) -> Alignment
         ensures { result ≡ self.now.drawing.look.alignment }
     {

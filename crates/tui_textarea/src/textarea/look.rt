@@ -1,4 +1,4 @@
-//! How the text area looks: styles, a mask, the cursor's cell, and highlights of the caller's own.
+//! How the text area looks: styles, a mask, the cursor's cell, and custom highlights.
 ghost use Rattle.std.specs.Prelude.{◌≡◌, None, Some, OnErr, OnOk};
 ghost use Rattle.tui_textarea.specs.Drawing.{highlighted, unhighlighted, with_look};
 
@@ -8,7 +8,7 @@ use textarea_screen::screen::Style;
 use textarea_view::look::{CursorRenderMode, CustomHighlight, Look};
 
 impl TextArea<'_> {
-    /// Sets the style of each cell of the inner area, under all others; it isn't seen where a placeholder is shown.
+    /// Sets the style of each cell of the inner area, under all others; a placeholder has its own.
     pub fn set_style(&mut self, style: Style)
         ensures { self.new
             ≡ with_look self.old (record self.old.drawing.look { style = style }) }
@@ -17,7 +17,7 @@ impl TextArea<'_> {
         self.drawing.set_look(Look { style, ..look });
     }
 
-    /// The style of each cell of the inner area, under all others.
+    /// Returns the style of each cell of the inner area, under all other styles.
     pub fn style(&self) -> Style
         ensures { result ≡ self.now.drawing.look.style }
     {
@@ -36,7 +36,7 @@ impl TextArea<'_> {
         });
     }
 
-    /// The style of the cell at the cursor.
+    /// Returns the style of the cell at the cursor.
     pub fn cursor_style(&self) -> Style
         ensures { result ≡ self.now.drawing.look.cursor_style }
     {
@@ -55,14 +55,14 @@ impl TextArea<'_> {
         });
     }
 
-    /// The style of the cursor's line, where no highlight is.
+    /// Returns the style of the cursor's line, where no highlight is.
     pub fn cursor_line_style(&self) -> Style
         ensures { result ≡ self.now.drawing.look.cursor_line_style }
     {
         self.drawing.look().cursor_line_style
     }
 
-    /// Sets the style of what is selected.
+    /// Sets the style of selected text.
     pub fn set_selection_style(&mut self, style: Style)
         ensures { self.new
             ≡ with_look self.old (record self.old.drawing.look { selection_style = style }) }
@@ -74,14 +74,14 @@ impl TextArea<'_> {
         });
     }
 
-    /// The style of what is selected.
+    /// Returns the style of selected text.
     pub fn selection_style(&self) -> Style
         ensures { result ≡ self.now.drawing.look.selection_style }
     {
         self.drawing.look().selection_style
     }
 
-    /// Sets the style of the pattern's matches.
+    /// Sets the style of the search pattern's matches.
     pub fn set_search_style(&mut self, style: Style)
         ensures { self.new
             ≡ with_look self.old (record self.old.drawing.look { search_style = style }) }
@@ -93,15 +93,15 @@ impl TextArea<'_> {
         });
     }
 
-    /// The style of the pattern's matches.
+    /// Returns the style of the search pattern's matches.
     pub fn search_style(&self) -> Style
         ensures { result ≡ self.now.drawing.look.search_style }
     {
         self.drawing.look().search_style
     }
 
-    /// Shows this character in the place of each of the text. Where the cursor stands, and which place a cell shows, is
-    /// reckoned by the text's own columns.
+    /// Shows this character instead of each character of the text. The cursor's cell and
+    /// `cursor_at_position` still follow the columns of the text itself.
     pub fn set_mask_char(&mut self, mask: char)
         ensures { self.new ≡ with_look self.old (record self.old.drawing.look { mask = Some mask }) }
     {
@@ -112,7 +112,7 @@ impl TextArea<'_> {
         });
     }
 
-    /// Shows the text itself.
+    /// Shows the text itself again.
     pub fn clear_mask_char(&mut self)
         ensures { self.new ≡ with_look self.old (record self.old.drawing.look { mask = None }) }
     {
@@ -120,15 +120,15 @@ impl TextArea<'_> {
         self.drawing.set_look(Look { mask: None, ..look });
     }
 
-    /// The character that is shown in the place of each of the text, if there is one.
+    /// Returns the character that is shown instead of each character of the text, if one is set.
     pub fn mask_char(&self) -> Option<char>
         ensures { result ≡ self.now.drawing.look.mask }
     {
         self.drawing.look().mask
     }
 
-    /// Sets whether the cell at the cursor is drawn in a style of its own, or as any other, where a terminal's own cursor
-    /// stands there.
+    /// Sets whether the cell at the cursor has its own style, or is drawn as any other because the
+    /// terminal's own cursor is there.
     pub fn set_cursor_render_mode(&mut self, mode: CursorRenderMode)
         ensures { self.new
             ≡ with_look self.old (record self.old.drawing.look { cursor_render_mode = mode }) }
@@ -140,17 +140,18 @@ impl TextArea<'_> {
         });
     }
 
-    /// How the cell at the cursor is drawn.
+    /// Returns how the cell at the cursor is drawn.
     pub fn cursor_render_mode(&self) -> CursorRenderMode
         ensures { result ≡ self.now.drawing.look.cursor_render_mode }
     {
         self.drawing.look().cursor_render_mode
     }
 
-    /// Highlights what stands between two places, each a row and a byte of it; a byte inside a character counts as that
-    /// character's first one, and one behind the row's end as the end. Of the highlights that begin at one place the one of
-    /// the highest priority is seen, and the one that was added last where they have the same: the cursor's is 30, a match's
-    /// 20 and a selection's 10. They stay where they are when the text changes.
+    /// Highlights the text between two positions, each a row and a byte offset in it. A byte inside
+    /// a character counts as the character's first byte, one past the line's end as the end. Where
+    /// several highlights begin at one position, the one of the highest priority is visible, among
+    /// equals the last one added. The cursor has priority 30, a match 20, a selection 10.
+    /// Highlights do not move when the text changes.
     pub fn custom_highlight(
         &mut self,
         range: ((usize, usize), (usize, usize)),
@@ -168,7 +169,7 @@ impl TextArea<'_> {
         })
     }
 
-    /// Takes all custom highlights away.
+    /// Removes all custom highlights.
     pub fn clear_custom_highlight(&mut self)
         ensures { self.new ≡ unhighlighted self.old }
     {

@@ -1,4 +1,4 @@
-//! The measured height.
+//! Measuring the height.
 ghost use Rattle.std.specs.Prelude.{◌≡◌, ◌≤◌, IfOk, IsOk, true};
 ghost use Rattle.textarea_view.specs.State.{AreBounds};
 ghost use Rattle.tui_textarea.specs.Measure.{IsMeasured, reads_rows};
@@ -8,9 +8,9 @@ use std::alloc::AllocError;
 use textarea_view::surround::measure::TextAreaMeasure;
 
 impl TextArea<'_> {
-    /// The height that an area of this width, in columns, needs for the block and all rows of the text, or of the
-    /// placeholder where that is shown. Where the rows are those of the text as it is cut now, no line is cut. Nothing that is
-    /// seen of the text area changes.
+    /// Returns the height that an area of this width, in columns, needs for the block and all
+    /// visual rows of the text, or for the placeholder if that is shown. If the layout has this
+    /// width already, no line is wrapped and no memory is needed. The text area does not change.
     pub fn measure(&mut self, width: u16) -> Result<TextAreaMeasure, AllocError>
         ensures same { self.new ≡ self.old }
         ensures measured { IfOk result (IsMeasured self.old width) }

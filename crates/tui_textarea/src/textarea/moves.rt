@@ -10,20 +10,21 @@ use textarea_document::target::target;
 use textarea_ranges::held::move_out;
 
 impl TextArea<'_> {
-    /// Moves the cursor; an open selection is widened or narrowed by that, and a run of typing ends. Up and Down lead
-    /// to the neighbouring visual row, at the cursor's display column or, where that row's greatest cursor column is
-    /// less, at that one. A target strictly inside an atomic range goes to its start for Back, Up, Head, Top, WordBack
-    /// and ParagraphBack, to its end for the others. InViewport leads to the nearest row and column that are shown. A move
-    /// without a target changes nothing: Forward from the text's end, Back from its start, Up from the first visual row,
-    /// Down from the last one, and ParagraphBack from the first row.
+    /// Moves the cursor. An open selection follows it, and a run of typing ends. Up and Down move
+    /// to the neighbouring visual row, at the cursor's display column or, if that row is shorter,
+    /// at its greatest cursor column. A target strictly inside an atomic range is moved to the
+    /// range's start for Back, Up, Head, Top, WordBack and ParagraphBack, and to its end for other
+    /// moves. InViewport moves to the nearest visible row and column. A move without a target
+    /// changes nothing: Forward at the text's end, Back at its start, Up in the first visual row,
+    /// Down in the last one, and ParagraphBack in the first line.
     pub fn move_cursor(&mut self, cursor_move: CursorMove)
         ensures { IsMoved self.old cursor_move self.new }
     {
         self.move_with_shift(cursor_move, self.is_selecting());
     }
 
-    // Moves the cursor, with Shift or without it: with it an open selection stays open, or one begins at the old cursor;
-    // without it none is open behind the move.
+    // Moves the cursor. With Shift an open selection stays open, or one begins at the old cursor;
+    // without Shift the selection is dropped.
     pub(crate) fn move_with_shift(&mut self, cursor_move: CursorMove, shift: bool)
         ensures { IsMovedWith self.old shift cursor_move self.new }
     {
@@ -34,7 +35,7 @@ impl TextArea<'_> {
         }
     }
 
-    // Where a selection begins behind a move with Shift, or without it.
+    // Returns where the selection begins after a move with or without Shift, if it leaves one.
     fn anchor_with(&self, shift: bool) -> Option<(usize, usize)>
         ensures value { result ≡ anchor_with shift self.now.document }
         ensures place { IfSome result (IsPlace self.now.document.text) }
@@ -48,7 +49,7 @@ impl TextArea<'_> {
         }
     }
 
-    // Where the move leads to, before it goes out of an atomic range.
+    // Returns the target of the move before it is moved out of an atomic range.
     fn target_of(&self, cursor_move: CursorMove) -> Option<(usize, usize)>
         ensures place { IfSome result (IsPlace self.now.document.text) }
         ensures target { IsTarget self.now cursor_move result }
@@ -62,7 +63,7 @@ impl TextArea<'_> {
     }
 }
 
-// Which end of an atomic range the move leads to where it would end strictly inside it.
+// Returns which end of an atomic range replaces a target strictly inside it.
 fn bias_of(cursor_move: CursorMove) -> AtomicCursorBias
     ensures { result ≡ bias_of cursor_move }
 {

@@ -8,8 +8,8 @@ use crate::textarea::TextArea;
 use std::alloc::AllocError;
 
 impl TextArea<'_> {
-    /// Takes back the newest edit, and says whether there was one. The cursor then stands behind the text that came
-    /// back, or where the text that went began, and nothing is selected.
+    /// Undoes the newest edit, and returns whether there was one. The cursor is then after the
+    /// restored text, or where the removed text began, and nothing is selected.
     pub fn undo(&mut self) -> Result<bool, AllocError>
         ensures undone { IfOk result (λ found. found ≡ is_some (newest self.old.document.log)) }
         ensures ok { OnOk result (self.new ≡ with_document self.old (undone self.old.document)) }
@@ -19,8 +19,8 @@ impl TextArea<'_> {
         self.document.undo()
     }
 
-    /// Makes again the edit that was undone last, and says whether there was one. The cursor then stands where that edit
-    /// had left it, and nothing is selected.
+    /// Redoes the edit that was undone last, and returns whether there was one. The cursor is then
+    /// where that edit left it, and nothing is selected.
     pub fn redo(&mut self) -> Result<bool, AllocError>
         ensures redone { IfOk result (λ found. found ≡ is_some (next self.old.document.log)) }
         ensures ok { OnOk result (self.new ≡ with_document self.old (redone self.old.document)) }

@@ -1,4 +1,4 @@
-//! Atomic ranges: parts of a line that are edited as a whole.
+//! Atomic ranges: spans of characters in a line that are edited as a whole.
 ghost use Rattle.std.specs.Prelude.{◌≡◌, IfOk, IsOk, MatchResult, None, OnErr, OnOk, is_some};
 ghost use Rattle.textarea_text.specs.Text.{lines};
 ghost use Rattle.textarea_ranges.specs.Held.{inside};
@@ -15,10 +15,11 @@ use textarea_data::range::{
 };
 
 impl TextArea<'_> {
-    /// Holds these ranges, in order of row and start, in place of the old ones. Each has a character at least and lies in
-    /// one line, and no two share a character. A cursor strictly inside one goes to its end, the place where a selection
-    /// began to its start, and a selection that is empty then is dropped. Ranges go with the text over each edit, undo and redo:
-    /// a removal drops those that it takes, an undo and a redo those that they cut.
+    /// Replaces the atomic ranges; they are sorted by row and start. Each has at least one
+    /// character, within one line, and no two share a character. A cursor strictly inside a range
+    /// moves to its end, a selection's beginning to its start, and a selection that is empty after
+    /// that is dropped. Ranges move with the text at each edit, undo and redo: a removal drops
+    /// those that it removes, an undo or redo also those that it splits.
     pub fn set_atomic_ranges(&mut self, ranges: Vec<AtomicRange>) -> Result<(), AllocError>
         requires valid { AreValid (lines self.old.document.text) ranges.items }
         ensures ok { OnOk result (self.new ≡ ranges_accepted self.old ranges.items) }
@@ -26,14 +27,15 @@ impl TextArea<'_> {
     {
         match self.document.try_set_ranges(ranges)? {
             Ok(()) => Ok(()),
-            // Valid ranges are not refused.
+            // Valid ranges are not rejected.
             Err(_) => unreachable!(),
         }
     }
 
-    /// Holds these ranges as `set_atomic_ranges` does, where they are valid for the text. Else it changes nothing, and
-    /// lists the rejected ones in order of row and start, each with the first reason that there is: it is empty, its
-    /// row isn't there, its columns aren't, or it starts before the last valid range of its row ends.
+    /// Replaces the atomic ranges as `set_atomic_ranges` does, if they are valid for the text.
+    /// Otherwise changes nothing, and returns the rejected ones, sorted by row and start, each with
+    /// the first reason that applies: it is empty, its row does not exist, its columns do not
+    /// exist, or it starts before the end of the last valid range of its row.
     pub fn try_set_atomic_ranges(
         &mut self,
         ranges: Vec<AtomicRange>,
@@ -50,14 +52,14 @@ impl TextArea<'_> {
         self.document.try_set_ranges(ranges)
     }
 
-    /// Forgets all ranges.
+    /// Drops all atomic ranges.
     pub fn clear_atomic_ranges(&mut self)
         ensures { self.new ≡ ranges_cleared self.old }
     {
         self.document.clear_ranges();
     }
 
-    /// The ranges, in order of row and start. A copy of them can be set again.
+    /// Returns the atomic ranges, sorted by row and start. A copy of them can be set again.
     pub fn atomic_ranges(&self) -> &[AtomicRange]
         ensures value { result.now ≡ self.now.document.ranges }
         ensures valid { AreValid (lines self.now.document.text) result.now }
@@ -66,8 +68,8 @@ impl TextArea<'_> {
         self.document.ranges()
     }
 
-    /// Moves a cursor strictly inside a range to its start for Backward, to its end for Forward, and says whether it
-    /// moved. The selection stays, and a run of typing goes on.
+    /// Moves a cursor strictly inside an atomic range to its start for Backward, to its end for
+    /// Forward, and returns whether it moved. The selection stays, and a run of typing continues.
     pub fn normalize_cursor_around_atomic_ranges(&mut self, bias: AtomicCursorBias) -> bool
         ensures moved { result
             ≡ is_some (inside self.old.document.ranges self.old.document.cursor) }
@@ -76,17 +78,17 @@ impl TextArea<'_> {
         self.document.normalize_cursor(bias)
     }
 
-    /// The range that is hit from the cursor: Backward one that starts before it and ends at it or behind it, Forward one
-    /// that starts at it or before it and ends behind it.
+    /// Returns the atomic range at the cursor: for Backward one that starts before the cursor and
+    /// ends at or after it, for Forward one that starts at or before the cursor and ends after it.
     pub fn atomic_range_at_cursor(&self, direction: AtomicDeleteDirection) -> Option<AtomicRange>
         ensures { result ≡ hit_at_cursor self.now.document direction }
     {
         self.document.range_at_cursor(direction)
     }
 
-    /// Removes the range that is hit from the cursor, yanks nothing, and hands the range out. The selection stays
-    /// open, and where it began behind its line's end then, it begins at that end. Where no range is hit nothing
-    /// changes.
+    /// Removes the atomic range at the cursor and returns it; yanks nothing. The selection stays
+    /// open; if its beginning is past its line's end after that, it moves to that end. Without a
+    /// range at the cursor nothing changes.
     pub fn delete_atomic_range_at_cursor(
         &mut self,
         direction: AtomicDeleteDirection,

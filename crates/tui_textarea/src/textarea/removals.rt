@@ -1,8 +1,7 @@
-//! Removals: where a symbol is selected, that goes alone.
+//! Removals. If text is selected, each of them but `clear` removes only that.
 ghost use Rattle.std.specs.Prelude.{◌≡◌, ◌<◌, OnOk, OnErr, IsOk, IfOk, IfSome, MatchOption, false, true};
 ghost use Rattle.textarea_text.specs.Place.{IsPlace, index_of, place_of};
 ghost use Rattle.textarea_document.specs.Edits.{is_filled};
-ghost use Rattle.textarea_document.specs.Selection.{is_selected};
 ghost use Rattle.tui_textarea.specs.Removals.{break_before_removed, text_cleared, has_ahead, has_before, has_behind, has_break_before, has_line_before, has_line_behind, has_word_before, has_word_behind, index_ahead, back_to_word_removed, on_to_word_end_removed, line_end_removed, line_head_removed, removes_or, symbol_before_removed, symbol_behind_removed, symbols_ahead_removed, unselected_or, word_before_removed, word_behind_removed, yanked};
 
 use crate::textarea::TextArea;
@@ -12,8 +11,8 @@ use textarea_document::ends::{word_end_after, word_start_before};
 use textarea_text::places::{ahead, line_end, text_end};
 
 impl TextArea<'_> {
-    /// Removes the atomic range that ends at the cursor or strictly holds it, or else the character before the
-    /// cursor, or at column 0 the line break there, and says whether something was removed.
+    /// Removes the atomic range that ends at the cursor or strictly contains it, or else the
+    /// character before the cursor, or at column 0 the line break. Returns whether it removed text.
     pub fn delete_char(&mut self) -> Result<bool, AllocError>
         ensures removed { IfOk result
             (λ removed. removed ≡ removes_or self.old (has_before self.old)) }
@@ -29,8 +28,9 @@ impl TextArea<'_> {
             .remove_before(self.settings.undo_coalescing, self.moment)
     }
 
-    /// Removes the atomic range that starts at the cursor or strictly holds it, or else the character behind the
-    /// cursor, or at a line's end the line break there, and says whether something was removed.
+    /// Removes the atomic range that starts at the cursor or strictly contains it, or else the
+    /// character after the cursor, or at a line's end the line break. Returns whether text was
+    /// removed.
     pub fn delete_next_char(&mut self) -> Result<bool, AllocError>
         ensures removed { IfOk result
             (λ removed. removed ≡ removes_or self.old (has_behind self.old)) }
@@ -46,7 +46,7 @@ impl TextArea<'_> {
             .remove_behind(self.settings.undo_coalescing, self.moment)
     }
 
-    /// Removes the line break before the cursor's line, and says whether something was removed.
+    /// Removes the line break before the cursor's line. Returns whether text was removed.
     pub fn delete_newline(&mut self) -> Result<bool, AllocError>
         ensures removed { IfOk result
             (λ removed. removed ≡ removes_or self.old (has_break_before self.old)) }
@@ -61,8 +61,8 @@ impl TextArea<'_> {
         self.document.remove_break(self.moment)
     }
 
-    /// Removes that many characters behind the cursor, each line break counting one, or all that there are, yanks
-    /// them, and says whether something was removed.
+    /// Removes and yanks the next `count` characters after the cursor, or all if there are fewer;
+    /// each line break counts as one. Returns whether text was removed.
     pub fn delete_str(&mut self, count: usize) -> Result<bool, AllocError>
         ensures removed { IfOk result
             (λ removed. removed ≡ removes_or self.old (has_ahead self.old count)) }
@@ -83,8 +83,8 @@ impl TextArea<'_> {
         Ok(true)
     }
 
-    /// Removes and yanks what stands from the cursor to its line's end; there it does as `delete_next_char`. It says
-    /// whether something was removed.
+    /// Removes and yanks the text from the cursor to its line's end; at the line's end it does what
+    /// `delete_next_char` does. Returns whether text was removed.
     pub fn delete_line_by_end(&mut self) -> Result<bool, AllocError>
         ensures removed { IfOk result
             (λ removed. removed ≡ removes_or self.old (has_line_behind self.old)) }
@@ -106,8 +106,8 @@ impl TextArea<'_> {
         Ok(true)
     }
 
-    /// Removes and yanks what stands from the line's start to the cursor; there it does as `delete_newline`. It says
-    /// whether something was removed.
+    /// Removes and yanks the text from the line's start to the cursor; at the line's start it does
+    /// what `delete_newline` does. Returns whether text was removed.
     pub fn delete_line_by_head(&mut self) -> Result<bool, AllocError>
         ensures removed { IfOk result
             (λ removed. removed ≡ removes_or self.old (has_line_before self.old)) }
@@ -126,9 +126,10 @@ impl TextArea<'_> {
         Ok(true)
     }
 
-    /// Removes the atomic range that ends at the cursor or strictly holds it; else removes and yanks what stands from
-    /// the start of the word before the cursor, or from the line's start, to the cursor; at column 0 it does as
-    /// `delete_newline`. It says whether something was removed.
+    /// Removes the atomic range that ends at the cursor or strictly contains it. Otherwise removes
+    /// and yanks the text from the start of the word before the cursor, or from the line's start,
+    /// to the cursor; at column 0 it does what `delete_newline` does. Returns whether text was
+    /// removed.
     pub fn delete_word(&mut self) -> Result<bool, AllocError>
         ensures removed { IfOk result
             (λ removed. removed ≡ removes_or self.old (has_word_before self.old)) }
@@ -147,9 +148,9 @@ impl TextArea<'_> {
         self.remove_to_word_start()
     }
 
-    /// Removes the atomic range that starts at the cursor or strictly holds it; else removes and yanks what stands
-    /// from the cursor to behind the word there, or to the line's end; at the line's end it does as
-    /// `delete_next_char`. It says whether something was removed.
+    /// Removes the atomic range that starts at the cursor or strictly contains it. Otherwise
+    /// removes and yanks the text from the cursor to the word's end, or to the line's end; at the
+    /// line's end it does what `delete_next_char` does. Returns whether text was removed.
     pub fn delete_next_word(&mut self) -> Result<bool, AllocError>
         ensures removed { IfOk result
             (λ removed. removed ≡ removes_or self.old (has_word_behind self.old)) }
@@ -168,8 +169,8 @@ impl TextArea<'_> {
         self.remove_to_word_end()
     }
 
-    /// Removes and yanks the whole text, as one removal from its start, and says whether there was any. Of an empty
-    /// text nothing changes.
+    /// Removes and yanks the whole text, as one edit, and returns whether there was any. An empty
+    /// text area stays unchanged.
     pub fn clear(&mut self) -> Result<bool, AllocError>
         ensures removed { IfOk result (λ removed. removed ≡ is_filled self.old.document.text) }
         ensures ok { OnOk result (self.new ≡ text_cleared self.old) }
@@ -184,7 +185,7 @@ impl TextArea<'_> {
         Ok(true)
     }
 
-    // Where the next symbols end, this many or all that there are; none where there are none.
+    // Returns where the next `count` symbols end, or all if there are fewer; `None` without any.
     fn place_ahead(&self, count: usize) -> Option<(usize, usize)>
         ensures found { MatchOption result (has_ahead self.now count ≡ false)
             (λ end. has_ahead self.now count ≡ true) }
@@ -204,7 +205,7 @@ impl TextArea<'_> {
         }
     }
 
-    // Removes back to the word's start, or the break before the line, and says whether something was removed.
+    // Removes back to the word's start, or the break before the line; returns whether text was.
     #[tactic(auto, unfolding(crate::specs::Removals::back_to_word_removed))]
     fn remove_to_word_start(&mut self) -> Result<bool, AllocError>
         ensures removed { IfOk result (λ removed. removed ≡ has_line_before self.old) }
@@ -221,7 +222,7 @@ impl TextArea<'_> {
         Ok(true)
     }
 
-    // Removes on to the word's end, or the symbol behind the line, and says whether something was removed.
+    // Removes up to the word's end, or the symbol after the line; returns whether text was.
     #[tactic(auto, unfolding(crate::specs::Removals::on_to_word_end_removed))]
     fn remove_to_word_end(&mut self) -> Result<bool, AllocError>
         ensures removed { IfOk result (λ removed. removed ≡ has_line_behind self.old) }
@@ -241,7 +242,7 @@ impl TextArea<'_> {
         Ok(true)
     }
 
-    // Removes and yanks what stands between two places, with the ranges that it overlaps.
+    // Removes and yanks the text between two positions, with the atomic ranges that it overlaps.
     #[tactic(auto, unfolding(crate::specs::Removals::yanked))]
     fn remove_and_yank(
         &mut self,

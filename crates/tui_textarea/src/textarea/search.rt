@@ -1,4 +1,4 @@
-//! The pattern, and the searches for it.
+//! The search pattern, and the searches for it.
 ghost use Rattle.std.specs.Prelude.{◌≡◌, [], Some, None, OnOk, OnErr, IsOk, IfOk, IfErr, IfSome, is_some};
 ghost use Rattle.std.specs.Option.{option_copied};
 ghost use Rattle.textarea_text.specs.Place.{IsPlace};
@@ -10,8 +10,8 @@ use std::alloc::AllocError;
 use textarea_search::search::{Direction, SearchError};
 
 impl TextArea<'_> {
-    /// Searches for this pattern from now on, in the syntax of `regex`, and for none if it is empty. The empty text and
-    /// that of the present pattern are always taken, and take no memory.
+    /// Sets the search pattern, in the syntax of `regex`; an empty one removes the pattern. An
+    /// empty pattern and the present one are always accepted, and need no memory.
     pub fn set_search_pattern(&mut self, pattern: &str) -> Result<(), SearchError>
         ensures ok { OnOk result (self.new ≡ with_pattern self.old pattern.now) }
         ensures err { OnErr result (self.new ≡ self.old) }
@@ -25,16 +25,16 @@ impl TextArea<'_> {
         self.search.set_pattern(alloc, pattern)
     }
 
-    /// The text of the pattern that is searched for, if there is one.
+    /// Returns the text of the search pattern, if one is set.
     pub fn search_pattern(&self) -> Option<&str>
         ensures { option_copied result ≡ self.now.pattern }
     {
         self.search.pattern()
     }
 
-    /// Moves the cursor to the next start of a match, and says whether there was one: the first behind the cursor or,
-    /// with `match_cursor`, at it, and past the end of the text the first of all. An open selection stays open, and a
-    /// run of typing ends. Where there is none, nothing changes.
+    /// Moves the cursor to the next start of a match, and returns whether there was one: the first
+    /// after the cursor or, with `match_cursor`, at it, and past the text's end the first of all.
+    /// An open selection stays open, and a run of typing ends. Without a match nothing changes.
     pub fn search_forward(&mut self, match_cursor: bool) -> Result<bool, AllocError>
         ensures found { IfOk result (λ found. found ≡ is_some (next_match self.old match_cursor)) }
         ensures ok { OnOk result (self.new ≡ searched self.old (next_match self.old match_cursor)) }
@@ -47,9 +47,9 @@ impl TextArea<'_> {
         Ok(self.go_to(found))
     }
 
-    /// Moves the cursor to the last start of a match before it or, with `match_cursor`, at it, and past the beginning
-    /// of the text to the last of all; says whether there was one. An open selection stays open, and a run of typing
-    /// ends. Where there is none, nothing changes.
+    /// Moves the cursor to the last start of a match before it or, with `match_cursor`, at it, and
+    /// past the text's start to the last of all; returns whether there was one. An open selection
+    /// stays open, and a run of typing ends. Without a match nothing changes.
     pub fn search_back(&mut self, match_cursor: bool) -> Result<bool, AllocError>
         ensures found { IfOk result
             (λ found. found ≡ is_some (previous_match self.old match_cursor)) }
@@ -64,7 +64,7 @@ impl TextArea<'_> {
         Ok(self.go_to(found))
     }
 
-    // Where a search from the cursor leads.
+    // Returns the position that a search from the cursor finds.
     fn found_match(
         &self,
         direction: Direction,
@@ -81,7 +81,7 @@ impl TextArea<'_> {
             .find(direction, self.document.lines(), cursor, match_cursor)
     }
 
-    // Goes to the place that was found, if one was, and says whether.
+    // Moves the cursor to the found position, if there is one, and returns whether there is.
     fn go_to(&mut self, found: Option<(usize, usize)>) -> bool
         requires { IfSome found (IsPlace self.old.document.text) }
         ensures went { result ≡ is_some found }

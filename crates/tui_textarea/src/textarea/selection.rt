@@ -1,10 +1,10 @@
-//! The selection, and what is yanked by it.
+//! The selection, copying and cutting.
 ghost use Rattle.std.specs.Prelude.{◌≡◌, OnOk, OnErr, IsOk, IfOk, IfSome, false, is_some, string_bytes};
 ghost use Rattle.std.specs.Str.{chars};
 ghost use Rattle.textarea_text.specs.Place.{IsPlace};
 ghost use Rattle.textarea_document.specs.Selection.{is_selected, selection};
 ghost use Rattle.textarea_text.specs.Given.{given, written};
-ghost use Rattle.tui_textarea.specs.Selection.{all_selected, selection_copied, selection_cut, selection_cancelled, selection_started, unselected};
+ghost use Rattle.tui_textarea.specs.Selection.{all_selected, selection_copied, selection_cut, selection_cancelled, selection_started};
 
 use crate::textarea::TextArea;
 use std::alloc::AllocError;
@@ -13,7 +13,7 @@ use textarea_text::part::between;
 use textarea_text::places::text_end;
 
 impl TextArea<'_> {
-    /// Begins a selection at the cursor, an empty one at first.
+    /// Begins an empty selection at the cursor.
     pub fn start_selection(&mut self)
         ensures { self.new ≡ selection_started self.old }
     {
@@ -36,14 +36,14 @@ impl TextArea<'_> {
         self.document.move_to(end, Some((0, 0)));
     }
 
-    /// Whether a selection is open, an empty one too.
+    /// Returns whether a selection is open, even an empty one.
     pub fn is_selecting(&self) -> bool
         ensures { result ≡ is_some self.now.document.anchor }
     {
         self.document.anchor().is_some()
     }
 
-    /// The two ends of the selection, the first one first; of an empty one too.
+    /// Returns the two ends of the selection, the first one first, even if it is empty.
     pub fn selection_range(&self) -> Option<((usize, usize), (usize, usize))>
         ensures value { result ≡ selection self.now.document }
         ensures places { IfSome result (λ ends. IsPlace self.now.document.text ends.0
@@ -52,7 +52,7 @@ impl TextArea<'_> {
         self.document.selection()
     }
 
-    /// Yanks what is selected, if a symbol is, and drops the selection.
+    /// Yanks the selected text, if there is any, and drops the selection.
     pub fn copy(&mut self) -> Result<(), AllocError>
         ensures ok { OnOk result (self.new ≡ selection_copied self.old) }
         ensures err { OnErr result (self.new ≡ self.old) }
@@ -65,7 +65,7 @@ impl TextArea<'_> {
         Ok(())
     }
 
-    /// Yanks what is selected and removes it, if a symbol is, and says whether one was; drops the selection.
+    /// Yanks and removes the selected text, returns whether there was any, and drops the selection.
     pub fn cut(&mut self) -> Result<bool, AllocError>
         ensures removed { IfOk result (λ removed. removed ≡ is_selected self.old.document) }
         ensures ok { OnOk result (self.new ≡ selection_cut self.old) }
@@ -80,15 +80,15 @@ impl TextArea<'_> {
         Ok(true)
     }
 
-    /// The text that was yanked last, with a line feed for each line break; empty at first.
+    /// Returns the text that was yanked last, with a line feed for each line break; empty at first.
     pub fn yank_text(&self) -> Result<String, AllocError>
         ensures { IfOk result (λ text. chars (string_bytes text) ≡ written self.now.yank) }
     {
         join_with_line_feeds(self.allocator(), self.yank.as_slice())
     }
 
-    /// Sets what `paste` inserts. The text is cut at each line feed; a carriage return directly before a line feed goes
-    /// with it.
+    /// Sets the text that `paste` inserts. Each line feed becomes a line break; a carriage return
+    /// directly before it is dropped.
     pub fn set_yank_text(&mut self, text: &str) -> Result<(), AllocError>
         ensures ok { OnOk result (self.new ≡ record self.old { yank = given (chars text.now) }) }
         ensures err { OnErr result (self.new ≡ self.old) }

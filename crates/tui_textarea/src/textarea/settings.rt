@@ -1,5 +1,5 @@
-//! What can be set.
-ghost use Rattle.std.specs.Prelude.{◌≡◌, ◌<◌, ◌≤◌, ◌+◌, length, replicate, cond, [], ◌∷◌};
+//! The settings.
+ghost use Rattle.std.specs.Prelude.{◌≡◌, ◌<◌, ◌≤◌, ◌+◌, length, [], ◌∷◌};
 ghost use Rattle.std.specs.Duration.{as_nanos};
 ghost use Rattle.textarea_history.specs.Log.{empty_log};
 ghost use Rattle.textarea_document.specs.Outcomes.{run_ended};
@@ -10,17 +10,17 @@ use crate::textarea::TextArea;
 use std::time::Duration;
 use textarea_text::util::spaces;
 
-/// What a text area is told once and keeps to.
+/// The settings of a text area.
 #[derive(Clone, Copy, Debug, PartialEq, Eq)]
 pub struct Settings {
     /// Whether a tab is inserted as a tab character, and not as spaces.
     pub hard_tab_indent: bool,
-    /// Whether typed edits join into one that is undone at once.
+    /// Whether typed edits join into one edit, which is undone at once.
     pub undo_coalescing: bool,
 }
 
 impl Default for Settings {
-    /// A tab made of spaces, and no joining.
+    /// Tabs as spaces, and typed edits do not join.
     fn default() -> Settings
         ensures { result ≡ default_settings }
     {
@@ -41,14 +41,14 @@ impl TextArea<'_> {
         self.settings.hard_tab_indent = hard_tab_indent;
     }
 
-    /// Whether a tab is inserted as a tab character.
+    /// Returns whether a tab is inserted as a tab character.
     pub fn hard_tab_indent(&self) -> bool
         ensures { result ≡ self.now.settings.hard_tab_indent }
     {
         self.settings.hard_tab_indent
     }
 
-    /// What a tab at a line's start is: a tab character, or as many spaces as the tab length.
+    /// Returns a tab at a line's start: a tab character, or a space for each column of its length.
     pub fn indent(&self) -> &'static str
         ensures { result.now ≡ indent_of self.now }
     {
@@ -59,7 +59,7 @@ impl TextArea<'_> {
         }
     }
 
-    /// Sets whether typed edits join into one that is undone at once; a run of typing ends.
+    /// Sets whether typed edits join into one edit, which is undone at once. A run of typing ends.
     pub fn set_undo_coalescing(&mut self, undo_coalescing: bool)
         ensures { self.new ≡ record self.old {
           document = record self.old.document { log = run_ended self.old.document.log };
@@ -70,14 +70,14 @@ impl TextArea<'_> {
         self.document.break_run();
     }
 
-    /// Whether typed edits join into one.
+    /// Returns whether typed edits join into one.
     pub fn undo_coalescing(&self) -> bool
         ensures { result ≡ self.now.settings.undo_coalescing }
     {
         self.settings.undo_coalescing
     }
 
-    /// Forgets all edits, and remembers so many from now on, done and undone together; at 0 none.
+    /// Forgets all edits, and remembers at most this number from now on, done and undone together.
     pub fn set_max_histories(&mut self, max_histories: usize)
         ensures { self.new
             ≡ with_document self.old (record self.old.document { log = empty_log max_histories }) }
@@ -85,7 +85,7 @@ impl TextArea<'_> {
         self.document.set_max_histories(max_histories);
     }
 
-    /// How many edits are remembered at most, done and undone together.
+    /// Returns the greatest number of edits that are remembered, done and undone together.
     pub fn max_histories(&self) -> usize
         ensures value { result ≡ self.now.document.log.maximum }
         ensures bound { length self.now.document.log.done + length self.now.document.log.undone
@@ -94,8 +94,8 @@ impl TextArea<'_> {
         self.document.max_histories()
     }
 
-    /// Hands in the moment of the edits that follow, counted from any fixed one. A moment earlier than the last edit's
-    /// counts as no pause between the two.
+    /// Sets the time of the edits that follow, counted from any fixed time. A time before the last
+    /// edit's counts as no pause.
     pub fn set_now(&mut self, now: Duration)
         ensures { self.new ≡ record self.old { moment = as_nanos now } }
     {

@@ -1,4 +1,4 @@
-//! The surround: a block around the rows, a placeholder in place of an empty text, and the least and the greatest height.
+//! The surround: a block around the text, a placeholder for an empty text, and height limits.
 ghost use Rattle.std.specs.Prelude.{◌≡◌, [], IsOk, None, OnErr, OnOk, Some};
 ghost use Rattle.std.specs.Option.{option_map};
 ghost use Rattle.textarea_screen.specs.Block.{shown_block};
@@ -12,7 +12,7 @@ use std::alloc::AllocError;
 use textarea_screen::screen::{Block, Style, Text};
 
 impl<'b> TextArea<'b> {
-    /// Puts this block around the rows, in place of the one that was there.
+    /// Draws this block around the text, and replaces the old one.
     pub fn set_block(&mut self, block: Block<'b>)
         ensures { self.new
             ≡ with_surround self.old
@@ -21,22 +21,22 @@ impl<'b> TextArea<'b> {
         self.surround.set_block(block);
     }
 
-    /// Takes the block away, if there is one.
+    /// Removes the block, if there is one.
     pub fn remove_block(&mut self)
         ensures { self.new ≡ with_surround self.old (record self.old.surround { block = None }) }
     {
         self.surround.remove_block();
     }
 
-    /// The block around the rows, if there is one.
+    /// Returns the block around the text, if there is one.
     pub fn block(&self) -> Option<&Block<'b>>
         ensures { option_map (λ block. shown_block block.now) result ≡ self.now.surround.block }
     {
         self.surround.block()
     }
 
-    /// Sets what is shown where the text is empty: one line of this text, a line feed in it included; with the empty
-    /// text nothing is. The placeholder's style stays.
+    /// Sets the placeholder, which is shown while the text is empty, to one line of this text, even
+    /// if it has line feeds; the empty text removes the line. The placeholder's style stays.
     pub fn set_placeholder_text(&mut self, text: &str) -> Result<(), AllocError>
         ensures ok { OnOk result
             (self.new ≡ with_surround self.old (with_placeholder_text self.old.surround text.now)) }
@@ -46,7 +46,8 @@ impl<'b> TextArea<'b> {
         self.surround.set_placeholder_text(text)
     }
 
-    /// Sets what is shown where the text is empty, its lines and its style; a text without lines means nothing.
+    /// Sets the placeholder, which is shown while the text is empty, to these lines and their
+    /// style; without lines there is none.
     pub fn set_styled_placeholder(&mut self, placeholder: Text<'b>)
         ensures { self.new
             ≡ with_surround self.old
@@ -55,7 +56,7 @@ impl<'b> TextArea<'b> {
         self.surround.set_styled_placeholder(placeholder);
     }
 
-    /// Sets the style under those of the placeholder's lines, also where it has none.
+    /// Sets the style under those of the placeholder's lines, even while it has none.
     pub fn set_placeholder_style(&mut self, style: Style)
         ensures { self.new
             ≡ with_surround self.old (with_placeholder_style self.old.surround style) }
@@ -63,21 +64,21 @@ impl<'b> TextArea<'b> {
         self.surround.set_placeholder_style(style);
     }
 
-    /// The whole placeholder, its lines and its style, also where it has no line.
+    /// Returns the whole placeholder, lines and style, even if it has no line.
     pub fn placeholder(&self) -> &Text<'b>
         ensures { shown_text result.now ≡ self.now.surround.placeholder }
     {
         self.surround.placeholder()
     }
 
-    /// The text of the first span of the placeholder's first line, whichever call set it; empty where there is none.
+    /// Returns the text of the first span of the placeholder's first line; empty if there is none.
     pub fn placeholder_text(&self) -> &str
         ensures { result.now ≡ first_bytes self.now.surround.placeholder.lines }
     {
         self.surround.placeholder_text()
     }
 
-    /// The style of the placeholder, or `None` where it has no line.
+    /// Returns the style of the placeholder, or `None` if it has no line.
     pub fn placeholder_style(&self) -> Option<Style>
         ensures { result
             ≡ style_with_lines self.now.surround.placeholder.lines
@@ -86,15 +87,15 @@ impl<'b> TextArea<'b> {
         self.surround.placeholder_style()
     }
 
-    /// Sets the least height, in rows of the whole area; 0 counts as 1. The greatest height is raised to it where it is
-    /// less.
+    /// Sets the least height of the whole area, in screen rows; 0 counts as 1. The greatest height
+    /// is raised to it if it is less.
     pub fn set_min_rows(&mut self, rows: u16)
         ensures { self.new ≡ with_surround self.old (with_min_rows self.old.surround rows) }
     {
         self.surround.set_min_rows(rows);
     }
 
-    /// The least height, in rows of the whole area: 1 or more, and at most the greatest.
+    /// Returns the least height of the whole area, in screen rows, from 1 to the greatest height.
     pub fn min_rows(&self) -> u16
         ensures value { result ≡ self.now.surround.min_rows }
         ensures bounds { AreBounds result self.now.surround.max_rows }
@@ -102,14 +103,15 @@ impl<'b> TextArea<'b> {
         self.surround.min_rows()
     }
 
-    /// Sets the greatest height, in rows of the whole area; 0 counts as 1, and less than the least height as that.
+    /// Sets the greatest height of the whole area, in screen rows; 0 counts as 1, and less than the
+    /// least height as that height.
     pub fn set_max_rows(&mut self, rows: u16)
         ensures { self.new ≡ with_surround self.old (with_max_rows self.old.surround rows) }
     {
         self.surround.set_max_rows(rows);
     }
 
-    /// The greatest height, in rows of the whole area: no less than the least.
+    /// Returns the greatest height of the whole area, in screen rows: at least the least height.
     pub fn max_rows(&self) -> u16
         ensures value { result ≡ self.now.surround.max_rows }
         ensures bounds { AreBounds self.now.surround.min_rows result }

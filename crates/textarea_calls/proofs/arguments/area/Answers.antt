@@ -4,7 +4,7 @@ use Rattle.textarea_calls.specs.Arguments.{both, short_number, sides_of, sides_o
 use Rattle.textarea_calls.proofs.Pairs.{both_read}
 use Rattle.textarea_calls.proofs.arguments.area.Goals as goal
 
--- the sides of a rectangle that is cut where it would reach past 65535
+-- the sides of a rectangle that is clipped to end at 65535 or before
 made : (area : Rect) (x y width height : ℕ) → area.x ≡ x → area.y ≡ y → area.width ≡ min width (65535 - x) → area.height ≡ min height (65535 - y) → sides_of_area area ≡ sides_of (x, (y, (width, height)))
 made area x y width height left top wide high = cc (left, top, wide, high)
 

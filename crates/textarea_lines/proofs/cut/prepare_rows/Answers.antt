@@ -1,7 +1,6 @@
 use Rattle.std.proofs.lemmas.Grind.{common_steps}
 use Rattle.std.proofs.Common.{◌≡◌, ◌-◌, ◌+◌, ◌∙◌, ap, sym, arith, length}
 use Rattle.std.proofs.lemmas.List.{length-map}
-use Rattle.textarea_blocks.specs.Blocks.{all_rows}
 use Rattle.textarea_text.specs.Text.{characters_of, lines_of}
 use Rattle.textarea_screen_map.proofs.Layouts.{length-AreRowsOf}
 use Rattle.textarea_lines.specs.Wrappings.{is_same, wrapping_for}

@@ -1,5 +1,5 @@
 use Rattle.std.proofs.lemmas.Grind.{common_steps}
-use Rattle.std.proofs.Common.{◌∙◌, ℕ, List, [], ap, encode_utf8_all, get_or, arith, inl, length, refl, string_bytes, subst}
+use Rattle.std.proofs.Common.{◌∙◌, ℕ, List, [], ap, encode_utf8_all, get_or, arith, length, string_bytes, subst}
 use Rattle.std.proofs.lemmas.List.{nil_from_length}
 use Rattle.std.proofs.lemmas.Result.{IfOk-at_ok}
 use Rattle.std.specs.Str.{all_scalars}

@@ -3,7 +3,7 @@ use Rattle.std.proofs.lemmas.List.{take-append-le, take-take}
 use Rattle.textarea_ranges.specs.Moved.{moved_by}
 use Rattle.textarea_ranges.proofs.moved.move_ranges.Goals as goal
 
--- what is kept of a list that was changed in place is the front of the changed one
+-- what is left of a list that was changed in place is its front
 kept_front : {X : Type 0} (items slice now written : List X) (len kept : ℕ) → slice ≡ items → len ≡ length items → length now ≡ length slice → kept ≤ length slice → written ≡ take kept (take len (now ++ drop (length now) items)) → written ≡ take kept now
 kept_front items slice now written len kept same size long within e =
     let few : kept ≤ len = omega (arith, ap length same) in

@@ -2,7 +2,7 @@ use Rattle.std.proofs.Common.{◌≡◌, ◌∙◌, true, false, cond, Some, Non
 use Rattle.textarea_ranges.specs.Prelude.{Place, is_up_to, shifted, AtomicRange, range_end, range_start, moved_by, shifted_range}
 use Rattle.textarea_ranges.proofs.moved.moved.Goals as goal
 
--- a range that doesn't end by the start, and starts at the old place or behind it, goes along with both its ends
+-- a range that ends after the start, and starts at or after the old position, moves with both ends
 goes_along : (start old new : Place) (range : AtomicRange) (first behind : Place) → first ≡ shifted old new (range_start range) → behind ≡ shifted old new (range_end range) → is_up_to (range_end range) start ≡ false → is_up_to old (range_start range) ≡ true → Some (record { row = first.0; start_col = first.1; end_col = behind.1 }) ≡ moved_by start old new range
 goes_along start old new range first behind first_is behind_is later along =
     ap (λ (p : Place). Some (record { row = p.0; start_col = p.1; end_col = behind.1 })) first_is

@@ -2,8 +2,8 @@ use Rattle.std.proofs.Common.{◌≡◌, ◌++◌, drop, length}
 use Rattle.textarea_ranges.specs.Prelude.{line_of, lines_of, rejected_behind, rejected_of}
 use Rattle.textarea_ranges.proofs.validate.rejected_of.Given as goal
 
--- those listed so far, and those that the rest gives behind the last valid range, are all; and the columns of the row that was
--- counted last are its line's
+-- the rejected ranges so far, and those of the rest after the last valid range, are all; and the
+-- row that was counted last has the columns of its line
 abbrev pub invariant-loop-range : goal.invariant-loop-range
 invariant-loop-range l =
     (l.rejected.items ++ rejected_behind (lines_of l.lines) l.last (drop l.range-index l.ranges) ≡ rejected_of (lines_of l.lines) l.ranges)

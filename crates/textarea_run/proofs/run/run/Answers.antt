@@ -3,7 +3,7 @@ use Rattle.std.specs.Result.{OnErr, is_err}
 use Rattle.tui_textarea.proofs.CallGoing.{ranges_at_first}
 use Rattle.textarea_run.proofs.run.run.Goals as goal
 
--- what is so of a call that is refused, where it is
+-- what holds after an error holds if there is an error
 so_of_refused : {T E : Type 0} (outcome : Result T E) (P : Type 0) → is_err outcome ≡ true → OnErr outcome P → P
 so_of_refused (Ok done) P is so = let no : false ≡ true = is in cc
 so_of_refused (Err error) P is so = so

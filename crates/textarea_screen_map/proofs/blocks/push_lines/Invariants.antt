@@ -4,7 +4,7 @@ use Rattle.textarea_blocks.specs.Blocks.{all_rows}
 use Rattle.textarea_screen_map.specs.Layout.{AreRowsOf, ticks_behind, ticks_of}
 use Rattle.textarea_screen_map.proofs.blocks.push_lines.Given as goal
 
--- the lines so far are cut
+-- the lines so far are wrapped
 abbrev pub invariant-cutting : goal.invariant-cutting
 invariant-cutting l =
     (l.from ≤ length l.lines)

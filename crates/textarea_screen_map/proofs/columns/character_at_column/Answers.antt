@@ -1,5 +1,5 @@
 use Rattle.std.proofs.lemmas.Grind.{common_steps}
-use Rattle.std.proofs.Common.{◌≡◌, ◌<◌, ◌≤◌, ◌⊎◌, inl, inr, ap, ◌∙◌, arith, below_more, length}
+use Rattle.std.proofs.Common.{◌≡◌, ◌<◌, ◌≤◌, ◌⊎◌, inl, inr, ◌∙◌, arith, below_more}
 use Rattle.std.proofs.lemmas.List.{length-drop, nil_from_length}
 use Rattle.std.proofs.lemmas.Str.{chars-nil, chars_past_char, IsUtf8-past_char}
 use Rattle.std.specs.Str.{chars}
@@ -12,7 +12,7 @@ use Rattle.textarea_screen_map.proofs.columns.character_at_column.Goals as goal
 either : (c : goal.Joined-then-column-at) → (c.args.column ≤ c.loop-c.at) ⊎ ((c.loop-c.at < c.args.column) × (c.args.column < c.display_column_behind-next.result))
 either c = c.then-column-at.either
 
--- the column lies behind the character
+-- the column is past the character
 further : (c : goal.Else-column-next) → c.display_column_behind-next.result ≤ c.args.column
 further c = c.if-column-next.false
 

@@ -4,7 +4,7 @@ use Rattle.std.specs.Str.Iter.{chars_rest}
 use Rattle.textarea_screen_map.specs.Rows.{column_at}
 use Rattle.textarea_screen_map.proofs.columns.character_at_column.Given as goal
 
--- the characters passed stand before the column
+-- the characters so far are before the column
 abbrev pub invariant-loop-c : goal.invariant-loop-c
 invariant-loop-c l = record {
   text : IsUtf8 (chars_rest l.c-iterator);

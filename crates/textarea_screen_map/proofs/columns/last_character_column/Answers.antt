@@ -1,8 +1,7 @@
 use Rattle.std.proofs.lemmas.Grind.{common_steps}
-use Rattle.std.proofs.Common.{◌≡◌, ◌-◌, ◌∙◌, ℕ, ap, arith, subst, sym, take}
-use Rattle.std.specs.Str.{IsCharBoundary, chars}
+use Rattle.std.proofs.Common.{◌≡◌, ◌-◌, ◌∙◌, ℕ, arith, subst, sym}
+use Rattle.std.specs.Str.{IsCharBoundary}
 use Rattle.textarea_text.proofs.Columns.{IsCharBoundary-column, chars-take}
-use Rattle.textarea_wrap.specs.Columns.{display_end_column}
 use Rattle.textarea_screen_map.proofs.columns.last_character_column.Goals as goal
 
 minus-zero : (n : ℕ) → n - 0 ≡ n

@@ -1,10 +1,6 @@
 use Rattle.std.proofs.lemmas.Grind.{common_steps}
-use Rattle.textarea_blocks.specs.Sums.{row_total, size_total}
-use Rattle.std.proofs.Common.{ap, arith}
+use Rattle.std.proofs.Common.{arith}
 use Rattle.std.proofs.lemmas.List.{take_all}
-use Rattle.textarea_blocks.specs.Blocks.{all_rows}
-use Rattle.textarea_screen_map.specs.Prepared.{rows_in}
-use Rattle.textarea_screen_map.specs.declared.screen_map.NewRows.{NewRows}
 use Rattle.textarea_screen_map.proofs.screen_map.sums_of.Goals as goal
 
 pub returns-in-Many-clause-rows : goal.returns-in-Many-clause-rows

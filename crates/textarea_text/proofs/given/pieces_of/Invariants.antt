@@ -6,7 +6,7 @@ use Rattle.textarea_text.specs.Text.{leading, lines_of}
 use Rattle.textarea_text.specs.Given.{given}
 use Rattle.textarea_text.proofs.given.pieces_of.Given as goal
 
--- the pieces so far, each with its break, and the rest are the whole text
+-- the lines so far, each with its break, and the rest are the whole text
 abbrev pub invariant-loop-line : goal.invariant-loop-line
 invariant-loop-line l = shadow (Utf8 l.rest) × (leading (lines_of l.pieces.items) ++ given (chars l.rest) ≡ given (chars l.text))
 

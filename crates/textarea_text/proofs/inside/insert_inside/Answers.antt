@@ -16,7 +16,7 @@ insert_str-requires c =
     let at = split_point (string_bytes line) c.args.place.1 c.args.offset (IsUtf8-string_bytes line) (here ∙ ap (λ t. offset_in (chars t) c.args.place.1) (sym c.in_ok-make_room.ensures.bytes)) in
     (at.0, λ _ below lead. at.1 below lead)
 
--- the line's characters afterwards
+-- the line's characters after the call
 now : (c : After-insert_str) → characters_of c.insert_str.new.self ≡ take c.args.place.1 (characters_of c.index_mut-line.result.now) ++ (chars c.args.text.now ++ drop c.args.place.1 (characters_of c.index_mut-line.result.now))
 now c =
     grind (arith, common_steps, offset_given c.args.lines.now.items c.args.place c.index_mut-line.result.now c.args.offset c.requires.place c.index_mut-line.ensures.value c.requires.offset, offset_in, always_ok, on_err_weaker, chars_between, IsUtf8-string_bytes)

@@ -35,7 +35,7 @@ replace_range-requires-clause-end_boundary c =
     let at = split_point (string_bytes line) c.args.end_column c.args.end_offset (IsUtf8-string_bytes line) (to c) in
     (at.0, λ _ below lead. at.1 below lead)
 
--- the line's characters afterwards
+-- the line's characters after the call
 now : (c : After-replace_range) → characters_of c.replace_range.new.self ≡ take c.args.start.1 (characters_of c.index_mut-line.result.now) ++ ([] ++ drop c.args.end_column (characters_of c.index_mut-line.result.now))
 now c =
     let line = c.index_mut-line.result.now in

@@ -3,7 +3,7 @@ use Rattle.textarea_text.specs.Text.{lines_of}
 use Rattle.textarea_text.proofs.PartLemmas.{PiecesSoFar}
 use Rattle.textarea_text.proofs.part.between.Given as goal
 
--- each row so far has its piece, and only the first row begins behind its start
+-- each row so far has its line, and only the first row begins at a column other than 0
 abbrev pub invariant-loop-line : goal.invariant-loop-line
 invariant-loop-line l = record {
   len : vec_len l.pieces ≡ l.line-index;

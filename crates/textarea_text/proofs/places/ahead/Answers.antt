@@ -5,7 +5,7 @@ use Rattle.textarea_text.specs.Place.{index_of}
 use Rattle.textarea_text.proofs.PlaceLemmas.{IsAt, ahead_inside, ahead_last, row_start-next}
 use Rattle.textarea_text.proofs.places.ahead.Goals as goal
 
--- the place in a row that isn't the last
+-- the position in a row other than the last
 inside : (c : goal.Then-left-room) → IsAt (lines_of c.args.lines.now) (c.loop-row.row, c.loop-row.column + c.loop-row.left) (min (index_of (text_of c.args.lines.now) c.args.place + c.args.count) (length (text_of c.args.lines.now)))
 inside c =
     let rows = lines_of c.args.lines.now in
@@ -31,7 +31,7 @@ loop-row-preserved c =
       left = omega (arith, was.inside, was.left, row_start-next rows c.loop-row.row (omega arith));
     }
 
--- the place in the last row
+-- the position in the last row
 last : (c : goal.After-min) → IsAt (lines_of c.args.lines.now) (c.last_row-last.result, c.loop-row.column + c.min.result) (min (index_of (text_of c.args.lines.now) c.args.place + c.args.count) (length (text_of c.args.lines.now)))
 last c =
     let counted = length-map c.args.lines.now characters_of in

@@ -3,7 +3,7 @@ use Rattle.textarea_text.specs.Text.{lines_of, text_of}
 use Rattle.textarea_text.specs.Place.{index_of, row_start}
 use Rattle.textarea_text.proofs.places.ahead.Given as goal
 
--- what is left counts from the column of the row
+-- the rest counts from the column of the row
 abbrev pub invariant-loop-row : goal.invariant-loop-row
 invariant-loop-row l = record {
   inside : l.column ≤ length (get_or (lines_of l.lines) l.row []);

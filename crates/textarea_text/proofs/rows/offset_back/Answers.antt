@@ -4,7 +4,7 @@ use Rattle.textarea_text.proofs.Columns.{offset_in, offset_less}
 use Rattle.textarea_text.proofs.rows.offset_back.Goals as goal
 use Rattle.textarea_text.proofs.rows.offset_back.Goals.{After-len_utf8-bytes}
 
--- the bytes before the character that is gone over
+-- the bytes before the character that is passed
 less : (c : After-len_utf8-bytes) → offset_in (chars c.args.line.now) (c.walking.at - 1) + c.len_utf8-bytes.result ≡ c.walking.bytes
 less c =
     omega (arith, offset_less (chars c.args.line.now) c.walking.at c.character_before.result (omega arith) c.character_before.ensures, c.len_utf8-bytes.ensures.len, c.walking.invariant.2)

@@ -3,7 +3,7 @@ use Rattle.textarea_text.specs.Text.{lines_of, characters_of}
 use Rattle.textarea_text.proofs.StringRows.{RowsSoFar}
 use Rattle.textarea_text.proofs.rows.push_pieces.Given as goal
 
--- the lines so far hold what the first line began with and the pieces so far, and are as many
+-- the lines so far hold the start of the first line and the fragment's lines so far, one for each
 abbrev pub invariant-loop-piece : goal.invariant-loop-piece
 invariant-loop-piece l =
     (vec_len l.rows ≡ l.piece-index) × RowsSoFar l.rows.items l.line (characters_of l.initial.line) (lines_of l.rest) l.piece-index

@@ -4,7 +4,7 @@ use Rattle.std.specs.Str.Iter.{chars_rest}
 use Rattle.textarea_text.specs.Tab.{width_of}
 use Rattle.textarea_text.proofs.tab.spaces_to_stop.Given as goal
 
--- the width so far, less whole tab lengths, and the width of the characters that are left
+-- the width so far, modulo the tab length, and the width of the remaining characters
 abbrev pub invariant-loop-c : goal.invariant-loop-c
 invariant-loop-c l = record {
   text : IsUtf8 (chars_rest l.c-iterator);

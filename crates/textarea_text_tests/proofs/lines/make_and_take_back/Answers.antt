@@ -4,7 +4,7 @@ use Rattle.textarea_text.proofs.TextPlaces.{takes_back}
 use Rattle.textarea_lines.specs.Layout.{LaidOut}
 use Rattle.textarea_text_tests.proofs.lines.make_and_take_back.Goals as goal
 
--- an edit that was made can be taken back
+-- an edit that was made can be undone
 pub apply-requires-2 : goal.apply-requires-2
 apply-requires-2 c =
     let text = c.args.laid.now.text in

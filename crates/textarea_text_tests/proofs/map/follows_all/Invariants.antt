@@ -3,6 +3,6 @@ use Rattle.textarea_text.specs.Text.{lines_of}
 use Rattle.textarea_screen_map.specs.Layout.{AreRowsOf}
 use Rattle.textarea_text_tests.proofs.map.follows_all.Given as goal
 
--- the map has right rows of the lines
+-- the map has the right visual rows of the lines
 abbrev pub invariant-loop-step : goal.invariant-loop-step
 invariant-loop-step l = AreRowsOf l.wrapping (lines_of l.lines.items) l.map.rows × (l.map.wrapping ≡ l.wrapping)

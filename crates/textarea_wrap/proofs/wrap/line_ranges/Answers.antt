@@ -5,7 +5,7 @@ use Rattle.textarea_wrap.specs.Wrapped.{HasFewestRows}
 use Rattle.textarea_wrap.proofs.FewestRowLemmas.{HasFewestRows-wrapped}
 use Rattle.textarea_wrap.proofs.wrap.line_ranges.Goals as goal
 
--- what holds of the ranges holds of the rows that have them
+-- what holds for the ranges holds for the rows that have them
 if_counted : {T E : Type 0} (cut : Result T E) (rows : Result RowsView E) (ranges : T → List (ℕ × ℕ)) (P Q : List (ℕ × ℕ) → Type 0) → ((t : List (ℕ × ℕ)) → P t → Q t) → IfOk cut (λ t. P (ranges t)) → IfOk cut (λ t. IfOk rows (λ r. r.ranges ≡ ranges t)) → IsOk rows ↔ IsOk cut → IfOk rows (λ r. Q r.ranges)
 if_counted cut (Err e) ranges P Q f p same ok = tt
 if_counted (Ok t) (Ok r) ranges P Q f p same ok = subst Q (sym same) (f (ranges t) p)

@@ -4,7 +4,7 @@ use Rattle.textarea_history.specs.Edit.{end_of_kind, splice_of}
 use Rattle.memory_cases.proofs.Edits.{copy_splice, copy_well_formed}
 use Rattle.memory_cases.proofs.history.recorded.edit_of.Goals as goal
 
--- the splice and the end of the edit, between the plan's places
+-- the splice and the end of the edit, with the plan's positions
 splice_is : (c : goal.After-new) → c.new.result.splice ≡ splice_of c.in_ok-kind.kind c.args.plan.now.before c.args.plan.now.after
 splice_is c =
     c.new.ensures.splice

@@ -1,5 +1,5 @@
 use Rattle.std.proofs.lemmas.Grind.{common_steps}
-use Rattle.std.proofs.Common.{◌≡◌, ◌+◌, ◌<◌, ◌≤◌, ◌∙◌, List, [], ap, arith, get_or, length, set, ℕ}
+use Rattle.std.proofs.Common.{◌≡◌, ◌+◌, ◌<◌, ◌≤◌, ◌∙◌, List, [], ap, arith, get_or, length, ℕ}
 use Rattle.textarea_util.specs.Replaced.{replaced}
 use Rattle.textarea_util.proofs.Replacing.{length-replaced}
 use Rattle.textarea_wrap.specs.RowsView.{RowsView}
@@ -11,7 +11,7 @@ use Rattle.textarea_blocks.proofs.Totals.{all_set, totals_set}
 use Rattle.textarea_blocks.proofs.blocks.RowBlocks.exchange.Goals as goal
 use Rattle.textarea_blocks.proofs.blocks.RowBlocks.exchange.Goals.{After-replace_items}
 
--- the block and its rows before and afterwards, and how many rows went and came
+-- the block and its rows before and after, and the numbers of removed and new rows
 record Exchanged (blocks : List (List RowsView)) (block start count gone come : ℕ) (now new : List RowsView) : Type 0 where
   within : block < length blocks
   inside : start + count ≤ length (get_or blocks block [])

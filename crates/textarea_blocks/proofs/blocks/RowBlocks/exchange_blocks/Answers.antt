@@ -1,6 +1,5 @@
 use Rattle.std.proofs.lemmas.Grind.{common_steps}
 use Rattle.std.proofs.Common.{◌≡◌, ◌-◌, ◌≤◌, ◌∙◌, ap, arith, length}
-use Rattle.textarea_util.specs.Replaced.{replaced}
 use Rattle.textarea_blocks.specs.Blocks.{BlocksView, all_rows, lines_before, rows_of_each}
 use Rattle.textarea_blocks.specs.Sums.{row_total}
 use Rattle.textarea_blocks.specs.declared.blocks.numbers.Exchanged.{Exchanged}
@@ -9,7 +8,7 @@ use Rattle.textarea_blocks.proofs.Totals.{all_exchanged, totals_exchanged}
 use Rattle.textarea_blocks.proofs.blocks.RowBlocks.exchange_blocks.Goals as goal
 use Rattle.textarea_blocks.proofs.blocks.RowBlocks.exchange_blocks.Goals.{After-lines_before, After-rows_before}
 
--- the lines before the blocks that go, and before those behind them
+-- the lines before the removed blocks, and before the blocks after them
 lines_from : (c : After-lines_before) → c.lines_before-line.result ≡ lines_before (rows_of_each c.self.inside.blocks.items) c.args.from
 lines_from c =
     omega (arith, c.lines_before-line.ensures, ap (λ (v : BlocksView). lines_before v.blocks c.args.from) c.self.view_is)

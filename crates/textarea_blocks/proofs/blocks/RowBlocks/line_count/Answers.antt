@@ -1,7 +1,6 @@
 use Rattle.std.proofs.lemmas.Grind.{common_steps}
 use Rattle.textarea_blocks.proofs.InBlocks.{before_all, block_count}
-use Rattle.std.proofs.Common.{ap, arith, length, ◌∙◌}
-use Rattle.textarea_blocks.specs.Blocks.{BlocksView}
+use Rattle.std.proofs.Common.{arith, ◌∙◌}
 use Rattle.textarea_blocks.proofs.blocks.RowBlocks.line_count.Goals as goal
 
 pub returns : goal.returns

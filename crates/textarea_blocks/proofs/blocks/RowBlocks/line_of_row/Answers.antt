@@ -8,7 +8,7 @@ use Rattle.textarea_blocks.proofs.Totals.{found_at}
 use Rattle.textarea_blocks.proofs.blocks.RowBlocks.line_of_row.Goals as goal
 use Rattle.textarea_blocks.proofs.blocks.RowBlocks.line_of_row.Goals.{After-at, After-at-2}
 
--- the block of the row, its rows, and those before it
+-- the block of the row, its rows, and the rows before it
 record Found (rows : List (List RowsView)) (block before row : ℕ) (here : List RowsView) : Type 0 where
   within : block < length rows
   here_is : here ≡ get_or rows block []
@@ -36,7 +36,7 @@ found c =
       to = omega (arith, at.1, before, before_more row_total rows_sum blocks block within, ap row_total here);
     }
 
--- the line of the row, and the rows up to it
+-- the line of the row, and the rows before it
 record Line (rows : List (List RowsView)) (block line index : ℕ) : Type 0 where
   at : lines_before rows block + index ≡ line
   there : line < length (all_rows rows)

@@ -1,6 +1,6 @@
 use Rattle.std.proofs.lemmas.Grind.{common_steps}
 use Rattle.std.proofs.Common.{◌<◌, [], ap, arith, get_or, length, subst}
-use Rattle.textarea_blocks.specs.Blocks.{BlocksView, all_rows, rows_of_each, IsBlockOf, lines_before}
+use Rattle.textarea_blocks.specs.Blocks.{BlocksView, all_rows, rows_of_each, IsBlockOf}
 use Rattle.textarea_blocks.proofs.InBlocks.{before_more, lines_sum}
 use Rattle.textarea_blocks.proofs.Totals.{found_at}
 use Rattle.textarea_blocks.proofs.blocks.RowBlocks.place_of.Goals as goal

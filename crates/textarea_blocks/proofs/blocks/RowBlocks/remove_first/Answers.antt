@@ -13,7 +13,7 @@ use Rattle.textarea_blocks.proofs.Totals.{all_set}
 use Rattle.textarea_blocks.proofs.blocks.RowBlocks.remove_first.Goals as goal
 use Rattle.textarea_blocks.proofs.blocks.RowBlocks.remove_first.Goals.{After-len, After-exchange}
 
--- where the last line that goes stands
+-- the block and index of the last removed line
 record Last (blocks : List (List RowsView)) (block count last index size : ℕ) : Type 0 where
   within : last < length blocks
   ordered : block ≤ last

@@ -10,7 +10,7 @@ use Rattle.textarea_blocks.proofs.Totals.{all_set}
 use Rattle.textarea_blocks.proofs.blocks.RowBlocks.replace_few.Goals as goal
 use Rattle.textarea_blocks.proofs.blocks.RowBlocks.replace_few.Goals.{After-min-shared, After-exchange}
 
--- where the first line that goes stands, and how many go in its block
+-- the block and index of the first removed line, and the number of removed lines in its block
 record First (blocks : List (List RowsView)) (row count block index shared : ℕ) : Type 0 where
   within : block < length blocks
   at : lines_before blocks block + index ≡ row
@@ -32,7 +32,7 @@ found c =
       next = before_more length lines_sum blocks block c.place_of-block.ensures.block.within;
     }
 
--- the blocks when the first lines have given place
+-- the blocks when the lines of the first block are replaced
 record Exchanged (blocks now : List (List RowsView)) (row shared block : ℕ) (new : List RowsView) : Type 0 where
   rows_are : all_rows now ≡ replaced (all_rows blocks) row shared new
   size : length (all_rows now) + shared ≡ length (all_rows blocks) + length new

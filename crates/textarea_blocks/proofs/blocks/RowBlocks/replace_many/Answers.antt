@@ -8,7 +8,7 @@ use Rattle.textarea_blocks.proofs.Totals.{all_exchanged, total_behind}
 use Rattle.textarea_blocks.proofs.blocks.RowBlocks.replace_many.Goals as goal
 use Rattle.textarea_blocks.proofs.blocks.RowBlocks.replace_many.Goals.{After-block_count-2}
 
--- the block behind those that came, and the lines before it
+-- the block after the new ones, and the lines before it
 next : (c : After-block_count-2) → (c.block_count-2.result - (c.block_count.result - c.edge_of-block.result) ≡ c.edge_of-block.result + (length c.args.rows.blocks + 0)) × (lines_before c.exchange_blocks.new.self.blocks (c.edge_of-block.result + (length c.args.rows.blocks + 0)) ≡ c.args.row + length (all_rows c.args.rows.blocks)) × (length (all_rows c.exchange_blocks.new.self.blocks) ≡ length (all_rows c.args.self.now.blocks) + length (all_rows c.args.rows.blocks))
 next c =
     let blocks = c.args.self.now.blocks in

@@ -11,7 +11,7 @@ within : (c : After-reserve) → c.place_of-block.result.0 < length c.self.insid
 within c =
     omega (arith, c.place_of-block.ensures.block.within, ap (λ (v : BlocksView). length v.blocks) c.self.view_is, block_count c.self.inside.blocks.items)
 
--- the rows of the blocks stay
+-- the rows of the blocks are unchanged
 kept : (c : After-reserve) → rows_of_each (set c.self.inside.blocks.items c.place_of-block.result.0 c.reserve.new.self) ≡ rows_of_each c.self.inside.blocks.items
 kept c = grind (arith, common_steps, blocks_set, rows_are, within c, set-get_or)
 

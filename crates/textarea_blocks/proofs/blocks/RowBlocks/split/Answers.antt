@@ -1,7 +1,6 @@
 use Rattle.std.proofs.lemmas.Grind.{common_steps}
 use Rattle.std.proofs.Common.{◌≡◌, ◌+◌, ◌-◌, ◌≤◌, ◌∷◌, ◌∙◌, List, [], ap, arith, drop, get_or, length, set, take, ℕ}
 use Rattle.std.proofs.lemmas.List.{append-nil, length-drop, length-set, length-take-le}
-use Rattle.textarea_util.specs.Replaced.{replaced}
 use Rattle.textarea_util.proofs.Replacing.{length-replaced}
 use Rattle.textarea_wrap.specs.RowsView.{RowsView}
 use Rattle.textarea_blocks.specs.Blocks.{BlocksView, all_rows, lines_before}
@@ -12,7 +11,7 @@ use Rattle.textarea_blocks.proofs.Totals.{all_set, take_above}
 use Rattle.textarea_blocks.proofs.blocks.RowBlocks.split.Goals as goal
 use Rattle.textarea_blocks.proofs.blocks.RowBlocks.split.Goals.{In_ok-rows}
 
--- what is taken of the block, and what stays
+-- the rows that are removed from the block, and those that remain
 record Cut (blocks now : List (List RowsView)) (block at : ℕ) (rows : List RowsView) : Type 0 where
   rows_are : rows ≡ drop at (get_or blocks block [])
   now_is : now ≡ set blocks block (take at (get_or blocks block []))
@@ -39,7 +38,6 @@ cut c =
       few_rows = omega (arith, c.self.invariant.few_rows, ap (λ (v : BlocksView). row_total (all_rows v.blocks)) c.self.view_is);
     }
 
--- the rows of one block alone
 one : (rows : List RowsView) → all_rows (rows ∷ []) ≡ rows
 one rows = append-nil rows
 

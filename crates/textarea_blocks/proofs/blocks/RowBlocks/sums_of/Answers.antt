@@ -12,7 +12,7 @@ use Rattle.textarea_blocks.proofs.blocks.RowBlocks.sums_of.Goals.{After-count_ro
 here_is : (c : After-count_rows-rows) → c.as_slice-here.result.now ≡ get_or (rows_of_each c.self.inside.blocks.items) c.walking.block []
 here_is c = grind (arith, common_steps, rows_are)
 
--- the total of the lines with those of one block more
+-- the total of the lines, with those of one block more
 further : (c : After-count_rows-rows) (total : Sum) → IsSum total → total (take (c.args.count - (c.walking.left - c.min-taken.result)) (drop c.args.line (all_rows (rows_of_each c.self.inside.blocks.items)))) ≡ total (take (c.args.count - c.walking.left) (drop c.args.line (all_rows (rows_of_each c.self.inside.blocks.items)))) + total (take (c.walking.index + c.min-taken.result - c.walking.index) (drop c.walking.index c.as_slice-here.result.now))
 further c total sum =
     let items = c.self.inside.blocks.items in

@@ -3,7 +3,7 @@ use Rattle.textarea_blocks.specs.Blocks.{all_rows, lines_before, rows_of_each}
 use Rattle.textarea_blocks.specs.Sums.{row_total, size_total}
 use Rattle.textarea_blocks.proofs.blocks.RowBlocks.sums_of.Given as goal
 
--- the sums of the lines so far; while lines are left, the next of them stands at the index in the block
+-- the sums of the lines so far; while lines remain, the next of them is at the index in the block
 abbrev pub invariant-walking : goal.invariant-walking
 invariant-walking l =
     (l.left ≤ l.count)

@@ -1,5 +1,5 @@
 use Rattle.std.proofs.lemmas.Grind.{common_steps}
-use Rattle.std.proofs.Common.{◌≡◌, ◌+◌, ◌<◌, ◌≤◌, ◌∙◌, List, [], ap, arith, drop, get_or, length, set, take, ℕ}
+use Rattle.std.proofs.Common.{◌≡◌, ◌+◌, ◌<◌, ◌≤◌, ◌∙◌, List, [], ap, arith, drop, get_or, length, take, ℕ}
 use Rattle.std.proofs.lemmas.List.{length-drop, length-take-le}
 use Rattle.textarea_wrap.specs.RowsView.{RowsView}
 use Rattle.textarea_blocks.specs.Blocks.{BlocksView, rows_of_each}
@@ -10,7 +10,7 @@ use Rattle.textarea_blocks.proofs.Totals.{all_set, totals_set}
 use Rattle.textarea_blocks.proofs.blocks.RowBlocks.take_behind.Goals as goal
 use Rattle.textarea_blocks.proofs.blocks.RowBlocks.take_behind.Goals.{After-len}
 
--- the block before and afterwards, and what is taken of it
+-- the block before and after, and the rows that are removed from it
 record Taken (blocks : List (List RowsView)) (block at gone : ℕ) (kept rows : List RowsView) : Type 0 where
   within : block < length blocks
   inside : at ≤ length (get_or blocks block [])

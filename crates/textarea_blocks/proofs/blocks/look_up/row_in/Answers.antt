@@ -1,5 +1,5 @@
 use Rattle.std.proofs.lemmas.Grind.{common_steps}
-use Rattle.std.proofs.Common.{ap, arith, length}
+use Rattle.std.proofs.Common.{arith}
 use Rattle.textarea_blocks.proofs.Numbers.{line_there, row_total-more}
 use Rattle.textarea_blocks.proofs.blocks.look_up.row_in.Goals as goal
 

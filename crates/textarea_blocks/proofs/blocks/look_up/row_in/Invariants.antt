@@ -2,7 +2,7 @@ use Rattle.std.proofs.Common.{◌≡◌, ◌+◌, ◌-◌, length, take}
 use Rattle.textarea_blocks.specs.Sums.{row_total}
 use Rattle.textarea_blocks.proofs.blocks.look_up.row_in.Given as goal
 
--- so many rows are left from the line's first row to the one that is looked for
+-- `left` is the number of rows from the line's first row to the row that is looked for
 abbrev pub invariant-walking : goal.invariant-walking
 invariant-walking l = row_total (take l.line l.rows) + l.left ≡ l.row
 

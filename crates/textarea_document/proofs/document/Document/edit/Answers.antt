@@ -8,7 +8,7 @@ pub make_change-requires-clause-fits : goal.make_change-requires-clause-fits
 make_change-requires-clause-fits c =
     subst (Fits c.self.inside.laid.text) (sym c.change.ensures) (subst (λ (s : DocumentState). Fits s.text c.args.edit.splice) (sym c.self.view_is) c.requires.fits)
 
--- what is left is the document after the edit
+-- the resulting document is the one after the edit
 left : (c : After-put) → document_of c.make_change.new.laid c.in_ok-ahead.ahead None c.make_change.new.ranges.items c.put.new.self.log ≡ edited (document_of c.self.inside.laid c.self.inside.cursor c.self.inside.anchor c.self.inside.ranges.items c.self.inside.history.log) c.args.edit.splice c.args.typed (as_nanos c.args.now)
 left c =
     let inside = c.self.inside in

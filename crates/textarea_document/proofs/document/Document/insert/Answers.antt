@@ -4,7 +4,7 @@ use Rattle.textarea_document.proofs.Inserts.{filled_length}
 use Rattle.textarea_document.proofs.Parts.{well_formed}
 use Rattle.textarea_document.proofs.document.Document.insert.Goals as goal
 
--- where there is a symbol, an insertion is an edit
+-- with a symbol, an insertion is an edit
 filled : (document : DocumentState) (symbols : List Symbol) (now : ℕ) → is_filled symbols ≡ true → edited document (insertion (insertion_place document) symbols) false now ≡ symbols_inserted document symbols now
 filled document [] now is = absurd (cc)
 filled document (symbol ∷ symbols) now is = refl

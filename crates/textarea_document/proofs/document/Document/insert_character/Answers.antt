@@ -4,7 +4,6 @@ use Rattle.textarea_document.specs.Prelude.{IfSome, as_nanos, Character, Place, 
 use Rattle.textarea_document.proofs.Parts.{well_formed}
 use Rattle.textarea_document.proofs.document.Document.insert_character.Goals as goal
 
--- the splice of the edit
 inserts : (c : goal.After-between) → c.between.result.splice ≡ insertion c.insertion_place-row.result (Character c.args.c ∷ [])
 inserts c = c.between.ensures.splice
 

@@ -10,7 +10,7 @@ make_change-requires-clause-fits c =
     let document = document_of inside.laid inside.cursor inside.anchor inside.ranges.items inside.history.log in
     subst (Fits inside.laid.text) (sym c.change.ensures) (next_fits document c.in-Some.edit.now.splice c.self.invariant c.in-Some.ensures.edit)
 
--- what is left is the document after the step
+-- the resulting document is the one after the step
 left : (c : After-step_forward) → document_of c.make_change.new.laid c.in_ok-ahead.ahead None c.make_change.new.ranges.items c.step_forward.new.self.log ≡ redone_by (Some c.in-Some.edit.now.splice) (document_of c.self.inside.laid c.self.inside.cursor c.self.inside.anchor c.self.inside.ranges.items c.self.inside.history.log)
 left c =
     let inside = c.self.inside in

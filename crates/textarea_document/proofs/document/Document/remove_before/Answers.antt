@@ -3,7 +3,7 @@ use Rattle.std.proofs.lemmas.Result.{on_ok_weaker}
 use Rattle.textarea_document.specs.Prelude.{as_nanos, IfOk, AtomicRange, hit_before, is_at_start, range_removed_or, removed_before, symbol_removed_before, DocumentState}
 use Rattle.textarea_document.proofs.document.Document.remove_before.Goals as goal
 
--- where no range is hit nothing changes
+-- without a range at the cursor nothing changes
 stays : (document left : DocumentState) (hit : Option AtomicRange) (now : ℕ) → left ≡ range_removed_or (hit_before document) document now document → hit ≡ hit_before document → hit ≡ None → left ≡ document
 stays document left hit now removed is none = removed ∙ ap (λ (o : Option AtomicRange). range_removed_or o document now document) (sym is ∙ none)
 

@@ -3,7 +3,7 @@ use Rattle.std.proofs.lemmas.Result.{on_ok_weaker}
 use Rattle.textarea_document.specs.Prelude.{as_nanos, IfOk, AtomicRange, is_at_end, range_removed_or, removed_behind, symbol_removed_behind, DocumentState}
 use Rattle.textarea_document.proofs.document.Document.remove_behind.Goals as goal
 
--- where no range is hit nothing changes
+-- without a range at the cursor nothing changes
 stays : (c : goal.After-remove_symbol_behind) → c.remove_hit.new.self ≡ c.args.self.now
 stays c =
     let document = c.args.self.now in

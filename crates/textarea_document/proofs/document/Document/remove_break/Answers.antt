@@ -8,7 +8,7 @@ use Rattle.textarea_document.proofs.document.Document.remove_break.Goals as goal
 row_is : (c : goal.After-between) → c.cursor-row.result.0 ≡ c.args.self.now.cursor.0
 row_is c = ap (λ (p : Place). p.0) c.cursor-row.ensures.value
 
--- a row follows that whose break goes
+-- a line follows the one whose break is removed
 within : (c : goal.After-between) → c.args.self.now.cursor.0 - 1 + 1 < length (lines c.args.self.now.text)
 within c = omega (arith, c.cursor-row.ensures.place.0, row_is c, c.if-row-eq0.false)
 

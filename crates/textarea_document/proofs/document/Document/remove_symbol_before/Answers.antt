@@ -22,7 +22,7 @@ edit-requires-clause-cuts_none c =
     subst (CutsNone document.ranges) (sym (removes c))
     (subst (TakesWhole document.ranges before.start) known.ends (whole_before document.text document.ranges document.cursor before.start (symbol_in before.character) c.lines.ensures.ranges c.requires.none_hit known))
 
--- the edit is recorded as one that was typed or not, as asked
+-- the edit is recorded as typed or not, as asked
 made : (c : goal.In_ok-edit) → c.edit.new.self ≡ edited c.args.self.now c.between.result.splice c.args.typed (as_nanos c.args.now)
 made c = c.in_ok-edit.ensures.ok
 

@@ -4,7 +4,7 @@ use Rattle.textarea_document.proofs.Behinds.{behind_cursor, removal_at_cursor, s
 use Rattle.textarea_document.proofs.Ranges.{whole_behind}
 use Rattle.textarea_document.proofs.document.Document.remove_symbol_behind.Goals as goal
 
--- the edit is recorded as one that was typed or not, as asked
+-- the edit is recorded as typed or not, as asked
 made : (c : goal.In_ok-edit) → c.edit.new.self ≡ edited c.args.self.now c.between.result.splice c.args.typed (as_nanos c.args.now)
 made c = c.in_ok-edit.ensures.ok
 

@@ -28,7 +28,7 @@ edit-requires-clause-cuts_none c =
     let ranges = c.args.self.now.ranges in
     subst (CutsNone ranges) (sym (removes c)) (subst (TakesWhole ranges c.args.from) (part_ends text c.args.from c.args.to c.requires.from c.requires.to (omega (arith, c.requires.ordered))) c.requires.whole)
 
--- the edit is recorded as one that was not typed
+-- the edit is recorded as not typed
 made : (c : goal.After-edit) → OnOk c.edit.result (c.edit.new.self ≡ edited c.args.self.now c.edit_of.result.splice false (as_nanos c.args.now))
 made c = c.edit.ensures.ok
 

@@ -4,7 +4,7 @@ use Rattle.std.proofs.lemmas.List.{append-nil, length-append, nil_from_length}
 use Rattle.textarea_text.specs.Text.{Symbol, characters, characters_of, text_of}
 use Rattle.textarea_document.proofs.document.edits.edit_of.Goals as goal
 
--- the one piece that there is, and its characters
+-- the only string of the fragment, and its characters
 text_is : (items rest : List (String Global)) (popped : Option (String Global)) (text : String Global) → length items ≤ 1 → items ≡ rest ++ option_to_list popped → popped ≡ Some text → characters (characters_of text) ≡ text_of items
 text_is items rest popped text few cases is =
     let split : items ≡ rest ++ text ∷ [] = cases ∙ ap (λ (o : Option (String Global)). rest ++ option_to_list o) is in

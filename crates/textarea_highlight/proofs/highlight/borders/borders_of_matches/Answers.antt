@@ -4,7 +4,7 @@ use Rattle.textarea_highlight.specs.Borders.{highlight_borders, search_rank}
 use Rattle.textarea_highlight.proofs.BorderLemmas.{match_borders-push}
 use Rattle.textarea_highlight.proofs.highlight.borders.borders_of_matches.Goals as goal
 
--- a match that the loop came to is one that the iterator gives
+-- a match in the loop is one that the iterator yields
 given : {S : Type 0} (steps : S → Option (ℕ × ℕ) → S → Type 0) (matches first here rest : S) (before : List (ℕ × ℕ)) (found : ℕ × ℕ) →
     first ≡ matches → Yields steps first before here → steps here (Some found) rest → YieldsThen steps matches before (Some found) rest
 given {S} steps matches first here rest before found same yielded step =

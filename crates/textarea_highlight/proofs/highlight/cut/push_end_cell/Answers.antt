@@ -1,9 +1,6 @@
 use Rattle.std.proofs.lemmas.Grind.{common_steps}
-use Rattle.std.proofs.Common.{arith, ◌++◌, Option, map, sym, ap, ◌∙◌}
+use Rattle.std.proofs.Common.{arith, ◌++◌, ◌∙◌}
 use Rattle.std.proofs.lemmas.List.{map-append}
-use Rattle.textarea_screen.specs.Text.{shown_span}
-use Rattle.textarea_screen.specs.declared.screen.style.Style.{Style}
-use Rattle.textarea_highlight.specs.Highlights.{end_cell}
 use Rattle.textarea_highlight.proofs.highlight.cut.push_end_cell.Goals as goal
 
 pub returns-in_ok-push-clause-added : goal.returns-in_ok-push-clause-added

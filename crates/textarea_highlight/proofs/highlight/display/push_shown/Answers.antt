@@ -1,5 +1,5 @@
 use Rattle.std.proofs.lemmas.Grind.{common_steps}
-use Rattle.std.proofs.Common.{arith, ◌++◌, string_bytes, ap, ◌∙◌}
+use Rattle.std.proofs.Common.{arith, ◌++◌, ◌∙◌}
 use Rattle.textarea_highlight.proofs.DisplayLemmas.{tab_shown}
 use Rattle.textarea_highlight.proofs.highlight.display.push_shown.Goals as goal
 

@@ -8,7 +8,7 @@ pushed : (c : After-push) → characters_of c.push.new.self ≡ characters_of c.
 pushed c =
     pushed_in_room c.self.inside.inserts c.self.inside.start c.self.inside.end c.in-Typed.text c.push.new.self c.args.c c.push.result c.self.view_is c.in-Typed.is c.requires.room c.push.ensures.char_len c.push.ensures.succeeds c.push.ensures.bytes
 
--- whichever end of the run moves
+-- the run's splice, whether its start moves or its end
 splice : (c : After-push) → record { place = cond c.self.inside.inserts c.self.inside.start c.edit.inside.start; symbols = symbols_in c.self.inside.inserts (Typed c.push.new.self); inserts = c.self.inside.inserts } ≡ merged c.args.self.now.splice c.args.edit.now.splice
 splice c =
     grown_splice c.self.inside.content c.self.inside.inserts c.self.inside.start c.self.inside.end c.edit.inside.start c.in-Typed.text c.push.new.self c.args.c c.args.self.now c.args.edit.now.splice c.self.view_is c.in-Typed.is (pushed c) c.requires.character

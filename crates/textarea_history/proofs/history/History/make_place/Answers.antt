@@ -27,7 +27,7 @@ returns-clause-log c =
           (c.truncate.ensures.items ∙ ap (λ i. take i.index i.items.items) w.self-inside-is))
     ]
 
--- what is left of sound items in a store, once those from the index on are let go
+-- a store from the sound edits that are left when those from the index on are dropped
 store_taken : (was items taken : List Stored) (before index most maximum : ℕ) → taken ≡ take index items → All IsWellFormed was → before ≤ length was → length was ≤ most → items ≡ was → index ≡ before → maximum ≡ most → IsStore taken index maximum None
 store_taken was items taken before index most maximum cut sound within bounded same at whole =
     let size : length taken ≡ index = ap length cut ∙ length-take-le index items (omega (arith, ap length same)) in
@@ -55,7 +55,7 @@ invariant_of-self c =
           (ap (λ i. i.items.items) w.self-inside-is) (ap (λ i. i.index) w.self-inside-is) (ap (λ i. i.max_items) w.self-inside-is)
     ]
 
--- free space stays where the capacity does, and no more is kept than there was
+-- the room stays if the capacity does, with no more edits than before
 free_kept : (capacity len now_capacity now_len index new_capacity new_len : ℕ) → new_len ≡ min index now_len → new_capacity ≡ now_capacity → now_capacity ≡ capacity → index ≤ len → 0 < capacity - len → 0 < new_capacity - new_len
 free_kept capacity len now_capacity now_len index new_capacity new_len cut same before within free = omega arith
 

@@ -1,7 +1,6 @@
 use Rattle.std.proofs.lemmas.Grind.{common_steps}
-use Rattle.std.proofs.Common.{◌+◌, ◌∙◌, ap, sym, arith, length}
+use Rattle.std.proofs.Common.{◌+◌, ◌∙◌, ap, arith, length}
 use Rattle.std.proofs.lemmas.Result.{on_ok_weaker}
-use Rattle.textarea_text.specs.Size.{weight}
 use Rattle.textarea_text.specs.Text.{lines}
 use Rattle.textarea_lines.specs.Layout.{LaidOut}
 use Rattle.textarea_lines.proofs.Stores.{count_held}

@@ -1,8 +1,6 @@
 use Rattle.std.proofs.lemmas.Grind.{common_steps}
-use Rattle.std.proofs.Common.{◌≡◌, ◌≢◌, ◌∙◌, sym, ap, arith, length, eq-eqb}
+use Rattle.std.proofs.Common.{◌≡◌, ◌≢◌, ◌∙◌, arith, eq-eqb}
 use Rattle.std.proofs.lemmas.Bool.{eqb-true}
-use Rattle.textarea_text.specs.Text.{text_of}
-use Rattle.textarea_lines.specs.Layout.{LaidOut}
 use Rattle.textarea_text.proofs.EmptyTexts.{empty_text, text_of-many}
 use Rattle.textarea_lines.proofs.laid_out.LaidOutLines.is_empty.Goals as goal
 

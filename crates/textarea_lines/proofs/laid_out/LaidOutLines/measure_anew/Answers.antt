@@ -1,12 +1,6 @@
 use Rattle.std.proofs.lemmas.Grind.{common_steps}
-use Rattle.std.proofs.Common.{arith, ◌≡◌, ◌∙◌, ℕ, List, ap, refl, subst, sym}
-use Rattle.std.specs.Result.{IfOk}
-use Rattle.textarea_text.specs.Text.{lines, lines_of}
-use Rattle.textarea_screen_map.specs.declared.layout.Wrapping.{Wrapping}
-use Rattle.textarea_screen_map.specs.Layout.{AreRowsOf}
-use Rattle.textarea_screen_map.specs.Map.{IsRowCount}
-use Rattle.textarea_lines.specs.Layout.{LaidOut}
-use Rattle.textarea_lines.specs.View.{IsWholeCut}
+use Rattle.std.proofs.Common.{arith, ◌≡◌, ◌∙◌, refl}
+use Rattle.textarea_text.specs.Text.{lines}
 use Rattle.textarea_lines.proofs.Stores.{lines_held}
 use Rattle.textarea_lines.proofs.Widths.{next_cut}
 use Rattle.textarea_lines.proofs.laid_out.LaidOutLines.measure_anew.Goals as goal

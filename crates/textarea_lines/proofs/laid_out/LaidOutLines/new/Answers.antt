@@ -4,7 +4,6 @@ use Rattle.std.proofs.lemmas.Bool.{eqb-true}
 use Rattle.std.proofs.lemmas.Result.{IfOk-weaker}
 use Rattle.std.proofs.Common.{sym, vec_len}
 use Rattle.textarea_text.specs.Text.{text_of}
-use Rattle.textarea_lines.specs.Layout.{laid_out_anew}
 use Rattle.textarea_text.proofs.EmptyTexts.{text_of_empty}
 use Rattle.textarea_lines.proofs.laid_out.LaidOutLines.new.Goals as goal
 use Rattle.textarea_lines.proofs.laid_out.LaidOutLines.new.Goals.{then-is_empty+in_ok-push, else-is_empty}

@@ -1,5 +1,5 @@
 use Rattle.std.proofs.lemmas.Grind.{common_steps}
-use Rattle.std.proofs.Common.{◌≡◌, ◌≤◌, ◌∙◌, ap, arith, length, refl, subst, sym}
+use Rattle.std.proofs.Common.{◌≡◌, ◌≤◌, ◌∙◌, ap, arith, length, subst, sym}
 use Rattle.std.specs.Str.{chars}
 use Rattle.textarea_text.specs.Offset.{offset_at}
 use Rattle.textarea_text.specs.Place.{IsPlace, IsPlaceOf}
@@ -11,7 +11,7 @@ use Rattle.textarea_lines.proofs.Stores.{lines_held}
 use Rattle.textarea_lines.proofs.laid_out.LaidOutLines.offset_of.Goals as goal
 use Rattle.textarea_lines.proofs.laid_out.LaidOutLines.offset_of.Goals.{After-as_str-line}
 
--- the place is one of the lines that are kept
+-- the position is one of the stored lines
 there : (c : After-as_str-line) → IsPlaceOf (lines_of c.self.inside.lines.items) c.args.place
 there c =
     rows_place c.self.inside.lines.items c.args.place c.self.invariant.held.stored.some (subst (λ (l : LaidOut). IsPlace l.text c.args.place) (sym c.self.view_is) c.requires)
@@ -20,7 +20,7 @@ column : (c : After-as_str-line) → c.args.place.1 ≤ length (chars c.as_str-l
 column c =
     omega (arith, column_within c.self.inside.lines.items c.args.place c.index.result.now (there c) c.index.ensures, ap (λ t. length (chars t)) c.as_str-line.ensures.value)
 
--- the lines that are kept are those of the text
+-- the stored lines are those of the text
 same : (c : After-as_str-line) → offset_at (lines_of c.self.inside.lines.items) c.args.place ≡ offset_at (lines c.args.self.now.text) c.args.place
 same c = grind (arith, common_steps, lines_held c.self.inside.lines.items c.self.invariant.held.stored.some)
 

@@ -12,7 +12,7 @@ use Rattle.textarea_lines.proofs.Widths.{Holds, holds_cut, holds_kept_whole, hol
 use Rattle.textarea_lines.proofs.laid_out.LaidOutLines.put.Goals as goal
 use Rattle.textarea_lines.proofs.laid_out.LaidOutLines.put.Goals.{in-Some, in-None+else-not-is_wrapped, in-None+then-not-is_wrapped}
 
--- the lines as they are held under the settings, and what was measured of them
+-- the lines as they are stored under the settings, and what was measured of them
 record HoldsAll (inside : Inside) (settings : LayoutSettings) (laid : LaidOut) : Type 0 where
   pub rows : Holds settings inside.lines.items inside.size inside.count inside.map (laid_out_with laid settings)
   pub measured : IfSome inside.measured (λ last. IsRowCount last.wrapping (lines_of inside.lines.items) last.rows)

@@ -1,6 +1,6 @@
 use Rattle.std.proofs.lemmas.Grind.{common_steps}
-use Rattle.std.proofs.Common.{arith, ◌∙◌, ap, subst, sym}
-use Rattle.textarea_lines.specs.Layout.{LaidOut, at_width, laid_out_with}
+use Rattle.std.proofs.Common.{arith, ◌∙◌, subst, sym}
+use Rattle.textarea_lines.specs.Layout.{LaidOut, at_width}
 use Rattle.textarea_lines.specs.View.{IsCutWhereOther, IsPrepared, PreparedView}
 use Rattle.textarea_lines.proofs.laid_out.LaidOutLines.put_width.Goals as goal
 

@@ -8,14 +8,14 @@ use Rattle.textarea_lines.proofs.Widths.{Holds, count_at, holds_at, is_lent, is_
 use Rattle.textarea_lines.proofs.laid_out.LaidOutLines.view_with.Goals as goal
 use Rattle.textarea_lines.proofs.laid_out.LaidOutLines.view_with.Goals.{in-Some, in-None}
 
--- the map that is lent is the one at the width that is prepared
+-- the borrowed map is the one at the prepared width
 map_is : (c : goal.After-as_slice) → map_at c.prepared.inside.cut c.self.inside.map ≡ c.match-prepared.map.now
 map_is c = elim c.match-prepared.branch [
   | in-Some w ↦ ap (λ o. map_at o c.self.inside.map) w.in-Some.is ∙ sym (ap (λ m. m.now) w.map-is)
   | in-None w ↦ ap (λ o. map_at o c.self.inside.map) w.in-None.is ∙ sym (ap (λ m. m.now) w.map-is)
 ]
 
--- the lines are held with its rows
+-- the lines are stored with its rows
 held : (c : goal.After-as_slice) → Holds (at_width c.args.self.now c.prepared.inside.inner_width) c.self.inside.lines.items c.self.inside.size (count_at c.prepared.inside.cut c.self.inside.count) c.match-prepared.map.now (laid_out_with c.args.self.now (at_width c.args.self.now c.prepared.inside.inner_width))
 held c =
     let inside = c.self.inside in

@@ -1,8 +1,7 @@
 use Rattle.std.proofs.lemmas.Grind.{common_steps}
 use Rattle.std.proofs.Math.Bool.{and-true}
-use Rattle.std.proofs.Common.{◌≡◌, ◌+◌, cond, ◌&&◌, ap, ◌∙◌, arith, rules}
+use Rattle.std.proofs.Common.{◌≡◌, ◌+◌, cond, ◌&&◌, ap, ◌∙◌, arith}
 use Rattle.std.proofs.lemmas.Bool.{cond-false}
-use Rattle.textarea_screen.specs.Buffer.{KeepsOutside}
 use Rattle.textarea_screen.specs.Cell.{with_symbol}
 use Rattle.textarea_screen.specs.Rect.{contains, is_in_row}
 use Rattle.textarea_screen.proofs.ChangeLemmas.{Changes-inside, Changes-more, Changes-none, KeepsOutside-from_changes, KeepsOutside-then, KeepsOutside-wider}

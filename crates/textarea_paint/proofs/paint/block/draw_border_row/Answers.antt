@@ -1,9 +1,7 @@
 use Rattle.std.proofs.lemmas.Grind.{common_steps}
-use Rattle.std.proofs.Common.{◌≡◌, ◌+◌, cond, eqb, ◌&&◌, ap, ◌∙◌, arith, rules}
+use Rattle.std.proofs.Common.{◌≡◌, ◌+◌, cond, ◌&&◌, ap, ◌∙◌, arith}
 use Rattle.std.proofs.lemmas.Bool.{cond-false}
-use Rattle.textarea_screen.specs.Buffer.{KeepsOutside}
 use Rattle.textarea_screen.specs.Cell.{with_symbol}
-use Rattle.textarea_screen.specs.Rect.{contains, is_in_row}
 use Rattle.textarea_screen.proofs.ChangeLemmas.{Changes-as, Changes-more, Changes-none, KeepsOutside-from_changes, KeepsOutside-same, KeepsOutside-then}
 use Rattle.textarea_screen.proofs.BufferLemmas.{is_before_column, is_before_column-first, is_before_column-apart, is_before_column-next, is_before_column-end}
 use Rattle.textarea_paint.proofs.BlockLemmas.{is_before_column-outside}

@@ -1,9 +1,8 @@
 use Rattle.std.proofs.lemmas.Grind.{common_steps}
-use Rattle.std.proofs.Common.{◌≡◌, ◌+◌, ◌-◌, sym, ap, ap₂, ◌∙◌, arith}
+use Rattle.std.proofs.Common.{◌≡◌, ◌+◌, ◌-◌, sym, ap, ◌∙◌, arith}
 use Rattle.std.specs.Option.{option_map}
 use Rattle.std.proofs.lemmas.Result.{on_ok_weaker, on_err_weaker}
-use Rattle.textarea_screen.specs.Block.{has_border, left_side, right_side, shown_block}
-use Rattle.textarea_screen.specs.Inset.{inset_of}
+use Rattle.textarea_screen.specs.Block.{shown_block}
 use Rattle.textarea_screen.specs.Rect.{contains}
 use Rattle.textarea_screen.specs.Style.{empty_style}
 use Rattle.textarea_screen.specs.Text.{shown_line}

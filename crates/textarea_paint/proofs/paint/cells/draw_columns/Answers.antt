@@ -1,7 +1,6 @@
 use Rattle.std.proofs.lemmas.Grind.{common_steps}
-use Rattle.std.proofs.Common.{◌+◌, cond, eqb, ap, ◌∙◌, arith, rules}
+use Rattle.std.proofs.Common.{◌+◌, cond, eqb, ap, ◌∙◌, arith}
 use Rattle.std.proofs.lemmas.Bool.{cond-false}
-use Rattle.textarea_screen.specs.Buffer.{KeepsOutside}
 use Rattle.textarea_screen.specs.Rect.{contains}
 use Rattle.textarea_screen.specs.Cell.{with_symbol}
 use Rattle.textarea_screen.proofs.ChangeLemmas.{Changes-inside, Changes-then, KeepsOutside-from_changes, KeepsOutside-same, KeepsOutside-then}

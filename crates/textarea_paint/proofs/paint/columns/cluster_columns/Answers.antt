@@ -1,5 +1,5 @@
 use Rattle.std.proofs.lemmas.Grind.{common_steps}
-use Rattle.std.proofs.Common.{◌^◌, ◌<◌, length, arith, rules}
+use Rattle.std.proofs.Common.{◌^◌, ◌<◌, arith, rules}
 use Rattle.textarea_paint.specs.Columns.{columns_of}
 use Rattle.textarea_paint.proofs.ColumnLemmas.{columns-le}
 use Rattle.textarea_paint.proofs.paint.columns.cluster_columns.Goals as goal

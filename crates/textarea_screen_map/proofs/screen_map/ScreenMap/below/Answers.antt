@@ -1,6 +1,5 @@
 use Rattle.std.proofs.lemmas.Grind.{common_steps}
 use Rattle.std.proofs.Common.{ap, arith}
-use Rattle.textarea_text.specs.Text.{lines_of}
 use Rattle.textarea_blocks.specs.Sums.{row_total}
 use Rattle.textarea_screen_map.specs.Map.{MapView}
 use Rattle.textarea_screen_map.proofs.VisualRows.{row_count}

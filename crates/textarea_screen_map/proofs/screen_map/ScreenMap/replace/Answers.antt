@@ -10,7 +10,7 @@ use Rattle.textarea_blocks.proofs.LineSums.{exchange, lines_few, size_total-appe
 use Rattle.textarea_screen_map.proofs.screen_map.ScreenMap.replace.Goals as goal
 use Rattle.textarea_screen_map.proofs.screen_map.ScreenMap.replace.Goals.{After-sums_of-old}
 
--- how many rows and how large lines go, and come, and are there before and afterwards
+-- the rows and sizes of removed lines, of new lines, and of all lines before and after
 record Sums (rows new : List RowsView) (row count gone gone_size total size come come_size : ℕ) : Type 0 where
   gone_is : gone ≤ total
   total_is : total - gone + come ≡ row_total (replaced rows row count new)

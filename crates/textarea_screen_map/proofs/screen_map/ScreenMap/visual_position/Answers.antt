@@ -31,7 +31,7 @@ there : (c : After-display_column_behind_text-column) → c.args.place.0 < lengt
 there c =
     omega (arith, c.requires.place.0, length-AreRowsOf c.args.self.now.wrapping (lines_of c.args.lines.now) c.args.self.now.rows c.requires.rows, ap (λ (v : MapView). length v.rows) c.self.view_is)
 
--- what is read of the line begins with the row
+-- the slice of the line begins with the row
 read : (c : After-display_column_behind_text-column) → c.range.result.now ≡ take (c.byte_offset-offset.result - (range_at c.rows_of-ranges.result.now c.row_holding-row.result).0) (drop (range_at c.rows_of-ranges.result.now c.row_holding-row.result).0 c.as_str-line.result.now)
 read c = c.range.ensures.value
 

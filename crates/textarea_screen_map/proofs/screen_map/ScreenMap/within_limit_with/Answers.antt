@@ -14,7 +14,7 @@ not_both : {T E : Type 0} (r : Result T E) → IsErr r → IsOk r → ⊥
 not_both (Ok v) err ok = absurd cc
 not_both (Err e) err ok = absurd cc
 
--- how many rows and how large lines there would be
+-- the number of rows and the size of lines after the replacement
 record Sums (rows new : List RowsView) (row count gone gone_size total size come come_size : ℕ) : Type 0 where
   gone_is : gone ≤ total
   few : total ≤ 281474976710656

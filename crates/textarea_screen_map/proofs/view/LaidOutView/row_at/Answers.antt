@@ -1,8 +1,6 @@
 use Rattle.std.proofs.lemmas.Grind.{common_steps}
-use Rattle.std.proofs.Common.{ap, arith, length}
-use Rattle.textarea_text.specs.Text.{lines_of}
+use Rattle.std.proofs.Common.{arith}
 use Rattle.textarea_screen_map.proofs.Layouts.{length-AreRowsOf}
-use Rattle.textarea_screen_map.specs.Lent.{LentRows}
 use Rattle.textarea_screen_map.proofs.view.LaidOutView.row_at.Goals as goal
 
 pub returns-clause-line : goal.returns-clause-line

@@ -2,7 +2,6 @@ use Rattle.std.proofs.lemmas.Grind.{common_steps}
 use Rattle.std.proofs.Common.{arith}
 use Rattle.textarea_screen_map.proofs.RowSizes.{size_of_items, some_row}
 use Rattle.std.proofs.lemmas.List.{length-map}
-use Rattle.textarea_text.specs.Text.{characters_of, lines_of}
 use Rattle.textarea_screen_map.proofs.view.LaidOutView.row_count.Goals as goal
 
 pub returns-clause-few : goal.returns-clause-few

@@ -3,7 +3,6 @@ use Rattle.std.proofs.Common.{arith, ◌≡◌, IfOk, ap, ◌∙◌, subst}
 use Rattle.std.proofs.lemmas.Result.{IfOk-weaker}
 use Rattle.regex.specs.Strings.{matcher_pattern, regex_pattern}
 use Rattle.textarea_search.specs.Spans.{ListsMatchesOf, spans_after}
-use Rattle.textarea_search.specs.Starts.{IsTreeOf, starts_by}
 use Rattle.textarea_search.proofs.PatternLemmas.{bytes_of_text, listed_as_written, starts_as_written}
 use Rattle.textarea_search.proofs.pattern.Pattern.matcher.Goals as goal
 

@@ -1,7 +1,6 @@
 use Rattle.std.proofs.lemmas.Grind.{common_steps}
 use Rattle.std.proofs.Common.{◌≡◌, ◌+◌, ◌-◌, ◌≤◌, None, Some, length, map, take, drop, reverse, sym, ap, ◌∙◌, arith, string_bytes}
 use Rattle.std.specs.List.{find, slice_get}
-use Rattle.std.specs.Str.{chars}
 use Rattle.regex.specs.Strings.{matcher_pattern}
 use Rattle.textarea_search.specs.Spans.{columns_in}
 use Rattle.textarea_search.specs.Starts.{along, starts_from, is_ahead_in_line}

@@ -1,8 +1,9 @@
 use Rattle.std.proofs.lemmas.Grind.{common_steps}
-use Rattle.std.proofs.Common.{◌≡◌, ℕ, List, [], ◌∷◌, ◌++◌, length, refl, sym, ap, ap₂, ◌∙◌, arith, rules, append_assoc}
+use Rattle.std.proofs.Common.{◌≡◌, ℕ, List, [], ◌∷◌, ◌++◌, refl, sym, ap, ap₂, ◌∙◌, arith, rules, append_assoc}
 use Rattle.textarea_search.proofs.search.listed.list_spans.Goals as goal
 
--- what is held and what is left are all, and stay all where the first span of what is left is put behind what is held
+-- the stored spans and the ones that are left make up the whole list, also after the first of those
+-- left is appended to the stored ones
 moved : (held now left behind all : List (ℕ × ℕ)) (a b start end : ℕ) → now ≡ held ++ (a, b) ∷ [] → a ≡ start → b ≡ end → left ≡ (start, end) ∷ behind → held ++ left ≡ all →
     now ++ behind ≡ all
 moved held now left behind all a b start end pushed at_start at_end taken before =

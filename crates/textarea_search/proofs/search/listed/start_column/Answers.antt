@@ -1,8 +1,5 @@
 use Rattle.std.proofs.lemmas.Grind.{common_steps}
-use Rattle.std.proofs.Common.{arith, ◌≡◌, ◌≤◌, List, ℕ, Option, IfSome, IsCharBoundary, length, sym, subst}
-use Rattle.std.specs.Str.{chars}
-use Rattle.regex.specs.Strings.{match_haystack}
-use Rattle.regex.specs.declared.string.matcher.Match.{Match}
+use Rattle.std.proofs.Common.{arith, ◌≡◌, ◌≤◌}
 use Rattle.textarea_search.proofs.ColumnLemmas.{column_at_cut}
 use Rattle.textarea_search.proofs.search.listed.start_column.Goals as goal
 

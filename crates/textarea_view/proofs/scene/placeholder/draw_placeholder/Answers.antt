@@ -49,7 +49,7 @@ returns-in_err-draw_line-clause-err c =
     (lines_failed rows lines c.args.buffer.now c.loop-i.buffer c.draw_line.new.buffer (c.y.result + c.loop-i.i) c.loop-i.invariant
     (subst (λ (r : RowArea). KeepsOutside (is_in_row r.area (c.y.result + c.loop-i.i)) c.loop-i.buffer c.draw_line.new.buffer) c.in_style-styled.ensures c.in_err-draw_line.ensures.err))
 
--- without the blank the line takes no memory, if it is inline
+-- without the blank the line needs no allocation, if it is inline
 pub returns-in_err-draw_line-clause-inline : goal.returns-in_err-draw_line-clause-inline
 returns-in_err-draw_line-clause-inline c = λ hidden inline.
     let i = c.loop-i.i in

@@ -1,4 +1,4 @@
--- `next` makes a value of no bytes, at one more than the number that the reference shows.
+-- `next` makes a value of no bytes, at one more than the number of the reference.
 use Rattle.std.proofs.Common.{ℕ, ◌+◌, List, [], ◌∷◌, ◌++◌, refl}
 use seplogic.Ra.Ura.{Ura}
 use mir.Val.{Val, vptr}

@@ -1,4 +1,4 @@
--- `same` makes a value of no bytes, at the number that the reference shows.
+-- `same` makes a value of no bytes, at the number of the reference.
 use Rattle.std.proofs.Common.{ℕ, List, [], ◌∷◌, ◌++◌, refl}
 use seplogic.Ra.Ura.{Ura}
 use mir.Val.{Val, vptr}

@@ -1,10 +1,8 @@
 use Rattle.std.proofs.lemmas.Grind.{common_steps}
-use Rattle.std.proofs.Common.{sym, ap, ◌∙◌, arith}
+use Rattle.std.proofs.Common.{◌∙◌, arith}
 use Rattle.std.proofs.lemmas.List.{nil_from_length}
 use Rattle.std.proofs.lemmas.Str.{chars-nil, chars_past_char, IsUtf8-past_char}
-use Rattle.std.specs.Str.{chars}
 use Rattle.std.specs.Str.Iter.{chars_rest}
-use Rattle.textarea_wrap.specs.Columns.{end_column}
 use Rattle.textarea_wrap.proofs.ColumnLemmas.{shorter_behind}
 use Rattle.textarea_wrap.proofs.wrap.columns.column_behind_text.Goals as goal
 

@@ -24,7 +24,7 @@ returns-then-joined-width-clause-placed c = λ units before walk.
     ] in
     IsWordWalk-join _ _ units before _ _ left _ _ _ _ walk joined.ensures.value room
 
--- behind the open row, where there is one, the unit stands before an empty row
+-- after the open row, if there is one, the unit is before an empty row
 empty : (c : After-column_behind_text-alone) (units : Stretch) (before : List (ℕ × ℕ)) → IsWordWalk c.args.tab_len c.args.width units before c.args.rows.now.items (c.args.unit.now ∷ map (λ (unit : Bor (List ℕ)). unit.now) c.args.later.now) c.args.row.start c.args.row.end c.args.row.column
     → IsWordWalk c.args.tab_len c.args.width units before c.if-is_open-2.rows.items (c.args.unit.now ∷ map (λ (unit : Bor (List ℕ)). unit.now) c.args.later.now) c.args.row.end c.args.row.end 0
 empty c units before walk =

@@ -1,7 +1,7 @@
 use Rattle.std.proofs.Common.{subst}
 use Rattle.std.specs.Result.{IfOk}
-use Rattle.textarea_drawing.specs.Back.{IsCursorAtCaret}
-use Rattle.textarea_drawing.specs.Hit.{IsHit}
+use Rattle.tui_textarea.specs.CaretBack.{IsCursorAtCaret}
+use Rattle.tui_textarea.specs.Hit.{IsHit}
 use Rattle.tui_textarea.specs.Drawing.{parts_of}
 use Rattle.tui_textarea.specs.State.{State}
 use Rattle.tui_textarea.proofs.textarea.TextArea.cursor_at_position.Goals as goal

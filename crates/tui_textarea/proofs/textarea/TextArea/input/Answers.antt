@@ -4,7 +4,7 @@ use Rattle.textarea_calls.specs.declared.action.Action.{Action}
 use Rattle.tui_textarea.specs.Input.{IsActed, IsLeftBy, MayRefuseAct, acts}
 use Rattle.tui_textarea.proofs.textarea.TextArea.input.Goals as goal
 
--- what the action comes to, in the state that was given
+-- the result of the action, in the old state
 answered : (c : goal.After-act) → IfOk c.act.result (λ changed. changed ≡ acts c.args.self.now c.action_of.result)
 answered c = c.act.ensures.answer
 

@@ -7,7 +7,7 @@ use Rattle.tui_textarea.specs.Layout.{tab_length}
 use Rattle.tui_textarea.specs.State.{State}
 use Rattle.tui_textarea.proofs.textarea.TextArea.insert_tab.Goals as goal
 
--- where tab stops stand apart a tab is inserted
+-- with a tab length above 0 a tab is inserted
 inserts : {view state : State} → view ≡ state → (settings : LayoutSettings) → settings ≡ view.document.layout.settings → settings.tab_len ≢ 0 → true ≡ inserts_tab state
 inserts {view} {state} is settings told some =
     sym (ap (λ b. not b || is_selected state.document) (ne_eqb (tab_length state.document) 0

@@ -1,6 +1,6 @@
 use Rattle.std.proofs.Common.{◌≡◌, ◌∙◌, ℕ, List, Option, is_some, [], ap, false}
 use Rattle.textarea_document.specs.State.{DocumentState, new_document}
-use Rattle.textarea_drawing.specs.State.{DrawingState, new_drawing}
+use Rattle.tui_textarea.specs.DrawingState.{DrawingState, new_drawing}
 use Rattle.textarea_view.specs.State.{SurroundState, new_surround}
 use Rattle.textarea_text.specs.Text.{Symbol, text_of}
 use Rattle.tui_textarea.specs.State.{default_layout, default_settings, new_state}
@@ -8,7 +8,7 @@ use Rattle.tui_textarea.specs.declared.textarea.settings.Settings.{Settings}
 use Rattle.tui_textarea.proofs.Unselected.{none_is}
 use Rattle.tui_textarea.proofs.textarea.TextArea.new.Goals as goal
 
--- a state whose parts are new ones is new
+-- a state with new parts is new
 made_new : (text : List Symbol) (document : DocumentState) (yank : List Symbol) (settings : Settings) (pattern : Option (List ℕ)) (surround : SurroundState) (drawing : DrawingState)
     → document ≡ new_document text default_layout 50 → yank ≡ [] → settings ≡ default_settings → is_some pattern ≡ false → surround ≡ new_surround → drawing ≡ new_drawing
     → record (new_state text) { document = document; yank = yank; settings = settings; pattern = pattern; surround = surround; drawing = drawing } ≡ new_state text

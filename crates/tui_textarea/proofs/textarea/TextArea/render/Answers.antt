@@ -1,14 +1,13 @@
 use Rattle.std.proofs.Common.{◌≡◌, ◌∙◌, Err, Ok, Result, ap, ap₂, subst}
 use Rattle.std.specs.Result.{OnErr, OnOk}
 use Rattle.textarea_document.specs.State.{DocumentState}
-use Rattle.textarea_drawing.specs.Rendered as below
-use Rattle.textarea_drawing.specs.State.{DrawingState}
+use Rattle.tui_textarea.specs.Rendered as below
+use Rattle.tui_textarea.specs.DrawingState.{DrawingState}
 use Rattle.textarea_screen.specs.declared.screen.rect.Rect.{Rect}
 use Rattle.tui_textarea.specs.Drawing.{IsRendered, parts_of}
 use Rattle.tui_textarea.specs.State.{State}
 use Rattle.tui_textarea.proofs.textarea.TextArea.render.Goals as goal
 
--- a state whose drawn parts are rendered is rendered
 rendered : {T E : Type 0} (r : Result T E) {view old : State} → view ≡ old → (area : Rect) (document : DocumentState) (drawing : DrawingState)
     → OnOk r (below.IsRendered (parts_of view) area (parts_of (record view { document = document; drawing = drawing })))
     → OnOk r (IsRendered old area (record view { document = document; drawing = drawing }))
@@ -18,7 +17,7 @@ rendered (Ok x) {view} is area document drawing h = record {
 }
 rendered (Err e) is area document drawing h = h
 
--- a state whose drawn parts are left as they were is left as it was
+-- a state with its old drawn parts is the old one
 left : {T E : Type 0} (r : Result T E) {view old : State} → view ≡ old → (document : DocumentState) (drawing : DrawingState)
     → OnErr r ((document ≡ view.document) × (drawing ≡ view.drawing)) → OnErr r (record view { document = document; drawing = drawing } ≡ old)
 left (Ok x) is document drawing h = h

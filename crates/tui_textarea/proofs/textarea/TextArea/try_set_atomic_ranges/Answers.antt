@@ -4,7 +4,7 @@ use Rattle.textarea_document.specs.State.{DocumentState}
 use Rattle.tui_textarea.specs.State.{State, with_document}
 use Rattle.tui_textarea.proofs.textarea.TextArea.try_set_atomic_ranges.Goals as goal
 
--- with the document that it had, the state is as it was
+-- with its old document the state is the old one
 kept : {view state : State} → view ≡ state → (document : DocumentState) → document ≡ view.document → with_document view document ≡ state
 kept {view} is document same = ap (with_document view) same ∙ is
 

@@ -1,6 +1,5 @@
 use Rattle.std.proofs.lemmas.Grind.{common_steps}
-use Rattle.std.proofs.Common.{◌≡◌, ◌<◌, ◌∙◌, ap, arith, get_or, length, sym}
-use Rattle.textarea_blocks.specs.Turned.{NumbersView}
+use Rattle.std.proofs.Common.{◌≡◌, ◌<◌, ◌∙◌, arith, get_or, length}
 use Rattle.textarea_blocks.proofs.InBlocks.{item_is}
 use Rattle.textarea_blocks.proofs.Turning.{length-turned, turned_above, turned_behind}
 use Rattle.textarea_blocks.proofs.blocks.numbers.Numbers.at.Goals as goal

@@ -1,6 +1,5 @@
 use Rattle.std.proofs.lemmas.Grind.{common_steps}
-use Rattle.std.proofs.Common.{◌≡◌, ap, arith, length}
-use Rattle.textarea_blocks.specs.Turned.{NumbersView}
+use Rattle.std.proofs.Common.{◌≡◌, arith}
 use Rattle.textarea_blocks.proofs.Turning.{length-turned}
 use Rattle.textarea_blocks.proofs.blocks.numbers.Numbers.last_at_most.Goals as goal
 

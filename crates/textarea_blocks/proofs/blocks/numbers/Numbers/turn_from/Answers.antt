@@ -4,12 +4,12 @@ use Rattle.textarea_blocks.proofs.Turning.{AreJoined, joined, not_turned, settle
 use Rattle.textarea_blocks.proofs.blocks.numbers.Numbers.turn_from.Goals as goal
 use Rattle.textarea_blocks.proofs.blocks.numbers.Numbers.turn_from.Goals.{After-saturating_sub-self-inside-3, After-saturating_sub-self-inside-in-Some-Some}
 
--- a sum that doesn't leave its type
+-- a sum that does not overflow
 sum_is : (r : Option ℕ) (P : Type 0) (sum x : ℕ) → SomeIff r P sum → r ≡ Some x → x ≡ sum
 sum_is None P sum x h is = absurd cc
 sum_is (Some y) P sum x h is = let same = h.1 in cc
 
--- both differences in one
+-- both differences combined
 both : (c : After-saturating_sub-self-inside-in-Some-Some) → AreJoined c.self.inside.items.items c.args.self.now.numbers c.self.inside.from c.args.gone c.args.come c.saturating_sub-self-inside.result c.saturating_sub-self-inside-in-Some-Some.result
 both c =
     let inside = c.self.inside in
@@ -36,7 +36,7 @@ pub returns-in-Some-Some-clause-len : goal.returns-in-Some-Some-clause-len
 returns-in-Some-Some-clause-len c =
     (both (goal.at.returns-in-Some-Some-clause-len c).After-saturating_sub-self-inside-in-Some-Some).len
 
--- the new difference alone, once the old one is added to the items
+-- only the new difference, once the old one is added to the items
 one : (c : After-saturating_sub-self-inside-3) → AreJoined c.move_numbers.new.numbers.items c.args.self.now.numbers c.args.from c.args.gone c.args.come c.saturating_sub-self-inside-2.result c.saturating_sub-self-inside-3.result
 one c =
     let inside = c.self.inside in

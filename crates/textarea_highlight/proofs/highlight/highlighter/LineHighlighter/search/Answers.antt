@@ -7,7 +7,7 @@ use Rattle.textarea_highlight.specs.declared.highlight.borders.Border.{Border}
 use Rattle.textarea_highlight.proofs.RowLemmas.{matches_added}
 use Rattle.textarea_highlight.proofs.highlight.highlighter.LineHighlighter.search.Goals as goal
 
--- the list that has grown where the call succeeded
+-- the list, extended if the call succeeds
 grown : {T E : Type 0} (r : Result T E) (new old more : List Border) → new ≡ cond (is_ok r) (old ++ more) old → OnOk r (new ≡ old ++ more)
 grown (Ok x) new old more e = e
 grown (Err x) new old more e = tt

@@ -5,7 +5,7 @@ use Rattle.textarea_text.proofs.Insides.{column_within, offset_read}
 use Rattle.textarea_history.proofs.edit.change.Change.apply.Goals as goal
 use Rattle.textarea_history.proofs.edit.change.Change.apply.Goals.{After-start-row}
 
--- the start is a place of the lines
+-- the start is a position of the lines
 there : (c : After-start-row) → IsPlaceOf (lines_of c.args.lines.now.items) c.start-row.result
 there c =
     let items = c.args.lines.now.items in

@@ -16,7 +16,7 @@ known c =
     removing c.args.lines.now.items c.args.self.now c.start-start.result (c.start-start.result.0, c.end-end.result.1) (omega (arith, c.requires.nonempty, c.args.lines.now.ok.0)) c.requires.fits (removes c) c.start-start.ensures
     (ends_inside c.args.self.now c.start-start.result c.end-end.result c.requires.inside c.start-start.ensures c.end-end.ensures).0
 
--- the byte at which the symbols end
+-- the byte offset at which the symbols end
 behind : (c : After-weight) → offset_at (lines_of c.args.lines.now.items) (c.start-start.result.0, c.end-end.result.1) ≡ c.args.offset + weight c.args.self.now.symbols
 behind c =
     let rows = lines_of c.args.lines.now.items in

@@ -1,6 +1,5 @@
 use Rattle.std.proofs.lemmas.Grind.{common_steps}
-use Rattle.std.proofs.Common.{◌≡◌, [], length, refl, sym, ap, ◌∙◌, arith, rules}
-use Rattle.std.specs.Slice.Iter.{iter_rest}
+use Rattle.std.proofs.Common.{◌≡◌, [], refl, sym, ◌∙◌, arith}
 use Rattle.std.proofs.lemmas.Bool.{eqb-true}
 use Rattle.std.proofs.lemmas.List.{nil_from_length}
 use Rattle.textarea_paint.proofs.ClusterLemmas.{clusters_left-text, clusters_left-plain, clusters_left-cut, clusters_left-span, clusters_left-none}

@@ -3,7 +3,7 @@ use Rattle.textarea_screen.specs.Block.{shown_block, top_inset}
 use Rattle.textarea_screen.proofs.screen.block.Block.inner.Goals as goal
 use Rattle.textarea_screen.proofs.screen.block.Block.inner.Goals.{After-inset-top}
 
--- what comes off at the top, with a title but no top side too
+-- the rows taken at the top, also with a title but no top side
 top_is : (c : After-inset-top) → c.inset-top.result ≡ min (top_inset (shown_block c.args.self.now)) 65535
 top_is c = grind arith
 

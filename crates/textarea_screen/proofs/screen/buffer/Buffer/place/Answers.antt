@@ -1,5 +1,5 @@
 use Rattle.std.proofs.lemmas.Grind.{common_steps}
-use Rattle.std.proofs.Common.{arith, rules}
+use Rattle.std.proofs.Common.{arith}
 use Rattle.textarea_screen.proofs.BufferLemmas.{place_in-below}
 use Rattle.textarea_screen.proofs.screen.buffer.Buffer.place.Goals as goal
 

@@ -1,7 +1,7 @@
 use Rattle.std.proofs.lemmas.Grind.{common_steps}
 use Rattle.std.proofs.Common.{◌≡◌, ◌+◌, cond, refl, ap, ◌∙◌, arith}
 use Rattle.textarea_screen.specs.Cell.{styled}
-use Rattle.textarea_screen.specs.Rect.{contains, is_in_row}
+use Rattle.textarea_screen.specs.Rect.{contains}
 use Rattle.textarea_screen.proofs.BufferLemmas.{is_before_row, is_before_row-first, is_before_row-apart, is_before_row-next}
 use Rattle.textarea_screen.proofs.ChangeLemmas.{Changes-none, Changes-inside, Changes-more}
 use Rattle.textarea_screen.proofs.screen.buffer.Buffer.set_style.Goals as goal

@@ -1,7 +1,5 @@
 use Rattle.std.proofs.lemmas.Grind.{common_steps}
-use Rattle.std.proofs.Common.{◌≡◌, ◌+◌, cond, eqb, ◌&&◌, ap, ◌∙◌, arith}
-use Rattle.textarea_screen.specs.Cell.{styled}
-use Rattle.textarea_screen.specs.Rect.{is_in_row}
+use Rattle.std.proofs.Common.{◌≡◌, ◌+◌, ◌&&◌, ◌∙◌, arith}
 use Rattle.textarea_screen.proofs.BufferLemmas.{is_before_column, is_before_column-first, is_before_column-apart, is_before_column-next, is_before_column-end}
 use Rattle.textarea_screen.proofs.ChangeLemmas.{Changes-none, Changes-as, Changes-more}
 use Rattle.textarea_screen.proofs.screen.buffer.Buffer.style_row.Goals as goal

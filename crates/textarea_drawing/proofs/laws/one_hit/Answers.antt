@@ -1,5 +1,0 @@
-use Rattle.textarea_drawing.proofs.OneHit.{hit_once}
-use Rattle.textarea_drawing.proofs.laws.one_hit.Goals as goal
-
-pub returns : goal.returns
-returns c = hit_once c.one_view.ensures c.one_place.ensures c.one_row_start.ensures

@@ -1,5 +1,0 @@
-use Rattle.textarea_drawing.proofs.OneInside.{inside_once}
-use Rattle.textarea_drawing.proofs.laws.one_place_inside.Goals as goal
-
-pub returns : goal.returns
-returns c = inside_once c.one_view.ensures c.seen_once.ensures.seen c.one_place.ensures

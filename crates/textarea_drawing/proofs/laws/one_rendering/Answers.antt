@@ -1,5 +1,0 @@
-use Rattle.textarea_drawing.proofs.OneRendering.{rendered_once}
-use Rattle.textarea_drawing.proofs.laws.one_rendering.Goals as goal
-
-pub returns : goal.returns
-returns c = rendered_once c.one_view.ensures c.seen_once.ensures.seen c.one_row_start.ensures

@@ -1,0 +1,28 @@
+-- Facts determined by a view of the rows.
+use Rattle.std.proofs.Common.{◌≡◌, ℕ, List, sym, subst}
+use Rattle.tui_textarea.specs.DrawingPrelude.{IsNear, LaidOut, wrapping_of, LentRows, IsViewOf, AreRowsOf, IsPlaceAt, IsVisualPosition, Wrapping, Place, RowsView}
+
+-- a text with its layout has one view
+abbrev pub IsViewedOnce : Type 0
+IsViewedOnce = (laid : LaidOut) (view other : LentRows) → IsViewOf laid view → IsViewOf laid other → view ≡ other
+
+-- a position has one visual row and display column
+abbrev pub IsSeenOnce : Type 0
+IsSeenOnce = (wrapping : Wrapping) (lines : List (List ℕ)) (rows : List RowsView) (place seen other : Place) → AreRowsOf wrapping lines rows → IsVisualPosition wrapping.tab_len lines rows place seen → IsVisualPosition wrapping.tab_len lines rows place other → seen ≡ other
+
+-- a visual row and a display column have one position
+abbrev pub IsPlacedOnce : Type 0
+IsPlacedOnce = (tab_len : ℕ) (lines : List (List ℕ)) (rows : List RowsView) (seen place other : Place) → IsPlaceAt tab_len lines rows seen place → IsPlaceAt tab_len lines rows seen other → place ≡ other
+
+-- the rows of a view are correct rows of the lines, for its wrapping
+pub lent_right : (laid : LaidOut) (rows : LentRows) → IsViewOf laid rows → AreRowsOf rows.wrapping rows.lines rows.rows
+lent_right laid rows h =
+    subst (λ (w : Wrapping). AreRowsOf w rows.lines rows.rows) (sym h.wrapping)
+    (subst (λ (l : List (List ℕ)). AreRowsOf (wrapping_of laid) l rows.rows) (sym h.lines) h.rows.laid_out)
+
+-- the cursor's visual position in the rows of a view
+pub seen_in : (once : IsSeenOnce) (laid : LaidOut) (rows : LentRows) (place seen other : Place) → IsViewOf laid rows → IsVisualPosition rows.wrapping.tab_len rows.lines rows.rows place seen → IsVisualPosition rows.wrapping.tab_len rows.lines rows.rows place other → seen ≡ other
+seen_in once laid rows place seen other h = once rows.wrapping rows.lines rows.rows place seen other (lent_right laid rows h)
+
+pub near_once : (once : IsPlacedOnce) (rows : LentRows) (wanted place other : Place) → IsNear rows wanted place → IsNear rows wanted other → place ≡ other
+near_once once rows wanted place other = once rows.wrapping.tab_len rows.lines rows.rows _ place other

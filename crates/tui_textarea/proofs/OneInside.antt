@@ -1,0 +1,38 @@
+-- The nearest visible position is unique.
+use Rattle.std.proofs.Common.{◌≡◌, ℕ, ◌-◌, Bool, true, false, sym, subst, ap, ap₂, ◌∙◌}
+use Rattle.tui_textarea.specs.DrawingPrelude.{laid_out_of, DocumentState, IsInside, IsReached, greatest_at, LaidOut, LentRows, IsViewOf, row_total, IsVisualPosition, Place, is_same_place, ViewportState, clamped}
+use Rattle.tui_textarea.proofs.DrawnRows.{IsPlacedOnce, IsSeenOnce, IsViewedOnce, near_once, seen_in}
+
+reached_once : (once : IsPlacedOnce) (b : Bool) (rows : LentRows) (wanted cursor place other : Place) → IsReached b rows wanted cursor place → IsReached b rows wanted cursor other → place ≡ other
+reached_once once true rows wanted cursor place other e f = e ∙ sym f
+reached_once once false rows wanted cursor place other h k = near_once once rows wanted place other h k
+
+-- the row and column that the cursor moves to, from this visual position in these rows
+abbrev row_to : LentRows → ViewportState → Place → ℕ
+row_to rows viewport seen = clamped viewport.row viewport.height (row_total rows.rows - 1) seen.0
+
+abbrev column_to : LentRows → ViewportState → Place → ℕ
+column_to rows viewport seen = clamped viewport.column viewport.width (greatest_at rows (row_to rows viewport seen)) seen.1
+
+-- the position that the cursor moves to in these rows
+abbrev GoesTo : LentRows → ViewportState → Place → Place → Type 0
+GoesTo rows viewport cursor place = (seen : Place) × IsVisualPosition rows.wrapping.tab_len rows.lines rows.rows cursor seen
+    × IsReached (is_same_place (row_to rows viewport seen, column_to rows viewport seen) seen) rows (row_to rows viewport seen, column_to rows viewport seen) cursor place
+
+goes_to : (document : DocumentState) (viewport : ViewportState) (place : Place) (h : IsInside document viewport place) → GoesTo h.rows viewport document.cursor place
+goes_to document viewport place h =
+    let same : (h.row, h.column) ≡ (row_to h.rows viewport h.seen, column_to h.rows viewport h.seen) =
+    ap₂ (λ (r c : ℕ). (r, c)) h.row_is (h.column_is ∙ ap (λ (r : ℕ). clamped viewport.column viewport.width (greatest_at h.rows r) h.seen.1) h.row_is) in
+    (h.seen, h.seen_is, subst (λ (p : Place). IsReached (is_same_place p h.seen) h.rows p document.cursor place) same h.place_is)
+
+goes_once : (seen_once : IsSeenOnce) (placed_once : IsPlacedOnce) (laid : LaidOut) (rows : LentRows) (viewport : ViewportState) (cursor place other : Place) → IsViewOf laid rows → GoesTo rows viewport cursor place → GoesTo rows viewport cursor other → place ≡ other
+goes_once seen_once placed_once laid rows viewport cursor place other lent h k =
+    let same = seen_in seen_once laid rows cursor k.0 h.0 lent k.1 h.1 in
+    let wanted : Place = (row_to rows viewport h.0, column_to rows viewport h.0) in
+    reached_once placed_once (is_same_place wanted h.0) rows wanted cursor place other h.2
+    (subst (λ (s : Place). IsReached (is_same_place (row_to rows viewport s, column_to rows viewport s) s) rows (row_to rows viewport s, column_to rows viewport s) cursor other) same k.2)
+
+pub inside_once : (viewed_once : IsViewedOnce) (seen_once : IsSeenOnce) (placed_once : IsPlacedOnce) (document : DocumentState) (viewport : ViewportState) (place other : Place) → IsInside document viewport place → IsInside document viewport other → place ≡ other
+inside_once viewed_once seen_once placed_once document viewport place other h k =
+    goes_once seen_once placed_once (laid_out_of document) h.rows viewport document.cursor place other h.rows_are (goes_to document viewport place h)
+    (subst (λ (rows : LentRows). GoesTo rows viewport document.cursor other) (viewed_once (laid_out_of document) k.rows h.rows k.rows_are h.rows_are) (goes_to document viewport other k))

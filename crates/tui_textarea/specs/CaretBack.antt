@@ -1,0 +1,29 @@
+-- The position at the caret's cell after a drawing.
+use Rattle.std.specs.Prelude.{◌≡◌, ℕ, Option, Some}
+use Rattle.textarea_document.specs.Rows.{laid_out_of}
+use Rattle.tui_textarea.specs.DrawnFrame.{Parts}
+use Rattle.tui_textarea.specs.Hit.{IsHit}
+use Rattle.tui_textarea.specs.Rendered.{IsRendered}
+use Rattle.textarea_screen_map.specs.Lent.{LentRows}
+use Rattle.textarea_lines.specs.View.{IsViewOf}
+use Rattle.textarea_screen_map.specs.Rows.{row_at}
+use Rattle.textarea_screen_map.specs.Seen.{HasNoZeroWidth, IsVisualPosition}
+use Rattle.textarea_screen.specs.declared.screen.rect.Rect.{Rect}
+use Rattle.textarea_text.specs.Place.{Place}
+
+-- no character of the cursor's visual row has display width 0
+abbrev pub HasWideCursorRow : Parts → Type 0
+HasWideCursorRow parts = (rows : LentRows) (seen : Place) → IsViewOf (laid_out_of parts.document) rows
+    → IsVisualPosition rows.wrapping.tab_len rows.lines rows.rows parts.document.cursor seen
+    → HasNoZeroWidth (row_at rows.lines rows.rows seen.0).text
+
+-- the caret's cell shows the cursor, if no character of its visual row has display width 0
+abbrev pub IsHitBack : Parts → Type 0
+IsHitBack parts = (x y : ℕ) (found : Option Place) → parts.drawing.caret ≡ Some (x, y)
+    → HasWideCursorRow parts → IsHit parts x y found → found ≡ Some parts.document.cursor
+
+-- if a drawing left these parts with the caret in this cell, and no character of the cursor's
+-- visual row has display width 0, the cell shows the cursor
+abbrev pub IsCursorAtCaret : Parts → ℕ → ℕ → Option Place → Type 0
+IsCursorAtCaret parts x y found = (old : Parts) (area : Rect) → IsRendered old area parts
+    → parts.drawing.caret ≡ Some (x, y) → HasWideCursorRow parts → found ≡ Some parts.document.cursor

@@ -1,0 +1,52 @@
+-- The position that a cell of the screen shows, and the visible position nearest to the cursor.
+use Rattle.std.specs.Prelude.{◌≡◌, ℕ, ◌-◌, min, Bool, true, false, Option}
+use Rattle.textarea_document.specs.Rows.{laid_out_of}
+use Rattle.textarea_document.specs.State.{DocumentState}
+use Rattle.tui_textarea.specs.DrawnFrame.{Parts, frame_of}
+use Rattle.tui_textarea.specs.DrawingState.{DrawingState}
+use Rattle.textarea_view.specs.Hit.{IsHitOf, IsNear, greatest_at}
+use Rattle.textarea_screen_map.specs.Lent.{LentRows}
+use Rattle.textarea_lines.specs.View.{IsViewOf}
+use Rattle.textarea_blocks.specs.Sums.{row_total}
+use Rattle.textarea_screen_map.specs.Seen.{IsVisualPosition}
+use Rattle.textarea_screen.specs.declared.screen.rect.Rect.{Rect}
+use Rattle.textarea_text.specs.Place.{Place, is_same_place}
+use Rattle.textarea_view.specs.Viewport.{ViewportState, clamped}
+
+-- ---- the hit test
+
+-- the inner area of the last drawing: its stored corner and height, and the width of the layout; no
+-- area reaches past column 65535 or row 65535
+pub record IsLastArea (document : DocumentState) (drawing : DrawingState) (inner : Rect) : Type 0 where
+  pub x : inner.x ≡ drawing.corner.0
+  pub y : inner.y ≡ drawing.corner.1
+  pub width : inner.width ≡ min document.layout.settings.inner_width (65535 - inner.x)
+  pub height : inner.height ≡ min drawing.height (65535 - inner.y)
+
+-- the position that a cell shows, with the present text, in the inner area of the last drawing
+pub record IsHit (parts : Parts) (x y : ℕ) (found : Option Place) : Type 0 where
+  pub inner : Rect
+  pub inner_is : IsLastArea parts.document parts.drawing inner
+  pub rows : LentRows
+  pub rows_are : IsViewOf (laid_out_of parts.document) rows
+  pub found_is : IsHitOf (frame_of parts rows) parts.drawing.viewport inner x y found
+
+-- ---- the nearest visible position
+
+-- the cursor itself if nothing changes, otherwise the position at the row and column
+abbrev pub IsReached : Bool → LentRows → Place → Place → Place → Type 0
+IsReached true rows wanted cursor place = place ≡ cursor
+IsReached false rows wanted cursor place = IsNear rows wanted place
+
+-- the cursor moves from its visual position to the nearest visible visual row, and in that row to
+-- the nearest visible display column
+pub record IsInside (document : DocumentState) (viewport : ViewportState) (place : Place) : Type 0 where
+  pub rows : LentRows
+  pub rows_are : IsViewOf (laid_out_of document) rows
+  pub seen : Place
+  pub seen_is : IsVisualPosition rows.wrapping.tab_len rows.lines rows.rows document.cursor seen
+  pub row : ℕ
+  pub row_is : row ≡ clamped viewport.row viewport.height (row_total rows.rows - 1) seen.0
+  pub column : ℕ
+  pub column_is : column ≡ clamped viewport.column viewport.width (greatest_at rows row) seen.1
+  pub place_is : IsReached (is_same_place (row, column) seen) rows (row, column) document.cursor place

@@ -1,0 +1,94 @@
+//! Laws of drawings, each the contract of a function that does nothing.
+ghost use Rattle.std.specs.Prelude.{◌≡◌, ◌<◌, ◌^◌, ℕ, Option, is_some};
+ghost use Rattle.tui_textarea.specs.DrawingPrelude.{size_limit, DocumentState, IsHitBack, Parts, IsHit, IsInside, IsLastArea, IsDrawn, IsRendered, IsCaretShown, cell_at, contains, Buffer, Rect, IsPlace, Place, weight, ViewportState};
+
+use textarea_lines::laws::{one_view, settings_stay};
+use textarea_screen_map::laws::{
+    cursors_within_width, few_columns, few_rows, found_again, one_place, seen_once, seen_within,
+};
+use textarea_view::scene::laws::{one_filling, one_row_start};
+use textarea_view::viewport::laws::{
+    placeholder_has_its_caret_in_the_corner, shown_caret_is_hit_back, wrapped_caret_is_shown,
+};
+
+/// The visible position nearest to a document's cursor in a viewport is unique.
+pub fn one_place_inside()
+    ensures { (document : DocumentState) (viewport : ViewportState) (place other : Place) →
+        IsInside document viewport place → IsInside document viewport other → place ≡ other }
+{
+    one_view();
+    seen_once();
+    one_place();
+}
+
+/// A cell shows at most one position.
+pub fn one_hit()
+    ensures { (parts : Parts) (x y : ℕ) (found other : Option Place) →
+        IsHit parts x y found → IsHit parts x y other → found ≡ other }
+{
+    one_view();
+    one_place();
+    one_row_start();
+}
+
+/// A cell shows a position exactly if it is in the inner area of the last drawing.
+pub fn hit_where_shown()
+    ensures { (parts : Parts) (x y : ℕ) (found : Option Place) →
+        IsHit parts x y found → (inner : Rect) → IsLastArea parts.document parts.drawing inner →
+        is_some found ≡ contains inner x y }
+{}
+
+/// The parts after a drawing into an area are determined by those before.
+pub fn one_rendering()
+    ensures { (old first second : Parts) (area : Rect) →
+        IsRendered old area first → IsRendered old area second → first ≡ second }
+{
+    one_view();
+    seen_once();
+    one_row_start();
+}
+
+/// The cells after a drawing are determined by the parts, the area and the cells before.
+pub fn one_drawing()
+    ensures { (parts : Parts) (area : Rect) (old first second : Buffer) →
+        IsDrawn parts area old first → IsDrawn parts area old second →
+        (x y : ℕ) → cell_at first x y ≡ cell_at second x y }
+{
+    one_view();
+    one_filling();
+}
+
+/// Right after a drawing the hit test of the caret's cell returns the cursor, if the caret is shown
+/// and no character of the cursor's visual row has display width 0.
+pub fn caret_is_hit_back()
+    ensures { (old new : Parts) (area : Rect) → IsRendered old area new →
+        IsPlace new.document.text new.document.cursor → IsHitBack new }
+{
+    one_view();
+    one_row_start();
+    found_again();
+    seen_within();
+    settings_stay();
+    shown_caret_is_hit_back();
+    placeholder_has_its_caret_in_the_corner();
+}
+
+/// Right after a drawing the caret is shown if the alignment is left, and the inner area has a row
+/// and is wide enough, even with a placeholder. Without wrapping it must be wider than twice the
+/// line numbers. With wrapping it must be at least two columns wider than the line numbers, the tab
+/// length must be at least 1, the width beside the line numbers and one column for the caret must
+/// fit each grapheme cluster, and a tab at its full length, and each whitespace cluster with a
+/// width must be one character.
+pub fn caret_is_shown()
+    ensures { (old new : Parts) (area : Rect) → IsRendered old area new →
+        weight new.document.text < size_limit → new.document.layout.settings.tab_len < 2 ^ 8 →
+        IsCaretShown new }
+{
+    seen_within();
+    cursors_within_width();
+    few_columns();
+    few_rows();
+    settings_stay();
+    textarea_view::viewport::laws::caret_is_shown();
+    wrapped_caret_is_shown();
+}
