@@ -1,5 +1,5 @@
 #!/bin/bash
-# Prints one table of what keys, frames, cuts and scripts cost, in markdown: the time at 1,000,
+# Prints the page bench/RESULTS.md: one table of what keys, frames, cuts and scripts cost, at 1,000,
 # 10,000, 100,000 and 1,000,000 lines, characters or commands, and the last time divided by the
 # first. Times are processor time, the fastest of some runs, less the time of the same program on
 # the same text with nothing done to it.
@@ -22,9 +22,9 @@
 #   many lines of 100 bytes, and that many short commands. If GNU time is installed, also the peak
 #   memory for each byte of the script, and the same if the `set_lines` is run and printed.
 # CRATES is the folder of the crates in which `rt run` built textarea_bench and tascript, by default
-# that of this repository. Rows whose program is missing are left out. A run takes some twenty
+# that of this repository. A row whose program is missing has dashes. A run takes some twenty
 # minutes.
-# usage: bench/table.sh [CRATES]
+# usage: bench/table.sh [CRATES] > bench/RESULTS.md
 set -e
 crates=${1:-$(dirname "$0")/../crates}
 sizes=(1000 10000 100000 1000000)
@@ -64,6 +64,9 @@ row() {
     awk -v first="$first" -v last="$last" 'BEGIN { if (first > 0) printf " %.2f |\n", last / first; else print " - |" }'
 }
 
+# a row that isn't measured
+unmeasured() { row "$1" "$2" - - - -; }
+
 quotient() { awk -v n="$1" -v d="$2" 'BEGIN { printf "%.2f", n / d }'; }
 
 # the microseconds of one job: its topic, its word, the size, and the number of times it is done
@@ -80,7 +83,7 @@ once() {
 jobs_row() {
     local what=$1 topic=$2 word=$3 values=()
     shift 3
-    [ -x "$(program textarea_bench)" ] || return 0
+    [ -x "$(program textarea_bench)" ] || { unmeasured "$what" microseconds; return; }
     for size in "${sizes[@]}"; do values+=("$(once "$topic" "$word" "$size" "$1")"); shift; done
     row "$what" microseconds "${values[@]}"
 }
@@ -89,7 +92,7 @@ jobs_row() {
 lines_row() {
     local what=$1 topic=$2 word=$3 values=()
     shift 3
-    [ -x "$(program textarea_bench)" ] || return 0
+    [ -x "$(program textarea_bench)" ] || { unmeasured "$what" "nanoseconds a line"; return; }
     for size in "${sizes[@]}"; do
         values+=("$(quotient "$(once "$topic" "$word" "$size" "$1")" "$(quotient "$size" 1000)")")
         shift
@@ -101,10 +104,10 @@ lines_row() {
 # frames. The two run in turns, in short runs and three times as often, so that a slow phase of the
 # machine slows both
 frame_rows() {
-    local path plain=() full=() times=() both
+    local path plain=(- - - -) full=(- - - -) times=(- - - -) both
     path=$(program textarea_bench)
-    [ -x "$path" ] || return 0
-    for size in "${sizes[@]}"; do
+    if [ -x "$path" ]; then plain=() full=() times=(); else set --; fi
+    for size in "${sizes[@]:0:$#}"; do
         read -r -a both <<< "$(frames_by_turns "$path" "$size" "$1")"
         plain+=("$(quotient "${both[0]}" $(( $1 * 1000 )))")
         full+=("$(quotient "${both[1]}" $(( $1 * 1000 )))")
@@ -134,7 +137,7 @@ frames_by_turns() {
 requests_row() {
     local path values=()
     path=$(program textarea_bench)
-    [ -x "$path" ] && command -v valgrind > /dev/null || return 0
+    [ -x "$path" ] && command -v valgrind > /dev/null || { unmeasured "$1" "requests a row"; return; }
     for size in 1000 10000; do
         values+=("$(quotient $(( $(requests "$path" "$2 $size 60") - $(requests "$path" "$2 $size 10") )) $(( 50 * 24 )))")
     done
@@ -205,7 +208,7 @@ script_row() {
     local what=$1 unit=$2 per=$3 write=$4 values=() path none
     path=$(program tascript)
     shift 4
-    [ -x "$path" ] || return 0
+    [ -x "$path" ] || { unmeasured "$what" "$unit"; return; }
     for size in "${sizes[@]}"; do
         "$write" "$size" 0 > "$script"
         none=$(best "$path" "$(turns "$size")")
@@ -221,7 +224,7 @@ script_row() {
 reading_rows() {
     local what=$1 unit=$2 write=$3 times=() held=() path none
     path=$(program tascript)
-    [ -x "$path" ] || return 0
+    [ -x "$path" ] || { unmeasured "$what" "nanoseconds $unit"; unmeasured "$what, held" "bytes a byte"; return; }
     echo > "$script"
     none=$(best "$path" 8)
     for size in "${sizes[@]}"; do
@@ -251,7 +254,7 @@ kilobytes() {
 run_row() {
     local path held=()
     path=$(program tascript)
-    [ -x "$path" ] || return 0
+    [ -x "$path" ] || { unmeasured "$1" "bytes a byte"; return; }
     for size in "${sizes[@]}"; do
         long_lines "$size" > "$script"
         held+=("$(bytes_held "$path" "$size")")
@@ -259,17 +262,28 @@ run_row() {
     row "$1" "bytes a byte" "${held[@]}"
 }
 
+model=$(sed -n 's/^model name[^:]*: //p' /proc/cpuinfo | head -n 1)
+cat << END
+# Measurements
+
+Made by \`bench/table.sh > bench/RESULTS.md\` on $(date -u +%F), with commit
+$(git -C "$(dirname "$0")" rev-parse --short HEAD), on $(nproc) processors: ${model:-unknown}.
+
+Times are processor time, the fastest of some runs, less the time of the same program with nothing
+to do. The last column is the last value divided by the first. A dash: not measured.
+
+END
 printf '| what | unit | 1,000 | 10,000 | 100,000 | 1,000,000 | last to first |\n|---|---|---:|---:|---:|---:|---:|\n'
 jobs_row "a key into a long wrapped line, by lines" typing text 100000 100000 100000 200000
 jobs_row "a key that changes a line's rows, by lines" typing rows 200000 200000 400000 1000000
 jobs_row "a line break in the first line, by lines" typing breaks 100000 50000 4000 200
 jobs_row "a line break in the last line, by lines" typing last_breaks 100000 100000 200000 1000000
-jobs_row "the same in the screen map alone, by lines" typing map 400000 400000 400000 1000000
-jobs_row "the same move of the lines' headers alone, by lines" typing headers 1000000 100000 4000 400
+jobs_row "the same in only the screen map, by lines" typing map 400000 400000 400000 1000000
+jobs_row "only the move of the lines' headers, by lines" typing headers 1000000 100000 4000 400
 jobs_row "a character of one byte at a line's end, by its length" typing ascii 1000000 1000000 1000000 1000000
 jobs_row "a character of two bytes at a line's end, by its length" typing wide 1000000 1000000 1000000 1000000
 jobs_row "a character of two bytes in a line's middle, by its length" typing middle 100000 100000 20000 4000
-jobs_row "the same move of bytes alone, by the length of the line" typing bytes 100000 100000 20000 4000
+jobs_row "only the move of bytes, by the length of the line" typing bytes 100000 100000 20000 4000
 lines_row "another width, by lines" typing width 400 40 6 2
 lines_row "another width, measured before, by lines" typing measured 400 40 6 2
 jobs_row "a key and a frame, wrapped at words, by lines" frames Word 10000 10000 10000 100000
@@ -277,7 +291,7 @@ jobs_row "a key and a frame, not wrapped, by lines" frames None 10000 10000 1000
 frame_rows 2000 2000 2000 40000
 requests_row "a plain frame" plain
 requests_row "a frame with numbers, selection and matches" full
-script_row "an edit, undone and made again, by lines" microseconds 1000 edits 4000 4000 2000 200
+script_row "an edit, undone and redone, by lines" microseconds 1000 edits 4000 4000 2000 200
 script_row "all lines cut, and an undo" "nanoseconds a line" 'size' cuts 1000 100 10 2
 script_row "a key of a run that is typed and removed, by its length" nanoseconds '2 * size' a_run 400 40 4 1
 reading_rows "a \`set_lines\` is read, by lines of 100 bytes" "a line" long_lines
