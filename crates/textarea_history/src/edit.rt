@@ -2,7 +2,9 @@
 mod change;
 mod run;
 
-ghost use Rattle.std.specs.Prelude.{◌≡◌, ◌<◌, IsOk, OnOk, OnErr, vec_len, true, false};
+ghost use Rattle.std.specs.Prelude.{◌≡◌, ◌<◌, ◌∷◌, [], IsOk, None, OnOk, OnErr, vec_len, true, false};
+ghost use Rattle.textarea_text.specs.Text.{symbol_in};
+ghost use Rattle.textarea_history.specs.Edit.{inserts_of, pieces_of, symbols_of};
 ghost use Rattle.textarea_history.specs.Prelude.{inverse, place_after, place_before, FitsLines, IsRemovalInLine, Makes};
 
 pub use change::Change;
@@ -41,6 +43,18 @@ impl Clone for EditKind {
             EditKind::InsertChunk(pieces) => Ok(EditKind::InsertChunk(pieces.clone()?)),
             EditKind::DeleteChunk(pieces) => Ok(EditKind::DeleteChunk(pieces.clone()?)),
         }
+    }
+}
+
+/// Returns the kind of edit that removes a character or, for `None`, a line break.
+pub fn deletion_of(character: Option<char>) -> EditKind
+    ensures symbols { symbols_of result ≡ symbol_in character ∷ [] }
+    ensures inserts { inserts_of result ≡ false }
+    ensures pieces { pieces_of result ≡ None }
+{
+    match character {
+        Some(c) => EditKind::DeleteChar(c),
+        None => EditKind::DeleteNewline,
     }
 }
 

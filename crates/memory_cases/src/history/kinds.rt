@@ -1,6 +1,6 @@
 //! Kinds of edits, and texts as fragments.
-ghost use Rattle.std.specs.Prelude.{◌≡◌, ◌<◌, ◌≤◌, ◌∷◌, [], false, true, length, vec_len, IfOk, IfSome, None};
-ghost use Rattle.textarea_text.specs.Text.{symbol_in, text_of};
+ghost use Rattle.std.specs.Prelude.{◌≡◌, ◌<◌, ◌≤◌, ◌∷◌, [], vec_len, IfOk, IfSome};
+ghost use Rattle.textarea_text.specs.Text.{text_of};
 ghost use Rattle.textarea_history.specs.Edit.{inserts_of, pieces_of, symbols_of};
 
 use std::alloc::{AllocError, Global};
@@ -39,17 +39,5 @@ pub fn kind_of(mut pieces: Vec<String>, inserts: bool) -> EditKind
         EditKind::InsertStr(text)
     } else {
         EditKind::DeleteStr(text)
-    }
-}
-
-/// Returns the kind that removes a character or, without one, a line break.
-pub fn deletion_of(character: Option<char>) -> EditKind
-    ensures symbols { symbols_of result ≡ symbol_in character ∷ [] }
-    ensures inserts { inserts_of result ≡ false }
-    ensures pieces { pieces_of result ≡ None }
-{
-    match character {
-        Some(c) => EditKind::DeleteChar(c),
-        None => EditKind::DeleteNewline,
     }
 }

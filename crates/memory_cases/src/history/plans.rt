@@ -7,9 +7,9 @@ ghost use Rattle.textarea_util.specs.Limit.{size_limit};
 ghost use Rattle.memory_cases.specs.Ready.{IsReady};
 
 use crate::history::calls::{Edit, Place};
-use crate::history::kinds::{deletion_of, kind_of, pieces_in};
+use crate::history::kinds::{kind_of, pieces_in};
 use std::alloc::{AllocError, Global};
-use textarea_history::edit::EditKind;
+use textarea_history::edit::{EditKind, deletion_of};
 use textarea_text::part::between;
 use textarea_text::places::{ahead, clip, end_of};
 use textarea_text::rows::{SymbolBefore, byte_offset, size_within_limit, symbol_before};

@@ -1,6 +1,6 @@
 //! Edits built from the arguments of calls and from removed text.
-ghost use Rattle.std.specs.Prelude.{◌≡◌, ◌<◌, ◌≤◌, ◌∷◌, [], false, vec_len, IfSome, None};
-ghost use Rattle.textarea_document.specs.Prelude.{symbol_in, text_of, inserts_of, pieces_of, symbols_of};
+ghost use Rattle.std.specs.Prelude.{◌≡◌, ◌<◌, ◌≤◌, ◌∷◌, [], vec_len, IfSome};
+ghost use Rattle.textarea_document.specs.Prelude.{text_of};
 
 use textarea_history::edit::{Edit, EditKind};
 
@@ -29,17 +29,5 @@ pub(super) fn edit_of(
         Edit::between(EditKind::InsertStr(text), start, end)
     } else {
         Edit::between(EditKind::DeleteStr(text), end, start)
-    }
-}
-
-// Returns the removal of a character, or of a break for `None`.
-pub(super) fn deletion_of(character: Option<char>) -> EditKind
-    ensures symbols { symbols_of result ≡ symbol_in character ∷ [] }
-    ensures inserts { inserts_of result ≡ false }
-    ensures pieces { pieces_of result ≡ None }
-{
-    match character {
-        Some(c) => EditKind::DeleteChar(c),
-        None => EditKind::DeleteNewline,
     }
 }

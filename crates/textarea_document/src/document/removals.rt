@@ -3,11 +3,11 @@ ghost use Rattle.std.specs.Prelude.{◌≡◌, ◌<◌, ◌≤◌, OnOk, OnErr, 
 ghost use Rattle.textarea_document.specs.Prelude.{chars, as_nanos, offset_at, lines_of, symbol_in, text_of, IsPlace, IsPlaceOf, index_of, part, Backward, Forward, TakesWhole, widened, IsSymbolBehind, hit_at_cursor, hit_before, hit_behind, hit_removed, is_at_end, is_at_start, removal, taken_symbols, removed_before, removed_behind, break_removed, part_removed, symbol_removed_before, symbol_removed_behind, edited};
 
 use crate::document::Document;
-use crate::document::edits::{deletion_of, edit_of};
+use crate::document::edits::edit_of;
 use std::alloc::AllocError;
 use std::time::Duration;
 use textarea_data::range::{AtomicDeleteDirection, AtomicRange};
-use textarea_history::edit::{Edit, EditKind};
+use textarea_history::edit::{Edit, EditKind, deletion_of};
 use textarea_ranges::held;
 use textarea_text::given::copy_pieces;
 use textarea_text::part::between;
