@@ -16,8 +16,8 @@ use Rattle.textarea_document.specs.Splices.{selected_splices}
 use Rattle.textarea_document.specs.State.{DocumentState}
 use Rattle.textarea_document.proofs.Going.{all_stay_or_are_dropped, all_stem, goes_on, stays}
 use Rattle.tui_textarea.specs.Goes.{GoesByAct}
-use Rattle.tui_textarea.specs.Input.{asked_by, asked_without_shortcuts}
-use Rattle.tui_textarea.specs.State.{State}
+use Rattle.tui_textarea.specs.Input.{IsActed, asked_by, asked_without_shortcuts}
+use Rattle.tui_textarea.specs.State.{State, with_document}
 use Rattle.textarea_calls.specs.Kinds.{call_of_edit, call_of_write}
 use Rattle.tui_textarea.specs.Calls.{state_after, ranges_answer, rejected_ranges, with_ranges_if}
 use Rattle.tui_textarea.specs.CallGoes.{GivesRanges, GoesByCall, IsUndoOrRedo, IsUndoOrRedoAct, NoneGives, RangesGo, RangesInRun, RangesOfRun, SinceGiven}
@@ -28,7 +28,7 @@ use Rattle.tui_textarea.specs.CallSplices.{LeadsBy, OfLeft, splices_of, splices_
 use Rattle.textarea_calls.specs.declared.call.Call.{Call}
 use Rattle.textarea_calls.specs.declared.call.Call.TheVariants as call
 use Rattle.textarea_calls.specs.declared.answer.Answer.{Answer}
-use Rattle.tui_textarea.proofs.Acting.{ByAct, ByCall, calls_by, calls_left}
+use Rattle.tui_textarea.proofs.Acting.{ByAct, ByCall, acts_by, calls_by, calls_left}
 use Rattle.tui_textarea.proofs.Going.{RedosGo, StepsGo, UndosGo, drawing_goes, going, past_goes}
 use Rattle.tui_textarea.proofs.Runs.{Leads-append, one_more as one_call_more}
 
@@ -94,11 +94,15 @@ module _ (laws : TheLaws) where
 
   -- ---- the splices of each call, in any case
 
+  inputs_go : (old new : State) (asked : Action) → IsSound old.document → IsActed old asked new → GoesByAct asked old.document (splices_by old asked) new.document
+  inputs_go old new asked h k =
+      goes_by_act asked old.document new.document _ (acts_by GoesUncut GoesOver (going laws.stepped) (past_goes laws.undone laws.redone) old new asked h k)
+
   act_fits : (state : State) (asked : Action) → IsSound state.document → Fitting state (IsUndoOrRedoAct asked) (splices_by state asked)
-  act_fits state (action.Edit edit.Undo) h = ((goes state (state_after state call.Undo) call.Undo Done h refl).text.can, λ no. absurd (no tt))
-  act_fits state (action.Edit edit.Redo) h = ((goes state (state_after state call.Redo) call.Redo Done h refl).text.can, λ no. absurd (no tt))
-  act_fits state (action.Edit other) h = uncut state _ _ (goes state (state_after state (call_of_edit other)) (call_of_edit other) Done h refl)
-  act_fits state (action.Write write) h = uncut state _ _ (goes state (state_after state (call_of_write write)) (call_of_write write) Done h refl)
+  act_fits state (action.Edit edit.Undo) h = ((inputs_go state (with_document state (undone state.document)) (action.Edit edit.Undo) h refl).text.can, λ no. absurd (no tt))
+  act_fits state (action.Edit edit.Redo) h = ((inputs_go state (with_document state (redone state.document)) (action.Edit edit.Redo) h refl).text.can, λ no. absurd (no tt))
+  act_fits state (action.Edit other) h = uncut state _ _ (inputs_go state (state_after state (call_of_edit other)) (action.Edit other) h refl)
+  act_fits state (action.Write write) h = uncut state _ _ (inputs_go state (state_after state (call_of_write write)) (action.Write write) h refl)
   act_fits state asked h = (tt, λ no. tt)
 
   pub call_fits : (state : State) (made : Call) → IsSound state.document → Fitting state (IsUndoOrRedo made) (splices_of state made)
