@@ -5,6 +5,7 @@ use Rattle.std.specs.Option.{IfSome}
 use Rattle.textarea_text.specs.Place.{Place, IsPlaceOf}
 use Rattle.textarea_text.specs.Text.{lines, lines_of}
 use Rattle.textarea_wrap.specs.RowsView.{RowsView}
+use Rattle.textarea_screen_map.specs.declared.layout.VisualPosition.{VisualPosition}
 use Rattle.textarea_screen_map.specs.declared.layout.Wrapping.{Wrapping}
 use Rattle.textarea_screen_map.specs.Layout.{AreRowsOf}
 use Rattle.textarea_screen_map.specs.Map.{MapView}
@@ -26,7 +27,7 @@ Step = ℕ → List (List ℕ) → List RowsView → Place → Place → Type 0
 
 -- a position is in one visual row at one column
 abbrev pub IsSeenOnce : Type 0
-IsSeenOnce = (wrapping : Wrapping) (lines : List (List ℕ)) (rows : List RowsView) (place seen other : Place) → AreRowsOf wrapping lines rows → IsVisualPosition wrapping.tab_len lines rows place seen → IsVisualPosition wrapping.tab_len lines rows place other → seen ≡ other
+IsSeenOnce = (wrapping : Wrapping) (lines : List (List ℕ)) (rows : List RowsView) (place : Place) (visual other : VisualPosition) → AreRowsOf wrapping lines rows → IsVisualPosition wrapping.tab_len lines rows place visual → IsVisualPosition wrapping.tab_len lines rows place other → visual ≡ other
 
 -- the step leads from a position to only one position
 abbrev pub LeadsToOne : Step → Type 0
@@ -38,11 +39,11 @@ EndsAt Ends Goes = (wrapping : Wrapping) (lines : List (List ℕ)) (rows : List 
 
 pub none_above : IsSeenOnce → EndsAt IsInFirstRow IsAbove
 none_above once w lines rows place target kept first h =
-    omega (arith, ap (λ (seen : Place). seen.0) (once w lines rows place first.0 h.seen kept first.1 h.visual_position), first.2, h.not_first)
+    omega (arith, ap (λ (visual : VisualPosition). visual.row) (once w lines rows place first.0 h.visual kept first.1 h.visual_position), first.2, h.not_first)
 
 pub none_below : IsSeenOnce → EndsAt IsInLastRow IsBelow
 none_below once w lines rows place target kept final h =
-    omega (arith, ap (λ (seen : Place). seen.0) (once w lines rows place final.0 h.seen kept final.1 h.visual_position), final.2, h.near.row)
+    omega (arith, ap (λ (visual : VisualPosition). visual.row) (once w lines rows place final.0 h.visual kept final.1 h.visual_position), final.2, h.near.row)
 
 -- ---- what is found
 

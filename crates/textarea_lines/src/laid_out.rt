@@ -22,7 +22,7 @@ use crate::settings::{LayoutSettings, is_same, is_wrapped, wrapping_at, wrapping
 use std::alloc::{AllocError, Global};
 use std::marker::Model;
 use textarea_history::edit::Change;
-use textarea_screen_map::layout::{Wrapping, rows_in};
+use textarea_screen_map::layout::{VisualPosition, Wrapping, rows_in};
 use textarea_screen_map::screen_map::ScreenMap;
 use textarea_text::rows::{Replacement, byte_offset, byte_offset_from, size_within_limit};
 use textarea_text::util::Pos;
@@ -195,7 +195,7 @@ impl LaidOutLines {
     }
 
     /// Returns the visual row and the display column of a position in the text.
-    pub fn visual_position(&self, place: (usize, usize)) -> (usize, usize)
+    pub fn visual_position(&self, place: (usize, usize)) -> VisualPosition
         requires { IsPlace self.now.text place }
         ensures { OfRows self.now (λ rows. IsVisualPosition
             self.now.layout.settings.tab_len (lines self.now.text) rows place result) }

@@ -5,6 +5,7 @@ use Rattle.textarea_text.specs.Place.{Place}
 use Rattle.textarea_text.proofs.Columns.{offset_in}
 use Rattle.textarea_wrap.specs.Cutting.{ranges_from}
 use Rattle.textarea_wrap.specs.RowsView.{RowsView}
+use Rattle.textarea_screen_map.specs.declared.layout.VisualPosition.{VisualPosition}
 use Rattle.textarea_screen_map.specs.declared.layout.Wrapping.{Wrapping}
 use Rattle.textarea_screen_map.specs.Layout.{AreRowsOf}
 use Rattle.textarea_blocks.specs.Sums.{ranges_at, range_at, row_total}
@@ -45,29 +46,29 @@ apart w lines rows a b p q h same less =
       p.more (omega (arith, less, there)),
     )
 
-not_before : (w : Wrapping) (lines : List (List ℕ)) (rows : List RowsView) (t : ℕ) (place a b : Place) (p : IsCutOut lines rows a.0) (q : IsCutOut lines rows b.0) → AreRowsOf w lines rows → IsVisualPosition t lines rows place a → IsVisualPosition t lines rows place b → p.number < q.number → ⊥
+not_before : (w : Wrapping) (lines : List (List ℕ)) (rows : List RowsView) (t : ℕ) (place : Place) (a b : VisualPosition) (p : IsCutOut lines rows a.row) (q : IsCutOut lines rows b.row) → AreRowsOf w lines rows → IsVisualPosition t lines rows place a → IsVisualPosition t lines rows place b → p.number < q.number → ⊥
 not_before w lines rows t place a b p q h s u less =
     let same : q.line ≡ p.line = sym q.line_is ∙ sym u.holds.line ∙ s.holds.line ∙ p.line_is in
-    let parted = apart w lines rows a.0 b.0 p q h same less in
+    let parted = apart w lines rows a.row b.row p q h same less in
     omega (arith, parted.0, s.holds.before_next parted.1, u.holds.from)
 
-pub seen_once : (w : Wrapping) (lines : List (List ℕ)) (rows : List RowsView) (place a b : Place) → AreRowsOf w lines rows → IsVisualPosition w.tab_len lines rows place a → IsVisualPosition w.tab_len lines rows place b → a ≡ b
+pub seen_once : (w : Wrapping) (lines : List (List ℕ)) (rows : List RowsView) (place : Place) (a b : VisualPosition) → AreRowsOf w lines rows → IsVisualPosition w.tab_len lines rows place a → IsVisualPosition w.tab_len lines rows place b → a ≡ b
 seen_once w lines rows place a b h s u =
-    let p = cut_out w lines rows a.0 h s.row in
-    let q = cut_out w lines rows b.0 h u.row in
+    let p = cut_out w lines rows a.row h s.row in
+    let q = cut_out w lines rows b.row h u.row in
     let line : p.line ≡ q.line = sym p.line_is ∙ sym s.holds.line ∙ u.holds.line ∙ q.line_is in
     let number : p.number ≡ q.number =
     elim (cases_lt p.number q.number) [
       | inl less ↦ absurd (not_before w lines rows w.tab_len place a b p q h s u less)
       | inr more ↦ elim (cases_lt q.number p.number) [ inl less ↦ absurd (not_before w lines rows w.tab_len place b a q p h u s less) | inr most ↦ omega (arith, more, most) ]
     ] in
-    let row : a.0 ≡ b.0 = omega (arith, p.row_is, q.row_is, ap (λ (n : ℕ). row_total (take n rows)) line, number) in
-    ap₂ (λ (m n : ℕ). (m, n)) row (cc (s.column, row, u.column))
+    let row : a.row ≡ b.row = omega (arith, p.row_is, q.row_is, ap (λ (n : ℕ). row_total (take n rows)) line, number) in
+    ap₂ (λ (m n : ℕ). record { row = m; column = n }) row (cc (s.column, row, u.column))
 
 pub one_above : (w : Wrapping) (lines : List (List ℕ)) (rows : List RowsView) (place target other : Place) → AreRowsOf w lines rows → IsAbove w.tab_len lines rows place target → IsAbove w.tab_len lines rows place other → target ≡ other
 one_above w lines rows place target other h p q =
-    one_place w.tab_len lines rows _ target other (rw (seen_once w lines rows place p.seen q.seen h p.visual_position q.visual_position) at p.near) q.near
+    one_place w.tab_len lines rows _ target other (rw (seen_once w lines rows place p.visual q.visual h p.visual_position q.visual_position) at p.near) q.near
 
 pub one_below : (w : Wrapping) (lines : List (List ℕ)) (rows : List RowsView) (place target other : Place) → AreRowsOf w lines rows → IsBelow w.tab_len lines rows place target → IsBelow w.tab_len lines rows place other → target ≡ other
 one_below w lines rows place target other h p q =
-    one_place w.tab_len lines rows _ target other (rw (seen_once w lines rows place p.seen q.seen h p.visual_position q.visual_position) at p.near) q.near
+    one_place w.tab_len lines rows _ target other (rw (seen_once w lines rows place p.visual q.visual h p.visual_position q.visual_position) at p.near) q.near

@@ -7,6 +7,7 @@ use Rattle.textarea_util.specs.Limit.{size_limit}
 use Rattle.textarea_text.specs.Place.{Place, IsPlaceOf}
 use Rattle.textarea_wrap.specs.Columns.{display_end_column}
 use Rattle.textarea_wrap.specs.RowsView.{RowsView}
+use Rattle.textarea_screen_map.specs.declared.layout.VisualPosition.{VisualPosition}
 use Rattle.textarea_screen_map.specs.declared.layout.Wrapping.{Wrapping}
 use Rattle.textarea_screen_map.specs.Layout.{AreRowsOf}
 use Rattle.textarea_blocks.specs.Sums.{row_total}
@@ -54,19 +55,19 @@ same_place : (a b : Place) (first : ℕ) → a.0 ≡ b.0 → first ≤ a.1 → f
 same_place a b first rows from from' e =
     ap₂ (λ (m n : ℕ). (m, n)) rows (omega arith)
 
-pub found_again : (t : ℕ) (lines : List (List ℕ)) (rows : List RowsView) (place seen found : Place) → IsVisualPosition t lines rows place seen → HasNoZeroWidth (row_at lines rows seen.0).text → IsPlaceAt t lines rows seen found → found ≡ place
-found_again t lines rows place seen found s all f =
-    let row = row_at lines rows seen.0 in
-    let back : LeadsTo t row.text seen.1 (place.1 - row.first) = rw s.column (leads_back t row.text (place.1 - row.first) all (omega (arith, s.holds.to))) in
-    same_place found place row.first (f.line ∙ sym s.holds.line) f.from s.holds.from (leads_to_one t row.text seen.1 (found.1 - row.first) (place.1 - row.first) f.leads back)
+pub found_again : (t : ℕ) (lines : List (List ℕ)) (rows : List RowsView) (place : Place) (visual : VisualPosition) (found : Place) → IsVisualPosition t lines rows place visual → HasNoZeroWidth (row_at lines rows visual.row).text → IsPlaceAt t lines rows visual found → found ≡ place
+found_again t lines rows place visual found s all f =
+    let row = row_at lines rows visual.row in
+    let back : LeadsTo t row.text visual.column (place.1 - row.first) = rw s.column (leads_back t row.text (place.1 - row.first) all (omega (arith, s.holds.to))) in
+    same_place found place row.first (f.line ∙ sym s.holds.line) f.from s.holds.from (leads_to_one t row.text visual.column (found.1 - row.first) (place.1 - row.first) f.leads back)
 
-pub one_place : (t : ℕ) (lines : List (List ℕ)) (rows : List RowsView) (seen place other : Place) → IsPlaceAt t lines rows seen place → IsPlaceAt t lines rows seen other → place ≡ other
-one_place t lines rows seen place other p o =
-    let row = row_at lines rows seen.0 in
-    same_place place other row.first (p.line ∙ sym o.line) p.from o.from (leads_to_one t row.text seen.1 (place.1 - row.first) (other.1 - row.first) p.leads o.leads)
+pub one_place : (t : ℕ) (lines : List (List ℕ)) (rows : List RowsView) (visual : VisualPosition) (place other : Place) → IsPlaceAt t lines rows visual place → IsPlaceAt t lines rows visual other → place ≡ other
+one_place t lines rows visual place other p o =
+    let row = row_at lines rows visual.row in
+    same_place place other row.first (p.line ∙ sym o.line) p.from o.from (leads_to_one t row.text visual.column (place.1 - row.first) (other.1 - row.first) p.leads o.leads)
 
-pub is_place : (w : Wrapping) (lines : List (List ℕ)) (rows : List RowsView) (seen place : Place) → AreRowsOf w lines rows → IsPlaceAt w.tab_len lines rows seen place → IsPlaceOf lines place
-is_place w lines rows seen place h p = grind (arith, common_steps, row_of w lines rows seen.0 h p.row, leads_within)
+pub is_place : (w : Wrapping) (lines : List (List ℕ)) (rows : List RowsView) (visual : VisualPosition) (place : Place) → AreRowsOf w lines rows → IsPlaceAt w.tab_len lines rows visual place → IsPlaceOf lines place
+is_place w lines rows visual place h p = grind (arith, common_steps, row_of w lines rows visual.row h p.row, leads_within)
 
 -- a column up to the greatest one doesn't lead to the end of a row that isn't its line's last
 inside_row : (t : ℕ) (row : VisualRow) (column index : ℕ) → LeadsTo t row.text column index → column ≤ greatest_column t row → (row.is_last ≡ false → 0 < length row.text) → row.is_last ≡ false → index < length row.text
@@ -77,11 +78,11 @@ inside_row t row column index h small some e =
       | inr more ↦ absurd (omega (arith, small, greatest, some e, before_it t row.text column index (length row.text - 1) h (omega (arith, some e, more))))
     ]
 
-pub seen_there : (w : Wrapping) (lines : List (List ℕ)) (rows : List RowsView) (seen place : Place) → AreRowsOf w lines rows → IsPlaceAt w.tab_len lines rows seen place → seen.1 ≤ greatest_column w.tab_len (row_at lines rows seen.0) → (column : ℕ) × (column ≤ seen.1) × IsVisualPosition w.tab_len lines rows place (seen.0, column)
-seen_there w lines rows seen place h p small =
-    let known = row_of w lines rows seen.0 h p.row in
-    let row = row_at lines rows seen.0 in
-    let found = leads_within w.tab_len row.text seen.1 (place.1 - row.first) p.leads in (
+pub seen_there : (w : Wrapping) (lines : List (List ℕ)) (rows : List RowsView) (visual : VisualPosition) (place : Place) → AreRowsOf w lines rows → IsPlaceAt w.tab_len lines rows visual place → visual.column ≤ greatest_column w.tab_len (row_at lines rows visual.row) → (column : ℕ) × (column ≤ visual.column) × IsVisualPosition w.tab_len lines rows place (record visual { column = column })
+seen_there w lines rows visual place h p small =
+    let known = row_of w lines rows visual.row h p.row in
+    let row = row_at lines rows visual.row in
+    let found = leads_within w.tab_len row.text visual.column (place.1 - row.first) p.leads in (
       column_at w.tab_len row.text (place.1 - row.first),
       found.1,
       record {
@@ -90,38 +91,38 @@ seen_there w lines rows seen place h p small =
           line = p.line;
           from = p.from;
           to = omega (arith, p.from, found.0);
-          before_next = λ e. omega (arith, p.from, inside_row w.tab_len row seen.1 (place.1 - row.first) p.leads small known.some e);
+          before_next = λ e. omega (arith, p.from, inside_row w.tab_len row visual.column (place.1 - row.first) p.leads small known.some e);
         };
         column = refl;
       },
     )
 
-pub seen_near : (w : Wrapping) (lines : List (List ℕ)) (rows : List RowsView) (seen place : Place) → AreRowsOf w lines rows → IsPlaceNear w.tab_len lines rows seen place → (column : ℕ) × (column ≤ seen.1) × IsVisualPosition w.tab_len lines rows place (seen.0, column)
-seen_near w lines rows seen place h p =
-    let greatest = greatest_column w.tab_len (row_at lines rows seen.0) in
-    let found = seen_there w lines rows (seen.0, min seen.1 greatest) place h p (omega arith) in
+pub seen_near : (w : Wrapping) (lines : List (List ℕ)) (rows : List RowsView) (visual : VisualPosition) (place : Place) → AreRowsOf w lines rows → IsPlaceNear w.tab_len lines rows visual place → (column : ℕ) × (column ≤ visual.column) × IsVisualPosition w.tab_len lines rows place (record visual { column = column })
+seen_near w lines rows visual place h p =
+    let greatest = greatest_column w.tab_len (row_at lines rows visual.row) in
+    let found = seen_there w lines rows (record visual { column = min visual.column greatest }) place h p (omega arith) in
     (found.0, omega (arith, found.1), found.2)
 
 -- the position that the code finds, from the row's line, first column and characters
-pub place_found : (w : Wrapping) (lines : List (List ℕ)) (rows : List RowsView) (seen : Place) (line first index : ℕ) (text : List ℕ) → AreRowsOf w lines rows → seen.0 < row_total rows → line ≡ (row_at lines rows seen.0).line → first ≡ (row_at lines rows seen.0).first → text ≡ (row_at lines rows seen.0).text → LeadsTo w.tab_len text seen.1 index → (first + index < size_limit) × IsPlaceAt w.tab_len lines rows seen (line, first + index)
-place_found w lines rows seen line first index text h below line_is first_is text_is leads =
-    let there : seen.0 < length (visual_rows lines rows) = omega (arith, below, row_count w lines rows h) in
-    let known = row_of w lines rows seen.0 h there in
-    let row = row_at lines rows seen.0 in
+pub place_found : (w : Wrapping) (lines : List (List ℕ)) (rows : List RowsView) (visual : VisualPosition) (line first index : ℕ) (text : List ℕ) → AreRowsOf w lines rows → visual.row < row_total rows → line ≡ (row_at lines rows visual.row).line → first ≡ (row_at lines rows visual.row).first → text ≡ (row_at lines rows visual.row).text → LeadsTo w.tab_len text visual.column index → (first + index < size_limit) × IsPlaceAt w.tab_len lines rows visual (line, first + index)
+place_found w lines rows visual line first index text h below line_is first_is text_is leads =
+    let there : visual.row < length (visual_rows lines rows) = omega (arith, below, row_count w lines rows h) in
+    let known = row_of w lines rows visual.row h there in
+    let row = row_at lines rows visual.row in
     let same : index ≡ first + index - row.first = omega (arith, first_is) in (
-      omega (arith, known.short, first_is, ap length text_is, (leads_within w.tab_len text seen.1 index leads).0),
+      omega (arith, known.short, first_is, ap length text_is, (leads_within w.tab_len text visual.column index leads).0),
       record {
         row = there;
         line = line_is;
         from = omega (arith, first_is);
-        leads = subst (λ (n : ℕ). LeadsTo w.tab_len row.text seen.1 n) same (subst (λ (t : List ℕ). LeadsTo w.tab_len t seen.1 index) text_is leads);
+        leads = subst (λ (n : ℕ). LeadsTo w.tab_len row.text visual.column n) same (subst (λ (t : List ℕ). LeadsTo w.tab_len t visual.column index) text_is leads);
       },
     )
 
 -- ---- visual positions
 
-pub seen_row : (w : Wrapping) (lines : List (List ℕ)) (rows : List RowsView) (place seen : Place) → AreRowsOf w lines rows → IsVisualPosition w.tab_len lines rows place seen → seen.0 < row_total rows
-seen_row w lines rows place seen h s = omega (arith, s.row, row_count w lines rows h)
+pub seen_row : (w : Wrapping) (lines : List (List ℕ)) (rows : List RowsView) (place : Place) (visual : VisualPosition) → AreRowsOf w lines rows → IsVisualPosition w.tab_len lines rows place visual → visual.row < row_total rows
+seen_row w lines rows place visual h s = omega (arith, s.row, row_count w lines rows h)
 
 abbrev greatest_by : Bool → ℕ → VisualRow → ℕ
 greatest_by b t row = cond b (display_end_column t 0 row.text) (column_at t row.text (length row.text - 1))
@@ -132,5 +133,5 @@ column_within t row index true e within before =
     subst (λ (text : List ℕ). column_at t row.text index ≤ display_end_column t 0 text) (take-length row.text) (column_at-le t row.text index (length row.text) within)
 column_within t row index false e within before = column_at-le t row.text index (length row.text - 1) (omega (arith, before e))
 
-pub seen_column : (t : ℕ) (lines : List (List ℕ)) (rows : List RowsView) (place seen : Place) → IsVisualPosition t lines rows place seen → seen.1 ≤ greatest_column t (row_at lines rows seen.0)
-seen_column t lines rows place seen s = grind (arith, common_steps, column_within)
+pub seen_column : (t : ℕ) (lines : List (List ℕ)) (rows : List RowsView) (place : Place) (visual : VisualPosition) → IsVisualPosition t lines rows place visual → visual.column ≤ greatest_column t (row_at lines rows visual.row)
+seen_column t lines rows place visual s = grind (arith, common_steps, column_within)

@@ -179,7 +179,7 @@ rows_below (r ∷ rows) zero k within there = omega arith
 rows_below (r ∷ rows) (suc i) k within there = omega (arith, rows_below rows i k (omega arith) there)
 
 -- a position is in the last row of its line that begins at or before its offset
-pub seen_in : (w : Wrapping) (lines : List (List ℕ)) (rows : List RowsView) (place : Place) (k offset first column : ℕ) (slice : List ℕ) → AreRowsOf w lines rows → IsPlaceOf lines place → k < length (ranges_at rows place.0) → (range_at (ranges_at rows place.0) k).0 ≤ offset → (k + 1 < length (ranges_at rows place.0) → offset < (range_at (ranges_at rows place.0) (k + 1)).0) → offset ≡ offset_in (get_or lines place.0 []) place.1 → offset ≤ length (encode_utf8_all (get_or lines place.0 [])) → first ≡ row_total (take place.0 rows) → IsUtf8 slice → slice ≡ take (offset - (range_at (ranges_at rows place.0) k).0) (drop (range_at (ranges_at rows place.0) k).0 (encode_utf8_all (get_or lines place.0 []))) → column ≡ display_end_column w.tab_len 0 (chars slice) → (first + k < row_total rows) × IsVisualPosition w.tab_len lines rows place (first + k, column)
+pub seen_in : (w : Wrapping) (lines : List (List ℕ)) (rows : List RowsView) (place : Place) (k offset first column : ℕ) (slice : List ℕ) → AreRowsOf w lines rows → IsPlaceOf lines place → k < length (ranges_at rows place.0) → (range_at (ranges_at rows place.0) k).0 ≤ offset → (k + 1 < length (ranges_at rows place.0) → offset < (range_at (ranges_at rows place.0) (k + 1)).0) → offset ≡ offset_in (get_or lines place.0 []) place.1 → offset ≤ length (encode_utf8_all (get_or lines place.0 [])) → first ≡ row_total (take place.0 rows) → IsUtf8 slice → slice ≡ take (offset - (range_at (ranges_at rows place.0) k).0) (drop (range_at (ranges_at rows place.0) k).0 (encode_utf8_all (get_or lines place.0 []))) → column ≡ display_end_column w.tab_len 0 (chars slice) → (first + k < row_total rows) × IsVisualPosition w.tab_len lines rows place (record { row = first + k; column = column })
 seen_in w lines rows place k offset first column slice h is_place there from next offset_is short first_is valid slice_is column_is =
     let line = get_or lines place.0 [] in
     let ranges = ranges_at rows place.0 in

@@ -1,9 +1,10 @@
 -- The visual position of a position of the text, and the position for a visual position.
-use Rattle.std.specs.Prelude.{◌≡◌, ◌≢◌, ℕ, ◌+◌, ◌-◌, ◌<◌, ◌≤◌, ◌⊎◌, min, false, List, length}
+use Rattle.std.specs.Prelude.{◌≡◌, ◌≢◌, ℕ, ◌+◌, ◌-◌, ◌<◌, ◌≤◌, ◌⊎◌, ◌==◌, ◌&&◌, min, Bool, false, List, length}
 use Rattle.std.specs.List.{AllByRecursion}
 use Rattle.textarea_text.specs.Place.{Place}
 use Rattle.textarea_wrap.specs.Columns.{plain_width}
 use Rattle.textarea_wrap.specs.RowsView.{RowsView}
+use Rattle.textarea_screen_map.specs.declared.layout.VisualPosition.{VisualPosition}
 use Rattle.textarea_screen_map.specs.Rows.{VisualRow, visual_rows, row_at, column_at, greatest_column}
 
 -- The position belongs to the row: it is in the row's line, at or after the row's first column and
@@ -15,15 +16,19 @@ pub record IsInRow (row : VisualRow) (place : Place) : Type 0 where
   pub before_next : row.is_last ≡ false → place.1 < row.first + length row.text
 
 -- the row that the position belongs to, and the display column of the row's characters before it
-pub record IsVisualPosition (tab_len : ℕ) (lines : List (List ℕ)) (rows : List RowsView) (place seen : Place) : Type 0 where
-  pub row : seen.0 < length (visual_rows lines rows)
-  pub holds : IsInRow (row_at lines rows seen.0) place
-  pub column : seen.1 ≡ column_at tab_len (row_at lines rows seen.0).text (place.1 - (row_at lines rows seen.0).first)
+pub record IsVisualPosition (tab_len : ℕ) (lines : List (List ℕ)) (rows : List RowsView) (place : Place) (visual : VisualPosition) : Type 0 where
+  pub row : visual.row < length (visual_rows lines rows)
+  pub holds : IsInRow (row_at lines rows visual.row) place
+  pub column : visual.column ≡ column_at tab_len (row_at lines rows visual.row).text (place.1 - (row_at lines rows visual.row).first)
+
+-- whether two visual positions are the same
+abbrev pub is_same_visual : VisualPosition → VisualPosition → Bool
+is_same_visual one other = (one.row == other.row) && (one.column == other.column)
 
 -- the position is in this visual row, at or before this display column
-abbrev pub IsSeenUpTo : ℕ → List (List ℕ) → List RowsView → Place → Place → Type 0
-IsSeenUpTo tab_len lines rows seen place =
-    (column : ℕ) × (column ≤ seen.1) × IsVisualPosition tab_len lines rows place (seen.0, column)
+abbrev pub IsSeenUpTo : ℕ → List (List ℕ) → List RowsView → VisualPosition → Place → Type 0
+IsSeenUpTo tab_len lines rows visual place =
+    (column : ℕ) × (column ≤ visual.column) × IsVisualPosition tab_len lines rows place (record visual { column = column })
 
 -- ---- back; a position in a row is the number of the row's characters before it
 
@@ -50,11 +55,11 @@ LeadsTo tab_len text column index =
     IsFirstAt tab_len text column index ⊎ IsCovered tab_len text column index ⊎ IsBeforeColumn tab_len text column index
 
 -- a visual row and a display column lead to this position
-pub record IsPlaceAt (tab_len : ℕ) (lines : List (List ℕ)) (rows : List RowsView) (seen place : Place) : Type 0 where
-  pub row : seen.0 < length (visual_rows lines rows)
-  pub line : place.0 ≡ (row_at lines rows seen.0).line
-  pub from : (row_at lines rows seen.0).first ≤ place.1
-  pub leads : LeadsTo tab_len (row_at lines rows seen.0).text seen.1 (place.1 - (row_at lines rows seen.0).first)
+pub record IsPlaceAt (tab_len : ℕ) (lines : List (List ℕ)) (rows : List RowsView) (visual : VisualPosition) (place : Place) : Type 0 where
+  pub row : visual.row < length (visual_rows lines rows)
+  pub line : place.0 ≡ (row_at lines rows visual.row).line
+  pub from : (row_at lines rows visual.row).first ≤ place.1
+  pub leads : LeadsTo tab_len (row_at lines rows visual.row).text visual.column (place.1 - (row_at lines rows visual.row).first)
 
 -- no character has display width 0; a tab has at least one column
 abbrev pub HasNoZeroWidth : List ℕ → Type 0
@@ -64,27 +69,27 @@ HasNoZeroWidth text = AllByRecursion (λ c. (c ≡ 9) ⊎ (0 < plain_width c)) t
 
 -- the position for a cursor in a visual row at a display column, or at the row's greatest cursor
 -- column if that is less
-abbrev pub IsPlaceNear : ℕ → List (List ℕ) → List RowsView → Place → Place → Type 0
-IsPlaceNear tab_len lines rows seen place =
-    IsPlaceAt tab_len lines rows (seen.0, min seen.1 (greatest_column tab_len (row_at lines rows seen.0))) place
+abbrev pub IsPlaceNear : ℕ → List (List ℕ) → List RowsView → VisualPosition → Place → Type 0
+IsPlaceNear tab_len lines rows visual place =
+    IsPlaceAt tab_len lines rows (record visual { column = min visual.column (greatest_column tab_len (row_at lines rows visual.row)) }) place
 
 -- one visual row up from a position
 pub record IsAbove (tab_len : ℕ) (lines : List (List ℕ)) (rows : List RowsView) (place target : Place) : Type 0 where
-  pub seen : Place
-  pub visual_position : IsVisualPosition tab_len lines rows place seen
-  pub not_first : 0 < seen.0
-  pub near : IsPlaceNear tab_len lines rows (seen.0 - 1, seen.1) target
+  pub visual : VisualPosition
+  pub visual_position : IsVisualPosition tab_len lines rows place visual
+  pub not_first : 0 < visual.row
+  pub near : IsPlaceNear tab_len lines rows (record visual { row = visual.row - 1 }) target
 
 -- one visual row down from a position
 pub record IsBelow (tab_len : ℕ) (lines : List (List ℕ)) (rows : List RowsView) (place target : Place) : Type 0 where
-  pub seen : Place
-  pub visual_position : IsVisualPosition tab_len lines rows place seen
-  pub near : IsPlaceNear tab_len lines rows (seen.0 + 1, seen.1) target
+  pub visual : VisualPosition
+  pub visual_position : IsVisualPosition tab_len lines rows place visual
+  pub near : IsPlaceNear tab_len lines rows (record visual { row = visual.row + 1 }) target
 
 -- the position is in the first visual row
 abbrev pub IsInFirstRow : ℕ → List (List ℕ) → List RowsView → Place → Type 0
-IsInFirstRow tab_len lines rows place = (seen : Place) × IsVisualPosition tab_len lines rows place seen × (seen.0 ≡ 0)
+IsInFirstRow tab_len lines rows place = (visual : VisualPosition) × IsVisualPosition tab_len lines rows place visual × (visual.row ≡ 0)
 
 -- the position is in the last visual row
 abbrev pub IsInLastRow : ℕ → List (List ℕ) → List RowsView → Place → Type 0
-IsInLastRow tab_len lines rows place = (seen : Place) × IsVisualPosition tab_len lines rows place seen × (seen.0 + 1 ≡ length (visual_rows lines rows))
+IsInLastRow tab_len lines rows place = (visual : VisualPosition) × IsVisualPosition tab_len lines rows place visual × (visual.row + 1 ≡ length (visual_rows lines rows))

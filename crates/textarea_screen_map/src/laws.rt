@@ -6,6 +6,7 @@ ghost use Rattle.textarea_text.specs.Text.{following};
 ghost use Rattle.textarea_wrap.specs.Fitting.{HaveFittingClusters};
 ghost use Rattle.textarea_wrap.specs.RowsView.{RowsView};
 ghost use Rattle.textarea_wrap.specs.declared.wrap.WrapMode.TheVariants as mode;
+ghost use Rattle.textarea_screen_map.specs.declared.layout.VisualPosition.{VisualPosition};
 ghost use Rattle.textarea_screen_map.specs.declared.layout.Wrapping.{Wrapping};
 ghost use Rattle.textarea_screen_map.specs.Layout.{AreRowsOf};
 ghost use Rattle.textarea_blocks.specs.Sums.{row_total, size_total};
@@ -18,56 +19,57 @@ use textarea_wrap::laws::one_cutting;
 /// A position's visual row and column lead back to it, if the row has no zero-width characters.
 pub fn found_again()
     ensures { (tab_len : ℕ) (lines : List (List ℕ)) (rows : List RowsView)
-        (place seen found : Place) →
-        IsVisualPosition tab_len lines rows place seen →
-        HasNoZeroWidth (row_at lines rows seen.0).text →
-        IsPlaceAt tab_len lines rows seen found → found ≡ place }
+        (place : Place) (visual : VisualPosition) (found : Place) →
+        IsVisualPosition tab_len lines rows place visual →
+        HasNoZeroWidth (row_at lines rows visual.row).text →
+        IsPlaceAt tab_len lines rows visual found → found ≡ place }
 {}
 
 /// A visual row and a display column lead to a position of the lines. If the column is at most the
 /// row's greatest cursor column, that position is in that visual row, at or before that column.
 pub fn seen_where_looked_up()
     ensures place { (wrapping : Wrapping) (lines : List (List ℕ)) (rows : List RowsView)
-        (seen place : Place) →
-        AreRowsOf wrapping lines rows → IsPlaceAt wrapping.tab_len lines rows seen place →
+        (visual : VisualPosition) (place : Place) →
+        AreRowsOf wrapping lines rows → IsPlaceAt wrapping.tab_len lines rows visual place →
         IsPlaceOf lines place }
-    ensures seen { (wrapping : Wrapping) (lines : List (List ℕ)) (rows : List RowsView)
-        (seen place : Place) →
-        AreRowsOf wrapping lines rows → IsPlaceAt wrapping.tab_len lines rows seen place →
-        seen.1 ≤ greatest_column wrapping.tab_len (row_at lines rows seen.0) →
-        IsSeenUpTo wrapping.tab_len lines rows seen place }
+    ensures visual { (wrapping : Wrapping) (lines : List (List ℕ)) (rows : List RowsView)
+        (visual : VisualPosition) (place : Place) →
+        AreRowsOf wrapping lines rows → IsPlaceAt wrapping.tab_len lines rows visual place →
+        visual.column ≤ greatest_column wrapping.tab_len (row_at lines rows visual.row) →
+        IsSeenUpTo wrapping.tab_len lines rows visual place }
     ensures near { (wrapping : Wrapping) (lines : List (List ℕ)) (rows : List RowsView)
-        (seen place : Place) →
-        AreRowsOf wrapping lines rows → IsPlaceNear wrapping.tab_len lines rows seen place →
-        IsSeenUpTo wrapping.tab_len lines rows seen place }
+        (visual : VisualPosition) (place : Place) →
+        AreRowsOf wrapping lines rows → IsPlaceNear wrapping.tab_len lines rows visual place →
+        IsSeenUpTo wrapping.tab_len lines rows visual place }
 {}
 
 /// The visual row of a position is less than the number of visual rows of all lines. Its display
 /// column is one at which a cursor can be: at most the row's greatest cursor column.
 pub fn seen_within()
     ensures row { (wrapping : Wrapping) (lines : List (List ℕ)) (rows : List RowsView)
-        (place seen : Place) →
-        AreRowsOf wrapping lines rows → IsVisualPosition wrapping.tab_len lines rows place seen →
-        seen.0 < row_total rows }
+        (place : Place) (visual : VisualPosition) →
+        AreRowsOf wrapping lines rows → IsVisualPosition wrapping.tab_len lines rows place visual →
+        visual.row < row_total rows }
     ensures column { (tab_len : ℕ) (lines : List (List ℕ)) (rows : List RowsView)
-        (place seen : Place) → IsVisualPosition tab_len lines rows place seen →
-        seen.1 ≤ greatest_column tab_len (row_at lines rows seen.0) }
+        (place : Place) (visual : VisualPosition) →
+        IsVisualPosition tab_len lines rows place visual →
+        visual.column ≤ greatest_column tab_len (row_at lines rows visual.row) }
 {}
 
 /// A visual row and a display column lead to only one position.
 pub fn one_place()
     ensures { (tab_len : ℕ) (lines : List (List ℕ)) (rows : List RowsView)
-        (seen place other : Place) →
-        IsPlaceAt tab_len lines rows seen place → IsPlaceAt tab_len lines rows seen other →
+        (visual : VisualPosition) (place other : Place) →
+        IsPlaceAt tab_len lines rows visual place → IsPlaceAt tab_len lines rows visual other →
         place ≡ other }
 {}
 
 /// A position has one visual position. A cursor moves from it to one position up and one down.
 pub fn seen_once()
-    ensures seen { (wrapping : Wrapping) (lines : List (List ℕ)) (rows : List RowsView)
-        (place seen other : Place) →
-        AreRowsOf wrapping lines rows → IsVisualPosition wrapping.tab_len lines rows place seen →
-        IsVisualPosition wrapping.tab_len lines rows place other → seen ≡ other }
+    ensures visual { (wrapping : Wrapping) (lines : List (List ℕ)) (rows : List RowsView)
+        (place : Place) (visual other : VisualPosition) →
+        AreRowsOf wrapping lines rows → IsVisualPosition wrapping.tab_len lines rows place visual →
+        IsVisualPosition wrapping.tab_len lines rows place other → visual ≡ other }
     ensures above { (wrapping : Wrapping) (lines : List (List ℕ)) (rows : List RowsView)
         (place target other : Place) →
         AreRowsOf wrapping lines rows → IsAbove wrapping.tab_len lines rows place target →

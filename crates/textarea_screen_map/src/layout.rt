@@ -19,6 +19,13 @@ pub struct Wrapping {
     pub tab_len: u8,
 }
 
+/// A position in the layout: a visual row, and a display column in it, both from 0.
+#[derive(Clone, Copy, Debug, PartialEq, Eq)]
+pub struct VisualPosition {
+    pub row: usize,
+    pub column: usize,
+}
+
 /// Wraps the lines and appends their rows. Each line adds one to `count`.
 pub fn push_rows(
     alloc: Global,

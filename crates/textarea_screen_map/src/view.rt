@@ -11,6 +11,7 @@ ghost use Rattle.textarea_screen_map.specs.Seen.{IsPlaceNear, IsVisualPosition};
 ghost use Rattle.textarea_screen_map.specs.Shown.{HasFrontOfLine, shown_row};
 ghost use Rattle.textarea_screen_map.specs.Lent.{IsLent, lent_rows};
 
+use crate::layout::VisualPosition;
 use crate::screen_map::{RowText, ScreenMap};
 use std::marker::Model;
 
@@ -81,10 +82,10 @@ impl<'a> LaidOutView<'a> {
     }
 
     /// Returns the visual position of a position: the visual row and the display column.
-    pub fn visual_position(&self, place: (usize, usize)) -> (usize, usize)
+    pub fn visual_position(&self, place: (usize, usize)) -> VisualPosition
         requires { IsPlaceOf self.now.lines place }
-        ensures row { result.0 < row_total self.now.rows }
-        ensures seen { IsVisualPosition self.now.wrapping.tab_len self.now.lines self.now.rows
+        ensures row { result.row < row_total self.now.rows }
+        ensures visual { IsVisualPosition self.now.wrapping.tab_len self.now.lines self.now.rows
             place result }
     {
         self.map.visual_position(self.lines, place)
@@ -102,12 +103,12 @@ impl<'a> LaidOutView<'a> {
 
     /// Returns the position for a cursor in a visual row at a display column, or at the row's
     /// greatest cursor column if that is less. The position is in that visual row.
-    pub fn place_near(&self, seen: (usize, usize)) -> (usize, usize)
-        requires { seen.0 < row_total self.now.rows }
+    pub fn place_near(&self, visual: VisualPosition) -> (usize, usize)
+        requires { visual.row < row_total self.now.rows }
         ensures place { IsPlaceOf self.now.lines result }
         ensures near { IsPlaceNear self.now.wrapping.tab_len self.now.lines self.now.rows
-            seen result }
+            visual result }
     {
-        self.map.place_near(self.lines, seen)
+        self.map.place_near(self.lines, visual)
     }
 }

@@ -6,6 +6,7 @@ use Rattle.textarea_screen_map.specs.Lent.{LentRows}
 use Rattle.textarea_blocks.specs.Sums.{row_total}
 use Rattle.textarea_screen_map.specs.Rows.{greatest_column, row_at}
 use Rattle.textarea_screen_map.specs.Seen.{IsPlaceNear}
+use Rattle.textarea_screen_map.specs.declared.layout.VisualPosition.{VisualPosition}
 use Rattle.textarea_view.specs.Scene.{SceneState}
 use Rattle.textarea_screen.specs.Rect.{contains}
 use Rattle.textarea_screen.specs.declared.screen.rect.Rect.{Rect}
@@ -18,9 +19,9 @@ use Rattle.textarea_view.specs.declared.row_view.RowView.{RowView}
 abbrev pub greatest_at : LentRows → ℕ → ℕ
 greatest_at rows row = greatest_column rows.wrapping.tab_len (row_at rows.lines rows.rows row)
 
--- the position of a cursor that is put to this visual row and display column
-abbrev pub IsNear : LentRows → Place → Place → Type 0
-IsNear rows seen place = IsPlaceNear rows.wrapping.tab_len rows.lines rows.rows seen place
+-- the position of a cursor that is put to this visual position
+abbrev pub IsNear : LentRows → VisualPosition → Place → Type 0
+IsNear rows visual place = IsPlaceNear rows.wrapping.tab_len rows.lines rows.rows visual place
 
 -- ---- hit tests
 
@@ -30,7 +31,7 @@ pub record IsHitInRows (scene : SceneState) (viewport : ViewportState) (inner : 
   pub row_is : hit_row viewport.row inner (row_total scene.rows.rows - 1) x y ≡ Some row
   pub view : RowView
   pub view_is : LiesAs scene viewport inner row view
-  pub near : IsNear scene.rows (row, hit_column view (greatest_at scene.rows row) x) place
+  pub near : IsNear scene.rows (record { row = row; column = hit_column view (greatest_at scene.rows row) x }) place
 
 -- with a placeholder each cell shows the start
 abbrev pub IsHitWith : Bool → FrameState → ViewportState → Rect → ℕ → ℕ → Place → Type 0

@@ -3,6 +3,7 @@ use Rattle.std.specs.Prelude.{◌≡◌, ℕ, Bool, true, false, ◌||◌, ◌==
 use Rattle.textarea_view.specs.Frame.{FrameState, number_width, shows_placeholder}
 use Rattle.textarea_view.specs.declared.look.Look.{Look}
 use Rattle.textarea_screen_map.specs.Seen.{IsVisualPosition}
+use Rattle.textarea_screen_map.specs.declared.layout.VisualPosition.{VisualPosition}
 use Rattle.textarea_paint.specs.declared.paint.row.RowArea.{RowArea}
 use Rattle.textarea_view.specs.SceneDrawn.{IsRowStart}
 use Rattle.textarea_view.specs.Scene.{SceneState}
@@ -11,7 +12,6 @@ use Rattle.textarea_screen.specs.declared.screen.alignment.Alignment.{Alignment}
 use Rattle.textarea_screen.specs.declared.screen.alignment.Alignment.TheVariants.{Left, Center, Right}
 use Rattle.textarea_screen.specs.declared.screen.rect.Position.{Position}
 use Rattle.textarea_screen.specs.declared.screen.rect.Rect.{Rect}
-use Rattle.textarea_text.specs.Place.{Place}
 use Rattle.textarea_view.specs.Caret.{caret_at, left_view, offset_view}
 use Rattle.textarea_view.specs.Shown.{at_start, showing_row, showing_row_and_column}
 use Rattle.textarea_view.specs.Viewport.{ViewportState}
@@ -55,21 +55,21 @@ pub record LiesAs (scene : SceneState) (viewport : ViewportState) (inner : Rect)
 
 -- ---- after it is drawn
 
--- the viewport once the cursor is in view at this visual row and display column: the first row
--- follows the cursor, and so does the first column of unwrapped lines
-abbrev pub viewport_at : WrapMode → ViewportState → Rect → ℕ → Place → ViewportState
-viewport_at wrap.None viewport inner columns seen =
-    showing_row_and_column viewport inner seen.0 seen.1 columns
-viewport_at other viewport inner columns seen = showing_row viewport inner seen.0
+-- the viewport once the cursor is in view at this visual position: the first row follows the cursor,
+-- and so does the first column of unwrapped lines
+abbrev pub viewport_at : WrapMode → ViewportState → Rect → ℕ → VisualPosition → ViewportState
+viewport_at wrap.None viewport inner columns visual =
+    showing_row_and_column viewport inner visual.row visual.column columns
+viewport_at other viewport inner columns visual = showing_row viewport inner visual.row
 
 -- the caret's cell shows the cursor's visual row and display column in the new viewport
 pub record IsPlacedInRows (scene : SceneState) (mode : WrapMode) (viewport : ViewportState) (inner : Rect) (placing : Placing) : Type 0 where
-  pub seen : Place
-  pub seen_is : IsVisualPosition scene.rows.wrapping.tab_len scene.rows.lines scene.rows.rows scene.cursor seen
-  pub viewport_is : placing.viewport ≡ viewport_at mode viewport inner (number_width scene) seen
+  pub visual : VisualPosition
+  pub visual_is : IsVisualPosition scene.rows.wrapping.tab_len scene.rows.lines scene.rows.rows scene.cursor visual
+  pub viewport_is : placing.viewport ≡ viewport_at mode viewport inner (number_width scene) visual
   pub view : RowView
-  pub view_is : LiesAs scene placing.viewport inner seen.0 view
-  pub caret_is : placing.caret ≡ caret_at view seen.0 seen.1
+  pub view_is : LiesAs scene placing.viewport inner visual.row view
+  pub caret_is : placing.caret ≡ caret_at view visual.row visual.column
 
 -- the corner of an area that has a cell
 abbrev pub corner_caret : Rect → Option (ℕ × ℕ)

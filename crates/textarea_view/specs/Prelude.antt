@@ -25,6 +25,7 @@ pub use Rattle.textarea_screen_map.specs.Rows.{VisualRow, column_at}
 unfoldable pub use Rattle.textarea_screen_map.specs.Rows.{row_at, visual_rows}
 pub use Rattle.textarea_screen_map.specs.Seen.{IsInRow, IsVisualPosition}
 pub use Rattle.textarea_screen_map.specs.Shown.{shown_row}
+pub use Rattle.textarea_screen_map.specs.declared.layout.VisualPosition.{VisualPosition}
 pub use Rattle.textarea_screen_map.specs.declared.layout.Wrapping.{Wrapping}
 pub use Rattle.textarea_highlight.specs.Highlights.{Highlights, Range, plain_row, with_base, with_cursor_line, with_number, with_segment}
 pub use Rattle.textarea_highlight.specs.Row.{ShowsRow}

@@ -27,4 +27,4 @@ pub record HasPlaces (scene : SceneState) : Type 0 where
 -- the cursor is in this visual row
 abbrev pub IsSeenIn : SceneState → ℕ → Type 0
 IsSeenIn scene row = (column : ℕ)
-    × IsVisualPosition scene.rows.wrapping.tab_len scene.rows.lines scene.rows.rows scene.cursor (row, column)
+    × IsVisualPosition scene.rows.wrapping.tab_len scene.rows.lines scene.rows.rows scene.cursor (record { row = row; column = column })

@@ -8,6 +8,7 @@ use crate::placing::row_view;
 use crate::scene::Scene;
 use std::alloc::{AllocError, Global};
 use textarea_screen::screen::{Position, Rect};
+use textarea_screen_map::layout::VisualPosition;
 
 impl Frame<'_, '_> {
     /// Returns the position (row, column) that a cell of the inner area shows in this viewport, or
@@ -56,5 +57,5 @@ fn hit_in_row(
 {
     let view = row_view(alloc, scene, viewport, inner, row)?;
     let column = view.hit_column(position, scene.rows.greatest_column(row));
-    Ok(scene.rows.place_near((row, column)))
+    Ok(scene.rows.place_near(VisualPosition { row, column }))
 }

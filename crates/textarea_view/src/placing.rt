@@ -10,6 +10,7 @@ use std::alloc::{AllocError, Global};
 use std::marker::Model;
 use textarea_paint::paint::row::RowArea;
 use textarea_screen::screen::{Alignment, Position, Rect, Style};
+use textarea_screen_map::layout::VisualPosition;
 use textarea_wrap::layout::LayoutMetrics;
 use textarea_wrap::wrap::WrapMode;
 
@@ -65,12 +66,12 @@ fn placing_in_rows(
     requires { HasPlaces scene.now }
     ensures { IfOk result (λ placing. IsPlacedInRows scene.now mode viewport inner placing) }
 {
-    let seen = scene.rows.visual_position(scene.cursor);
-    let viewport = viewport_at(mode, viewport, inner, number_width(scene), seen);
-    let view = row_view(alloc, scene, viewport, inner, seen.0)?;
+    let visual = scene.rows.visual_position(scene.cursor);
+    let viewport = viewport_at(mode, viewport, inner, number_width(scene), visual);
+    let view = row_view(alloc, scene, viewport, inner, visual.row)?;
     Ok(Placing {
         viewport,
-        caret: view.caret(seen.0, seen.1),
+        caret: view.caret(visual.row, visual.column),
     })
 }
 
@@ -131,19 +132,20 @@ fn number_width(scene: &Scene<'_>) -> usize
     LayoutMetrics::new(0, line_count, scene.line_numbers, WrapMode::None).line_number_width()
 }
 
-// Returns the viewport once the cursor is in view at this (visual row, display column).
+// Returns the viewport once the cursor is in view at this visual position.
 fn viewport_at(
     mode: WrapMode,
     viewport: Viewport,
     inner: Rect,
     number_width: usize,
-    seen: (usize, usize),
+    visual: VisualPosition,
 ) -> Viewport
-    ensures { result ≡ viewport_at mode viewport inner number_width seen }
+    ensures { result ≡ viewport_at mode viewport inner number_width visual }
 {
+    let VisualPosition { row, column } = visual;
     match mode {
-        WrapMode::None => viewport.showing_row_and_column(inner, seen.0, seen.1, number_width),
-        _ => viewport.showing_row(inner, seen.0),
+        WrapMode::None => viewport.showing_row_and_column(inner, row, column, number_width),
+        _ => viewport.showing_row(inner, row),
     }
 }
 

@@ -13,6 +13,7 @@ ghost use Rattle.textarea_screen_map.specs.Seen.{IsAbove, IsBelow, IsInFirstRow,
 
 use super::ScreenMap;
 use crate::columns::{character_at_column, greatest_cursor_column};
+use crate::layout::VisualPosition;
 use textarea_text::rows::{byte_offset, column_count};
 use textarea_wrap::wrap::columns::display_column_behind_text;
 
@@ -98,11 +99,11 @@ impl ScreenMap {
     }
 
     /// Returns the visual row and the display column of a position in the map's lines.
-    pub fn visual_position(&self, lines: &[String], place: (usize, usize)) -> (usize, usize)
+    pub fn visual_position(&self, lines: &[String], place: (usize, usize)) -> VisualPosition
         requires rows { AreRowsOf self.now.wrapping (lines_of lines.now) self.now.rows }
         requires place { IsPlaceOf (lines_of lines.now) place }
-        ensures row { result.0 < row_total self.now.rows }
-        ensures seen { IsVisualPosition self.now.wrapping.tab_len (lines_of lines.now)
+        ensures row { result.row < row_total self.now.rows }
+        ensures visual { IsVisualPosition self.now.wrapping.tab_len (lines_of lines.now)
             self.now.rows place result }
     {
         let line = lines[place.0].as_str();
@@ -111,36 +112,40 @@ impl ScreenMap {
         let row = row_holding(ranges, offset);
         let start = ranges[row].0;
         let column = display_column_behind_text(&line[start..offset], 0, self.wrapping.tab_len);
-        (self.first_row(place.0) + row, column)
+        VisualPosition {
+            row: self.first_row(place.0) + row,
+            column,
+        }
     }
 
     /// Returns the position for a visual row and a display column: the first position of the row at
     /// that column, else the character that covers it, else the row's end. If the row isn't its
     /// line's last, its end is in the next row, and columns up to its greatest cursor column lead
     /// into the row.
-    pub fn place_at(&self, lines: &[String], seen: (usize, usize)) -> (usize, usize)
+    pub fn place_at(&self, lines: &[String], visual: VisualPosition) -> (usize, usize)
         requires rows { AreRowsOf self.now.wrapping (lines_of lines.now) self.now.rows }
-        requires row { seen.0 < row_total self.now.rows }
+        requires row { visual.row < row_total self.now.rows }
         ensures place { IsPlaceOf (lines_of lines.now) result }
         ensures found { IsPlaceAt self.now.wrapping.tab_len (lines_of lines.now)
-            self.now.rows seen result }
+            self.now.rows visual result }
     {
-        let shown = self.row_at(lines, seen.0);
-        let index = character_at_column(shown.text, seen.1, self.wrapping.tab_len);
+        let shown = self.row_at(lines, visual.row);
+        let index = character_at_column(shown.text, visual.column, self.wrapping.tab_len);
         (shown.line, column_count(shown.before) + index)
     }
 
     /// Returns the position for a cursor in a visual row at a display column, or at the row's
     /// greatest cursor column if that is less. The position is in that visual row.
-    pub fn place_near(&self, lines: &[String], seen: (usize, usize)) -> (usize, usize)
+    pub fn place_near(&self, lines: &[String], visual: VisualPosition) -> (usize, usize)
         requires rows { AreRowsOf self.now.wrapping (lines_of lines.now) self.now.rows }
-        requires row { seen.0 < row_total self.now.rows }
+        requires row { visual.row < row_total self.now.rows }
         ensures place { IsPlaceOf (lines_of lines.now) result }
         ensures near { IsPlaceNear self.now.wrapping.tab_len (lines_of lines.now)
-            self.now.rows seen result }
+            self.now.rows visual result }
     {
-        let greatest = self.greatest_column(lines, seen.0);
-        self.place_at(lines, (seen.0, seen.1.min(greatest)))
+        let VisualPosition { row, column } = visual;
+        let column = column.min(self.greatest_column(lines, row));
+        self.place_at(lines, VisualPosition { row, column })
     }
 
     /// Returns where a cursor moves one visual row up; `None` in the first visual row.
@@ -153,11 +158,12 @@ impl ScreenMap {
             × IsAbove self.now.wrapping.tab_len (lines_of lines.now) self.now.rows
             place target) }
     {
-        let (row, column) = self.visual_position(lines, place);
-        if row == 0 {
+        let mut visual = self.visual_position(lines, place);
+        if visual.row == 0 {
             return None;
         }
-        Some(self.place_near(lines, (row - 1, column)))
+        visual.row -= 1;
+        Some(self.place_near(lines, visual))
     }
 
     /// Returns where a cursor moves one visual row down; `None` in the last visual row.
@@ -171,10 +177,11 @@ impl ScreenMap {
             place target) }
     {
         let total = self.total;
-        let (row, column) = self.visual_position(lines, place);
-        if row + 1 == total {
+        let mut visual = self.visual_position(lines, place);
+        visual.row += 1;
+        if visual.row == total {
             return None;
         }
-        Some(self.place_near(lines, (row + 1, column)))
+        Some(self.place_near(lines, visual))
     }
 }

@@ -41,7 +41,7 @@ impl<'f, 'a> Frame<'f, 'a> {
             Some((start, end)) => Some((byte_place(lines, start), byte_place(lines, end))),
             None => None,
         };
-        let (cursor_row, _) = scene.rows.visual_position(scene.cursor);
+        let cursor_row = scene.rows.visual_position(scene.cursor).row;
         Frame {
             scene,
             cursor_row,

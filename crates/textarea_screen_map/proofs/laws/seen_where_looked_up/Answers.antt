@@ -2,4 +2,4 @@ use Rattle.textarea_screen_map.proofs.ThereAndBack.{is_place, seen_near, seen_th
 use Rattle.textarea_screen_map.proofs.laws.seen_where_looked_up.Goals as goal
 
 pub returns : goal.returns
-returns c = record { place = is_place; seen = seen_there; near = seen_near }
+returns c = record { place = is_place; visual = seen_there; near = seen_near }

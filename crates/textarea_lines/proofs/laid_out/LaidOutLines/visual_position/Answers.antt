@@ -10,5 +10,5 @@ returns c =
     let held = c.self.invariant.held in (
       c.self.inside.map.rows,
       laid_out_as _ _ _ _ _ _ held c.self.view_is,
-      in_text _ _ _ _ _ _ _ (λ t ls. IsVisualPosition t ls c.self.inside.map.rows c.args.place c.visual_position.result) held c.as_slice.ensures.value c.self.view_is c.visual_position.ensures.seen,
+      in_text _ _ _ _ _ _ _ (λ t ls. IsVisualPosition t ls c.self.inside.map.rows c.args.place c.visual_position.result) held c.as_slice.ensures.value c.self.view_is c.visual_position.ensures.visual,
     )

@@ -9,11 +9,11 @@ use Rattle.textarea_screen_map.proofs.ThereAndBack.{is_place, place_found}
 use Rattle.textarea_screen_map.proofs.screen_map.ScreenMap.place_at.Goals as goal
 use Rattle.textarea_screen_map.proofs.screen_map.ScreenMap.place_at.Goals.{After-column_count}
 
-found : (c : After-column_count) → (c.column_count.result + c.character_at_column-index.result < size_limit) × IsPlaceAt c.args.self.now.wrapping.tab_len (lines_of c.args.lines.now) c.args.self.now.rows c.args.seen (c.row_at-shown.result.line, c.column_count.result + c.character_at_column-index.result)
+found : (c : After-column_count) → (c.column_count.result + c.character_at_column-index.result < size_limit) × IsPlaceAt c.args.self.now.wrapping.tab_len (lines_of c.args.lines.now) c.args.self.now.rows c.args.visual (c.row_at-shown.result.line, c.column_count.result + c.character_at_column-index.result)
 found c =
     let row_is = c.row_at-shown.ensures.shown in
-    let leads = subst (λ (v : MapView). LeadsTo v.wrapping.tab_len (chars c.row_at-shown.result.text.now) c.args.seen.1 c.character_at_column-index.result) c.self.view_is c.character_at_column-index.ensures in
-    place_found _ _ _ c.args.seen _ _ _ _ c.requires.rows c.requires.row (ap (λ (v : VisualRow). v.line) row_is) (c.column_count.ensures ∙ ap (λ (v : VisualRow). v.first) row_is) (ap (λ (v : VisualRow). v.text) row_is) leads
+    let leads = subst (λ (v : MapView). LeadsTo v.wrapping.tab_len (chars c.row_at-shown.result.text.now) c.args.visual.column c.character_at_column-index.result) c.self.view_is c.character_at_column-index.ensures in
+    place_found _ _ _ c.args.visual _ _ _ _ c.requires.rows c.requires.row (ap (λ (v : VisualRow). v.line) row_is) (c.column_count.ensures ∙ ap (λ (v : VisualRow). v.first) row_is) (ap (λ (v : VisualRow). v.text) row_is) leads
 
 pub overflow_add-result : goal.overflow_add-result
 overflow_add-result c = omega (arith, (found (goal.at.overflow_add-result c).After-column_count).0)

@@ -5,4 +5,4 @@ use Rattle.textarea_screen_map.proofs.screen_map.ScreenMap.place_near.Goals as g
 
 pub returns-clause-near : goal.returns-clause-near
 returns-clause-near c =
-    subst (λ (n : ℕ). IsPlaceAt c.args.self.now.wrapping.tab_len (lines_of c.args.lines.now) c.args.self.now.rows (c.args.seen.0, n) c.place_at.result) (c.min.ensures ∙ ap (min c.args.seen.1) c.greatest_column-greatest.ensures) c.place_at.ensures.found
+    subst (λ (n : ℕ). IsPlaceAt c.args.self.now.wrapping.tab_len (lines_of c.args.lines.now) c.args.self.now.rows (record { row = c.args.visual.row; column = n }) c.place_at.result) (c.min-column.ensures ∙ ap (min c.args.visual.column) c.greatest_column.ensures) c.place_at.ensures.found

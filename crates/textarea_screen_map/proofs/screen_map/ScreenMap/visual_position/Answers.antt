@@ -78,11 +78,11 @@ returns c =
     let same = offset_of_line c.index-lines-place.result _ c.args.place.1 offset c.as_str-line.ensures.value c.byte_offset-offset.ensures ∙ ap (λ (t : List ℕ). offset_in t c.args.place.1) (sym (line_at _ _ c.index-lines-place.result (within known) c.index-lines-place.is)) in
     let start = ap (λ (t : List (ℕ × ℕ)). (range_at t row).0) c.rows_of-ranges.ensures in
     let first = (range_at (ranges_at c.args.self.now.rows c.args.place.0) row).0 in
-    let seen = seen_in c.args.self.now.wrapping (lines_of c.args.lines.now) c.args.self.now.rows c.args.place row offset _ _ c.range.result.now c.requires.rows c.requires.place
+    let found = seen_in c.args.self.now.wrapping (lines_of c.args.lines.now) c.args.self.now.rows c.args.place row offset _ _ c.range.result.now c.requires.rows c.requires.place
     (omega (arith, c.row_holding-row.ensures.within, ap length c.rows_of-ranges.ensures))
     (omega (arith, c.row_holding-row.ensures.from, start))
     (λ more. omega (arith, c.row_holding-row.ensures.next (omega (arith, more, ap length c.rows_of-ranges.ensures)), ap (λ (t : List (ℕ × ℕ)). (range_at t (row + 1)).0) c.rows_of-ranges.ensures))
     same (omega (arith, short known, ap length (bytes known))) c.first_row.ensures c.range.utf8
     (read at.After-display_column_behind_text-column ∙ ap (λ (n : ℕ). take (offset - n) (drop n c.as_str-line.result.now)) start ∙ ap (λ (t : List ℕ). take (offset - first) (drop first t)) (bytes known))
     (c.display_column_behind_text-column.ensures.value ∙ ap (λ (v : MapView). display_end_column v.wrapping.tab_len 0 (chars c.range.result.now)) c.self.view_is) in
-    record { row = seen.0; seen = seen.1 }
+    record { row = found.0; visual = found.1 }
