@@ -1,5 +1,5 @@
 use Rattle.tui_textarea.proofs.CaretBack.{hit_back}
-use Rattle.tui_textarea.proofs.laws.caret_is_hit_back.Goals as goal
+use Rattle.tui_textarea.proofs.drawing.laws.caret_is_hit_back.Goals as goal
 
 pub returns : goal.returns
 returns c = hit_back (record {

@@ -1,5 +1,5 @@
 use Rattle.tui_textarea.proofs.CaretShown.{caret_shown}
-use Rattle.tui_textarea.proofs.laws.caret_is_shown.Goals as goal
+use Rattle.tui_textarea.proofs.drawing.laws.caret_is_shown.Goals as goal
 
 pub returns : goal.returns
 returns c = caret_shown (record {
