@@ -10,12 +10,13 @@ ghost use Rattle.textarea_lines.specs.Wrappings.{is_wrapped};
 
 use crate::cases::check_each;
 use crate::lines::Step::*;
-use crate::texts::{Place, is_place, strings};
+use crate::texts::{Place, RowAndColumn, at, is_place, strings};
 use std::alloc::{AllocError, Global};
 use std::test::Fail;
 use textarea_history::edit::{Edit, EditKind};
 use textarea_lines::laid_out::LaidOutLines;
 use textarea_lines::settings::{LayoutSettings, is_wrapped};
+use textarea_screen_map::layout::VisualPosition;
 use textarea_screen_map::view::LaidOutView;
 use textarea_text::given::copy_pieces;
 use textarea_text::rows::column_count;
@@ -34,9 +35,9 @@ enum Step {
     /// The number of visual rows.
     RowCount(usize),
     /// A position, and its visual position.
-    Seen(Place, Place),
+    Visual(Place, RowAndColumn),
     /// The number of visual rows, and the visual position of the text's end.
-    End(usize, Place),
+    End(usize, RowAndColumn),
     /// A position, and where the cursor moves from it: up, and down.
     Moves(Place, Option<Place>, Option<Place>),
     /// The number of visual rows at a width.
@@ -50,7 +51,7 @@ enum Step {
     PutLine(&'static str),
     Break(Place),
     /// A break at the end, and its undo: visual rows and the end's visual position in between.
-    BreakAndTakeBack(usize, Place),
+    BreakAndTakeBack(usize, RowAndColumn),
 }
 
 /// How lines with tab stops each four columns are wrapped: mode, line numbers or not, inner width.
@@ -130,9 +131,9 @@ static CASES: [Case; 10] = [
         &["\ta", "abcdef"],
         WHOLE,
         &[
-            Seen((0, 1), (0, 4)),
+            Visual((0, 1), (0, 4)),
             PutTabLength(2),
-            Seen((0, 1), (0, 2)),
+            Visual((0, 1), (0, 2)),
             Count(1, 2),
         ],
     ),
@@ -187,7 +188,7 @@ fn end_of(laid: &LaidOutLines) -> Place
 }
 
 // The visual position of `place`, if the lines have that position.
-fn seen(laid: &LaidOutLines, place: Place) -> Option<Place> {
+fn visual_of(laid: &LaidOutLines, place: Place) -> Option<VisualPosition> {
     if is_place(laid.lines(), place) {
         Some(laid.visual_position(place))
     } else {
@@ -196,7 +197,7 @@ fn seen(laid: &LaidOutLines, place: Place) -> Option<Place> {
 }
 
 // The number of visual rows, and the visual position of the text's end.
-fn end_seen(laid: &LaidOutLines) -> (usize, Place) {
+fn visual_end(laid: &LaidOutLines) -> (usize, VisualPosition) {
     (laid.row_count(), laid.visual_position(end_of(laid)))
 }
 
@@ -224,8 +225,8 @@ fn laid_out_anew(laid: &LaidOutLines) -> Result<LaidOutLines, AllocError> {
 
 fn is_line_alike(laid: &LaidOutLines, anew: &LaidOutLines, row: usize, end: usize) -> bool {
     for column in 0..=end {
-        let visual = seen(laid, (row, column));
-        if visual == None || visual != seen(anew, (row, column)) {
+        let visual = visual_of(laid, (row, column));
+        if visual == None || visual != visual_of(anew, (row, column)) {
             return false;
         }
     }
@@ -249,26 +250,30 @@ fn is_as_anew(laid: &LaidOutLines) -> Result<bool, AllocError> {
 fn make_and_take_back(
     laid: &mut LaidOutLines,
     edit: &Edit,
-) -> Result<Option<(usize, Place)>, AllocError>
+) -> Result<Option<(usize, VisualPosition)>, AllocError>
     requires well_formed { IsWellFormed edit.now }
     requires fits { Fits laid.old.text edit.now.splice }
 {
     laid.apply(edit.change())?;
-    let end = end_seen(laid);
+    let end = visual_end(laid);
     let was_as_anew = is_as_anew(laid)?;
     laid.apply(edit.inverse())?;
     let is_right = was_as_anew && is_as_anew(laid)?;
     Ok(if is_right { Some(end) } else { None })
 }
 
-fn type_and_take_back(laid: &mut LaidOutLines) -> Result<Option<(usize, Place)>, AllocError> {
+fn type_and_take_back(
+    laid: &mut LaidOutLines,
+) -> Result<Option<(usize, VisualPosition)>, AllocError> {
     let place = end_of(laid);
     let _lines = laid.lines();
     let edit = Edit::between(EditKind::InsertChar('x'), place, (place.0, place.1 + 1));
     make_and_take_back(laid, &edit)
 }
 
-fn break_and_take_back(laid: &mut LaidOutLines) -> Result<Option<(usize, Place)>, AllocError> {
+fn break_and_take_back(
+    laid: &mut LaidOutLines,
+) -> Result<Option<(usize, VisualPosition)>, AllocError> {
     let place = end_of(laid);
     let _lines = laid.lines();
     let edit = Edit::between(EditKind::InsertNewline, place, (place.0 + 1, 0));
@@ -355,8 +360,8 @@ fn leads_there(laid: &mut LaidOutLines, step: Step) -> Result<bool, AllocError> 
         Empty(is_empty) => Ok(laid.is_empty() == is_empty),
         Settings(shape) => Ok(laid.layout_settings() == settings(shape)),
         RowCount(rows) => Ok(laid.row_count() == rows),
-        Seen(place, visual) => Ok(seen(laid, place) == Some(visual)),
-        End(rows, visual) => Ok(end_seen(laid) == (rows, visual)),
+        Visual(place, visual) => Ok(visual_of(laid, place) == Some(at(visual))),
+        End(rows, visual) => Ok(visual_end(laid) == (rows, at(visual))),
         Moves(place, above, below) => {
             Ok(
                 is_place(laid.lines(), place)
@@ -372,7 +377,9 @@ fn leads_there(laid: &mut LaidOutLines, step: Step) -> Result<bool, AllocError> 
             Ok(true)
         }
         Break(place) => breaks(laid, place),
-        BreakAndTakeBack(rows, visual) => Ok(break_and_take_back(laid)? == Some((rows, visual))),
+        BreakAndTakeBack(rows, visual) => {
+            Ok(break_and_take_back(laid)? == Some((rows, at(visual))))
+        }
     }
 }
 
@@ -453,8 +460,8 @@ fn is_lent(view: &LaidOutView<'_>) -> bool {
     (row.line, row.number, row.before, row.is_last) == (0, 1, "abcd", true)
         && view.lines().len() == 2
         && (view.greatest_column(0), view.greatest_column(1)) == (3, 2)
-        && view.visual_position((0, 5)) == (1, 1)
-        && view.place_near((0, 9)) == (0, 3)
+        && view.visual_position((0, 5)) == at((1, 1))
+        && view.place_near(VisualPosition { row: 0, column: 9 }) == (0, 3)
 }
 
 // Whether a view borrows the lines with their visual rows.

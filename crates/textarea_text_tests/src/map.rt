@@ -5,10 +5,10 @@ ghost use Rattle.textarea_screen_map.specs.Layout.{AreRowsOf};
 
 use crate::cases::check_each;
 use crate::map::Fact::*;
-use crate::texts::{Place, is_place, strings};
+use crate::texts::{Place, RowAndColumn, at, is_place, strings};
 use std::alloc::{AllocError, Global};
 use std::test::Fail;
-use textarea_screen_map::layout::Wrapping;
+use textarea_screen_map::layout::{VisualPosition, Wrapping};
 use textarea_screen_map::screen_map::{RowText, ScreenMap};
 use textarea_text::rows::Replacement;
 use textarea_wrap::wrap::{WrapCount, WrapMode};
@@ -32,13 +32,13 @@ enum Fact {
     /// The number of visual rows.
     RowCount(usize),
     /// A position, its visual position, and where the cursor moves from it: up, and down.
-    Moves(Place, Place, Option<Place>, Option<Place>),
+    Moves(Place, RowAndColumn, Option<Place>, Option<Place>),
     /// The width and the greatest cursor column of a visual row.
     Columns(usize, (usize, usize)),
     /// A visual row: line, number there, text before it, its own text, and whether it is the last.
     Row(usize, (usize, usize), (&'static str, &'static str), bool),
     /// The position to which a visual row and a display column lead back.
-    Back(Place, Place),
+    Back(RowAndColumn, Place),
 }
 
 /// Lines, how they are wrapped, and facts of their map.
@@ -177,9 +177,9 @@ fn is_so(map: &ScreenMap, lines: &[String], fact: Fact) -> bool
     let rows = map.row_count();
     match fact {
         RowCount(count) => rows == count,
-        Moves(place, seen, above, below) => {
+        Moves(place, visual, above, below) => {
             is_place(lines, place)
-                && map.visual_position(lines, place) == seen
+                && map.visual_position(lines, place) == at(visual)
                 && map.above(lines, place) == above
                 && map.below(lines, place) == below
         }
@@ -196,7 +196,9 @@ fn is_so(map: &ScreenMap, lines: &[String], fact: Fact) -> bool
             };
             row < rows && is_alike(map.row_at(lines, row), wanted)
         }
-        Back((row, column), place) => row < rows && map.place_at(lines, (row, column)) == place,
+        Back((row, column), place) => {
+            row < rows && map.place_at(lines, VisualPosition { row, column }) == place
+        }
     }
 }
 

@@ -4,10 +4,18 @@ ghost use Rattle.textarea_text.specs.Place.{IsPlaceOf};
 ghost use Rattle.textarea_text.specs.Text.{lines_of};
 
 use std::alloc::{AllocError, Global};
+use textarea_screen_map::layout::VisualPosition;
 use textarea_text::rows::column_count;
 
-/// A line or visual row, and a column in it.
+/// A line, and a column in it.
 pub type Place = (usize, usize);
+
+/// A visual row, and a display column in it, as cases are written.
+pub type RowAndColumn = (usize, usize);
+
+pub fn at((row, column): RowAndColumn) -> VisualPosition {
+    VisualPosition { row, column }
+}
 
 pub fn strings(alloc: Global, texts: &[&str]) -> Result<Vec<String>, AllocError> {
     let mut lines = Vec::new(alloc);

@@ -1,7 +1,7 @@
 -- The hit test of the cell of a caret that is shown returns the cursor.
 use Rattle.std.proofs.Common.{◌≡◌, ℕ, zero, suc, ◌-◌, ◌<◌, ◌≤◌, ◌⊎◌, inl, inr, ◌==◌, ◌||◌, ◌&&◌, min, Bool, true, false, not, List, [], ◌∷◌, Option, None, Some, if◌then◌else◌, ap, ap₂, arith, refl, subst, sym, ◌∙◌}
 use Rattle.std.proofs.lemmas.Bool.Decides.{nat_tests}
-use Rattle.tui_textarea.specs.DrawingPrelude.{is_filled, laid_out_of, with_inner_width, IsHitBack, Parts, frame_of, FrameState, has_lines, number_width, shows_placeholder, IsLastArea, IsHitBy, IsHitInRows, IsHitOf, IsHitWith, IsNear, greatest_at, IsPlaced, IsPlacedInRows, IsPlacedWith, LiesAs, Placing, corner_caret, row_view, IsRendered, at_inner_width, drawn_into, LaidOut, at_width, laid_out_with, LentRows, IsViewOf, LayoutSettings, AreRowsOf, row_total, greatest_column, row_at, HasNoZeroWidth, IsPlaceAt, IsVisualPosition, Wrapping, SceneState, contains, Alignment, Left, Center, Right, Rect, IsPlace, Place, Symbol, caret_at, hit_column, hit_row, left_view, at_start, ViewportState, RowView, RowsView}
+use Rattle.tui_textarea.specs.DrawingPrelude.{is_filled, laid_out_of, with_inner_width, IsHitBack, Parts, frame_of, FrameState, has_lines, number_width, shows_placeholder, IsLastArea, IsHitBy, IsHitInRows, IsHitOf, IsHitWith, IsNear, greatest_at, IsPlaced, IsPlacedInRows, IsPlacedWith, LiesAs, Placing, corner_caret, row_view, IsRendered, at_inner_width, drawn_into, LaidOut, at_width, laid_out_with, LentRows, IsViewOf, LayoutSettings, AreRowsOf, row_total, greatest_column, row_at, HasNoZeroWidth, IsPlaceAt, IsVisualPosition, VisualPosition, Wrapping, SceneState, contains, Alignment, Left, Center, Right, Rect, IsPlace, Place, Symbol, caret_at, hit_column, hit_row, left_view, at_start, ViewportState, RowView, RowsView}
 use Rattle.tui_textarea.proofs.DrawnRows.{IsViewedOnce, lent_right}
 use Rattle.tui_textarea.proofs.OneHit.{BeginsOnce, lies_once, some_same, wanted_at}
 use Rattle.tui_textarea.proofs.Rects.{last_area_once}
@@ -18,13 +18,13 @@ abbrev pub HasCornerCaret : Type 0
 HasCornerCaret = (area : Rect) → 0 < area.width → 0 < area.height → caret_at (left_view (at_start area) area 0) 0 0 ≡ Some (area.x, area.y)
 
 abbrev pub IsSeenInRow : Type 0
-IsSeenInRow = (wrapping : Wrapping) (lines : List (List ℕ)) (rows : List RowsView) (place seen : Place) → AreRowsOf wrapping lines rows → IsVisualPosition wrapping.tab_len lines rows place seen → seen.0 < row_total rows
+IsSeenInRow = (wrapping : Wrapping) (lines : List (List ℕ)) (rows : List RowsView) (place : Place) (visual : VisualPosition) → AreRowsOf wrapping lines rows → IsVisualPosition wrapping.tab_len lines rows place visual → visual.row < row_total rows
 
 abbrev pub IsSeenAtColumn : Type 0
-IsSeenAtColumn = (tab_len : ℕ) (lines : List (List ℕ)) (rows : List RowsView) (place seen : Place) → IsVisualPosition tab_len lines rows place seen → seen.1 ≤ greatest_column tab_len (row_at lines rows seen.0)
+IsSeenAtColumn = (tab_len : ℕ) (lines : List (List ℕ)) (rows : List RowsView) (place : Place) (visual : VisualPosition) → IsVisualPosition tab_len lines rows place visual → visual.column ≤ greatest_column tab_len (row_at lines rows visual.row)
 
 abbrev pub IsFoundAgain : Type 0
-IsFoundAgain = (tab_len : ℕ) (lines : List (List ℕ)) (rows : List RowsView) (place seen found : Place) → IsVisualPosition tab_len lines rows place seen → HasNoZeroWidth (row_at lines rows seen.0).text → IsPlaceAt tab_len lines rows seen found → found ≡ place
+IsFoundAgain = (tab_len : ℕ) (lines : List (List ℕ)) (rows : List RowsView) (place : Place) (visual : VisualPosition) (found : Place) → IsVisualPosition tab_len lines rows place visual → HasNoZeroWidth (row_at lines rows visual.row).text → IsPlaceAt tab_len lines rows visual found → found ≡ place
 
 abbrev pub PutsSettings : Type 0
 PutsSettings = (laid : LaidOut) (settings : LayoutSettings) → (laid_out_with laid settings).layout.settings ≡ settings
@@ -64,39 +64,39 @@ record LeadsBack (b : Bool) (frame : FrameState) (viewport : ViewportState) (inn
   only : (place : Place) → IsHitWith b frame viewport inner x y place → place ≡ frame.scene.cursor
 
 abbrev HasWideRow : SceneState → Type 0
-HasWideRow scene = (seen : Place) → IsVisualPosition scene.rows.wrapping.tab_len scene.rows.lines scene.rows.rows scene.cursor seen → HasNoZeroWidth (row_at scene.rows.lines scene.rows.rows seen.0).text
+HasWideRow scene = (visual : VisualPosition) → IsVisualPosition scene.rows.wrapping.tab_len scene.rows.lines scene.rows.rows scene.cursor visual → HasNoZeroWidth (row_at scene.rows.lines scene.rows.rows visual.row).text
 
 in_rows : (laws : Laws) (frame : FrameState) (viewport : ViewportState) (inner : Rect) (placing : Placing) (x y : ℕ) → AreRowsOf frame.scene.rows.wrapping frame.scene.rows.lines frame.scene.rows.rows → IsPlacedInRows frame.scene frame.mode viewport inner placing → placing.caret ≡ Some (x, y) → HasWideRow frame.scene → LeadsBack false frame placing.viewport inner x y
 in_rows laws frame viewport inner placing x y right h e wide =
     let scene = frame.scene in
     let rows = scene.rows in
     let last = row_total rows.rows - 1 in
-    let lies = lies_in scene placing.viewport inner h.seen.0 h.view h.view_is in
-    let caret : caret_at h.view h.seen.0 h.seen.1 ≡ Some (x, y) = sym h.caret_is ∙ e in
-    let below : h.seen.0 < row_total rows.rows = laws.seen_row rows.wrapping rows.lines rows.rows scene.cursor h.seen right h.seen_is in
-    let hit : hit_row placing.viewport.row inner last x y ≡ Some h.seen.0 =
+    let lies = lies_in scene placing.viewport inner h.visual.row h.view h.view_is in
+    let caret : caret_at h.view h.visual.row h.visual.column ≡ Some (x, y) = sym h.caret_is ∙ e in
+    let below : h.visual.row < row_total rows.rows = laws.seen_row rows.wrapping rows.lines rows.rows scene.cursor h.visual right h.visual_is in
+    let hit : hit_row placing.viewport.row inner last x y ≡ Some h.visual.row =
     ap₂ (λ (top : ℕ) (area : Rect). hit_row top area last x y) (sym lies.0) (sym lies.1)
-    ∙ laws.hits_row h.view h.seen.0 h.seen.1 last x y caret (omega (arith, below)) in
+    ∙ laws.hits_row h.view h.visual.row h.visual.column last x y caret (omega (arith, below)) in
     record {
-      inside = inside_by (contains inner x y) _ h.seen.0 hit;
+      inside = inside_by (contains inner x y) _ h.visual.row hit;
       only = λ place k. only_cursor place k hit;
     }
   where
-    only_cursor : (place : Place) → IsHitInRows frame.scene placing.viewport inner x y place → hit_row placing.viewport.row inner (row_total frame.scene.rows.rows - 1) x y ≡ Some h.seen.0 → place ≡ frame.scene.cursor
+    only_cursor : (place : Place) → IsHitInRows frame.scene placing.viewport inner x y place → hit_row placing.viewport.row inner (row_total frame.scene.rows.rows - 1) x y ≡ Some h.visual.row → place ≡ frame.scene.cursor
     only_cursor place k hit =
         let scene = frame.scene in
         let rows = scene.rows in
-        let lies = lies_in scene placing.viewport inner h.seen.0 h.view h.view_is in
-        let caret : caret_at h.view h.seen.0 h.seen.1 ≡ Some (x, y) = sym h.caret_is ∙ e in
-        let greatest = greatest_at rows h.seen.0 in
-        let reached : h.seen.1 ≤ greatest = laws.seen_column rows.wrapping.tab_len rows.lines rows.rows scene.cursor h.seen h.seen_is in
-        let row : k.row ≡ h.seen.0 = some_same h.seen.0 k.row _ hit k.row_is in
-        let view : k.view ≡ h.view = lies_once laws.begins_once scene placing.viewport inner h.seen.0 k.view h.view (subst (λ (r : ℕ). LiesAs scene placing.viewport inner r k.view) row k.view_is) h.view_is in
-        let column : hit_column h.view greatest x ≡ h.seen.1 = laws.hits_column h.view h.seen.0 h.seen.1 greatest x y lies.2 caret reached in
-        let near : IsNear rows (h.seen.0, h.seen.1) place = subst (λ (wanted : Place). IsNear rows wanted place) (ap₂ (wanted_at rows x) row view ∙ ap (λ (n : ℕ). (h.seen.0, n)) column) k.near in
-        let least : min h.seen.1 greatest ≡ h.seen.1 = omega (arith, reached) in
-        laws.found_again rows.wrapping.tab_len rows.lines rows.rows scene.cursor h.seen place h.seen_is (wide h.seen h.seen_is)
-        (subst (λ (n : ℕ). IsPlaceAt rows.wrapping.tab_len rows.lines rows.rows (h.seen.0, n) place) least near)
+        let lies = lies_in scene placing.viewport inner h.visual.row h.view h.view_is in
+        let caret : caret_at h.view h.visual.row h.visual.column ≡ Some (x, y) = sym h.caret_is ∙ e in
+        let greatest = greatest_at rows h.visual.row in
+        let reached : h.visual.column ≤ greatest = laws.seen_column rows.wrapping.tab_len rows.lines rows.rows scene.cursor h.visual h.visual_is in
+        let row : k.row ≡ h.visual.row = some_same h.visual.row k.row _ hit k.row_is in
+        let view : k.view ≡ h.view = lies_once laws.begins_once scene placing.viewport inner h.visual.row k.view h.view (subst (λ (r : ℕ). LiesAs scene placing.viewport inner r k.view) row k.view_is) h.view_is in
+        let column : hit_column h.view greatest x ≡ h.visual.column = laws.hits_column h.view h.visual.row h.visual.column greatest x y lies.2 caret reached in
+        let near : IsNear rows h.visual place = subst (λ (wanted : VisualPosition). IsNear rows wanted place) (ap₂ (wanted_at rows x) row view ∙ ap (λ (n : ℕ). record { row = h.visual.row; column = n }) column) k.near in
+        let least : min h.visual.column greatest ≡ h.visual.column = omega (arith, reached) in
+        laws.found_again rows.wrapping.tab_len rows.lines rows.rows scene.cursor h.visual place h.visual_is (wide h.visual h.visual_is)
+        (subst (λ (n : ℕ). IsPlaceAt rows.wrapping.tab_len rows.lines rows.rows (record { row = h.visual.row; column = n }) place) least near)
 
 -- ---- a placeholder
 
@@ -162,7 +162,7 @@ made_back laws old inner rows placing view placed place = λ x y found caret wid
     let frame = frame_of new rows in
     let area : k.inner ≡ inner = last_area_once new.document new.drawing k.inner inner k.inner_is (made_area laws.settings_put old inner placing) in
     let same : k.rows ≡ rows = laws.viewed_once (laid_out_of new.document) k.rows rows k.rows_are view in
-    let back = leads_back laws (shows_placeholder frame) frame old.drawing.viewport inner placing x y (cursor_at_start old.document.text old.document.cursor (has_lines old.surround.placeholder.lines) place) (lent_right (laid_out_of new.document) rows view) placed caret (λ seen h. wide rows seen view h) in
+    let back = leads_back laws (shows_placeholder frame) frame old.drawing.viewport inner placing x y (cursor_at_start old.document.text old.document.cursor (has_lines old.surround.placeholder.lines) place) (lent_right (laid_out_of new.document) rows view) placed caret (λ visual h. wide rows visual view h) in
     found_back frame placing.viewport inner x y found back
     (subst (λ (r : LentRows). IsHitOf (frame_of new r) placing.viewport inner x y found) same
     (subst (λ (a : Rect). IsHitOf (frame_of new k.rows) placing.viewport a x y found) area k.found_is))

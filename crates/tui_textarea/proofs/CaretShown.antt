@@ -1,7 +1,7 @@
 -- The caret is shown if the inner area has room for it.
 use Rattle.std.proofs.Common.{◌≡◌, ◌≢◌, ℕ, ◌+◌, ◌-◌, ◌*◌, ◌^◌, ◌<◌, ◌≤◌, ◌==◌, ◌||◌, max, Bool, true, false, List, [], ◌∷◌, None, Some, IsSome, rules, if◌then◌else◌, length, refl, ap, ap₂, arith, subst, sym, ◌∙◌}
 use Rattle.std.proofs.lemmas.Bool.Decides.{nat_tests}
-use Rattle.tui_textarea.specs.DrawingPrelude.{size_limit, laid_out_of, with_inner_width, DocumentState, Parts, frame_of, scene_of, number_width, shows_placeholder, IsPlaced, IsPlacedInRows, IsPlacedWith, Placing, row_view, viewport_at, IsRendered, at_inner_width, HasRoomForCaret, HasWidthForCaret, HasWidthForRows, IsCaretShown, number_columns, at_width, wrapping_of, LentRows, IsViewOf, is_wrapped, wrapping_for, LayoutSettings, AreRowsOf, row_total, size_total, greatest_column, row_at, Wrapping, Alignment, Left, Rect, Place, weight, Symbol, Break, Character, following, joined, lines, on_first, caret_at, left_view, showing_row, showing_row_and_column, ViewportState, RowView, HaveFittingClusters, line_number_columns, RowsView, WrapMode}
+use Rattle.tui_textarea.specs.DrawingPrelude.{size_limit, laid_out_of, with_inner_width, DocumentState, Parts, frame_of, scene_of, number_width, shows_placeholder, IsPlaced, IsPlacedInRows, IsPlacedWith, Placing, row_view, VisualPosition, viewport_at, IsRendered, at_inner_width, HasRoomForCaret, HasWidthForCaret, HasWidthForRows, IsCaretShown, number_columns, at_width, wrapping_of, LentRows, IsViewOf, is_wrapped, wrapping_for, LayoutSettings, AreRowsOf, row_total, size_total, greatest_column, row_at, Wrapping, Alignment, Left, Rect, weight, Symbol, Break, Character, following, joined, lines, on_first, caret_at, left_view, showing_row, showing_row_and_column, ViewportState, RowView, HaveFittingClusters, line_number_columns, RowsView, WrapMode}
 use Rattle.tui_textarea.proofs.CaretBack.{IsSeenAtColumn, IsSeenInRow, PutsSettings, made, made_area}
 use Rattle.tui_textarea.proofs.DrawnRows.{lent_right}
 use Rattle.tui_textarea.proofs.Rects.{last_area_once}
@@ -97,11 +97,11 @@ some_width wrap.WordOrGlyph document width h = omega (arith, h.columns)
 
 -- ---- a row
 
-shown_in : (laws : Laws) (m : WrapMode) (viewport : ViewportState) (inner : Rect) (columns : ℕ) (seen : Place) → 0 < inner.height → seen.0 < 2 ^ 64 → (m ≡ wrap.None → 2 * columns < inner.width) → (m ≡ wrap.None → seen.1 + columns < 2 ^ 64) → (m ≢ wrap.None → seen.1 + columns < inner.width) → IsSome (caret_at (left_view (viewport_at m viewport inner columns seen) inner columns) seen.0 seen.1)
-shown_in laws wrap.None viewport inner columns seen high few wide small beside = laws.shown viewport inner seen.0 seen.1 columns high (wide refl) few (small refl)
-shown_in laws wrap.Word viewport inner columns seen high few wide small beside = laws.wrapped_shown viewport inner seen.0 seen.1 columns high (beside (λ e. cc)) few
-shown_in laws wrap.Glyph viewport inner columns seen high few wide small beside = laws.wrapped_shown viewport inner seen.0 seen.1 columns high (beside (λ e. cc)) few
-shown_in laws wrap.WordOrGlyph viewport inner columns seen high few wide small beside = laws.wrapped_shown viewport inner seen.0 seen.1 columns high (beside (λ e. cc)) few
+shown_in : (laws : Laws) (m : WrapMode) (viewport : ViewportState) (inner : Rect) (columns : ℕ) (visual : VisualPosition) → 0 < inner.height → visual.row < 2 ^ 64 → (m ≡ wrap.None → 2 * columns < inner.width) → (m ≡ wrap.None → visual.column + columns < 2 ^ 64) → (m ≢ wrap.None → visual.column + columns < inner.width) → IsSome (caret_at (left_view (viewport_at m viewport inner columns visual) inner columns) visual.row visual.column)
+shown_in laws wrap.None viewport inner columns visual high few wide small beside = laws.shown viewport inner visual.row visual.column columns high (wide refl) few (small refl)
+shown_in laws wrap.Word viewport inner columns visual high few wide small beside = laws.wrapped_shown viewport inner visual.row visual.column columns high (beside (λ e. cc)) few
+shown_in laws wrap.Glyph viewport inner columns visual high few wide small beside = laws.wrapped_shown viewport inner visual.row visual.column columns high (beside (λ e. cc)) few
+shown_in laws wrap.WordOrGlyph viewport inner columns visual high few wide small beside = laws.wrapped_shown viewport inner visual.row visual.column columns high (beside (λ e. cc)) few
 
 left_row : (alignment : Alignment) (viewport : ViewportState) (inner : Rect) (start columns : ℕ) → alignment ≡ Left → row_view alignment viewport inner start columns ≡ left_view viewport inner columns
 left_row alignment viewport inner start columns e = ap (λ (a : Alignment). row_view a viewport inner start columns) e
@@ -147,18 +147,18 @@ module _ (laws : Laws) (new : Parts) (rows : LentRows) (view : IsViewOf (laid_ou
     in_rows h =
         let columns = number_width (scene_of new rows) in
         let same : columns ≡ number_columns new.document = ap (λ (l : List (List ℕ)). line_number_columns settings.line_numbers (length l)) view.lines in
-        let below : h.seen.0 < row_total rows.rows = laws.seen_row rows.wrapping rows.lines rows.rows new.document.cursor h.seen right h.seen_is in
-        let reached = laws.seen_column rows.wrapping.tab_len rows.lines rows.rows new.document.cursor h.seen h.seen_is in
+        let below : h.visual.row < row_total rows.rows = laws.seen_row rows.wrapping rows.lines rows.rows new.document.cursor h.visual right h.visual_is in
+        let reached = laws.seen_column rows.wrapping.tab_len rows.lines rows.rows new.document.cursor h.visual h.visual_is in
         let wide : settings.mode ≡ wrap.None → 2 * columns < inner.width = λ e. omega (arith, none_width settings.mode new.document inner.width room.columns e, same) in
-        let small : settings.mode ≡ wrap.None → h.seen.1 + columns < 2 ^ 64 = λ e. omega (arith, wide e, inner.right, reached, few_in_row tabs h.seen.0 below) in
-        let beside : settings.mode ≢ wrap.None → h.seen.1 + columns < inner.width =
+        let small : settings.mode ≡ wrap.None → h.visual.column + columns < 2 ^ 64 = λ e. omega (arith, wide e, inner.right, reached, few_in_row tabs h.visual.row below) in
+        let beside : settings.mode ≢ wrap.None → h.visual.column + columns < inner.width =
         λ wraps.
         let held : HasWidthForRows new.document settings.inner_width = subst (HasWidthForRows new.document) (sym width) (rows_width settings.mode new.document inner.width room.columns wraps) in
-        omega (arith, same, width, reached, within_row wraps held h.seen.0 below) in
-        let lies : h.view ≡ left_view (viewport_at settings.mode viewport inner columns h.seen) inner columns =
+        omega (arith, same, width, reached, within_row wraps held h.visual.row below) in
+        let lies : h.view ≡ left_view (viewport_at settings.mode viewport inner columns h.visual) inner columns =
         h.view_is.view_is ∙ left_row new.drawing.look.alignment placing.viewport inner h.view_is.start columns room.left ∙ ap (λ (v : ViewportState). left_view v inner columns) h.viewport_is in
-        subst IsSome (sym (h.caret_is ∙ ap (λ (v : RowView). caret_at v h.seen.0 h.seen.1) lies))
-        (shown_in laws settings.mode viewport inner columns h.seen room.row (few limit h.seen.0 below) wide small beside)
+        subst IsSome (sym (h.caret_is ∙ ap (λ (v : RowView). caret_at v h.visual.row h.visual.column) lies))
+        (shown_in laws settings.mode viewport inner columns h.visual room.row (few limit h.visual.row below) wide small beside)
 
     placed : (b : Bool) → IsPlacedWith b (frame_of new rows) viewport inner placing → IsSome placing.caret
     placed true h = subst IsSome (sym (ap (λ (p : Placing). p.caret) h)) (corner_some inner.width inner.height (inner.x, inner.y) (some_width settings.mode new.document inner.width room.columns) room.row)

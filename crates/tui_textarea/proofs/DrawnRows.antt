@@ -1,6 +1,6 @@
 -- Facts determined by a view of the rows.
 use Rattle.std.proofs.Common.{◌≡◌, ℕ, List, sym, subst}
-use Rattle.tui_textarea.specs.DrawingPrelude.{IsNear, LaidOut, wrapping_of, LentRows, IsViewOf, AreRowsOf, IsPlaceAt, IsVisualPosition, Wrapping, Place, RowsView}
+use Rattle.tui_textarea.specs.DrawingPrelude.{IsNear, LaidOut, wrapping_of, LentRows, IsViewOf, AreRowsOf, IsPlaceAt, IsVisualPosition, VisualPosition, Wrapping, Place, RowsView}
 
 -- a text with its layout has one view
 abbrev pub IsViewedOnce : Type 0
@@ -8,11 +8,11 @@ IsViewedOnce = (laid : LaidOut) (view other : LentRows) → IsViewOf laid view �
 
 -- a position has one visual row and display column
 abbrev pub IsSeenOnce : Type 0
-IsSeenOnce = (wrapping : Wrapping) (lines : List (List ℕ)) (rows : List RowsView) (place seen other : Place) → AreRowsOf wrapping lines rows → IsVisualPosition wrapping.tab_len lines rows place seen → IsVisualPosition wrapping.tab_len lines rows place other → seen ≡ other
+IsSeenOnce = (wrapping : Wrapping) (lines : List (List ℕ)) (rows : List RowsView) (place : Place) (visual other : VisualPosition) → AreRowsOf wrapping lines rows → IsVisualPosition wrapping.tab_len lines rows place visual → IsVisualPosition wrapping.tab_len lines rows place other → visual ≡ other
 
 -- a visual row and a display column have one position
 abbrev pub IsPlacedOnce : Type 0
-IsPlacedOnce = (tab_len : ℕ) (lines : List (List ℕ)) (rows : List RowsView) (seen place other : Place) → IsPlaceAt tab_len lines rows seen place → IsPlaceAt tab_len lines rows seen other → place ≡ other
+IsPlacedOnce = (tab_len : ℕ) (lines : List (List ℕ)) (rows : List RowsView) (visual : VisualPosition) (place other : Place) → IsPlaceAt tab_len lines rows visual place → IsPlaceAt tab_len lines rows visual other → place ≡ other
 
 -- the rows of a view are correct rows of the lines, for its wrapping
 pub lent_right : (laid : LaidOut) (rows : LentRows) → IsViewOf laid rows → AreRowsOf rows.wrapping rows.lines rows.rows
@@ -21,8 +21,8 @@ lent_right laid rows h =
     (subst (λ (l : List (List ℕ)). AreRowsOf (wrapping_of laid) l rows.rows) (sym h.lines) h.rows.laid_out)
 
 -- the cursor's visual position in the rows of a view
-pub seen_in : (once : IsSeenOnce) (laid : LaidOut) (rows : LentRows) (place seen other : Place) → IsViewOf laid rows → IsVisualPosition rows.wrapping.tab_len rows.lines rows.rows place seen → IsVisualPosition rows.wrapping.tab_len rows.lines rows.rows place other → seen ≡ other
-seen_in once laid rows place seen other h = once rows.wrapping rows.lines rows.rows place seen other (lent_right laid rows h)
+pub seen_in : (once : IsSeenOnce) (laid : LaidOut) (rows : LentRows) (place : Place) (visual other : VisualPosition) → IsViewOf laid rows → IsVisualPosition rows.wrapping.tab_len rows.lines rows.rows place visual → IsVisualPosition rows.wrapping.tab_len rows.lines rows.rows place other → visual ≡ other
+seen_in once laid rows place visual other h = once rows.wrapping rows.lines rows.rows place visual other (lent_right laid rows h)
 
-pub near_once : (once : IsPlacedOnce) (rows : LentRows) (wanted place other : Place) → IsNear rows wanted place → IsNear rows wanted other → place ≡ other
+pub near_once : (once : IsPlacedOnce) (rows : LentRows) (wanted : VisualPosition) (place other : Place) → IsNear rows wanted place → IsNear rows wanted other → place ≡ other
 near_once once rows wanted place other = once rows.wrapping.tab_len rows.lines rows.rows _ place other

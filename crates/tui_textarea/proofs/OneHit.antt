@@ -1,6 +1,6 @@
 -- A cell shows at most one position.
 use Rattle.std.proofs.Common.{◌≡◌, ℕ, Bool, true, false, Option, Some, sym, subst, ap, ap₂, ◌∙◌}
-use Rattle.tui_textarea.specs.DrawingPrelude.{is_some, laid_out_of, Parts, frame_of, FrameState, number_width, shows_placeholder, IsHit, IsLastArea, IsHitBy, IsHitInRows, IsHitOf, IsHitWith, IsNear, greatest_at, IsStart, LiesAs, row_area, row_view, LentRows, RowArea, IsRowStart, SceneState, contains, Alignment, Left, Center, Right, Rect, Place, hit_column, ViewportState, RowView}
+use Rattle.tui_textarea.specs.DrawingPrelude.{is_some, laid_out_of, Parts, frame_of, FrameState, number_width, shows_placeholder, IsHit, IsLastArea, IsHitBy, IsHitInRows, IsHitOf, IsHitWith, IsNear, VisualPosition, greatest_at, IsStart, LiesAs, row_area, row_view, LentRows, RowArea, IsRowStart, SceneState, contains, Alignment, Left, Center, Right, Rect, Place, hit_column, ViewportState, RowView}
 use Rattle.tui_textarea.proofs.DrawnRows.{IsPlacedOnce, IsViewedOnce, near_once}
 use Rattle.tui_textarea.proofs.Rects.{last_area_once}
 
@@ -26,15 +26,15 @@ lies_once begins_once scene viewport inner row view other h k =
 pub some_same : (row other : ℕ) (found : Option ℕ) → found ≡ Some row → found ≡ Some other → other ≡ row
 some_same row other found e f = cc (e, f)
 
-abbrev pub wanted_at : LentRows → ℕ → ℕ → RowView → Place
-wanted_at rows x row view = (row, hit_column view (greatest_at rows row) x)
+abbrev pub wanted_at : LentRows → ℕ → ℕ → RowView → VisualPosition
+wanted_at rows x row view = record { row = row; column = hit_column view (greatest_at rows row) x }
 
 in_rows_once : (placed_once : IsPlacedOnce) (begins_once : BeginsOnce) (scene : SceneState) (viewport : ViewportState) (inner : Rect) (x y : ℕ) (place other : Place) → IsHitInRows scene viewport inner x y place → IsHitInRows scene viewport inner x y other → place ≡ other
 in_rows_once placed_once begins_once scene viewport inner x y place other h k =
     let row : k.row ≡ h.row = some_same h.row k.row _ h.row_is k.row_is in
     let view : k.view ≡ h.view = lies_once begins_once scene viewport inner h.row k.view h.view (subst (λ (r : ℕ). LiesAs scene viewport inner r k.view) row k.view_is) h.view_is in
     near_once placed_once scene.rows (wanted_at scene.rows x h.row h.view) place other h.near
-    (subst (λ (wanted : Place). IsNear scene.rows wanted other) (ap₂ (wanted_at scene.rows x) row view) k.near)
+    (subst (λ (wanted : VisualPosition). IsNear scene.rows wanted other) (ap₂ (wanted_at scene.rows x) row view) k.near)
 
 hit_with_once : (placed_once : IsPlacedOnce) (begins_once : BeginsOnce) (b : Bool) (frame : FrameState) (viewport : ViewportState) (inner : Rect) (x y : ℕ) (place other : Place) → IsHitWith b frame viewport inner x y place → IsHitWith b frame viewport inner x y other → place ≡ other
 hit_with_once placed_once begins_once true frame viewport inner x y place other h k = h ∙ sym k

@@ -1,36 +1,39 @@
 -- The nearest visible position is unique.
 use Rattle.std.proofs.Common.{◌≡◌, ℕ, ◌-◌, Bool, true, false, sym, subst, ap, ap₂, ◌∙◌}
-use Rattle.tui_textarea.specs.DrawingPrelude.{laid_out_of, DocumentState, IsInside, IsReached, greatest_at, LaidOut, LentRows, IsViewOf, row_total, IsVisualPosition, Place, is_same_place, ViewportState, clamped}
+use Rattle.tui_textarea.specs.DrawingPrelude.{laid_out_of, DocumentState, IsInside, IsReached, greatest_at, LaidOut, LentRows, IsViewOf, row_total, IsVisualPosition, VisualPosition, Place, is_same_visual, ViewportState, clamped}
 use Rattle.tui_textarea.proofs.DrawnRows.{IsPlacedOnce, IsSeenOnce, IsViewedOnce, near_once, seen_in}
 
-reached_once : (once : IsPlacedOnce) (b : Bool) (rows : LentRows) (wanted cursor place other : Place) → IsReached b rows wanted cursor place → IsReached b rows wanted cursor other → place ≡ other
+reached_once : (once : IsPlacedOnce) (b : Bool) (rows : LentRows) (wanted : VisualPosition) (cursor place other : Place) → IsReached b rows wanted cursor place → IsReached b rows wanted cursor other → place ≡ other
 reached_once once true rows wanted cursor place other e f = e ∙ sym f
 reached_once once false rows wanted cursor place other h k = near_once once rows wanted place other h k
 
 -- the row and column that the cursor moves to, from this visual position in these rows
-abbrev row_to : LentRows → ViewportState → Place → ℕ
-row_to rows viewport seen = clamped viewport.row viewport.height (row_total rows.rows - 1) seen.0
+abbrev row_to : LentRows → ViewportState → VisualPosition → ℕ
+row_to rows viewport visual = clamped viewport.row viewport.height (row_total rows.rows - 1) visual.row
 
-abbrev column_to : LentRows → ViewportState → Place → ℕ
-column_to rows viewport seen = clamped viewport.column viewport.width (greatest_at rows (row_to rows viewport seen)) seen.1
+abbrev column_to : LentRows → ViewportState → VisualPosition → ℕ
+column_to rows viewport visual = clamped viewport.column viewport.width (greatest_at rows (row_to rows viewport visual)) visual.column
+
+abbrev nearest : LentRows → ViewportState → VisualPosition → VisualPosition
+nearest rows viewport visual = record { row = row_to rows viewport visual; column = column_to rows viewport visual }
 
 -- the position that the cursor moves to in these rows
 abbrev GoesTo : LentRows → ViewportState → Place → Place → Type 0
-GoesTo rows viewport cursor place = (seen : Place) × IsVisualPosition rows.wrapping.tab_len rows.lines rows.rows cursor seen
-    × IsReached (is_same_place (row_to rows viewport seen, column_to rows viewport seen) seen) rows (row_to rows viewport seen, column_to rows viewport seen) cursor place
+GoesTo rows viewport cursor place = (visual : VisualPosition) × IsVisualPosition rows.wrapping.tab_len rows.lines rows.rows cursor visual
+    × IsReached (is_same_visual (nearest rows viewport visual) visual) rows (nearest rows viewport visual) cursor place
 
 goes_to : (document : DocumentState) (viewport : ViewportState) (place : Place) (h : IsInside document viewport place) → GoesTo h.rows viewport document.cursor place
 goes_to document viewport place h =
-    let same : (h.row, h.column) ≡ (row_to h.rows viewport h.seen, column_to h.rows viewport h.seen) =
-    ap₂ (λ (r c : ℕ). (r, c)) h.row_is (h.column_is ∙ ap (λ (r : ℕ). clamped viewport.column viewport.width (greatest_at h.rows r) h.seen.1) h.row_is) in
-    (h.seen, h.seen_is, subst (λ (p : Place). IsReached (is_same_place p h.seen) h.rows p document.cursor place) same h.place_is)
+    let same : record { row = h.row; column = h.column } ≡ nearest h.rows viewport h.visual =
+    ap₂ (λ (r c : ℕ). record { row = r; column = c }) h.row_is (h.column_is ∙ ap (λ (r : ℕ). clamped viewport.column viewport.width (greatest_at h.rows r) h.visual.column) h.row_is) in
+    (h.visual, h.visual_is, subst (λ (p : VisualPosition). IsReached (is_same_visual p h.visual) h.rows p document.cursor place) same h.place_is)
 
 goes_once : (seen_once : IsSeenOnce) (placed_once : IsPlacedOnce) (laid : LaidOut) (rows : LentRows) (viewport : ViewportState) (cursor place other : Place) → IsViewOf laid rows → GoesTo rows viewport cursor place → GoesTo rows viewport cursor other → place ≡ other
 goes_once seen_once placed_once laid rows viewport cursor place other lent h k =
     let same = seen_in seen_once laid rows cursor k.0 h.0 lent k.1 h.1 in
-    let wanted : Place = (row_to rows viewport h.0, column_to rows viewport h.0) in
-    reached_once placed_once (is_same_place wanted h.0) rows wanted cursor place other h.2
-    (subst (λ (s : Place). IsReached (is_same_place (row_to rows viewport s, column_to rows viewport s) s) rows (row_to rows viewport s, column_to rows viewport s) cursor other) same k.2)
+    let wanted = nearest rows viewport h.0 in
+    reached_once placed_once (is_same_visual wanted h.0) rows wanted cursor place other h.2
+    (subst (λ (s : VisualPosition). IsReached (is_same_visual (nearest rows viewport s) s) rows (nearest rows viewport s) cursor other) same k.2)
 
 pub inside_once : (viewed_once : IsViewedOnce) (seen_once : IsSeenOnce) (placed_once : IsPlacedOnce) (document : DocumentState) (viewport : ViewportState) (place other : Place) → IsInside document viewport place → IsInside document viewport other → place ≡ other
 inside_once viewed_once seen_once placed_once document viewport place other h k =

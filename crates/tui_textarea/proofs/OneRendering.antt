@@ -1,6 +1,6 @@
 -- A drawing leads to one state.
 use Rattle.std.proofs.Common.{◌≡◌, ℕ, Bool, true, false, Option, sym, subst, ap, ap₂, ◌∙◌}
-use Rattle.tui_textarea.specs.DrawingPrelude.{laid_out_of, with_inner_width, Parts, frame_of, FrameState, number_width, shows_placeholder, IsPlaced, IsPlacedInRows, IsPlacedWith, LiesAs, Placing, viewport_at, IsRendered, at_inner_width, drawn_into, LentRows, IsViewOf, AreRowsOf, SceneState, Rect, Place, caret_at, ViewportState, RowView, WrapMode}
+use Rattle.tui_textarea.specs.DrawingPrelude.{laid_out_of, with_inner_width, Parts, frame_of, FrameState, number_width, shows_placeholder, IsPlaced, IsPlacedInRows, IsPlacedWith, LiesAs, Placing, viewport_at, IsRendered, at_inner_width, drawn_into, LentRows, IsViewOf, AreRowsOf, SceneState, Rect, VisualPosition, caret_at, ViewportState, RowView, WrapMode}
 use Rattle.tui_textarea.proofs.DrawnRows.{IsSeenOnce, IsViewedOnce, lent_right}
 use Rattle.tui_textarea.proofs.OneHit.{BeginsOnce, lies_once}
 use Rattle.tui_textarea.proofs.Rects.{inner_once}
@@ -11,13 +11,13 @@ HasRightRows scene = AreRowsOf scene.rows.wrapping scene.rows.lines scene.rows.r
 
 in_rows_once : (seen_once : IsSeenOnce) (begins_once : BeginsOnce) (scene : SceneState) (mode : WrapMode) (viewport : ViewportState) (inner : Rect) (placing other : Placing) → HasRightRows scene → IsPlacedInRows scene mode viewport inner placing → IsPlacedInRows scene mode viewport inner other → placing ≡ other
 in_rows_once seen_once begins_once scene mode viewport inner placing other right h k =
-    let seen : h.seen ≡ k.seen = seen_once scene.rows.wrapping scene.rows.lines scene.rows.rows scene.cursor h.seen k.seen right h.seen_is k.seen_is in
-    let shown : placing.viewport ≡ other.viewport = h.viewport_is ∙ ap (viewport_at mode viewport inner (number_width scene)) seen ∙ sym k.viewport_is in
+    let visual : h.visual ≡ k.visual = seen_once scene.rows.wrapping scene.rows.lines scene.rows.rows scene.cursor h.visual k.visual right h.visual_is k.visual_is in
+    let shown : placing.viewport ≡ other.viewport = h.viewport_is ∙ ap (viewport_at mode viewport inner (number_width scene)) visual ∙ sym k.viewport_is in
     let view : h.view ≡ k.view =
-    lies_once begins_once scene other.viewport inner k.seen.0 h.view k.view
-    (subst (λ (s : Place). LiesAs scene other.viewport inner s.0 h.view) seen
-    (subst (λ (v : ViewportState). LiesAs scene v inner h.seen.0 h.view) shown h.view_is)) k.view_is in
-    let caret : placing.caret ≡ other.caret = h.caret_is ∙ ap₂ (λ (v : RowView) (s : Place). caret_at v s.0 s.1) view seen ∙ sym k.caret_is in
+    lies_once begins_once scene other.viewport inner k.visual.row h.view k.view
+    (subst (λ (p : VisualPosition). LiesAs scene other.viewport inner p.row h.view) visual
+    (subst (λ (v : ViewportState). LiesAs scene v inner h.visual.row h.view) shown h.view_is)) k.view_is in
+    let caret : placing.caret ≡ other.caret = h.caret_is ∙ ap₂ (λ (v : RowView) (p : VisualPosition). caret_at v p.row p.column) view visual ∙ sym k.caret_is in
     ap₂ (λ (v : ViewportState) (c : Option (ℕ × ℕ)). record { viewport = v; caret = c }) shown caret
 
 placed_with_once : (seen_once : IsSeenOnce) (begins_once : BeginsOnce) (b : Bool) (frame : FrameState) (viewport : ViewportState) (inner : Rect) (placing other : Placing) → HasRightRows frame.scene → IsPlacedWith b frame viewport inner placing → IsPlacedWith b frame viewport inner other → placing ≡ other

@@ -8,14 +8,15 @@ use Rattle.textarea_screen_map.specs.Lent.{LentRows}
 use Rattle.textarea_lines.specs.View.{IsViewOf}
 use Rattle.textarea_screen_map.specs.Rows.{row_at}
 use Rattle.textarea_screen_map.specs.Seen.{HasNoZeroWidth, IsVisualPosition}
+use Rattle.textarea_screen_map.specs.declared.layout.VisualPosition.{VisualPosition}
 use Rattle.textarea_screen.specs.declared.screen.rect.Rect.{Rect}
 use Rattle.textarea_text.specs.Place.{Place}
 
 -- no character of the cursor's visual row has display width 0
 abbrev pub HasWideCursorRow : Parts → Type 0
-HasWideCursorRow parts = (rows : LentRows) (seen : Place) → IsViewOf (laid_out_of parts.document) rows
-    → IsVisualPosition rows.wrapping.tab_len rows.lines rows.rows parts.document.cursor seen
-    → HasNoZeroWidth (row_at rows.lines rows.rows seen.0).text
+HasWideCursorRow parts = (rows : LentRows) (visual : VisualPosition) → IsViewOf (laid_out_of parts.document) rows
+    → IsVisualPosition rows.wrapping.tab_len rows.lines rows.rows parts.document.cursor visual
+    → HasNoZeroWidth (row_at rows.lines rows.rows visual.row).text
 
 -- the caret's cell shows the cursor, if no character of its visual row has display width 0
 abbrev pub IsHitBack : Parts → Type 0

@@ -2,7 +2,7 @@
 pub use Rattle.std.specs.Option.{is_some, option_map}
 pub use Rattle.std.specs.Result.{IfOk}
 pub use Rattle.textarea_util.specs.Limit.{size_limit}
-pub use Rattle.textarea_text.specs.Place.{IsPlace, Place, is_same_place}
+pub use Rattle.textarea_text.specs.Place.{IsPlace, Place}
 pub use Rattle.textarea_text.specs.Size.{weight}
 pub use Rattle.textarea_text.specs.Text.{Break, Character, Symbol, following, joined, lines, on_first}
 pub use Rattle.textarea_screen.specs.Block.{ShownBlock}
@@ -23,7 +23,8 @@ pub use Rattle.textarea_screen_map.specs.Layout.{AreRowsOf}
 pub use Rattle.textarea_screen_map.specs.Lent.{LentRows}
 pub use Rattle.textarea_screen_map.specs.Rows.{greatest_column}
 unfoldable pub use Rattle.textarea_screen_map.specs.Rows.{row_at}
-pub use Rattle.textarea_screen_map.specs.Seen.{HasNoZeroWidth, IsPlaceAt, IsVisualPosition}
+pub use Rattle.textarea_screen_map.specs.Seen.{HasNoZeroWidth, IsPlaceAt, IsVisualPosition, is_same_visual}
+pub use Rattle.textarea_screen_map.specs.declared.layout.VisualPosition.{VisualPosition}
 pub use Rattle.textarea_screen_map.specs.declared.layout.Wrapping.{Wrapping}
 pub use Rattle.textarea_lines.specs.Layout.{LaidOut, Layout, at_width, laid_out_anew, laid_out_with, stays_cut, wrapping_of}
 pub use Rattle.textarea_lines.specs.View.{IsPrepared, IsViewOf}

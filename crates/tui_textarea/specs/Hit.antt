@@ -8,9 +8,10 @@ use Rattle.textarea_view.specs.Hit.{IsHitOf, IsNear, greatest_at}
 use Rattle.textarea_screen_map.specs.Lent.{LentRows}
 use Rattle.textarea_lines.specs.View.{IsViewOf}
 use Rattle.textarea_blocks.specs.Sums.{row_total}
-use Rattle.textarea_screen_map.specs.Seen.{IsVisualPosition}
+use Rattle.textarea_screen_map.specs.Seen.{IsVisualPosition, is_same_visual}
+use Rattle.textarea_screen_map.specs.declared.layout.VisualPosition.{VisualPosition}
 use Rattle.textarea_screen.specs.declared.screen.rect.Rect.{Rect}
-use Rattle.textarea_text.specs.Place.{Place, is_same_place}
+use Rattle.textarea_text.specs.Place.{Place}
 use Rattle.textarea_view.specs.Viewport.{ViewportState, clamped}
 
 -- ---- the hit test
@@ -33,8 +34,8 @@ pub record IsHit (parts : Parts) (x y : ℕ) (found : Option Place) : Type 0 whe
 
 -- ---- the nearest visible position
 
--- the cursor itself if nothing changes, otherwise the position at the row and column
-abbrev pub IsReached : Bool → LentRows → Place → Place → Place → Type 0
+-- the cursor itself if nothing changes, otherwise the position at the visual position
+abbrev pub IsReached : Bool → LentRows → VisualPosition → Place → Place → Type 0
 IsReached true rows wanted cursor place = place ≡ cursor
 IsReached false rows wanted cursor place = IsNear rows wanted place
 
@@ -43,10 +44,10 @@ IsReached false rows wanted cursor place = IsNear rows wanted place
 pub record IsInside (document : DocumentState) (viewport : ViewportState) (place : Place) : Type 0 where
   pub rows : LentRows
   pub rows_are : IsViewOf (laid_out_of document) rows
-  pub seen : Place
-  pub seen_is : IsVisualPosition rows.wrapping.tab_len rows.lines rows.rows document.cursor seen
+  pub visual : VisualPosition
+  pub visual_is : IsVisualPosition rows.wrapping.tab_len rows.lines rows.rows document.cursor visual
   pub row : ℕ
-  pub row_is : row ≡ clamped viewport.row viewport.height (row_total rows.rows - 1) seen.0
+  pub row_is : row ≡ clamped viewport.row viewport.height (row_total rows.rows - 1) visual.row
   pub column : ℕ
-  pub column_is : column ≡ clamped viewport.column viewport.width (greatest_at rows row) seen.1
-  pub place_is : IsReached (is_same_place (row, column) seen) rows (row, column) document.cursor place
+  pub column_is : column ≡ clamped viewport.column viewport.width (greatest_at rows row) visual.column
+  pub place_is : IsReached (is_same_visual (record { row = row; column = column }) visual) rows (record { row = row; column = column }) document.cursor place

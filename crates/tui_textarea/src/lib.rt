@@ -20,7 +20,7 @@ pub use textarea_screen::screen::{
     Alignment, Block, Borders, Buffer, Cell, Color, Line, Modifier, Padding, Position, Rect, Span,
     SpanText, Style, Text,
 };
-pub use textarea_screen_map::layout::Wrapping;
+pub use textarea_screen_map::layout::{VisualPosition, Wrapping};
 pub use textarea_view::Viewport;
 pub use textarea_view::look::CursorRenderMode;
 pub use textarea_view::surround::measure::TextAreaMeasure;

@@ -7,6 +7,7 @@ use super::caret::caret_leads_back;
 use std::alloc::AllocError;
 use textarea_document::Document;
 use textarea_screen::screen::{Position, Rect};
+use textarea_screen_map::layout::VisualPosition;
 use textarea_search::search::Search;
 use textarea_view::Surround;
 
@@ -52,15 +53,16 @@ impl Drawing {
     {
         let rows = document.view();
         let cursor = document.cursor();
-        let seen = rows.visual_position(cursor);
-        let row = self.viewport.clamp_row(seen.0, rows.row_count() - 1);
+        let visual = rows.visual_position(cursor);
+        let row = self.viewport.clamp_row(visual.row, rows.row_count() - 1);
         let column = self
             .viewport
-            .clamp_column(seen.1, rows.greatest_column(row));
-        if (row, column) == seen {
+            .clamp_column(visual.column, rows.greatest_column(row));
+        let nearest = VisualPosition { row, column };
+        if nearest == visual {
             cursor
         } else {
-            rows.place_near((row, column))
+            rows.place_near(nearest)
         }
     }
 }

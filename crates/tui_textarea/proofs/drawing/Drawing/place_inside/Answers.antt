@@ -4,20 +4,20 @@ use Rattle.tui_textarea.proofs.drawing.Drawing.place_inside.Goals as goal
 use Rattle.tui_textarea.proofs.drawing.Drawing.place_inside.Goals.{After-eq}
 
 -- the position at the row and column
-inside : (c : After-eq) (place : Place) → IsReached c.eq.result c.view-rows.result (c.clamp_row-row.result, c.clamp_column-column.result) c.args.document.now.cursor place → IsInside c.args.document.now c.args.self.now.viewport place
+inside : (c : After-eq) (place : Place) → IsReached c.eq.result c.view-rows.result (record { row = c.clamp_row-row.result; column = c.clamp_column-column.result }) c.args.document.now.cursor place → IsInside c.args.document.now c.args.self.now.viewport place
 inside c place reached =
     let rows = c.view-rows.result in
-    let seen = c.visual_position-seen.result in
+    let visual = c.visual_position-visual.result in
     rw (← c.self.view_is) (record {
       rows = rows;
       rows_are = c.view-rows.ensures;
-      seen = seen;
-      seen_is = subst (λ (p : Place). IsVisualPosition rows.wrapping.tab_len rows.lines rows.rows p seen) c.cursor-cursor.ensures.value c.visual_position-seen.ensures.seen;
+      visual = visual;
+      visual_is = subst (λ (p : Place). IsVisualPosition rows.wrapping.tab_len rows.lines rows.rows p visual) c.cursor-cursor.ensures.value c.visual_position-visual.ensures.visual;
       row = c.clamp_row-row.result;
       row_is = rw (c.row_count.ensures.value) at c.clamp_row-row.ensures;
       column = c.clamp_column-column.result;
       column_is = rw (c.greatest_column.ensures) at c.clamp_column-column.ensures;
-      place_is = subst (λ b. IsReached b rows (c.clamp_row-row.result, c.clamp_column-column.result) c.args.document.now.cursor place) c.eq.ensures reached;
+      place_is = subst (λ b. IsReached b rows (record { row = c.clamp_row-row.result; column = c.clamp_column-column.result }) c.args.document.now.cursor place) c.eq.ensures reached;
     })
 
 pub returns-then-eq-clause-inside : goal.returns-then-eq-clause-inside
