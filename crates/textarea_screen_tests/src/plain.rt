@@ -11,7 +11,7 @@ fn defaults(rt: HostRuntime) -> Result<(), Fail> {
     assert!(rt; Key::default() == Key::Null);
     let input = Input::default();
     assert!(rt; input.key == Key::Null && !input.ctrl && !input.alt && !input.shift);
-    assert!(rt; input.clone() == input);
+    assert!(rt; input.clone()? == input);
     Ok(())
 }
 
